@@ -1,0 +1,22 @@
+//! What may fail under any call: memory, and a device.
+use std::alloc::AllocError;
+use thiserror::Error;
+
+/// A growth was refused.
+#[derive(Clone, Copy, PartialEq, Eq, Debug, Error)]
+#[error("out of memory")]
+pub struct NoMemory;
+
+impl From<AllocError> for NoMemory {
+    fn from(_: AllocError) -> Self {
+        NoMemory
+    }
+}
+
+/// A call of a device failed.
+#[derive(Clone, Copy, PartialEq, Eq, Debug, Error)]
+#[error("device fault {failures}")]
+pub struct DevFault {
+    /// How often the device has failed so far, this time included. The number is held at its greatest value.
+    pub failures: u64,
+}

@@ -1,0 +1,15 @@
+//! Numbers, names, bytes and limits that every crate of the library shares.
+#![tactic(auto)]
+
+pub mod barcode;
+pub mod bytes;
+pub mod faults;
+pub mod limits;
+pub mod numbers;
+#[cfg(test)]
+mod tests;
+
+pub use barcode::{BadBarcode, Barcode};
+pub use bytes::Bytes;
+pub use faults::{DevFault, NoMemory};
+pub use numbers::{DriveNo, Nexus, ObjNo, PartNo, SlotNo};
