@@ -1,0 +1,38 @@
+-- Sets of unit attentions as bits of a byte (own).
+use Rattle.std.specs.Prelude.{◌≡◌, refl, ℕ, ◌+◌, ◌<◌, ◌==◌, eqb, true}
+use Rattle.std.proofs.lemmas.Bool.{agree_below_at, eqb-true}
+use Rattle.std.specs.Int.{bit_at}
+use Rattle.scsi_wire.specs.declared.attention_sets.Attention.{Attention}
+use Rattle.scsi_wire.specs.declared.attention_sets.Attention.TheVariants.{PowerOn, MediumChanged, ReservationsPreempted, RegistrationsPreempted, ReservationsReleased, ModeChanged}
+use Rattle.scsi_wire.specs.AttentionSets.{AttentionSet}
+use Rattle.scsi_wire.specs.SenseData.{bit_if}
+
+-- the bit of an attention
+abbrev pub bit_of : Attention → ℕ
+bit_of PowerOn = 0x01
+bit_of MediumChanged = 0x02
+bit_of ReservationsPreempted = 0x04
+bit_of RegistrationsPreempted = 0x08
+bit_of ReservationsReleased = 0x10
+bit_of ModeChanged = 0x20
+
+-- the attentions whose bits are set in a byte
+abbrev pub set_of_bits : ℕ → AttentionSet
+set_of_bits bits = record {
+  power_on = bit_at bits 0 == 1;
+  medium_changed = bit_at bits 1 == 1;
+  reservations_preempted = bit_at bits 2 == 1;
+  registrations_preempted = bit_at bits 3 == 1;
+  reservations_released = bit_at bits 4 == 1;
+  mode_changed = bit_at bits 5 == 1;
+}
+
+-- the byte that has the bits of a set
+abbrev pub bits_of : AttentionSet → ℕ
+bits_of set = bit_if set.power_on 0x01 + bit_if set.medium_changed 0x02 + bit_if set.reservations_preempted 0x04
+    + bit_if set.registrations_preempted 0x08 + bit_if set.reservations_released 0x10 + bit_if set.mode_changed 0x20
+
+-- a byte of six bits is had back from its set
+pub bits_of-set_of_bits : (bits : ℕ) → bits < 64 → bits_of (set_of_bits bits) ≡ bits
+bits_of-set_of_bits bits fits =
+    eqb-true (bits_of (set_of_bits bits)) bits (agree_below_at (λ k. eqb (bits_of (set_of_bits k)) k) (λ _. true) 64 bits refl fits)

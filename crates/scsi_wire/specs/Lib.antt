@@ -1,0 +1,9 @@
+pub mod AttentionBits
+pub mod AttentionSets
+pub mod Attentions
+pub mod Commands
+pub mod Laws
+pub mod Opcodes
+pub mod Replies
+pub mod SenseData
+pub mod Senses

@@ -1,0 +1,50 @@
+-- The command codes, in one table.
+use Rattle.std.specs.Prelude.{ℕ, Bool, true, false, List, [], ◌∷◌, Option, None, option_map, find, ◌==◌}
+use Rattle.scsi_wire.specs.declared.opcodes.Opcode.{Opcode}
+use Rattle.scsi_wire.specs.declared.opcodes.Opcode.TheVariants.{TestUnitReady, Rewind, Read, Write, WriteFilemarks}
+use Rattle.scsi_wire.specs.declared.opcodes.Row.{Row}
+
+-- a row: code, bytes of its blocks, exempt from all checks of state, stopped by a reservation, needs a loaded tape (own)
+abbrev pub new_row : ℕ → ℕ → Bool → Bool → Bool → Row
+new_row code bytes exempt stopped on_tape = record { code = code; bytes = bytes; exempt = exempt; stopped = stopped; on_tape = on_tape }
+
+-- the table (SPC-4, SSC-4, command codes; the last three columns own)
+abbrev pub row_of : Opcode → Row
+row_of TestUnitReady = new_row 0x00 6 false false true
+row_of Rewind = new_row 0x01 6 false true true
+row_of Read = new_row 0x08 6 false true true
+row_of Write = new_row 0x0a 6 false true true
+row_of WriteFilemarks = new_row 0x10 6 false true true
+
+-- the codes that are known
+abbrev pub opcodes : List Opcode
+opcodes = TestUnitReady ∷ Rewind ∷ Read ∷ Write ∷ WriteFilemarks ∷ []
+
+-- the code that a byte is
+abbrev pub opcode_at : ℕ → Option Opcode
+opcode_at byte = find (λ opcode. (row_of opcode).code == byte) opcodes
+
+-- the code of a command block is its first byte (SPC-4, operation code)
+abbrev pub opcode_of : List ℕ → Option Opcode
+opcode_of [] = None
+opcode_of (byte ∷ rest) = opcode_at byte
+
+-- the bytes of a command block of this code (SPC-4, SSC-4)
+abbrev pub block_length : Opcode → ℕ
+block_length opcode = (row_of opcode).bytes
+
+-- the bytes of a command block that begins with this byte
+abbrev pub length_at : ℕ → Option ℕ
+length_at byte = option_map block_length (opcode_at byte)
+
+-- carried out whatever is pending, reserved or loaded (own)
+abbrev pub is_exempt : Opcode → Bool
+is_exempt opcode = (row_of opcode).exempt
+
+-- stopped by another host's reservation (own, one rule for all types)
+abbrev pub is_reserved : Opcode → Bool
+is_reserved opcode = (row_of opcode).stopped
+
+-- needs a loaded cartridge that has not failed (own)
+abbrev pub needs_tape : Opcode → Bool
+needs_tape opcode = (row_of opcode).on_tape

@@ -1,0 +1,113 @@
+//! The command codes, in one table.
+ghost use Rattle.std.specs.Prelude.{◌≡◌};
+ghost use Rattle.scsi_wire.specs.Opcodes.{new_row, row_of, opcode_at, opcode_of, block_length, length_at, is_exempt, is_reserved, needs_tape};
+
+/// The codes that are known.
+#[derive(Clone, Copy, PartialEq, Eq, Debug)]
+pub enum Opcode {
+    TestUnitReady,
+    Rewind,
+    Read,
+    Write,
+    WriteFilemarks,
+}
+
+/// What the table says of a code.
+#[derive(Clone, Copy)]
+struct Row {
+    code: u8,
+    bytes: usize,
+    exempt: bool,
+    stopped: bool,
+    on_tape: bool,
+}
+
+const KNOWN: [Opcode; 5] = [
+    Opcode::TestUnitReady,
+    Opcode::Rewind,
+    Opcode::Read,
+    Opcode::Write,
+    Opcode::WriteFilemarks,
+];
+
+impl Row {
+    fn new(code: u8, bytes: usize, exempt: bool, stopped: bool, on_tape: bool) -> Self
+        ensures { result ≡ new_row code bytes exempt stopped on_tape }
+    {
+        Row {
+            code,
+            bytes,
+            exempt,
+            stopped,
+            on_tape,
+        }
+    }
+}
+
+impl Opcode {
+    /// The code of a command block, its first byte, where it is known.
+    pub fn of(cdb: &[u8]) -> Option<Self>
+        ensures { result ≡ opcode_of cdb.now }
+    {
+        Opcode::at(*cdb.first()?)
+    }
+
+    /// Whether its commands are carried out whatever is pending, reserved or loaded: no deferred
+    /// error, unit attention, reservation or want of a cartridge stops them (own).
+    pub fn is_exempt(self) -> bool
+        ensures { result ≡ is_exempt self }
+    {
+        self.row().exempt
+    }
+
+    /// Whether another host's reservation stops its commands (own, one rule for all types).
+    pub fn is_reserved(self) -> bool
+        ensures { result ≡ is_reserved self }
+    {
+        self.row().stopped
+    }
+
+    /// Whether its commands need a loaded cartridge that has not failed.
+    pub fn needs_tape(self) -> bool
+        ensures { result ≡ needs_tape self }
+    {
+        self.row().on_tape
+    }
+
+    /// The bytes of its command blocks.
+    pub fn block_length(self) -> usize
+        ensures { result ≡ block_length self }
+    {
+        self.row().bytes
+    }
+
+    fn at(code: u8) -> Option<Self>
+        ensures { result ≡ opcode_at code }
+    {
+        KNOWN
+            .iter()
+            .copied()
+            .find(|opcode| opcode.row().code == code)
+    }
+
+    // One row a code: its byte, the bytes of its blocks, and whether it is exempt from the checks,
+    // is stopped by a reservation, needs a tape.
+    fn row(self) -> Row
+        ensures { result ≡ row_of self }
+    {
+        match self {
+            Opcode::TestUnitReady => Row::new(0x00, 6, false, false, true),
+            Opcode::Rewind => Row::new(0x01, 6, false, true, true),
+            Opcode::Read => Row::new(0x08, 6, false, true, true),
+            Opcode::Write => Row::new(0x0a, 6, false, true, true),
+            Opcode::WriteFilemarks => Row::new(0x10, 6, false, true, true),
+        }
+    }
+}
+
+/// The bytes of a command block with this code, where the code is known.
+pub fn length_of(op: u8) -> Option<usize>
+    ensures { result ≡ length_at op }
+{
+    Opcode::at(op).map(|opcode| opcode.block_length())
+}

@@ -1,0 +1,216 @@
+//! All sense data that drives and changers answer, each by its name (SPC-4, SSC-4, SMC-3, additional sense codes).
+ghost use Rattle.std.specs.Prelude.{◌≡◌};
+ghost use Rattle.scsi_wire.specs.Senses.{at_mark, attention_sense, bad_address, bad_field, bad_list, bad_list_length, bad_release, beginning, destination_full, early_warning, end_of_data, late_fault, medium_failed, no_memory, no_room, not_present, nothing_to_tell, other_length, read_fault, source_empty, store_full, unknown_code, write_fault};
+
+use crate::attention_sets::Attention;
+use crate::sense_data::{Sense, SenseKey};
+
+impl Sense {
+    /// Nothing to tell (NO ADDITIONAL SENSE INFORMATION).
+    pub fn nothing_to_tell() -> Self
+        ensures { result ≡ nothing_to_tell }
+    {
+        Sense::plain(SenseKey::NoSense, 0x00, 0x00)
+    }
+
+    /// A command block has no code, or one that is not known (INVALID COMMAND OPERATION
+    /// CODE).
+    pub fn unknown_code() -> Self
+        ensures { result ≡ unknown_code }
+    {
+        Sense::plain(SenseKey::IllegalRequest, 0x20, 0x00)
+    }
+
+    /// The length of a command block, one of its fields or the count of bytes sent with
+    /// it is wrong (INVALID FIELD IN CDB).
+    pub fn bad_field() -> Self
+        ensures { result ≡ bad_field }
+    {
+        Sense::plain(SenseKey::IllegalRequest, 0x24, 0x00)
+    }
+
+    /// A parameter list has a wrong length (PARAMETER LIST LENGTH ERROR).
+    pub fn bad_list_length() -> Self
+        ensures { result ≡ bad_list_length }
+    {
+        Sense::plain(SenseKey::IllegalRequest, 0x1a, 0x00)
+    }
+
+    /// A field of a parameter list is wrong (INVALID FIELD IN PARAMETER LIST).
+    pub fn bad_list() -> Self
+        ensures { result ≡ bad_list }
+    {
+        Sense::plain(SenseKey::IllegalRequest, 0x26, 0x00)
+    }
+
+    /// A reservation is released under another type than its own (INVALID RELEASE OF
+    /// PERSISTENT RESERVATION).
+    pub fn bad_release() -> Self
+        ensures { result ≡ bad_release }
+    {
+        Sense::plain(SenseKey::IllegalRequest, 0x26, 0x04)
+    }
+
+    /// An element address is no slot's and no drive's (INVALID ELEMENT ADDRESS).
+    pub fn bad_address() -> Self
+        ensures { result ≡ bad_address }
+    {
+        Sense::plain(SenseKey::IllegalRequest, 0x21, 0x01)
+    }
+
+    /// The destination of a move holds a cartridge (MEDIUM DESTINATION ELEMENT FULL).
+    pub fn destination_full() -> Self
+        ensures { result ≡ destination_full }
+    {
+        Sense::plain(SenseKey::IllegalRequest, 0x3b, 0x0d)
+    }
+
+    /// The source of a move holds no cartridge (MEDIUM SOURCE ELEMENT EMPTY).
+    pub fn source_empty() -> Self
+        ensures { result ≡ source_empty }
+    {
+        Sense::plain(SenseKey::IllegalRequest, 0x3b, 0x0e)
+    }
+
+    /// A reservation store is full, and nothing changed (INSUFFICIENT REGISTRATION
+    /// RESOURCES).
+    pub fn store_full() -> Self
+        ensures { result ≡ store_full }
+    {
+        Sense::plain(SenseKey::IllegalRequest, 0x55, 0x04)
+    }
+
+    /// No cartridge is loaded (MEDIUM NOT PRESENT).
+    pub fn not_present() -> Self
+        ensures { result ≡ not_present }
+    {
+        Sense::plain(SenseKey::NotReady, 0x3a, 0x00)
+    }
+
+    /// The medium has failed, and stays so until it is unloaded and loaded (INTERNAL
+    /// TARGET FAILURE).
+    pub fn medium_failed() -> Self
+        ensures { result ≡ medium_failed }
+    {
+        Sense::plain(SenseKey::HardwareError, 0x44, 0x00)
+    }
+
+    /// A device failed while a command wrote out (WRITE ERROR).
+    pub fn write_fault() -> Self
+        ensures { result ≡ write_fault }
+    {
+        Sense::plain(SenseKey::MediumError, 0x0c, 0x00)
+    }
+
+    /// A device failed while pending changes were stored between two commands: a
+    /// deferred error (WRITE ERROR).
+    pub fn late_fault() -> Self
+        ensures { result ≡ late_fault }
+    {
+        Sense {
+            deferred: true,
+            ..Sense::plain(SenseKey::MediumError, 0x0c, 0x00)
+        }
+    }
+
+    /// A device failed while a block was read or a cartridge loaded, or the side was
+    /// refused (UNRECOVERED READ ERROR).
+    pub fn read_fault() -> Self
+        ensures { result ≡ read_fault }
+    {
+        Sense::plain(SenseKey::MediumError, 0x11, 0x00)
+    }
+
+    /// A growth was refused (INSUFFICIENT RESOURCES).
+    pub fn no_memory() -> Self
+        ensures { result ≡ no_memory }
+    {
+        Sense::plain(SenseKey::AbortedCommand, 0x55, 0x03)
+    }
+
+    /// What was written is there, and the partition is nearly full (END-OF-
+    /// PARTITION/MEDIUM DETECTED).
+    pub fn early_warning() -> Self
+        ensures { result ≡ early_warning }
+    {
+        Sense {
+            end_of_medium: true,
+            information: Some(0),
+            ..Sense::plain(SenseKey::NoSense, 0x00, 0x02)
+        }
+    }
+
+    /// What was to be written does not fit, and nothing changed (END-OF-
+    /// PARTITION/MEDIUM DETECTED). `residue` is what was not written, if it is told.
+    pub fn no_room(residue: Option<u32>) -> Self
+        ensures { result ≡ no_room residue }
+    {
+        Sense {
+            end_of_medium: true,
+            information: residue,
+            ..Sense::plain(SenseKey::VolumeOverflow, 0x00, 0x02)
+        }
+    }
+
+    /// The end of data was met (END-OF-DATA DETECTED). `residue` is what was not passed
+    /// or read, if it is told.
+    pub fn end_of_data(residue: Option<u32>) -> Self
+        ensures { result ≡ end_of_data residue }
+    {
+        Sense {
+            information: residue,
+            ..Sense::plain(SenseKey::BlankCheck, 0x00, 0x05)
+        }
+    }
+
+    /// A filemark was met (FILEMARK DETECTED). `residue` is what was not passed or
+    /// read.
+    pub fn at_mark(residue: u32) -> Self
+        ensures { result ≡ at_mark residue }
+    {
+        Sense {
+            filemark: true,
+            information: Some(residue),
+            ..Sense::plain(SenseKey::NoSense, 0x00, 0x01)
+        }
+    }
+
+    /// The beginning of a partition was met (BEGINNING-OF-PARTITION/MEDIUM DETECTED).
+    /// `residue` is what was not passed.
+    pub fn beginning(residue: u32) -> Self
+        ensures { result ≡ beginning residue }
+    {
+        Sense {
+            end_of_medium: true,
+            information: Some(residue),
+            ..Sense::plain(SenseKey::NoSense, 0x00, 0x04)
+        }
+    }
+
+    /// A block has another length than a read (NO ADDITIONAL SENSE INFORMATION).
+    /// `residue` is the read's length minus the block's, in two's complement.
+    pub fn wrong_length(residue: u32) -> Self
+        ensures { result ≡ other_length residue }
+    {
+        Sense {
+            wrong_length: true,
+            information: Some(residue),
+            ..Sense::plain(SenseKey::NoSense, 0x00, 0x00)
+        }
+    }
+
+    /// A unit attention, each with a code of its own.
+    pub fn attention(attention: Attention) -> Self
+        ensures { result ≡ attention_sense attention }
+    {
+        let (code, qualifier) = match attention {
+            Attention::PowerOn => (0x29, 0x00),
+            Attention::MediumChanged => (0x28, 0x00),
+            Attention::ReservationsPreempted => (0x2a, 0x03),
+            Attention::RegistrationsPreempted => (0x2a, 0x05),
+            Attention::ReservationsReleased => (0x2a, 0x04),
+            Attention::ModeChanged => (0x2a, 0x01),
+        };
+        Sense::plain(SenseKey::UnitAttention, code, qualifier)
+    }
+}

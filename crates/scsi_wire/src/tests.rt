@@ -1,0 +1,4 @@
+//! Tests, by subject.
+mod attentions;
+mod blocks;
+mod senses;
