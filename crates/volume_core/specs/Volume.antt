@@ -1,0 +1,195 @@
+-- Volumes: partitions of objects, what these take, and what changes make of them.
+use Rattle.std.specs.Prelude.{◌≡◌, ◌≤◌, ℕ, ◌+◌, ◌-◌, ◌/◌, List, [], ◌∷◌, ◌++◌, length, take, map, replicate, sum_by, All, Option, None, Some, Result, Ok, Err, slice_get, slice_set, nat_lt, nat_le, Bool, true, not, IsTrue, ◌&&◌, if◌then◌else◌}
+use Rattle.std.specs.List.{list_all}
+use Rattle.vtl_base.specs.declared.limits.TheConstants.{MAX_BLOCK, MAX_CAPACITY, MAX_OBJECTS, MAX_PARTITIONS, MIN_CAPACITY, OBJECT_COST}
+use Rattle.volume_core.specs.declared.objects.Object.{Object}
+use Rattle.volume_core.specs.declared.objects.Object.TheVariants.{Block, Mark}
+use Rattle.volume_core.specs.declared.objects.Kind.{Kind}
+use Rattle.volume_core.specs.declared.objects.Kind.TheVariants as Kinds
+use Rattle.volume_core.specs.declared.changes.Change.{Change}
+use Rattle.volume_core.specs.declared.changes.Change.TheVariants.{Put, Marks, Erase}
+use Rattle.volume_core.specs.declared.changes.Refusal.{Refusal}
+use Rattle.volume_core.specs.declared.changes.Refusal.TheVariants.{NoPartition, PastEnd, NoRoom, TooLong}
+use Rattle.volume_core.specs.declared.volumes.ApplyError.{ApplyError}
+use Rattle.volume_core.specs.declared.volumes.ApplyError.TheVariants.{Refused, NoMemory}
+
+-- a partition: how many bytes it takes, and its objects from object 0 on (SSC-4, logical objects)
+pub record Part : Type 0 where
+  pub capacity : ℕ
+  pub objects : List Object
+
+-- what an object takes of the capacity: a block its bytes and 16, a mark 16 (own)
+abbrev pub cost_of : Object → ℕ
+cost_of (Block bytes) = length bytes + OBJECT_COST
+cost_of Mark = OBJECT_COST
+
+-- what objects take together (own)
+abbrev pub used_of : List Object → ℕ
+used_of objects = sum_by cost_of objects
+
+-- the last sixteenth of a capacity, rounded down, has begun (own, for early warning of SSC-4)
+abbrev pub is_in_early_zone : ℕ → ℕ → Bool
+is_in_early_zone capacity used = nat_lt (capacity - capacity / 16) used
+
+-- a block has 1 to 1,048,576 bytes (own; SSC-4, READ BLOCK LIMITS)
+abbrev pub IsObject : Object → Type 0
+IsObject (Block bytes) = (1 ≤ length bytes) × (length bytes ≤ MAX_BLOCK)
+IsObject Mark = Unit {0}
+
+-- a capacity is 4,096 to 1,099,511,627,776 bytes (own)
+abbrev pub is_capacity : ℕ → Bool
+is_capacity bytes = nat_le MIN_CAPACITY bytes && nat_le bytes MAX_CAPACITY
+
+-- a partition keeps the limits of capacity and objects, and its objects fit (own)
+pub record IsPart (part : Part) : Type 0 where
+  pub capacity_fits : IsTrue (is_capacity part.capacity)
+  pub few : length part.objects ≤ MAX_OBJECTS
+  pub fits : used_of part.objects ≤ part.capacity
+  pub well_formed : All IsObject part.objects
+
+-- a volume has 1 to 4 partitions (own)
+pub record IsVolume (volume : List Part) : Type 0 where
+  pub some : 1 ≤ length volume
+  pub few : length volume ≤ MAX_PARTITIONS
+  pub each : All IsPart volume
+
+-- 1 to 4 capacities, which a volume can have (own)
+abbrev pub are_capacities : List ℕ → Bool
+are_capacities capacities =
+    nat_le 1 (length capacities) && nat_le (length capacities) MAX_PARTITIONS
+    && list_all is_capacity capacities
+
+-- a partition with no object (own)
+abbrev pub empty_part : ℕ → Part
+empty_part capacity = record { capacity = capacity; objects = [] }
+
+-- the volume of these capacities with no object (own)
+abbrev pub empty_volume : List ℕ → List Part
+empty_volume capacities = map empty_part capacities
+
+abbrev pub capacity_in : Option Part → ℕ
+capacity_in None = 0
+capacity_in (Some part) = part.capacity
+
+abbrev pub objects_in : Option Part → List Object
+objects_in None = []
+objects_in (Some part) = part.objects
+
+-- the capacity of a partition, 0 where there is no such partition (own)
+abbrev pub capacity_of : List Part → ℕ → ℕ
+capacity_of volume number = capacity_in (slice_get volume number)
+
+-- the objects of a partition, none where there is no such partition (own)
+abbrev pub objects_of : List Part → ℕ → List Object
+objects_of volume number = objects_in (slice_get volume number)
+
+-- how many objects a partition has (own)
+abbrev pub count_of : List Part → ℕ → ℕ
+count_of volume number = length (objects_of volume number)
+
+-- what the first n objects of a partition take (own)
+abbrev pub used_up_to : List Part → ℕ → ℕ → ℕ
+used_up_to volume number n = used_of (take n (objects_of volume number))
+
+abbrev pub kind_of : Object → Kind
+kind_of (Block bytes) = Kinds.Block
+kind_of Mark = Kinds.Mark
+
+abbrev pub kind_in : Option Object → Option Kind
+kind_in None = None
+kind_in (Some object) = Some (kind_of object)
+
+-- the kind of the object at a place, None where there is no object (SSC-4, logical objects)
+abbrev pub kind_at : List Part → ℕ → ℕ → Option Kind
+kind_at volume number at = kind_in (slice_get (objects_of volume number) at)
+
+abbrev pub block_in : Option Object → Option (List ℕ)
+block_in None = None
+block_in (Some Mark) = None
+block_in (Some (Block bytes)) = Some bytes
+
+-- the bytes of the block at a place, None where there is no block (SSC-4, logical objects)
+abbrev pub block_at : List Part → ℕ → ℕ → Option (List ℕ)
+block_at volume number at = block_in (slice_get (objects_of volume number) at)
+
+-- the partition that a change concerns (own)
+abbrev pub part_of : Change → ℕ
+part_of (Put part at block) = part
+part_of (Marks part at count) = part
+part_of (Erase part at) = part
+
+-- how many of its objects stay (own)
+abbrev pub kept_of : Change → ℕ
+kept_of (Put part at block) = at
+kept_of (Marks part at count) = at
+kept_of (Erase part at) = at
+
+-- the objects that a change puts behind those that stay (own)
+abbrev pub added_by : Change → List Object
+added_by (Put part at block) = Block block ∷ []
+added_by (Marks part at count) = replicate count Mark
+added_by (Erase part at) = []
+
+-- the objects after a change: what stood behind those that stay is gone (SSC-4, WRITE,
+-- WRITE FILEMARKS, ERASE)
+abbrev pub objects_after : List Object → Change → List Object
+objects_after objects change = take (kept_of change) objects ++ added_by change
+
+-- these objects are no more than a partition has, and fit its capacity (own)
+abbrev pub has_room : Part → List Object → Bool
+has_room part objects =
+    nat_le (length objects) MAX_OBJECTS && nat_le (used_of objects) part.capacity
+
+-- the block of a change has 1 to 1,048,576 bytes, and its marks are at least one (own)
+abbrev pub is_well_formed : Change → Bool
+is_well_formed (Put part at block) = nat_le 1 (length block) && nat_le (length block) MAX_BLOCK
+is_well_formed (Marks part at count) = nat_le 1 count
+is_well_formed (Erase part at) = true
+
+-- why a partition refuses a change: the first cause of these that holds (own)
+abbrev pub refusal_in : Option Part → Change → Option Refusal
+refusal_in None change = Some NoPartition
+refusal_in (Some part) change =
+    if nat_lt (length part.objects) (kept_of change) then Some PastEnd
+    else (if not (has_room part (objects_after part.objects change)) then Some NoRoom
+    else (if not (is_well_formed change) then Some TooLong
+    else None))
+
+-- why a volume refuses a change; None is that it refuses nothing (own)
+abbrev pub refusal_of : List Part → Change → Option Refusal
+refusal_of volume change = refusal_in (slice_get volume (part_of change)) change
+
+-- a partition after a change (own)
+abbrev pub part_after : Part → Change → Part
+part_after part change =
+    record { capacity = part.capacity; objects = objects_after part.objects change }
+
+abbrev pub changed_in : Option Part → List Part → Change → List Part
+changed_in None volume change = volume
+changed_in (Some part) volume change = slice_set volume (part_of change) (part_after part change)
+
+-- a volume after a change that it does not refuse (own)
+abbrev pub changed : List Part → Change → List Part
+changed volume change = changed_in (slice_get volume (part_of change)) volume change
+
+-- the changes carried out in order (own)
+abbrev pub after : List Part → List Change → List Part
+after volume [] = volume
+after volume (change ∷ changes) = after (changed volume change) changes
+
+-- each of these changes applies to what the ones before it made (own)
+abbrev pub AllApply : List Part → List Change → Type 0
+AllApply volume [] = Unit {0}
+AllApply volume (change ∷ changes) =
+    (refusal_of volume change ≡ None) × AllApply (changed volume change) changes
+
+-- The answer to a change that is refused for the first of these causes, or else leads from old to
+-- changed. After a refusal nothing has changed, and want of memory comes last (own).
+abbrev pub Answers : {V : Type 0} → Option Refusal → V → V → Result Unit ApplyError → V → Type 0
+Answers refusal old changed (Ok done) new = (refusal ≡ None) × (new ≡ changed)
+Answers refusal old changed (Err (Refused cause)) new = (refusal ≡ Some cause) × (new ≡ old)
+Answers refusal old changed (Err NoMemory) new = (refusal ≡ None) × (new ≡ old)
+
+-- a volume is asked for a change, and answers so (own)
+abbrev pub Applies : List Part → Change → Result Unit ApplyError → List Part → Type 0
+Applies old change result new = Answers (refusal_of old change) old (changed old change) result new

@@ -1,0 +1,102 @@
+//! Changes of a volume, and why one is refused.
+ghost use Rattle.std.specs.Prelude.{◌≡◌, length};
+ghost use Rattle.volume_core.specs.Volume.{part_of, kept_of, added_by, used_of, is_well_formed};
+
+use thiserror::Error;
+use vtl_base::limits::{MAX_BLOCK, OBJECT_COST};
+use vtl_base::{Bytes, ObjNo, PartNo};
+
+/// What a command does to a partition. What stood behind its first `at` objects is gone in the same
+/// change.
+#[derive(Drop)]
+pub enum Change {
+    /// Its first `at` objects, then this block (SSC-4, WRITE).
+    Put {
+        part: PartNo,
+        at: ObjNo,
+        block: Bytes,
+    },
+    /// Its first `at` objects, then this many filemarks (SSC-4, WRITE FILEMARKS).
+    Marks {
+        part: PartNo,
+        at: ObjNo,
+        count: u32,
+    },
+    /// Its first `at` objects (SSC-4, ERASE).
+    Erase {
+        part: PartNo,
+        at: ObjNo,
+    },
+}
+
+/// Why a change is refused. The first of these that holds is answered, and nothing has changed
+/// (own).
+#[derive(Clone, Copy, PartialEq, Eq, Debug, Error)]
+pub enum Refusal {
+    /// The volume has no such partition.
+    #[error("no such partition")]
+    NoPartition,
+    /// The partition has fewer objects than are to stay.
+    #[error("past the end of data")]
+    PastEnd,
+    /// The objects would exceed the partition's capacity, or 16,000,000.
+    #[error("no room in the partition")]
+    NoRoom,
+    /// The block has no byte or more than 1,048,576, or there is no mark.
+    #[error("the block is too long or empty, or there is no mark")]
+    TooLong,
+}
+
+impl Change {
+    // The partition that it concerns.
+    pub(crate) fn part(&self) -> PartNo
+        ensures { result ≡ part_of self.now }
+    {
+        match self {
+            Change::Put { part, .. } | Change::Marks { part, .. } | Change::Erase { part, .. } =>
+                *part,
+        }
+    }
+
+    // How many objects stay.
+    pub(crate) fn kept(&self) -> ObjNo
+        ensures { result ≡ kept_of self.now }
+    {
+        match self {
+            Change::Put { at, .. } | Change::Marks { at, .. } | Change::Erase { at, .. } => *at,
+        }
+    }
+
+    // How many objects it adds.
+    pub(crate) fn added(&self) -> u32
+        ensures { result ≡ length (added_by self.now) }
+    {
+        match self {
+            Change::Put { .. } => 1,
+            Change::Marks { count, .. } => *count,
+            Change::Erase { .. } => 0,
+        }
+    }
+
+    // What the objects that it adds take, in bytes.
+    pub(crate) fn cost(&self) -> u64
+        ensures { result ≡ used_of (added_by self.now) }
+    {
+        match self {
+            Change::Put { block, .. } => block.len() as u64 + OBJECT_COST,
+            Change::Marks { count, .. } => *count as u64 * OBJECT_COST,
+            Change::Erase { .. } => 0,
+        }
+    }
+
+    // Its block has 1 to 1,048,576 bytes, and its marks are at least one.
+    pub(crate) fn is_well_formed(&self) -> bool
+        ensures { result ≡ is_well_formed self.now }
+    {
+        match self {
+            Change::Put { block, .. } => !block.is_empty() && block.len() <= MAX_BLOCK as usize,
+            Change::Marks { count, .. } => *count > 0,
+            Change::Erase { .. } => true,
+        }
+    }
+}

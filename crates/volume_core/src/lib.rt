@@ -1,0 +1,18 @@
+//! Objects on a tape, volumes and their changes, and what a medium is.
+#![tactic(auto)]
+
+pub mod changes;
+pub mod media;
+pub mod objects;
+mod partitions;
+pub mod plain;
+mod stock;
+#[cfg(test)]
+mod tests;
+pub mod volumes;
+
+pub use changes::{Change, Refusal};
+pub use media::{Catalog, Medium, MediumError};
+pub use objects::{Kind, Object};
+pub use plain::PlainMedium;
+pub use volumes::{ApplyError, Volume, are_capacities, is_in_early_zone};

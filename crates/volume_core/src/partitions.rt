@@ -1,0 +1,101 @@
+//! Partitions that are kept in memory.
+ghost use Rattle.std.specs.Prelude.{◌≡◌, ◌≤◌, IsTrue, Some, slice_get, take, length};
+ghost use Rattle.std.specs.Option.{option_copied};
+ghost use Rattle.vtl_base.specs.declared.limits.TheConstants.{MAX_CAPACITY, MAX_OBJECTS};
+ghost use Rattle.volume_core.specs.Volume.{IsPart, empty_part, is_capacity, used_of, kind_in, block_in, refusal_in, part_after, Answers};
+
+use crate::changes::{Change, Refusal};
+use crate::objects::{Kind, Object};
+use crate::stock::Stock;
+use crate::volumes::ApplyError;
+use std::alloc::Global;
+use std::marker::Model;
+use vtl_base::limits::MAX_OBJECTS;
+
+// A partition. To a contract it is its capacity and its objects.
+#[derive(Drop)]
+pub(crate) struct Partition {
+    capacity: u64,
+    stock: Stock,
+}
+
+impl Model for Partition {
+    ghost use Rattle.volume_core.specs.Volume.{Part, IsPart};
+
+    ghost Value = { Part };
+
+    ghost view = { λ p. record { capacity = p.capacity; objects = p.stock } };
+
+    ghost invariant = { λ p. IsPart (record { capacity = p.capacity; objects = p.stock }) };
+}
+
+impl Partition {
+    pub(crate) fn new(alloc: Global, capacity: u64) -> Self
+        requires { IsTrue (is_capacity capacity) }
+        ensures part { result ≡ empty_part capacity }
+        ensures limits { IsPart result }
+    {
+        Partition {
+            capacity,
+            stock: Stock::new(alloc),
+        }
+    }
+
+    pub(crate) fn capacity(&self) -> u64
+        ensures { result ≡ self.now.capacity }
+    {
+        self.capacity
+    }
+
+    pub(crate) fn count(&self) -> u32
+        ensures { result ≡ length self.now.objects }
+    {
+        self.stock.len() as u32
+    }
+
+    pub(crate) fn kind_at(&self, at: usize) -> Option<Kind>
+        ensures { result ≡ kind_in (slice_get self.now.objects at) }
+    {
+        self.stock.kind_at(at)
+    }
+
+    pub(crate) fn block_at(&self, at: usize) -> Option<&[u8]>
+        ensures { option_copied result ≡ block_in (slice_get self.now.objects at) }
+    {
+        self.stock.block_at(at)
+    }
+
+    // What the first n objects take.
+    pub(crate) fn used(&self, n: usize) -> u64
+        ensures used { result ≡ used_of (take n self.now.objects) }
+        ensures bound { result ≤ self.now.capacity }
+    {
+        self.stock.used(n)
+    }
+
+    // Carries a change out that is meant for this partition, or refuses it.
+    pub(crate) fn apply(&mut self, change: Change) -> Result<(), ApplyError>
+        ensures answer { Answers (refusal_in (Some self.old) change) self.old (part_after self.old change) result self.new }
+        ensures limits { IsPart self.new }
+    {
+        let at = change.kept() as usize;
+        if at > self.stock.len() {
+            return Err(ApplyError::Refused(Refusal::PastEnd));
+        }
+        let used = self.stock.used(at);
+        let fits = change.added() as usize <= MAX_OBJECTS as usize - at
+            && change.cost() <= self.capacity - used;
+        if !fits {
+            return Err(ApplyError::Refused(Refusal::NoRoom));
+        }
+        if !change.is_well_formed() {
+            return Err(ApplyError::Refused(Refusal::TooLong));
+        }
+        match change {
+            Change::Put { block, .. } => self.stock.put(at, Object::Block(block))?,
+            Change::Marks { count, .. } => self.stock.marks(at, count)?,
+            Change::Erase { .. } => self.stock.erase(at),
+        }
+        Ok(())
+    }
+}

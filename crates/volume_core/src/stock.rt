@@ -1,0 +1,139 @@
+//! The objects of a partition, with what they take up to each place.
+ghost use Rattle.std.specs.Prelude.{◌≡◌, ◌+◌, ◌*◌, ◌≤◌, ◌<◌, ◌^◌, ◌++◌, ◌∷◌, [], OnOk, OnErr, vec_capacity, length, take, replicate, slice_get};
+ghost use Rattle.std.specs.Option.{option_copied};
+ghost use Rattle.vtl_base.specs.declared.limits.TheConstants.{OBJECT_COST};
+ghost use Rattle.volume_core.specs.declared.objects.Object.TheVariants as Objects;
+ghost use Rattle.volume_core.specs.Volume.{cost_of, used_of, kind_in, block_in};
+
+use crate::objects::{Kind, Object};
+use std::alloc::{AllocError, Global};
+use std::marker::Model;
+use vtl_base::limits::OBJECT_COST;
+
+// Objects in order. To a contract they are a list. Beside each stands what the objects up to it
+// take, itself included, so that no call walks over them.
+#[derive(Drop)]
+pub(crate) struct Stock {
+    objects: Vec<Object>,
+    costs: Vec<u64>,
+}
+
+impl Model for Stock {
+    ghost use Rattle.std.specs.Prelude.{List};
+    ghost use Rattle.volume_core.specs.declared.objects.Object.{Object};
+    ghost use Rattle.volume_core.specs.Stock.{IsTally};
+
+    ghost Value = { List Object };
+
+    ghost view = { λ s. s.objects.items };
+
+    ghost invariant = { λ s. IsTally s.objects.items s.costs.items };
+}
+
+impl Stock {
+    pub(crate) fn new(alloc: Global) -> Self
+        ensures { result ≡ [] }
+    {
+        Stock {
+            objects: Vec::new(alloc),
+            costs: Vec::new(alloc),
+        }
+    }
+
+    pub(crate) fn len(&self) -> usize
+        ensures { result ≡ length self.now }
+    {
+        self.objects.len()
+    }
+
+    pub(crate) fn kind_at(&self, at: usize) -> Option<Kind>
+        ensures { result ≡ kind_in (slice_get self.now at) }
+    {
+        self.objects.get(at).map(|object| object.kind())
+    }
+
+    pub(crate) fn block_at(&self, at: usize) -> Option<&[u8]>
+        ensures { option_copied result ≡ block_in (slice_get self.now at) }
+    {
+        match self.objects.get(at) {
+            Some(Object::Block(block)) => Some(block.as_slice()),
+            _ => None,
+        }
+    }
+
+    // What the first n objects take, in bytes; all of them where there are fewer.
+    pub(crate) fn used(&self, n: usize) -> u64
+        ensures { result ≡ used_of (take n self.now) }
+    {
+        let n = n.min(self.objects.len());
+        if n == 0 { 0 } else { self.costs[n - 1] }
+    }
+
+    // Keeps the first `at` objects, and puts this one behind them.
+    pub(crate) fn put(&mut self, at: usize, object: Object) -> Result<(), AllocError>
+        requires at { at ≤ length self.old }
+        requires fits { used_of (take at self.old) + cost_of object < 2 ^ 64 }
+        ensures ok { OnOk result (self.new ≡ take at self.old ++ object ∷ []) }
+        ensures err { OnErr result (self.new ≡ self.old) }
+    {
+        let cost = self.used(at) + object.cost();
+        let count = at + 1;
+        make_room(&mut self.objects, count)?;
+        make_room(&mut self.costs, count)?;
+        cut(&mut self.objects, at, count);
+        cut(&mut self.costs, at, count);
+        self.objects.push_reserved(object);
+        self.costs.push_reserved(cost);
+        Ok(())
+    }
+
+    // Keeps the first `at` objects, and puts this many marks behind them.
+    pub(crate) fn marks(&mut self, at: usize, added: u32) -> Result<(), AllocError>
+        requires at { at ≤ length self.old }
+        requires fits { used_of (take at self.old) + added * OBJECT_COST < 2 ^ 64 }
+        ensures ok { OnOk result (self.new ≡ take at self.old ++ replicate added Objects.Mark) }
+        ensures err { OnErr result (self.new ≡ self.old) }
+    {
+        let mut cost = self.used(at);
+        let count = at + added as usize;
+        make_room(&mut self.objects, count)?;
+        make_room(&mut self.costs, count)?;
+        cut(&mut self.objects, at, count);
+        cut(&mut self.costs, at, count);
+        for _ in 0..added {
+            cost += OBJECT_COST;
+            self.objects.push_reserved(Object::Mark);
+            self.costs.push_reserved(cost);
+        }
+        Ok(())
+    }
+
+    // Keeps the first `at` objects.
+    pub(crate) fn erase(&mut self, at: usize)
+        ensures { self.new ≡ take at self.old }
+    {
+        cut(&mut self.objects, at, 0);
+        cut(&mut self.costs, at, 0);
+    }
+}
+
+// Makes room for this many items in all.
+fn make_room<T>(row: &mut Vec<T>, count: usize) -> Result<(), AllocError>
+    ensures same { row.new.items ≡ row.old.items }
+    ensures ok { OnOk result (count ≤ vec_capacity row.new) }
+{
+    row.reserve(count.saturating_sub(row.len()))
+}
+
+// Keeps the first n items, and room for `count` in all. What is far more than that is let go.
+fn cut<T: Drop>(row: &mut Vec<T>, n: usize, count: usize)
+    requires { count ≤ vec_capacity row.old }
+    ensures items { row.new.items ≡ take n row.old.items }
+    ensures room { count ≤ vec_capacity row.new }
+{
+    row.truncate(n);
+    let wanted = count.max(row.len());
+    if wanted < row.capacity() / 4 {
+        row.shrink_to(wanted * 2);
+    }
+}

@@ -1,0 +1,179 @@
+//! Volumes that are kept in memory.
+ghost use Rattle.std.specs.Prelude.{◌≡◌, ◌≤◌, IsTrue, IfOk, IfSome, length, slice_get};
+ghost use Rattle.std.specs.List.{list_all};
+ghost use Rattle.std.specs.Option.{option_copied};
+ghost use Rattle.vtl_base.specs.declared.limits.TheConstants.{MAX_BLOCK, MAX_CAPACITY, MAX_OBJECTS, MAX_PARTITIONS};
+ghost use Rattle.volume_core.specs.Volume.{Applies, IsPart, are_capacities, block_at, capacity_of, count_of, empty_volume, is_capacity, is_in_early_zone, kind_at, used_up_to};
+
+use crate::changes::{Change, Refusal};
+use crate::objects::Kind;
+use crate::partitions::Partition;
+use std::alloc::{AllocError, Global};
+use std::marker::Model;
+use thiserror::Error;
+use vtl_base::limits::{MAX_CAPACITY, MAX_PARTITIONS, MIN_CAPACITY};
+use vtl_base::{NoMemory, ObjNo, PartNo};
+
+/// Why a volume stays as it is.
+#[derive(Clone, Copy, PartialEq, Eq, Debug, Error)]
+pub enum ApplyError {
+    /// The change is refused for its own sake.
+    #[error("refused")]
+    Refused(Refusal),
+    /// The change would not be refused, but a growth was.
+    #[error("out of memory")]
+    NoMemory,
+}
+
+impl From<AllocError> for ApplyError {
+    ghost use Rattle.std.specs.Prelude.{◌≡◌};
+    ghost use Rattle.volume_core.specs.declared.volumes.ApplyError.TheVariants as Errors;
+
+    ghost from_gives = { λ _ error. error ≡ Errors.NoMemory };
+
+    fn from(_: AllocError) -> Self {
+        ApplyError::NoMemory
+    }
+}
+
+fn is_capacity(bytes: u64) -> bool
+    ensures { result ≡ is_capacity bytes }
+{
+    MIN_CAPACITY <= bytes && bytes <= MAX_CAPACITY
+}
+
+fn all_capacities(capacities: &[u64]) -> bool
+    ensures { result ≡ list_all is_capacity capacities.now }
+{
+    capacities.iter().all(|&bytes| is_capacity(bytes))
+}
+
+/// Whether a volume can have these capacities: 1 to 4, each of 4,096 to 1,099,511,627,776 bytes
+/// (own).
+pub fn are_capacities(capacities: &[u64]) -> bool
+    ensures { result ≡ are_capacities capacities.now }
+{
+    !capacities.is_empty()
+        && capacities.len() <= MAX_PARTITIONS as usize
+        && all_capacities(capacities)
+}
+
+/// Whether a partition of this capacity, of which this much is used, is in its last sixteenth
+/// (own, for early warning of SSC-4).
+pub fn is_in_early_zone(capacity: u64, used: u64) -> bool
+    ensures { result ≡ is_in_early_zone capacity used }
+{
+    used > capacity - capacity / 16
+}
+
+/// The contents of a cartridge, kept in memory: 1 to 4 partitions of objects. To a contract it is
+/// the list of its partitions.
+#[derive(Drop)]
+pub struct Volume {
+    partitions: Vec<Partition>,
+}
+
+impl Model for Volume {
+    ghost use Rattle.std.specs.Prelude.{List};
+    ghost use Rattle.volume_core.specs.Volume.{Part, IsVolume};
+
+    ghost Value = { List Part };
+
+    ghost view = { λ v. v.partitions.items };
+
+    ghost invariant = { λ v. IsVolume v.partitions.items };
+}
+
+impl Volume {
+    /// A volume of empty partitions with these capacities in bytes. `are_capacities` tests the
+    /// condition.
+    pub fn new(alloc: Global, capacities: &[u64]) -> Result<Self, NoMemory>
+        requires { IsTrue (are_capacities capacities.now) }
+        ensures { IfOk result (λ volume. volume ≡ empty_volume capacities.now) }
+    {
+        let mut partitions = Vec::with_capacity(alloc, capacities.len())?;
+        for capacity in capacities {
+            partitions.push_reserved(Partition::new(alloc, *capacity));
+        }
+        Ok(Volume { partitions })
+    }
+
+    // The partition of this number, if there is one.
+    fn partition(&self, part: PartNo) -> Option<&Partition>
+        ensures partition { option_copied result ≡ slice_get self.now part }
+        ensures limits { IfSome result (λ partition. IsPart partition.now) }
+    {
+        self.partitions.get(part as usize)
+    }
+
+    /// How many partitions there are, 1 to 4.
+    pub fn parts(&self) -> PartNo
+        ensures parts { result ≡ length self.now }
+        ensures some { 1 ≤ result }
+        ensures few { result ≤ MAX_PARTITIONS }
+    {
+        self.partitions.len() as PartNo
+    }
+
+    /// The capacity of a partition in bytes, 0 where there is no such partition.
+    pub fn capacity(&self, part: PartNo) -> u64
+        ensures capacity { result ≡ capacity_of self.now part }
+        ensures bound { result ≤ MAX_CAPACITY }
+    {
+        match self.partition(part) {
+            Some(partition) => partition.capacity(),
+            None => 0,
+        }
+    }
+
+    /// How many objects a partition has, 0 where there is no such partition.
+    pub fn count(&self, part: PartNo) -> u32
+        ensures count { result ≡ count_of self.now part }
+        ensures bound { result ≤ MAX_OBJECTS }
+    {
+        match self.partition(part) {
+            Some(partition) => partition.count(),
+            None => 0,
+        }
+    }
+
+    /// The kind of the object at a place, None where there is none.
+    pub fn kind_at(&self, part: PartNo, at: ObjNo) -> Option<Kind>
+        ensures { result ≡ kind_at self.now part at }
+    {
+        self.partition(part)?.kind_at(at as usize)
+    }
+
+    /// What the first n objects of a partition take of its capacity, in bytes; all of them where
+    /// there are fewer.
+    pub fn used(&self, part: PartNo, n: ObjNo) -> u64
+        ensures used { result ≡ used_up_to self.now part n }
+        ensures bound { result ≤ capacity_of self.now part }
+    {
+        match self.partition(part) {
+            Some(partition) => partition.used(n as usize),
+            None => 0,
+        }
+    }
+
+    /// The bytes of the block at a place, None where no block is there.
+    pub fn block_at(&self, part: PartNo, at: ObjNo) -> Option<&[u8]>
+        ensures block { option_copied result ≡ block_at self.now part at }
+        ensures bound { IfSome result (λ block. length block.now ≤ MAX_BLOCK) }
+    {
+        self.partition(part)?.block_at(at as usize)
+    }
+
+    /// Carries a change out, or refuses it for the first cause that holds; want of memory comes
+    /// after these. Nothing has changed after an `Err`.
+    pub fn apply(&mut self, change: Change) -> Result<(), ApplyError>
+        ensures { Applies self.old change result self.new }
+    {
+        let part = change.part() as usize;
+        if part >= self.partitions.len() {
+            return Err(ApplyError::Refused(Refusal::NoPartition));
+        }
+        let partition = &mut self.partitions[part];
+        partition.apply(change)
+    }
+}
