@@ -53,16 +53,16 @@ same_set x y each =
     ≡ set_of y.power_on y.medium_changed y.reservations_preempted y.registrations_preempted y.reservations_released y.mode_changed = cc in
     fields
 
-pub contains-set_of_bits : (a : Attention) (bits : ℕ) → bits < 64 → contains a (set_of_bits bits) ≡ (bit_and bits (bit_of a) == bit_of a)
-contains-set_of_bits =
+pub contains_by_bits : (a : Attention) (bits : ℕ) → bits < 64 → contains a (set_of_bits bits) ≡ (bit_and bits (bit_of a) == bit_of a)
+contains_by_bits =
     agree (λ a k. contains a (set_of_bits k)) (λ a k. bit_and k (bit_of a) == bit_of a) refl
 
-pub set_of_bits-or : (a : Attention) (bits : ℕ) → bits < 64 → set_of_bits (bit_or bits (bit_of a)) ≡ with_attention a (set_of_bits bits)
-set_of_bits-or a bits fits =
+pub with_by_bits : (a : Attention) (bits : ℕ) → bits < 64 → set_of_bits (bit_or bits (bit_of a)) ≡ with_attention a (set_of_bits bits)
+with_by_bits a bits fits =
     same_set _ _ (λ b. agree_at_both (λ b a k. contains b (set_of_bits (bit_or k (bit_of a)))) (λ b a k. contains b (with_attention a (set_of_bits k))) refl b a bits fits)
 
-pub set_of_bits-and_not : (a : Attention) (bits : ℕ) → bits < 64 → set_of_bits (bit_and bits (2 ^ 8 - 1 - bit_of a)) ≡ without a (set_of_bits bits)
-set_of_bits-and_not a bits fits =
+pub without_by_bits : (a : Attention) (bits : ℕ) → bits < 64 → set_of_bits (bit_and bits (2 ^ 8 - 1 - bit_of a)) ≡ without a (set_of_bits bits)
+without_by_bits a bits fits =
     same_set _ _ (λ b. agree_at_both (λ b a k. contains b (set_of_bits (bit_and k (2 ^ 8 - 1 - bit_of a)))) (λ b a k. contains b (without a (set_of_bits k))) refl b a bits fits)
 
 pub or_fits : (a : Attention) (bits : ℕ) → bits < 64 → bit_or bits (bit_of a) < 64

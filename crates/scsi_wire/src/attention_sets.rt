@@ -121,6 +121,7 @@ impl AttnSet {
     }
 
     /// Whether this attention is pending.
+    #[tactic(auto, using(crate::proofs::AttentionBitsLemmas::contains_by_bits))]
     pub fn contains(&self, attention: Attention) -> bool
         ensures { result ≡ contains attention self.now }
     {
@@ -138,6 +139,7 @@ impl AttnSet {
     }
 
     /// Makes this attention pending, others staying as they are.
+    #[tactic(auto, using(crate::proofs::AttentionBitsLemmas::with_by_bits, crate::proofs::AttentionBitsLemmas::or_fits))]
     pub fn insert(&mut self, attention: Attention)
         ensures { self.new ≡ with_attention attention self.old }
     {
@@ -145,6 +147,7 @@ impl AttnSet {
     }
 
     /// Takes this attention out, others staying as they are.
+    #[tactic(auto, using(crate::proofs::AttentionBitsLemmas::without_by_bits, crate::proofs::AttentionBitsLemmas::and_not_fits))]
     pub fn remove(&mut self, attention: Attention)
         ensures { self.new ≡ without attention self.old }
     {
