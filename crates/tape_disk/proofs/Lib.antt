@@ -1,0 +1,6 @@
+pub mod Passing
+pub mod Replays
+pub mod Sent
+pub mod Smears
+pub mod Steps
+pub mod Torn

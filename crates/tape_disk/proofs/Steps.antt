@@ -1,0 +1,38 @@
+-- Calls that failed and changed nothing, and one call more of a disk in memory.
+use Rattle.std.proofs.Common.{◌≡◌, ℕ, ◌+◌, List, [], length, drop, refl, sym, ap, ◌∙◌, subst, arith, Ok, Err, take-append-drop}
+use Rattle.std.proofs.lemmas.List.{append-nil}
+use Rattle.vtl_base.specs.declared.faults.DevFault.{DevFault}
+use Rattle.tape_disk.specs.Disk.{DiskState, Same, Smeared, Cut, Writes, Cuts, Syncs}
+use Rattle.tape_disk.specs.Past.{Synced, Past, Image, rested, kept, state_of, reads}
+
+all_stays : (at n : ℕ) (xs : List ℕ) → Smeared at n xs xs
+all_stays at n xs = record { before = (drop at xs, sym (take-append-drop at xs)); after = ([], sym (append-nil (drop (at + n) xs))); no_shorter = omega arith }
+
+all_there : (len : ℕ) (xs : List ℕ) → Cut len xs xs
+all_there len xs = (drop len xs, sym (take-append-drop len xs))
+
+module _ (old new : DiskState) (same : Same old new) (fault : DevFault) where
+  pub not_written : (at : ℕ) (bytes : List ℕ) → Writes at bytes (Err fault) old new
+  not_written at bytes = record {
+    written = tt;
+    smeared = subst (Smeared at (length bytes) old.seen) (sym same.seen) (all_stays at (length bytes) old.seen);
+    crash = λ image left. (image, same.crash image left, all_stays at (length bytes) image);
+  }
+
+  pub not_cut : (len : ℕ) → Cuts len (Err fault) old new
+  not_cut len = record {
+    done = tt;
+    smeared = subst (Cut len old.seen) (sym same.seen) (all_there len old.seen);
+    crash = λ image left. (image, same.crash image left, all_there len image);
+  }
+
+module _ (past mid new : Past) (f f' : ℕ) where
+  pub same_past : mid ≡ past → new ≡ rested mid → Same (state_of past f) (state_of new f')
+  same_past same rests = subst (λ (p : Past). Same (state_of past f) (state_of p f')) (sym (rests ∙ ap rested same)) (record { seen = refl; crash = λ image left. left })
+
+module _ (past new : Past) (f f' : ℕ) where
+  pub is_synced : new ≡ kept (Synced past.idle) past → Syncs (Ok tt) (state_of past f) (state_of new f')
+  is_synced is = subst (λ (p : Past). Syncs (Ok tt) (state_of past f) (state_of p f')) (sym is) (record {
+    durable = λ image left. left;
+    crash = λ image left. subst (Image past.base past.events) (sym left) (reads past.base past.events);
+  })

@@ -1,0 +1,9 @@
+pub mod Disk
+pub mod FailingDisk
+pub mod Faults
+pub mod FuseDisk
+pub mod MemDisk
+pub mod Memory
+pub mod Moments
+pub mod OnceDisk
+pub mod Past

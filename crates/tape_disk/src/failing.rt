@@ -1,0 +1,122 @@
+//! A disk over another one, whose calls fail when they are told to.
+ghost use Rattle.std.specs.Prelude.{◌≡◌, ◌+◌, ◌-◌, ◌≤◌, ◌^◌, min, length, OnOk, slice_range};
+ghost use Rattle.tape_disk.specs.Disk.{Elapses, Keeps, Passes, Same, Writes, Cuts, Syncs};
+ghost use Rattle.tape_disk.specs.Faults.{Passed};
+
+use crate::disk::Disk;
+use crate::failures::Failures;
+use vtl_base::DevFault;
+
+/// It counts the failures of its own calls, those of the disk below among them.
+#[derive(Drop)]
+pub(crate) struct Failing<D> {
+    pub(crate) disk: D,
+    pub(crate) failures: Failures,
+}
+
+impl<D: Disk> Failing<D> {
+    ghost use Rattle.tape_disk.specs.FailingDisk.{state_over};
+
+    pub(crate) fn new(disk: D) -> Failing<D>
+        ensures disk { result.disk ≡ disk }
+        ensures failures { result.failures.count.value ≡ 0 }
+    {
+        Failing {
+            disk,
+            failures: Failures::none(),
+        }
+    }
+
+    // The disk below is asked for no bytes, which moves its clock on.
+    fn refuse(&mut self) -> DevFault
+        ensures keeps { Keeps (D.state self.old.disk) (D.state self.new.disk) }
+        ensures time { (D.state self.old.disk).honest →
+            Elapses (D.state self.old.disk) (D.state self.new.disk) }
+        ensures same { (D.state self.old.disk).honest →
+            Same (D.state self.old.disk) (D.state self.new.disk) }
+        ensures count { self.new.failures.count.value ≡ self.old.failures.count.value + 1 }
+        ensures told { result.failures ≡ min self.new.failures.count.value (2 ^ 64 - 1) }
+    {
+        let _ = self.disk.read_at(0, &mut []);
+        self.failures.rise()
+    }
+
+    pub(crate) fn read_at(
+        &mut self,
+        passes: bool,
+        at: u64,
+        buffer: &mut [u8],
+    ) -> Result<(), DevFault>
+        requires { (D.state self.old.disk).honest →
+            at + length buffer.old ≤ length (D.state self.old.disk).seen }
+        ensures passes { Passes (state_over D.state self.old) (state_over D.state self.new) result }
+        ensures time { (D.state self.old.disk).honest →
+            Elapses (state_over D.state self.old) (state_over D.state self.new) }
+        ensures same { (D.state self.old.disk).honest →
+            Same (state_over D.state self.old) (state_over D.state self.new) }
+        ensures bytes { (D.state self.old.disk).honest → OnOk result
+            (buffer.new ≡ slice_range (D.state self.old.disk).seen at (at + length buffer.old)) }
+        ensures fails { Passed passes result (D.state self.old.disk) (D.state self.new.disk) }
+    {
+        if !passes {
+            return Err(self.refuse());
+        }
+        match self.disk.read_at(at, buffer) {
+            Ok(()) => Ok(()),
+            Err(_) => Err(self.failures.rise()),
+        }
+    }
+
+    pub(crate) fn write_at(&mut self, passes: bool, at: u64, bytes: &[u8]) -> Result<(), DevFault>
+        requires { (D.state self.old.disk).honest → at ≤ length (D.state self.old.disk).seen }
+        ensures passes { Passes (state_over D.state self.old) (state_over D.state self.new) result }
+        ensures time { (D.state self.old.disk).honest →
+            Elapses (state_over D.state self.old) (state_over D.state self.new) }
+        ensures writes { (D.state self.old.disk).honest →
+            Writes at bytes.now result (state_over D.state self.old) (state_over D.state self.new) }
+        ensures fails { Passed passes result (D.state self.old.disk) (D.state self.new.disk) }
+    {
+        if !passes {
+            return Err(self.refuse());
+        }
+        match self.disk.write_at(at, bytes) {
+            Ok(()) => Ok(()),
+            Err(_) => Err(self.failures.rise()),
+        }
+    }
+
+    pub(crate) fn cut(&mut self, passes: bool, len: u64) -> Result<(), DevFault>
+        requires { (D.state self.old.disk).honest → len ≤ length (D.state self.old.disk).seen }
+        ensures passes { Passes (state_over D.state self.old) (state_over D.state self.new) result }
+        ensures time { (D.state self.old.disk).honest →
+            Elapses (state_over D.state self.old) (state_over D.state self.new) }
+        ensures cuts { (D.state self.old.disk).honest →
+            Cuts len result (state_over D.state self.old) (state_over D.state self.new) }
+        ensures fails { Passed passes result (D.state self.old.disk) (D.state self.new.disk) }
+    {
+        if !passes {
+            return Err(self.refuse());
+        }
+        match self.disk.cut(len) {
+            Ok(()) => Ok(()),
+            Err(_) => Err(self.failures.rise()),
+        }
+    }
+
+    pub(crate) fn sync(&mut self, passes: bool) -> Result<(), DevFault>
+        ensures passes { Passes (state_over D.state self.old) (state_over D.state self.new) result }
+        ensures time { (D.state self.old.disk).honest →
+            Elapses (state_over D.state self.old) (state_over D.state self.new) }
+        ensures syncs { (D.state self.old.disk).honest →
+            Syncs result (state_over D.state self.old) (state_over D.state self.new) }
+        ensures fails { Passed passes result (D.state self.old.disk) (D.state self.new.disk) }
+    {
+        if !passes {
+            return Err(self.refuse());
+        }
+        match self.disk.sync() {
+            Ok(()) => Ok(()),
+            Err(_) => Err(self.failures.rise()),
+        }
+    }
+}

@@ -1,0 +1,19 @@
+//! A disk that may stop at any moment: what a read gives, and what a crash may leave.
+#![tactic(auto)]
+
+mod count;
+pub mod disk;
+mod failing;
+mod failures;
+pub mod fuse;
+mod log;
+pub mod memory;
+pub mod once;
+mod overwrite;
+#[cfg(test)]
+mod tests;
+
+pub use disk::Disk;
+pub use fuse::FuseDisk;
+pub use memory::MemDisk;
+pub use once::OnceDisk;

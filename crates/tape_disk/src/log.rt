@@ -1,0 +1,180 @@
+//! The log that a disk in memory keeps of its calls.
+ghost use Rattle.std.specs.Prelude.{◌≡◌, ◌-◌, length, OnOk, OnErr, IfOk};
+ghost use Rattle.tape_disk.specs.Past.{begun, rested, kept, syncs_of, landed, torn, Wrote, CutTo, Synced};
+
+use crate::count::Count;
+use crate::overwrite::overwrite;
+use std::alloc::{AllocError, Global};
+use std::collections::LinkedList;
+
+/// A call that changed the disk or made it safe. `idle` counts the calls before it, since the last such
+/// one, that did neither.
+#[derive(Drop)]
+pub(crate) enum Call {
+    Wrote {
+        idle: Count,
+        at: u64,
+        bytes: Vec<u8>,
+    },
+    CutTo {
+        idle: Count,
+        len: u64,
+    },
+    Synced {
+        idle: Count,
+    },
+}
+
+/// What was on the disk at first, and each call since, the newest first.
+#[derive(Drop)]
+pub(crate) struct Log {
+    alloc: Global,
+    pub(crate) base: Vec<u8>,
+    pub(crate) calls: LinkedList<Call>,
+    pub(crate) idle: Count,
+}
+
+impl Call {
+    ghost use Rattle.tape_disk.specs.Memory.{event_of};
+
+    fn copy(&self, alloc: Global) -> Result<Call, AllocError>
+        ensures { IfOk result (λ copy. event_of copy ≡ event_of self.now) }
+    {
+        Ok(match self {
+            Call::Wrote { idle, at, bytes } => Call::Wrote {
+                idle: idle.copy(),
+                at: *at,
+                bytes: bytes.to_vec(alloc)?,
+            },
+            Call::CutTo { idle, len } => Call::CutTo {
+                idle: idle.copy(),
+                len: *len,
+            },
+            Call::Synced { idle } => Call::Synced { idle: idle.copy() },
+        })
+    }
+}
+
+impl Log {
+    ghost use Rattle.tape_disk.specs.Memory.{event_of, past_of};
+
+    pub(crate) fn new(alloc: Global, base: Vec<u8>) -> Log
+        ensures { past_of result ≡ begun base.items }
+    {
+        Log {
+            alloc,
+            base,
+            calls: LinkedList::new(alloc),
+            idle: Count::new(),
+        }
+    }
+
+    /// Counts a call that changed nothing.
+    pub(crate) fn rest(&mut self)
+        ensures { past_of self.new ≡ rested (past_of self.old) }
+    {
+        self.idle = self.idle.after();
+    }
+
+    /// Keeps a write.
+    pub(crate) fn wrote(&mut self, at: u64, bytes: &[u8]) -> Result<(), AllocError>
+        ensures ok { OnOk result (past_of self.new ≡
+            kept (Wrote self.old.idle.value at bytes.now) (past_of self.old)) }
+        ensures err { OnErr result (past_of self.new ≡ past_of self.old) }
+    {
+        let bytes = bytes.to_vec(self.alloc)?;
+        let idle = self.idle.copy();
+        self.keep(Call::Wrote { idle, at, bytes })
+    }
+
+    /// Keeps a cut.
+    pub(crate) fn cut_to(&mut self, len: u64) -> Result<(), AllocError>
+        ensures ok { OnOk result (past_of self.new ≡
+            kept (CutTo self.old.idle.value len) (past_of self.old)) }
+        ensures err { OnErr result (past_of self.new ≡ past_of self.old) }
+    {
+        let idle = self.idle.copy();
+        self.keep(Call::CutTo { idle, len })
+    }
+
+    /// Keeps a sync.
+    pub(crate) fn synced(&mut self) -> Result<(), AllocError>
+        ensures ok { OnOk result (past_of self.new ≡
+            kept (Synced self.old.idle.value) (past_of self.old)) }
+        ensures err { OnErr result (past_of self.new ≡ past_of self.old) }
+    {
+        let idle = self.idle.copy();
+        self.keep(Call::Synced { idle })
+    }
+
+    fn keep(&mut self, call: Call) -> Result<(), AllocError>
+        ensures ok { OnOk result (past_of self.new ≡ kept (event_of call) (past_of self.old)) }
+        ensures err { OnErr result (past_of self.new ≡ past_of self.old) }
+    {
+        self.calls.push_front(call)?;
+        self.idle = Count::new();
+        Ok(())
+    }
+
+    pub(crate) fn copy(&self) -> Result<Log, AllocError>
+        ensures { IfOk result (λ copy. past_of copy ≡ past_of self.now) }
+    {
+        let base = self.base.to_vec(self.alloc)?;
+        let mut calls = LinkedList::new(self.alloc);
+        for call in self.calls.iter() {
+            calls.push_back(call.copy(self.alloc)?)?;
+        }
+        Ok(Log {
+            alloc: self.alloc,
+            base,
+            calls,
+            idle: self.idle.copy(),
+        })
+    }
+
+    pub(crate) fn syncs(&self) -> u64
+        ensures { result ≡ syncs_of (past_of self.now).events }
+    {
+        self.calls
+            .iter()
+            .filter(|call| matches!(call, Call::Synced { .. }))
+            .count() as u64
+    }
+
+    /// What a crash leaves: of the bytes written since the last sync the first `keep` land, and the others
+    /// hold the fill.
+    pub(crate) fn torn(self, keep: u64, fill: u8) -> Result<Vec<u8>, AllocError>
+        ensures { IfOk result (λ image. image.items ≡ torn self.base.items keep fill (past_of self).events) }
+    {
+        let mut syncs = self.syncs();
+        let mut left = keep;
+        let Log {
+            base: mut image,
+            mut calls,
+            ..
+        } = self;
+        while let Some(call) = calls.pop_back() {
+            match call {
+                Call::Wrote { at, mut bytes, .. } => {
+                    if syncs == 0 {
+                        land(&mut bytes, &mut left, fill);
+                    }
+                    overwrite(&mut image, at as usize, &bytes)?;
+                }
+                Call::CutTo { len, .. } => image.truncate(len as usize),
+                Call::Synced { .. } => syncs -= 1,
+            }
+        }
+        Ok(image)
+    }
+}
+
+// The bytes that are left to land stay, and the others are filled.
+fn land(bytes: &mut Vec<u8>, left: &mut u64, fill: u8)
+    ensures bytes { bytes.new.items ≡ landed left.old fill bytes.old.items }
+    ensures left { left.new ≡ left.old - length bytes.old.items }
+{
+    let lands = bytes.len().min(*left as usize);
+    bytes[lands..].fill(fill);
+    *left -= lands as u64;
+}
