@@ -1,0 +1,10 @@
+use Rattle.drive_core.specs.State.{machine_of, medium_in}
+use Rattle.drive_core.specs.Execute.{HonestIn, asked}
+use Rattle.drive_core.proofs.SettledLemmas.{settled}
+use Rattle.drive_core.proofs.drives.Drive.execute.Goals as goal
+
+pub returns-in-Ok-clause-settled : goal.returns-in-Ok-clause-settled
+returns-in-Ok-clause-settled g c =
+    let tape = g.M.Catalog.tape in
+    let step = rw c.in-Ok.is at c.check.ensures in
+    settled (HonestIn g.M.Medium.honest (medium_in c.args.self.now.bay)) (machine_of tape c.args.self.now) (asked c.args.nexus c.args.cdb.now c.args.sent.now) c.in-Ok.reply step.made (machine_of tape c.check.new.self) step.step

@@ -1,0 +1,24 @@
+-- Faults that may come into a command, and what a host is told of each.
+use Rattle.std.specs.Prelude.{[], Result, Ok, Err}
+use Rattle.scsi_wire.specs.declared.replies.Reply.{Reply}
+use Rattle.scsi_wire.specs.declared.sense_data.Sense.{Sense}
+use Rattle.scsi_wire.specs.Replies.{check_with}
+use Rattle.scsi_wire.specs.Senses.{no_memory, write_fault, read_fault, no_room}
+use Rattle.drive_core.specs.declared.faults.Fault.{Fault}
+use Rattle.drive_core.specs.declared.faults.Fault.TheVariants.{NoMemory, Writing, Reading, SideFull}
+
+-- the sense data of a fault (SPC-4, SSC-4, additional sense codes; which is told where is own)
+abbrev pub fault_sense : Fault → Sense
+fault_sense NoMemory = no_memory
+fault_sense Writing = write_fault
+fault_sense Reading = read_fault
+fault_sense (SideFull residue) = no_room residue
+
+-- CHECK CONDITION for a fault, with no data (own)
+abbrev pub fault_reply : Fault → Reply
+fault_reply fault = check_with (fault_sense fault) []
+
+-- what a host sees of an answer: the reply, or what a fault is told by (own)
+abbrev pub reply_of : Result Reply Fault → Reply
+reply_of (Ok reply) = reply
+reply_of (Err fault) = fault_reply fault

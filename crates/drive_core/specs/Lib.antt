@@ -1,0 +1,16 @@
+pub mod State
+pub mod Relations
+pub mod Faults
+pub mod WriteOut
+pub mod Rewind
+pub mod Add
+pub mod Write
+pub mod Marks
+pub mod Read
+pub mod Work
+pub mod Load
+pub mod Step
+pub mod Synchronize
+pub mod Execute
+pub mod Run
+pub mod Determined

@@ -1,0 +1,38 @@
+-- Commands that store all that is pending before they are answered, and answers that acknowledge.
+use Rattle.std.specs.Prelude.{◌≡◌, ◌⊎◌, ℕ, List, [], Bool, true, false, not, ◌&&◌, nat_lt, Option, None, Some, Result, Ok, Err, IsOkAnd, IsSomeAnd, IfSome}
+use Rattle.scsi_wire.specs.declared.commands.Command.{Command}
+use Rattle.scsi_wire.specs.declared.commands.Command.TheVariants.{TestUnitReady, Rewind, Read, Write, WriteFilemarks}
+use Rattle.scsi_wire.specs.declared.replies.Reply.{Reply}
+use Rattle.scsi_wire.specs.declared.replies.Status.TheVariants.{Good, Check}
+use Rattle.scsi_wire.specs.declared.sense_data.Sense.{Sense}
+use Rattle.scsi_wire.specs.declared.sense_data.SenseKey.TheVariants.{NoSense}
+use Rattle.scsi_wire.specs.Commands.{decoded}
+use Rattle.volume_core.specs.Medium.{Tape}
+use Rattle.drive_core.specs.State.{Machine, DriveState, medium_in}
+
+-- whether a command synchronizes: REWIND; WRITE FILEMARKS without IMMED, of none too; a READ of some
+-- bytes; an unbuffered WRITE of some (SSC-4, buffered mode; READ and REWIND own)
+abbrev pub synchronizes : Bool → Command → Bool
+synchronizes buffered TestUnitReady = false
+synchronizes buffered Rewind = true
+synchronizes buffered (Read length suppress) = nat_lt 0 length
+synchronizes buffered (Write length) = not buffered && nat_lt 0 length
+synchronizes buffered (WriteFilemarks count immediate) = not immediate
+
+-- a command block of a synchronizing command (own)
+abbrev pub IsSynchronizing : Bool → List ℕ → Type 0
+IsSynchronizing buffered cdb = IsOkAnd (decoded cdb) (λ command. synchronizes buffered command ≡ true)
+
+-- what was written is there, and the end is near: key 0, EOM, 00/02 (SSC-4, early warning)
+abbrev pub IsEarlyWarning : Sense → Type 0
+IsEarlyWarning sense =
+    (sense.key ≡ NoSense) × (sense.end_of_medium ≡ true) × (sense.code ≡ 0) × (sense.qualifier ≡ 2)
+
+-- GOOD, or CHECK CONDITION with an early warning (own)
+abbrev pub Acknowledges : Reply → Type 0
+Acknowledges reply =
+    (reply.status ≡ Good) ⊎ ((reply.status ≡ Check) × IsSomeAnd reply.sense IsEarlyWarning)
+
+-- the medium in the drive, if there is one, has nothing pending (own)
+abbrev pub NothingPending : Machine → Type 0
+NothingPending machine = IfSome (medium_in machine.bay) (λ tape. tape.pending ≡ [])

@@ -1,0 +1,52 @@
+//! What may come into a command, beside what the standard says.
+ghost use Rattle.std.specs.Prelude.{◌≡◌};
+ghost use Rattle.drive_core.specs.Faults.{fault_sense, fault_reply};
+
+use scsi_wire::{Reply, Sense};
+use std::alloc::Global;
+use vtl_base::{Bytes, NoMemory};
+
+/// A fault that came into a command.
+#[derive(Clone, Copy, PartialEq, Eq, Debug)]
+pub enum Fault {
+    /// A growth was refused. Nothing changed, but what was pending may have been stored.
+    NoMemory,
+    /// The device failed while what was pending was stored. The medium has failed.
+    Writing,
+    /// The device failed while a block was read. The medium has failed.
+    Reading,
+    /// The side is full, and nothing changed. The residue is what was not written, where it is told:
+    /// bytes of a block, or marks.
+    SideFull { residue: Option<u32> },
+}
+
+impl From<NoMemory> for Fault {
+    ghost use Rattle.std.specs.Prelude.{◌≡◌};
+    ghost use Rattle.drive_core.specs.declared.faults.Fault.TheVariants as Faults;
+
+    ghost from_gives = { λ _ fault. fault ≡ Faults.NoMemory };
+
+    fn from(_: NoMemory) -> Self {
+        Fault::NoMemory
+    }
+}
+
+impl Fault {
+    /// What a host is told of it (own). It takes no memory.
+    pub fn reply(self, alloc: Global) -> Reply
+        ensures { result ≡ fault_reply self }
+    {
+        Reply::check(self.sense(), Bytes::new(alloc))
+    }
+
+    fn sense(self) -> Sense
+        ensures { result ≡ fault_sense self }
+    {
+        match self {
+            Fault::NoMemory => Sense::no_memory(),
+            Fault::Writing => Sense::write_fault(),
+            Fault::Reading => Sense::read_fault(),
+            Fault::SideFull { residue } => Sense::no_room(residue),
+        }
+    }
+}

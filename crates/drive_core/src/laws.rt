@@ -1,0 +1,23 @@
+//! Laws of the drive machine.
+ghost use Rattle.drive_core.specs.Determined.{HonestStepsAreSteps, StepsAreDetermined, RunsAreDetermined};
+ghost use Rattle.drive_core.specs.Run.{RunsAppend};
+
+use volume_core::Medium;
+
+/// Over an honest medium, what `execute` does is a step of the machine itself.
+pub fn honest_steps<M: Medium>()
+    ensures { HonestStepsAreSteps M.honest }
+{}
+
+/// Where no fault, want of memory or full side came, an input has one answer, makes one list of
+/// changes and leaves one drive, however its volume is split into what is stored and what is
+/// pending; and so have the inputs of a run.
+pub fn answers_are_determined()
+    ensures step { StepsAreDetermined }
+    ensures run { RunsAreDetermined }
+{}
+
+/// A run, and one that goes on from where it ended, are one run.
+pub fn runs_append()
+    ensures { RunsAppend }
+{}

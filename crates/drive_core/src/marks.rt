@@ -1,0 +1,60 @@
+//! WRITE FILEMARKS.
+ghost use Rattle.std.specs.Prelude.{◌≡◌};
+ghost use Rattle.drive_core.specs.State.{IsOn, IsReady, mounted};
+ghost use Rattle.drive_core.specs.Marks.{MarksWork};
+ghost use Rattle.drive_core.specs.Execute.{Carries};
+
+use crate::adds::add;
+use crate::bays::Position;
+use crate::faults::Fault;
+use crate::settles::write_out;
+use scsi_wire::Reply;
+use std::alloc::Global;
+use volume_core::{Change, Medium};
+use vtl_base::Bytes;
+
+/// Puts marks at the position, which is then behind them and the end of data (SSC-4, WRITE
+/// FILEMARKS(6)). Unless the answer is to be immediate, all is stored before it, marks or none.
+pub fn write_marks<M: Medium>(
+    alloc: Global,
+    medium: &mut M,
+    position: &mut Position,
+    count: u32,
+    immediate: bool,
+) -> Result<Reply, Fault>
+    requires { IsReady (mounted (M.tape medium.old) position.old) }
+    ensures carries { Carries M.tape M.moves M.failures M.honest
+        (MarksWork count immediate)
+        medium.old position.old result medium.new position.new }
+    ensures on { IsOn (M.tape medium.new) position.new }
+{
+    if count == 0 {
+        return write_none(alloc, medium, position, immediate);
+    }
+    let change = Change::Marks {
+        part: position.part,
+        at: position.object,
+        count,
+    };
+    add(alloc, medium, position, change, count, !immediate)
+}
+
+// No marks: stores what is pending, unless the answer is to be immediate.
+fn write_none<M: Medium>(
+    alloc: Global,
+    medium: &mut M,
+    position: &Position,
+    immediate: bool,
+) -> Result<Reply, Fault>
+    requires { IsReady (mounted (M.tape medium.old) position.now) }
+    ensures carries { Carries M.tape M.moves M.failures M.honest
+        (MarksWork 0 immediate)
+        medium.old position.now result medium.new position.now }
+    ensures on { IsOn (M.tape medium.new) position.now }
+{
+    if immediate {
+        return Ok(Reply::good(Bytes::new(alloc)));
+    }
+    write_out(medium)?;
+    Ok(Reply::good(Bytes::new(alloc)))
+}

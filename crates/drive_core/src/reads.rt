@@ -1,0 +1,122 @@
+//! READ.
+ghost use Rattle.std.specs.Prelude.{◌≡◌, ◌≤◌, ◌↔◌, [], false, true, Some, length, IfOk};
+ghost use Rattle.vtl_base.specs.declared.limits.TheConstants.{MAX_BLOCK};
+ghost use Rattle.volume_core.specs.declared.objects.Kind.TheVariants as Kinds;
+ghost use Rattle.volume_core.specs.Volume.{kind_at, block_at};
+ghost use Rattle.volume_core.specs.Medium.{volume_of};
+ghost use Rattle.drive_core.specs.State.{IsOn, IsReady, mounted};
+ghost use Rattle.drive_core.specs.Read.{ReadWork, Gives, FetchesBlock, block_reply};
+ghost use Rattle.drive_core.specs.Execute.{FaultHasCause};
+
+use crate::bays::Position;
+use crate::faults::Fault;
+use crate::settles::write_out;
+use scsi_wire::{Reply, Sense};
+use std::alloc::Global;
+use volume_core::{Kind, Medium, MediumError};
+use vtl_base::{Bytes, ObjNo, PartNo};
+
+/// Stores what is pending, then gives the object at the position and goes behind it (SSC-4,
+/// READ(6)). Of no bytes nothing is done.
+pub fn read<M: Medium>(
+    alloc: Global,
+    medium: &mut M,
+    position: &mut Position,
+    length: u32,
+    suppress_length: bool,
+) -> Result<Reply, Fault>
+    requires { IsReady (mounted (M.tape medium.old) position.old) }
+    ensures work { ReadWork (M.honest medium.old) suppress_length length
+        (mounted (M.tape medium.old) position.old) result []
+        (mounted (M.tape medium.new) position.new) }
+    ensures on { IsOn (M.tape medium.new) position.new }
+    ensures moved { M.moves medium.old [] medium.new }
+    ensures cause { FaultHasCause result (M.failures medium.old) (M.failures medium.new) }
+    ensures honesty { M.honest medium.old ↔ M.honest medium.new }
+{
+    if length == 0 {
+        return Ok(Reply::good(Bytes::new(alloc)));
+    }
+    write_out(medium)?;
+    give(alloc, medium, position, length, suppress_length)
+}
+
+// Gives the object at the position, where nothing is pending.
+fn give<M: Medium>(
+    alloc: Global,
+    medium: &mut M,
+    position: &mut Position,
+    length: u32,
+    suppress_length: bool,
+) -> Result<Reply, Fault>
+    requires { IsReady (mounted (M.tape medium.old) position.old) }
+    ensures answer { Gives (M.honest medium.old) suppress_length length
+        (mounted (M.tape medium.old) position.old) result
+        (mounted (M.tape medium.new) position.new) }
+    ensures on { IsOn (M.tape medium.new) position.new }
+    ensures moved { M.moves medium.old [] medium.new }
+    ensures cause { FaultHasCause result (M.failures medium.old) (M.failures medium.new) }
+    ensures honesty { M.honest medium.old ↔ M.honest medium.new }
+{
+    if position.object >= medium.count(position.part) {
+        return Ok(Reply::check(Sense::end_of_data(Some(length)), Bytes::new(alloc)));
+    }
+    match medium.kind_at(position.part, position.object) {
+        Some(Kind::Block) => {
+            let block = fetch(alloc, medium, position.part, position.object)?;
+            position.object += 1;
+            Ok(block_reply(block, length, suppress_length))
+        }
+        Some(Kind::Mark) => {
+            position.object += 1;
+            Ok(Reply::check(Sense::at_mark(length), Bytes::new(alloc)))
+        }
+        None => unreachable!(),
+    }
+}
+
+// The bytes of a block.
+fn fetch<M: Medium>(
+    alloc: Global,
+    medium: &mut M,
+    part: PartNo,
+    at: ObjNo,
+) -> Result<Vec<u8>, Fault>
+    requires awake { (M.tape medium.old).awake ≡ true }
+    requires works { (M.tape medium.old).failed ≡ false }
+    requires block { kind_at (volume_of (M.tape medium.old)) part at ≡ Some Kinds.Block }
+    ensures bytes { M.honest medium.old
+        → IfOk result (λ block. block_at (volume_of (M.tape medium.old)) part at ≡ Some block.items) }
+    ensures bound { IfOk result (λ block. length block.items ≤ MAX_BLOCK) }
+    ensures answer { FetchesBlock (M.tape medium.old) result (M.tape medium.new) }
+    ensures moved { M.moves medium.old [] medium.new }
+    ensures cause { FaultHasCause result (M.failures medium.old) (M.failures medium.new) }
+    ensures honesty { M.honest medium.old ↔ M.honest medium.new }
+{
+    let mut block = Vec::new(alloc);
+    match medium.fetch(part, at, &mut block) {
+        Ok(()) => Ok(block),
+        Err(MediumError::NoMemory) => Err(Fault::NoMemory),
+        Err(MediumError::Device) => Err(Fault::Reading),
+        Err(_) => unreachable!(),
+    }
+}
+
+// GOOD with the bytes that fit, or the wrong length told beside them.
+fn block_reply(mut block: Vec<u8>, asked: u32, suppress_length: bool) -> Reply
+    requires { length block.items ≤ MAX_BLOCK }
+    ensures { result ≡ block_reply suppress_length asked block.items }
+{
+    let has = block.len() as u32;
+    if asked == has {
+        return Reply::good(Bytes::from_vec(block));
+    }
+    block.truncate(asked as usize);
+    if suppress_length {
+        return Reply::good(Bytes::from_vec(block));
+    }
+    Reply::check(
+        Sense::wrong_length(asked.wrapping_sub(has)),
+        Bytes::from_vec(block),
+    )
+}

@@ -1,0 +1,30 @@
+//! REWIND.
+ghost use Rattle.std.specs.Prelude.{◌≡◌};
+ghost use Rattle.drive_core.specs.State.{IsOn, IsReady, mounted};
+ghost use Rattle.drive_core.specs.Rewind.{RewindWork};
+ghost use Rattle.drive_core.specs.Execute.{Carries};
+
+use crate::bays::Position;
+use crate::faults::Fault;
+use crate::settles::write_out;
+use scsi_wire::Reply;
+use std::alloc::Global;
+use volume_core::Medium;
+use vtl_base::Bytes;
+
+/// Stores what is pending, and goes to object 0 of the partition (SSC-4, REWIND).
+pub fn rewind<M: Medium>(
+    alloc: Global,
+    medium: &mut M,
+    position: &mut Position,
+) -> Result<Reply, Fault>
+    requires { IsReady (mounted (M.tape medium.old) position.old) }
+    ensures carries { Carries M.tape M.moves M.failures M.honest
+        RewindWork
+        medium.old position.old result medium.new position.new }
+    ensures on { IsOn (M.tape medium.new) position.new }
+{
+    write_out(medium)?;
+    position.object = 0;
+    Ok(Reply::good(Bytes::new(alloc)))
+}

@@ -1,0 +1,49 @@
+//! The work of each command on a tape.
+ghost use Rattle.std.specs.Prelude.{◌≡◌, ◌≤◌, length};
+ghost use Rattle.vtl_base.specs.declared.limits.TheConstants.{MAX_BLOCK};
+ghost use Rattle.scsi_wire.specs.Commands.{sent_length};
+ghost use Rattle.drive_core.specs.State.{IsOn, IsReady, mounted};
+ghost use Rattle.drive_core.specs.Execute.{Carries};
+ghost use Rattle.drive_core.specs.Work.{TapeWork};
+
+use crate::bays::Position;
+use crate::faults::Fault;
+use crate::marks::write_marks;
+use crate::reads::read;
+use crate::rewinds::rewind;
+use crate::writes::write;
+use scsi_wire::{Command, Reply};
+use std::alloc::Global;
+use volume_core::Medium;
+use vtl_base::Bytes;
+
+/// Carries a command out on a tape that is ready.
+pub fn work<M: Medium>(
+    alloc: Global,
+    medium: &mut M,
+    position: &mut Position,
+    buffered: bool,
+    command: Command,
+    sent: &[u8],
+) -> Result<Reply, Fault>
+    requires ready { IsReady (mounted (M.tape medium.old) position.old) }
+    requires sent { length sent.now ≡ sent_length command }
+    requires short { sent_length command ≤ MAX_BLOCK }
+    ensures carries { Carries M.tape M.moves M.failures M.honest
+        (TapeWork (M.honest medium.old) command buffered sent.now)
+        medium.old position.old result medium.new position.new }
+    ensures on { IsOn (M.tape medium.new) position.new }
+{
+    match command {
+        Command::TestUnitReady => Ok(Reply::good(Bytes::new(alloc))),
+        Command::Rewind => rewind(alloc, medium, position),
+        Command::Read {
+            length,
+            suppress_length,
+        } => read(alloc, medium, position, length, suppress_length),
+        Command::Write { .. } => write(alloc, medium, position, buffered, sent),
+        Command::WriteFilemarks { count, immediate } => {
+            write_marks(alloc, medium, position, count, immediate)
+        }
+    }
+}
