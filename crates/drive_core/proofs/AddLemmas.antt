@@ -1,5 +1,5 @@
 -- What a change at the position makes of a tape, and how it is answered.
-use Rattle.std.proofs.Common.{◌≡◌, ◌<◌, ◌≤◌, ◌+◌, ◌++◌, ℕ, zero, suc, List, [], ◌∷◌, Option, None, Some, Result, Ok, Err, Bool, true, false, take, length, slice_get, slice_set, refl, arith, sym, ◌∙◌, ap, inl, inr, length-append, nat_lt, nat_le, ◌&&◌}
+use Rattle.std.proofs.Common.{◌≡◌, ◌<◌, ◌≤◌, ◌+◌, ℕ, zero, suc, List, [], ◌∷◌, Some, Result, Ok, Err, Bool, true, length, slice_get, slice_set, refl, arith, sym, ◌∙◌, ap, inl, inr, length-append}
 use Rattle.std.proofs.lemmas.Bool.Decides.{nat_tests}
 use Rattle.std.proofs.lemmas.List.{length-take-le}
 use Rattle.scsi_wire.specs.declared.replies.Reply.{Reply}
@@ -13,7 +13,7 @@ use Rattle.volume_core.specs.Medium.{Tape, volume_of, Accepts, HasCause}
 use Rattle.drive_core.specs.declared.bays.Position.{Position}
 use Rattle.drive_core.specs.declared.faults.Fault.{Fault}
 use Rattle.drive_core.specs.declared.faults.Fault.TheVariants.{Writing, NoMemory, Reading, SideFull}
-use Rattle.drive_core.specs.State.{Mounted, mounted, IsReady}
+use Rattle.drive_core.specs.State.{mounted, IsReady}
 use Rattle.drive_core.specs.Add.{AddWork, IsAt, Finishes, amount_of, behind, refused_as}
 use Rattle.drive_core.specs.Execute.{FaultHasCause}
 

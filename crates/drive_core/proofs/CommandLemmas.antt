@@ -1,5 +1,5 @@
 -- Where no fault comes, a command's work has one answer, command by command.
-use Rattle.std.proofs.Common.{◌≡◌, ◌+◌, ℕ, zero, suc, List, [], ◌∷◌, Option, None, Some, Result, Ok, Err, Bool, true, false, not, sym, ◌∙◌, ap, refl, slice_get, length}
+use Rattle.std.proofs.Common.{◌≡◌, ℕ, zero, suc, List, [], ◌∷◌, Option, None, Some, Result, Ok, Bool, true, false, not, sym, ◌∙◌, ap, slice_get}
 use Rattle.scsi_wire.specs.declared.replies.Reply.{Reply}
 use Rattle.scsi_wire.specs.declared.commands.Command.{Command}
 use Rattle.scsi_wire.specs.declared.commands.Command.TheVariants.{TestUnitReady, Rewind, Read, Write, WriteFilemarks}

@@ -1,5 +1,5 @@
 -- Where no fault comes, an input has one answer, check by check; and so have the inputs of a run.
-use Rattle.std.proofs.Common.{◌≡◌, ◌++◌, ℕ, List, [], ◌∷◌, map, Option, None, Some, Result, Ok, Err, Bool, true, false, sym, ◌∙◌, ap, refl, length, ◌==◌, if◌then◌else◌}
+use Rattle.std.proofs.Common.{◌≡◌, ◌++◌, List, [], ◌∷◌, Option, None, Some, Ok, Bool, true, false, sym, ◌∙◌, ap, refl, length, ◌==◌}
 use Rattle.scsi_wire.specs.declared.replies.Reply.{Reply}
 use Rattle.scsi_wire.specs.declared.sense_data.Sense.{Sense}
 use Rattle.scsi_wire.specs.declared.attention_sets.Attention.{Attention}
@@ -7,8 +7,7 @@ use Rattle.scsi_wire.specs.declared.opcodes.Opcode.{Opcode}
 use Rattle.scsi_wire.specs.declared.commands.Command.{Command}
 use Rattle.scsi_wire.specs.Attentions.{attention_of, told, told_to_all}
 use Rattle.scsi_wire.specs.declared.attention_sets.Attention.TheVariants.{MediumChanged}
-use Rattle.scsi_wire.specs.Replies.{check_with, good_with}
-use Rattle.scsi_wire.specs.Opcodes.{opcode_of, is_exempt, is_reserved, needs_tape}
+use Rattle.scsi_wire.specs.Opcodes.{opcode_of, is_exempt, needs_tape}
 use Rattle.scsi_wire.specs.Commands.{command_of, sent_length}
 use Rattle.scsi_wire.specs.Senses.{unknown_code, bad_field, not_present, medium_failed, late_fault, attention_sense}
 use Rattle.volume_core.specs.declared.changes.Change.{Change}
@@ -16,14 +15,12 @@ use Rattle.volume_core.specs.Medium.{Tape}
 use Rattle.drive_core.specs.declared.bays.Bay.{Bay}
 use Rattle.drive_core.specs.declared.bays.Bay.TheVariants.{Empty, Unloaded, Loaded}
 use Rattle.drive_core.specs.declared.bays.Position.{Position}
-use Rattle.drive_core.specs.declared.faults.Fault.{Fault}
-use Rattle.drive_core.specs.State.{Machine, DriveState, Kept, Mounted, mounted, with_mounted, bay_of, loaded, start}
+use Rattle.drive_core.specs.State.{Machine, DriveState, Kept, mounted, with_mounted, bay_of, loaded, start}
 use Rattle.drive_core.specs.Work.{Request, TapeWork, OnTapeIn}
 use Rattle.drive_core.specs.Load.{LoadsWhere, LoadsInto}
 use Rattle.drive_core.specs.Relations.{Refuses}
-use Rattle.drive_core.specs.Step.{Input, Execute, Load, Step, AtCode, AtExempt, AtDeferred, AtAttention, AtTape, AtBay, AtMedium, AtFields, AtMode, AtSent, keeps_out, suits_mode}
-use Rattle.drive_core.specs.Run.{Run}
-use Rattle.drive_core.specs.Determined.{Sight, sight_of, seen_of, AskAlike, AllAskAlike, AreAlike, StepsAreDetermined, RunsAreDetermined}
+use Rattle.drive_core.specs.Step.{Execute, Load, Step, AtCode, AtExempt, AtDeferred, AtAttention, AtTape, AtBay, AtMedium, AtFields, AtMode, AtSent, suits_mode}
+use Rattle.drive_core.specs.Determined.{Sight, sight_of, seen_of, AreAlike, StepsAreDetermined, RunsAreDetermined}
 use Rattle.drive_core.proofs.CommandLemmas.{works}
 
 abbrev Seen : Type 0

@@ -1,11 +1,9 @@
 -- A synchronizing command that is acknowledged leaves nothing pending, check by check.
-use Rattle.std.proofs.Common.{◌≡◌, ◌≢◌, ℕ, zero, suc, List, [], ◌∷◌, Option, None, Some, Result, Ok, Err, Bool, true, false, not, ◌&&◌, length, ◌==◌, if◌then◌else◌, refl, sym, ◌∙◌, ap, subst, inl, inr, nat_lt}
+use Rattle.std.proofs.Common.{◌≡◌, ◌≢◌, ℕ, zero, suc, List, [], ◌∷◌, Option, None, Some, Ok, Bool, true, false, length, ◌==◌, refl, subst, inl, inr, nat_lt}
 use Rattle.std.specs.Prelude.{IsOkAnd}
 use Rattle.std.proofs.lemmas.Bool.{eqb-true}
 use Rattle.scsi_wire.specs.declared.replies.Reply.{Reply}
-use Rattle.scsi_wire.specs.declared.replies.Status.TheVariants.{Good, Check}
 use Rattle.scsi_wire.specs.declared.sense_data.Sense.{Sense}
-use Rattle.scsi_wire.specs.declared.sense_data.SenseKey.{SenseKey}
 use Rattle.scsi_wire.specs.declared.sense_data.SenseKey.TheVariants.{NoSense}
 use Rattle.scsi_wire.specs.declared.attention_sets.Attention.{Attention}
 use Rattle.scsi_wire.specs.declared.attention_sets.Attention.TheVariants.{PowerOn, MediumChanged, ReservationsPreempted, RegistrationsPreempted, ReservationsReleased, ModeChanged}
@@ -14,9 +12,9 @@ use Rattle.scsi_wire.specs.declared.commands.Command.{Command}
 use Rattle.scsi_wire.specs.declared.commands.Command.TheVariants.{TestUnitReady, Rewind, Read, Write, WriteFilemarks}
 use Rattle.scsi_wire.specs.Attentions.{attention_of}
 use Rattle.scsi_wire.specs.Attentions.{told as taught}
-use Rattle.scsi_wire.specs.Opcodes.{opcode_of, is_exempt, is_reserved, needs_tape}
+use Rattle.scsi_wire.specs.Opcodes.{opcode_of, is_exempt, needs_tape}
 use Rattle.scsi_wire.specs.Commands.{command_of, sent_length, checked, decoded_as}
-use Rattle.scsi_wire.specs.Senses.{unknown_code, bad_field, not_present, medium_failed, late_fault, attention_sense, no_room}
+use Rattle.scsi_wire.specs.Senses.{bad_field, not_present, medium_failed, late_fault, attention_sense, no_room}
 use Rattle.scsi_wire.specs.Replies.{check_with}
 use Rattle.volume_core.specs.declared.changes.Change.{Change}
 use Rattle.volume_core.specs.declared.changes.Refusal.{Refusal}
@@ -25,19 +23,14 @@ use Rattle.volume_core.specs.Volume.{refusal_of}
 use Rattle.volume_core.specs.Medium.{Tape}
 use Rattle.drive_core.specs.declared.bays.Bay.{Bay}
 use Rattle.drive_core.specs.declared.bays.Bay.TheVariants.{Empty, Unloaded, Loaded}
-use Rattle.drive_core.specs.declared.bays.Position.{Position}
-use Rattle.drive_core.specs.declared.faults.Fault.{Fault}
-use Rattle.drive_core.specs.declared.faults.Fault.TheVariants.{NoMemory, Writing, Reading, SideFull}
-use Rattle.drive_core.specs.State.{Machine, DriveState, Mounted, mounted, contents_of}
-use Rattle.drive_core.specs.Faults.{reply_of, fault_sense}
-use Rattle.drive_core.specs.WriteOut.{WritesOutTo}
-use Rattle.drive_core.specs.Add.{AddWork, AddAnswer, amount_of}
+use Rattle.drive_core.specs.State.{Machine, Mounted, mounted, contents_of}
+use Rattle.drive_core.specs.Add.{AddAnswer, amount_of}
 use Rattle.drive_core.specs.Write.{WriteWork, put_at}
 use Rattle.drive_core.specs.Marks.{MarksWork, marks_at}
 use Rattle.drive_core.specs.Read.{ReadWork}
 use Rattle.drive_core.specs.Work.{Request, TapeWork, OnTapeIn}
 use Rattle.drive_core.specs.Relations.{Refuses}
-use Rattle.drive_core.specs.Step.{AtCode, AtExempt, AtDeferred, AtAttention, AtReservation, AtTape, AtBay, AtMedium, AtFields, AtMode, AtSent, Executes, keeps_out, suits_mode}
+use Rattle.drive_core.specs.Step.{AtCode, AtExempt, AtDeferred, AtAttention, AtTape, AtBay, AtMedium, AtFields, AtMode, AtSent, Executes, suits_mode}
 use Rattle.drive_core.specs.Synchronize.{synchronizes, IsSynchronizing, Acknowledges, NothingPending}
 
 attention_key : (attention : Attention) → (attention_sense attention).key ≢ NoSense

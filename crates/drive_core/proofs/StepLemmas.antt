@@ -1,12 +1,12 @@
 -- Steps, where more is known of the medium's honesty.
-use Rattle.std.proofs.Common.{◌≡◌, ℕ, zero, suc, List, [], ◌∷◌, Option, None, Some, Result, Ok, Err, Bool, true, false, length, ◌==◌, if◌then◌else◌}
+use Rattle.std.proofs.Common.{ℕ, zero, suc, List, Option, None, Some, Result, Ok, Err, Bool, true, false, length, ◌==◌}
 use Rattle.scsi_wire.specs.declared.replies.Reply.{Reply}
 use Rattle.scsi_wire.specs.declared.attention_sets.Attention.{Attention}
 use Rattle.scsi_wire.specs.declared.opcodes.Opcode.{Opcode}
 use Rattle.scsi_wire.specs.declared.commands.Command.{Command}
 use Rattle.scsi_wire.specs.declared.commands.Command.TheVariants.{TestUnitReady, Rewind, Read, Write, WriteFilemarks}
 use Rattle.scsi_wire.specs.Attentions.{attention_of}
-use Rattle.scsi_wire.specs.Opcodes.{opcode_of, is_exempt, is_reserved, needs_tape}
+use Rattle.scsi_wire.specs.Opcodes.{opcode_of, is_exempt, needs_tape}
 use Rattle.scsi_wire.specs.Commands.{command_of, sent_length}
 use Rattle.volume_core.specs.declared.changes.Change.{Change}
 use Rattle.volume_core.specs.Medium.{Tape}
@@ -14,13 +14,13 @@ use Rattle.drive_core.specs.declared.bays.Bay.{Bay}
 use Rattle.drive_core.specs.declared.bays.Bay.TheVariants.{Empty, Unloaded, Loaded}
 use Rattle.drive_core.specs.declared.faults.Fault.{Fault}
 use Rattle.drive_core.specs.declared.faults.Fault.TheVariants.{NoMemory, Writing, Reading, SideFull}
-use Rattle.drive_core.specs.State.{Machine, DriveState, Mounted, mounted}
+use Rattle.drive_core.specs.State.{Machine, Mounted, mounted}
 use Rattle.volume_core.specs.declared.objects.Object.{Object}
 use Rattle.volume_core.specs.declared.objects.Object.TheVariants.{Block, Mark}
 use Rattle.drive_core.specs.declared.bays.Position.{Position}
 use Rattle.drive_core.specs.Read.{ReadWork, ReadAnswer, object_at}
 use Rattle.drive_core.specs.Work.{Request, TapeWork, OnTapeIn}
-use Rattle.drive_core.specs.Step.{Input, Execute, Load, Step, AtCode, AtExempt, AtDeferred, AtAttention, AtReservation, AtTape, AtBay, AtMedium, AtFields, AtMode, AtSent, keeps_out, suits_mode}
+use Rattle.drive_core.specs.Step.{Input, Execute, Load, Step, AtCode, AtExempt, AtDeferred, AtAttention, AtTape, AtBay, AtMedium, AtFields, AtMode, AtSent, suits_mode}
 
 -- what is given by an honest medium is given by one that is honest wherever it was
 given_where : (H H' : Type 0) → (H → H') → (object : Option Object) (suppress : Bool) (asked : ℕ) (before : Position) (reply : Reply) (now : Position) → ReadAnswer H' object suppress asked before reply now → ReadAnswer H object suppress asked before reply now

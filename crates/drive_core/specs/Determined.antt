@@ -1,12 +1,11 @@
 -- Where no outcome came between, an input has one answer.
-use Rattle.std.specs.Prelude.{◌≡◌, ℕ, List, [], ◌∷◌, map, Result, Ok, Bool}
+use Rattle.std.specs.Prelude.{◌≡◌, List, [], ◌∷◌, map, Result, Ok, Bool}
 use Rattle.scsi_wire.specs.declared.replies.Reply.{Reply}
 use Rattle.volume_core.specs.declared.changes.Change.{Change}
 use Rattle.volume_core.specs.Volume.{Part}
 use Rattle.volume_core.specs.Medium.{Tape, volume_of}
 use Rattle.drive_core.specs.declared.faults.Fault.{Fault}
 use Rattle.drive_core.specs.State.{Machine, DriveState, Kept, bay_of}
-use Rattle.drive_core.specs.Work.{Request}
 use Rattle.drive_core.specs.Step.{Input, Execute, Load, Step}
 use Rattle.drive_core.specs.Run.{Run}
 

@@ -1,17 +1,16 @@
 -- What a call does to a drive over any medium.
-use Rattle.std.specs.Prelude.{◌≡◌, ◌<◌, ◌≤◌, ◌↔◌, ℕ, List, [], Option, None, Some, Result, Ok, Err}
+use Rattle.std.specs.Prelude.{◌≡◌, ◌<◌, ◌≤◌, ◌↔◌, ℕ, List, [], Option, None, Some, Result, Err}
 use Rattle.scsi_wire.specs.declared.replies.Reply.{Reply}
 use Rattle.volume_core.specs.declared.changes.Change.{Change}
 use Rattle.volume_core.specs.Medium.{Tape}
-use Rattle.drive_core.specs.declared.bays.Bay.{Bay}
 use Rattle.drive_core.specs.declared.bays.Position.{Position}
 use Rattle.drive_core.specs.declared.faults.Fault.{Fault}
 use Rattle.drive_core.specs.declared.faults.Fault.TheVariants.{Writing, Reading}
-use Rattle.drive_core.specs.State.{Machine, DriveState, Kept, machine_of, medium_in, Mounted, mounted}
+use Rattle.drive_core.specs.State.{Machine, DriveState, Kept, machine_of, medium_in, mounted}
 use Rattle.drive_core.specs.Faults.{reply_of}
 use Rattle.drive_core.specs.Relations.{TapeRelation}
 use Rattle.drive_core.specs.Work.{Request}
-use Rattle.drive_core.specs.Step.{Input, Execute, Step}
+use Rattle.drive_core.specs.Step.{Execute, Step}
 
 -- the count of failures never falls, and a device fault is answered only where it rose (own)
 abbrev pub FaultHasCause : {R : Type 0} → Result R Fault → ℕ → ℕ → Type 0

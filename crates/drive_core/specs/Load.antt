@@ -5,8 +5,8 @@ use Rattle.scsi_wire.specs.Replies.{good_with}
 use Rattle.scsi_wire.specs.Senses.{medium_failed}
 use Rattle.volume_core.specs.Medium.{Tape}
 use Rattle.drive_core.specs.declared.bays.Bay.{Bay}
-use Rattle.drive_core.specs.declared.bays.Bay.TheVariants.{Empty, Unloaded, Loaded}
-use Rattle.drive_core.specs.State.{Machine, DriveState, loaded}
+use Rattle.drive_core.specs.declared.bays.Bay.TheVariants.{Empty}
+use Rattle.drive_core.specs.State.{loaded}
 use Rattle.drive_core.specs.Relations.{MachineRelation, Refuses}
 
 -- a medium that has failed is refused (own)

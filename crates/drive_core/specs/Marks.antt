@@ -3,7 +3,6 @@ use Rattle.std.specs.Prelude.{ℕ, zero, suc, Bool, true, false, not}
 use Rattle.volume_core.specs.declared.changes.Change.{Change}
 use Rattle.volume_core.specs.declared.changes.Change.TheVariants.{Marks}
 use Rattle.drive_core.specs.declared.bays.Position.{Position}
-use Rattle.drive_core.specs.State.{Mounted}
 use Rattle.drive_core.specs.Relations.{TapeRelation, Idles}
 use Rattle.drive_core.specs.WriteOut.{WritesOutTo}
 use Rattle.drive_core.specs.Add.{AddWork}

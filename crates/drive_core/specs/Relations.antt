@@ -6,7 +6,7 @@ use Rattle.scsi_wire.specs.Replies.{good_with, check_with}
 use Rattle.volume_core.specs.declared.changes.Change.{Change}
 use Rattle.volume_core.specs.Medium.{Works, Breaks}
 use Rattle.drive_core.specs.declared.faults.Fault.{Fault}
-use Rattle.drive_core.specs.State.{Machine, DriveState, Mounted, contents_of}
+use Rattle.drive_core.specs.State.{Machine, Mounted, contents_of}
 
 -- from the first, a command may be answered so (or a fault come), make these changes, and leave
 -- the last: of a loaded tape and the position, or of the whole drive (own)

@@ -1,5 +1,4 @@
 -- REWIND.
-use Rattle.drive_core.specs.State.{Mounted}
 use Rattle.drive_core.specs.Relations.{TapeRelation}
 use Rattle.drive_core.specs.WriteOut.{WritesOutTo}
 

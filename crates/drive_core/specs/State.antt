@@ -1,5 +1,5 @@
 -- What a drive is in.
-use Rattle.std.specs.Prelude.{◌≡◌, ◌<◌, ◌≤◌, ℕ, List, length, replicate, Option, None, Some, Bool, true, false}
+use Rattle.std.specs.Prelude.{◌≡◌, ◌<◌, ◌≤◌, List, length, replicate, Option, None, Some, Bool, true, false}
 use Rattle.vtl_base.specs.declared.limits.TheConstants.{NEXUSES}
 use Rattle.scsi_wire.specs.declared.attention_sets.Attention.TheVariants.{PowerOn, MediumChanged}
 use Rattle.scsi_wire.specs.AttentionSets.{AttentionSet, no_attentions, with_attention}

@@ -1,7 +1,6 @@
 -- The drive machine: an input, the checks in their order, and then the command's work.
 use Rattle.std.specs.Prelude.{◌≡◌, ℕ, List, [], length, Option, None, Some, Bool, true, false, ◌==◌, if◌then◌else◌, Result, Ok}
 use Rattle.scsi_wire.specs.declared.attention_sets.Attention.{Attention}
-use Rattle.scsi_wire.specs.declared.sense_data.Sense.{Sense}
 use Rattle.scsi_wire.specs.declared.replies.Reply.{Reply}
 use Rattle.scsi_wire.specs.declared.opcodes.Opcode.{Opcode}
 use Rattle.scsi_wire.specs.declared.commands.Command.{Command}
@@ -14,10 +13,10 @@ use Rattle.scsi_wire.specs.Commands.{command_of, sent_length}
 use Rattle.volume_core.specs.declared.changes.Change.{Change}
 use Rattle.volume_core.specs.Medium.{Tape}
 use Rattle.drive_core.specs.declared.bays.Bay.{Bay}
-use Rattle.drive_core.specs.declared.bays.Bay.TheVariants.{Empty, Unloaded, Loaded}
+use Rattle.drive_core.specs.declared.bays.Bay.TheVariants.{Loaded}
 use Rattle.drive_core.specs.declared.faults.Fault.{Fault}
-use Rattle.drive_core.specs.State.{Machine, DriveState, Reservations}
-use Rattle.drive_core.specs.Relations.{MachineRelation, Refuses}
+use Rattle.drive_core.specs.State.{Machine, Reservations}
+use Rattle.drive_core.specs.Relations.{Refuses}
 use Rattle.drive_core.specs.Work.{Request, Work}
 use Rattle.drive_core.specs.Load.{Loads}
 

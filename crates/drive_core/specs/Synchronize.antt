@@ -1,5 +1,5 @@
 -- Commands that store all that is pending before they are answered, and answers that acknowledge.
-use Rattle.std.specs.Prelude.{◌≡◌, ◌⊎◌, ℕ, List, [], Bool, true, false, not, ◌&&◌, nat_lt, Option, None, Some, Result, Ok, Err, IsOkAnd, IsSomeAnd, IfSome}
+use Rattle.std.specs.Prelude.{◌≡◌, ◌⊎◌, ℕ, List, [], Bool, true, false, not, ◌&&◌, nat_lt, IsOkAnd, IsSomeAnd, IfSome}
 use Rattle.scsi_wire.specs.declared.commands.Command.{Command}
 use Rattle.scsi_wire.specs.declared.commands.Command.TheVariants.{TestUnitReady, Rewind, Read, Write, WriteFilemarks}
 use Rattle.scsi_wire.specs.declared.replies.Reply.{Reply}
@@ -7,8 +7,7 @@ use Rattle.scsi_wire.specs.declared.replies.Status.TheVariants.{Good, Check}
 use Rattle.scsi_wire.specs.declared.sense_data.Sense.{Sense}
 use Rattle.scsi_wire.specs.declared.sense_data.SenseKey.TheVariants.{NoSense}
 use Rattle.scsi_wire.specs.Commands.{decoded}
-use Rattle.volume_core.specs.Medium.{Tape}
-use Rattle.drive_core.specs.State.{Machine, DriveState, medium_in}
+use Rattle.drive_core.specs.State.{Machine, medium_in}
 
 -- whether a command synchronizes: REWIND; WRITE FILEMARKS without IMMED, of none too; a READ of some
 -- bytes; an unbuffered WRITE of some (SSC-4, buffered mode; READ and REWIND own)

@@ -1,11 +1,11 @@
 -- The work of each command, once no check stops it.
-use Rattle.std.specs.Prelude.{◌≡◌, ℕ, List, Bool, Result}
+use Rattle.std.specs.Prelude.{◌≡◌, ℕ, List, Bool}
 use Rattle.scsi_wire.specs.declared.commands.Command.{Command}
 use Rattle.scsi_wire.specs.declared.commands.Command.TheVariants.{TestUnitReady, Rewind, Read, Write, WriteFilemarks}
 use Rattle.volume_core.specs.Medium.{Tape}
 use Rattle.drive_core.specs.declared.bays.Bay.{Bay}
-use Rattle.drive_core.specs.declared.bays.Bay.TheVariants.{Empty, Unloaded, Loaded}
-use Rattle.drive_core.specs.State.{Machine, DriveState, Mounted, mounted, with_mounted}
+use Rattle.drive_core.specs.declared.bays.Bay.TheVariants.{Loaded}
+use Rattle.drive_core.specs.State.{Mounted, mounted, with_mounted}
 use Rattle.drive_core.specs.Relations.{TapeRelation, MachineRelation, Idles}
 use Rattle.drive_core.specs.Rewind.{RewindWork}
 use Rattle.drive_core.specs.Read.{ReadWork}

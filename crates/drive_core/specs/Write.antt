@@ -3,7 +3,6 @@ use Rattle.std.specs.Prelude.{ℕ, List, [], ◌∷◌, Bool, not}
 use Rattle.volume_core.specs.declared.changes.Change.{Change}
 use Rattle.volume_core.specs.declared.changes.Change.TheVariants.{Put}
 use Rattle.drive_core.specs.declared.bays.Position.{Position}
-use Rattle.drive_core.specs.State.{Mounted}
 use Rattle.drive_core.specs.Relations.{TapeRelation, Idles}
 use Rattle.drive_core.specs.Add.{AddWork}
 

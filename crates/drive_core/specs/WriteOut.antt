@@ -1,13 +1,10 @@
 -- Writing out: what is pending is stored before a command goes on.
-use Rattle.std.specs.Prelude.{◌≡◌, List, [], Result, Ok, Err}
-use Rattle.scsi_wire.specs.declared.replies.Reply.{Reply}
+use Rattle.std.specs.Prelude.{◌≡◌, [], Result, Ok, Err}
 use Rattle.scsi_wire.specs.Replies.{good_with}
-use Rattle.volume_core.specs.declared.changes.Change.{Change}
 use Rattle.volume_core.specs.Medium.{Tape, volume_of, Works, Breaks}
 use Rattle.drive_core.specs.declared.bays.Position.{Position}
 use Rattle.drive_core.specs.declared.faults.Fault.{Fault}
 use Rattle.drive_core.specs.declared.faults.Fault.TheVariants.{Writing}
-use Rattle.drive_core.specs.State.{Mounted}
 use Rattle.drive_core.specs.Relations.{TapeRelation, Fails}
 
 -- nothing is pending, and the volume is as it was (SSC-4, buffered mode)
