@@ -1,57 +1,74 @@
 #!/usr/bin/env python3
-"""Refuses each growth of the stored run in turn, on the toolchain's unproved run.
+"""Refuses each growth of the stored run, and of a run of the journal, in turn, on the toolchain's unproved run.
 
-A run's answers are the stored ones, or it ends with 'out of memory' and status 3, or one line is answered ABORTED COMMAND.
-In the last case the line is given twice: the second time it has its stored answer, and so have all lines behind it."""
+The stored run: its answers are the stored ones, or it ends with 'out of memory' and status 3, or one line is answered ABORTED
+COMMAND. In the last case the line is given twice: the second time it has its stored answer, and so have all lines behind it.
+The journal: its answers are the stored ones, or it ends with status 1 (its words) or 2 behind some of them."""
 import os
 import re
 import subprocess
 import sys
+from concurrent.futures import ThreadPoolExecutor
 
 TOP = os.path.dirname(os.path.dirname(os.path.abspath(__file__)))
-CRATE = os.path.join(TOP, "crates", "vtl")
+# the run of the journal has 144 growths, by valgrind's count
+GROWTHS = 150
 ABORTED = "CHECK 70000b000000000a00000000550300000000"
 
 
-def attempt(lines, growth):
-    """Answers, status and standard error of the script where this growth is refused."""
-    done = subprocess.run(["rt", "try", "--fail-alloc", str(growth)], cwd=CRATE, input="".join(line + "\n" for line in lines),
-                          capture_output=True, text=True)
+def stored(crate, name):
+    with open(os.path.join(TOP, "crates", crate, name), encoding="utf-8") as file:
+        return file.read().splitlines()
+
+
+def attempt(crate, lines, growth):
+    """Answers, status and standard error of a run in which this growth is refused."""
+    done = subprocess.run(["rt", "try", "--fail-alloc", str(growth)], cwd=os.path.join(TOP, "crates", crate),
+                          input="".join(line + "\n" for line in lines), capture_output=True, text=True)
     status = re.search(r"run=ended status=(\d+)", done.stderr + done.stdout)
     if not status:
-        sys.exit(f"growth {growth}: the run did not end\n{done.stderr}")
-    answers = [line for line in done.stdout.splitlines() if re.match(r"(GOOD|CHECK|CONFLICT)\b", line)]
-    return answers, int(status.group(1)), done.stderr
+        sys.exit(f"{crate}, growth {growth}: the run did not end\n{done.stdout}{done.stderr}")
+    return [line for line in done.stdout.splitlines() if not line.startswith("run=")], int(status.group(1)), done.stderr
 
 
-def refused(done):
-    return "allocation" in done and "failed" in done
-
-
-def main():
-    script = open(os.path.join(CRATE, "stdin")).read().splitlines()
-    stored = open(os.path.join(CRATE, "stdout")).read().splitlines()
-    ended = aborted = same = 0
-    growth = 0
+def script():
+    lines, wanted = stored("vtl", "stdin"), stored("vtl", "stdout")
+    ended = aborted = same = growth = 0
     while same < 3:
         growth += 1
-        answers, status, told = attempt(script, growth)
-        if status == 3 and "vtl: out of memory" in told and stored[:len(answers)] == answers:
-            ended, same = ended + 1, 0
-            print(f"growth {growth}: out of memory")
-        elif status == 0 and answers == stored:
+        answers, status, told = attempt("vtl", lines, growth)
+        if status == 0 and answers == wanted:
             same += 1
-        elif status == 0 and answers.count(ABORTED) == 1 and answers[:answers.index(ABORTED)] == stored[:answers.index(ABORTED)]:
-            aborted, same = aborted + 1, 0
-            line = answers.index(ABORTED)
-            again = script[:line + 1] + script[line:]
-            wanted = stored[:line] + [ABORTED] + stored[line:]
-            if not any(attempt(again, other)[:2] == (wanted, 0) for other in range(growth, growth + 8)):
-                sys.exit(f"growth {growth}: line {line + 1}, given again with memory, has another answer")
-            print(f"growth {growth}: line {line + 1} is ABORTED COMMAND, and has its answer when it is given again")
-        else:
-            sys.exit(f"growth {growth}: status {status}, answers {answers}\n{told}")
-    print(f"{ended + aborted} growths refused: {ended} ended the run, {aborted} ended a command, no answer was wrong")
+            continue
+        same = 0
+        if status == 3 and "vtl: out of memory" in told and answers == wanted[:len(answers)]:
+            ended += 1
+            print(f"script, growth {growth}: out of memory")
+            continue
+        line = answers.index(ABORTED) if ABORTED in answers else None
+        if status or line is None or answers[:line] != wanted[:line]:
+            sys.exit(f"script, growth {growth}: status {status}, answers {answers}\n{told}")
+        again = wanted[:line] + [ABORTED] + wanted[line:]
+        twice = lines[:line + 1] + lines[line:]
+        if not any(attempt("vtl", twice, other)[:2] == (again, 0) for other in range(growth, growth + 8)):
+            sys.exit(f"script, growth {growth}: line {line + 1}, given again with memory, has another answer")
+        aborted += 1
+        print(f"script, growth {growth}: line {line + 1} is ABORTED COMMAND, and has its answer when it is given again")
+    print(f"script: {ended} growths ended the run, {aborted} ended a command, no answer was wrong")
 
 
-main()
+def journal():
+    wanted = stored("journal_bench", "stdout")
+    with ThreadPoolExecutor(2) as pool:
+        tried = pool.map(lambda growth: attempt("journal_bench", [], growth), range(1, GROWTHS + 1))
+        ended = 0
+        for growth, (answers, status, told) in enumerate(tried, 1):
+            if status in (1, 2) and answers == wanted[:len(answers)]:
+                ended += 1
+            elif status or answers != wanted:
+                sys.exit(f"journal, growth {growth}: status {status}, answers {answers}\n{told}")
+    print(f"journal: of {GROWTHS} growths {ended} ended the run, and the others changed no answer")
+
+
+script()
+journal()

@@ -1,0 +1,12 @@
+pub mod Bodies
+pub mod Deciding
+pub mod Frames
+pub mod Headings
+pub mod Marks
+pub mod Names
+pub mod Parts
+pub mod Places
+pub mod Sides
+pub mod Walks
+pub mod Words
+pub mod Writing

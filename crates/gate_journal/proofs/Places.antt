@@ -1,0 +1,18 @@
+-- Places of bodies that lie before the end.
+use Rattle.std.proofs.Common.{◌≡◌, ℕ, ◌+◌, ◌≤◌, List, [], ◌∷◌, ◌++◌, length, sym, subst, arith}
+use Rattle.std.specs.List.{All}
+use Rattle.std.proofs.lemmas.List.Elements.{All-push, All-weaker, All-same, All-nil}
+use Rattle.gate_journal.specs.State.{IsPlace}
+
+pub further : (end end' : ℕ) → end ≤ end' → (places : List (ℕ × ℕ)) → All (IsPlace end) places → All (IsPlace end') places
+further end end' more places all =
+    All-weaker (IsPlace end) (IsPlace end') (λ place is. record { gate = is.gate; some = is.some; short = is.short; within = omega (arith, is.within, more) }) places all
+
+pub one_more : (end size end' : ℕ) (places places' : List (ℕ × ℕ)) → All (IsPlace end) places → places' ≡ places ++ (end + 5, size) ∷ [] → 1 ≤ size → size ≤ 8388608 → end' ≡ end + 5 + size → All (IsPlace end') places'
+one_more end size end' places places' all is some short far =
+    All-same (IsPlace end') places' (places ++ (end + 5, size) ∷ []) is
+    (All-push (IsPlace end') places (end + 5, size) (further end end' (omega (arith, far)) places all)
+    (record { gate = omega arith; some = some; short = short; within = omega (arith, far) }))
+
+pub none_yet : (end : ℕ) (places : List (ℕ × ℕ)) → places ≡ [] → All (IsPlace end) places
+none_yet end places none = All-same (IsPlace end) places [] none (All-nil (IsPlace end))

@@ -1,0 +1,24 @@
+use Rattle.std.proofs.Common.{◌≡◌, List, ◌++◌, ◌∷◌, [], length, drop, ◌+◌, ◌*◌, ◌<◌, ◌≤◌, ℕ, refl, ◌∙◌, sym, ap, arith, rules, length-append}
+use Rattle.gate_journal.specs.Headers.{heading_of}
+use Rattle.gate_journal.specs.Side.{spell_heading}
+use Rattle.gate_journal.proofs.Bodies.{fresh}
+use Rattle.gate_journal.proofs.Headings.{length_heading, few_words}
+use Rattle.gate_journal.proofs.Places.{none_yet}
+use Rattle.gate_journal.proofs.journal.Journal.create.Goals as goal
+
+pub invariant_of-result : goal.invariant_of-result
+invariant_of-result g c =
+    let h = heading_of c.args.header in
+    let few : length c.args.header.words.items ≤ 4 = few_words h c.requires in
+    let count : c.len.result ≡ length c.args.header.words.items = search rules in
+    let long : length (spell_heading h) ≡ 27 + 8 * length c.args.header.words.items = length_heading h c.requires in (
+      c.requires,
+      omega (arith, few, count),
+      none_yet (27 + 8 * c.len.result) c.new.result.items c.new.ensures.items,
+      λ honest'.
+          let honest = c.write_new.ensures.passes.was_honest honest' in
+          let there = c.in-Ok-write_new.ensures.written honest in
+          let bytes = c.deref.ensures.value ∙ c.in-Ok.ensures in
+          fresh (g.D.Disk.state c.write_new.new.disk) h c.new.result.items (27 + 8 * c.len.result) c.requires
+          (there.0 ∙ ap (λ (l : List ℕ). 165 ∷ drop 1 l) bytes) there.1 c.new.ensures.items (omega (arith, long, count)),
+    )

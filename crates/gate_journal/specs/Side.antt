@@ -1,0 +1,105 @@
+-- What the bytes of a side stand for: a header, and frames behind gates.
+use Rattle.std.specs.Prelude.{◌≡◌, ◌≢◌, ◌⊎◌, ◌<◌, ◌≤◌, ℕ, ◌+◌, ◌-◌, List, [], ◌∷◌, ◌++◌, length, replicate, codes, if◌then◌else◌, nat_lt}
+use Rattle.std.specs.List.{All, flat_map}
+use Rattle.std.specs.Int.{to_be_bytes, w32, w64}
+use Rattle.vtl_base.specs.Barcode.{IsBarcode}
+use Rattle.vtl_base.specs.declared.limits.TheConstants.{MAX_BODY, MIN_CAPACITY, MAX_CAPACITY, MAX_PARTITIONS, DRIVES}
+use Rattle.gate_journal.specs.declared.header.SideKind.{SideKind}
+use Rattle.gate_journal.specs.declared.header.SideKind.TheVariants.{Cartridge, Store}
+use Rattle.gate_journal.specs.declared.header.TheConstants.{NAME_BYTES}
+
+-- an open gate; every other byte is a closed one (own)
+abbrev pub OPEN : ℕ
+OPEN = 165
+
+-- what a side says of itself: its kind, its name, and of a cartridge the capacity of each partition (own)
+pub record Heading : Type 0 where
+  pub kind : SideKind
+  pub name : List ℕ
+  pub words : List ℕ
+
+-- a text, and spaces behind it up to the length of a name (own)
+abbrev pub padded : List ℕ → List ℕ
+padded text = text ++ replicate (NAME_BYTES - length text) 32
+
+-- a number below 20 in decimal digits
+abbrev pub digits : ℕ → List ℕ
+digits n = if nat_lt n 10 then (48 + n) ∷ [] else 49 ∷ (38 + n) ∷ []
+
+-- the name of a reservation store: `DRIVE` and the drive's number (own)
+abbrev pub drive_name : ℕ → List ℕ
+drive_name n = padded (codes "DRIVE" ++ digits n)
+
+-- the names that a side of this kind may have: a barcode, or that of a drive (own)
+abbrev pub IsName : SideKind → List ℕ → Type 0
+IsName Cartridge name = (text : List ℕ) × IsBarcode text × (name ≡ padded text)
+IsName Store name = (n : ℕ) × (1 ≤ n) × (n ≤ DRIVES) × (name ≡ drive_name n)
+
+-- how many capacities a side of this kind may have: one for each partition, or none (own)
+abbrev pub IsCount : SideKind → ℕ → Type 0
+IsCount Cartridge n = (1 ≤ n) × (n ≤ MAX_PARTITIONS)
+IsCount Store n = n ≡ 0
+
+-- the capacity of a partition, in bytes (own)
+abbrev pub IsCapacity : ℕ → Type 0
+IsCapacity n = (MIN_CAPACITY ≤ n) × (n ≤ MAX_CAPACITY)
+
+-- a heading that can be spelled (own)
+pub record IsHeading (heading : Heading) : Type 0 where
+  pub name : IsName heading.kind heading.name
+  pub count : IsCount heading.kind (length heading.words)
+  pub words : All IsCapacity heading.words
+
+-- the bytes by which the kind is told (own)
+abbrev pub mark : SideKind → List ℕ
+mark Cartridge = codes "VTLCART1"
+mark Store = codes "VTLRESV1"
+
+-- a heading in bytes: the open gate of the side, the mark of its kind, the closed pair gate, the count, the name, the capacities (own)
+abbrev pub spell_heading : Heading → List ℕ
+spell_heading h = OPEN ∷ mark h.kind ++ 0 ∷ length h.words ∷ h.name ++ flat_map (to_be_bytes w64) h.words
+
+-- what a frame may hold (own)
+abbrev pub IsBody : List ℕ → Type 0
+IsBody body = (1 ≤ length body) × (length body ≤ MAX_BODY)
+
+-- a body in bytes: the open gate before it, its length, itself (own)
+abbrev pub frame : List ℕ → List ℕ
+frame body = OPEN ∷ to_be_bytes w32 (length body) ++ body
+
+-- a side in bytes: its heading, and one frame after the other (own)
+abbrev pub spell : Heading → List (List ℕ) → List ℕ
+spell heading bodies = spell_heading heading ++ flat_map frame bodies
+
+-- a heading and bodies that can be spelled
+pub record IsSide (heading : Heading) (bodies : List (List ℕ)) : Type 0 where
+  pub begins : IsHeading heading
+  pub holds : All IsBody bodies
+
+-- the image begins with the spelling, and a closed gate follows (own)
+abbrev pub StandsFor : Heading → List (List ℕ) → List ℕ → Type 0
+StandsFor heading bodies image =
+    IsSide heading bodies × ((gate : ℕ) × (rest : List ℕ) × (gate ≢ OPEN) × (image ≡ spell heading bodies ++ gate ∷ rest))
+
+-- the image begins with no heading's spelling (own)
+abbrev pub IsNotOurs : List ℕ → Type 0
+IsNotOurs image = (heading : Heading) (rest : List ℕ) → IsHeading heading → image ≡ spell heading [] ++ rest → ⊥
+
+-- a whole frame, and a further byte
+abbrev pub BeginsWithFrame : List ℕ → Type 0
+BeginsWithFrame bytes = (body : List ℕ) × (further : ℕ) × (more : List ℕ) × IsBody body × (bytes ≡ frame body ++ further ∷ more)
+
+-- what lies behind the last whole frame of a damaged side: nothing at all, where there is no frame, or an open gate
+-- without a whole frame and a further byte (own)
+abbrev pub IsBroken : List (List ℕ) → List ℕ → Type 0
+IsBroken bodies rest = ((bodies ≡ []) × (rest ≡ [])) ⊎ (((tail : List ℕ) × (rest ≡ OPEN ∷ tail)) × (BeginsWithFrame rest → ⊥))
+
+-- the image begins with a spelling of that length, and what follows is broken (own)
+abbrev pub IsDamagedAt : List ℕ → ℕ → Type 0
+IsDamagedAt image at =
+    (heading : Heading) × (bodies : List (List ℕ)) × (rest : List ℕ) × IsSide heading bodies × (image ≡ spell heading bodies ++ rest)
+    × (length (spell heading bodies) ≡ at) × IsBroken bodies rest
+
+-- with the new body or without it
+abbrev pub WithOrWithout : Heading → List (List ℕ) → List ℕ → List ℕ → Type 0
+WithOrWithout heading bodies body image = StandsFor heading bodies image ⊎ StandsFor heading (bodies ++ body ∷ []) image

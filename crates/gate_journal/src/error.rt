@@ -1,0 +1,58 @@
+//! Why a call on a side is refused.
+ghost use Rattle.std.specs.Prelude.{◌≡◌};
+ghost use Rattle.gate_journal.specs.declared.error.JournalError.TheVariants.{NoMemory, Device};
+
+use std::alloc::AllocError;
+use thiserror::Error;
+use vtl_base::DevFault;
+
+/// Why a call on a side is refused (own).
+#[derive(Clone, Copy, PartialEq, Eq, Debug, Error)]
+pub enum JournalError {
+    /// The bytes begin with no header of a side.
+    #[error("not a side")]
+    NotOurs,
+    /// The first frame that is not whole has its gate at this place, counted in bytes.
+    #[error("damaged at {at}")]
+    Damaged {
+        /// The place of the gate.
+        at: u64,
+    },
+    /// The frame would pass the longest side.
+    #[error("side full")]
+    SideFull,
+    /// The disk failed. What stands there is one of what stood before the call and what it was to leave.
+    #[error("device fault")]
+    Device(DevFault),
+    /// The disk failed in an earlier call. The side has to be opened again.
+    #[error("failed before")]
+    Failed,
+    /// A growth was refused.
+    #[error("out of memory")]
+    NoMemory,
+}
+
+impl From<AllocError> for JournalError {
+    ghost from_gives = { λ _ e. e ≡ NoMemory };
+
+    fn from(_: AllocError) -> Self {
+        JournalError::NoMemory
+    }
+}
+
+impl From<DevFault> for JournalError {
+    ghost from_gives = { λ fault e. e ≡ Device fault };
+
+    fn from(fault: DevFault) -> Self {
+        JournalError::Device(fault)
+    }
+}
+
+/// A side that could not be made or opened, and its disk.
+#[derive(Drop, Debug)]
+pub struct Refused<D> {
+    /// Why.
+    pub error: JournalError,
+    /// The disk that was handed in.
+    pub disk: D,
+}

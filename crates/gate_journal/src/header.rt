@@ -1,0 +1,134 @@
+//! What a side says of itself, and when that can be spelled.
+ghost use Rattle.std.specs.Prelude.{◌≡◌, ◌↔◌, ◌<◌, ◌≤◌, ◌≢◌, ℕ, IsTrue, length, take, slice_index};
+ghost use Rattle.std.specs.List.{All};
+ghost use Rattle.gate_journal.specs.Side.{IsCapacity, IsCount, IsHeading, IsName, drive_name, mark};
+ghost use Rattle.gate_journal.specs.Headers.{heading_of};
+
+use vtl_base::Barcode;
+use vtl_base::limits::{DRIVES, MAX_CAPACITY, MAX_PARTITIONS, MIN_CAPACITY};
+
+/// The bytes of a side's name.
+pub const NAME_BYTES: usize = 16;
+
+/// What a side is kept for (own).
+#[derive(Clone, Copy, Debug, PartialEq, Eq)]
+pub enum SideKind {
+    /// The contents of a cartridge.
+    Cartridge,
+    /// The saved reservations of a drive.
+    Store,
+}
+
+impl SideKind {
+    // The bytes by which the kind is told.
+    pub(crate) fn mark(self) -> &'static [u8; 8]
+        ensures { result.now ≡ mark self }
+    {
+        match self {
+            SideKind::Cartridge => b"VTLCART1",
+            SideKind::Store => b"VTLRESV1",
+        }
+    }
+}
+
+/// What a side says of itself, at its beginning (own).
+#[derive(Debug, Drop)]
+pub struct Header {
+    /// What it is kept for.
+    pub kind: SideKind,
+    /// A cartridge's barcode, or `DRIVE` and the drive's number, with spaces behind it.
+    pub name: [u8; NAME_BYTES],
+    /// The capacity of each partition of a cartridge, in bytes. A store has none.
+    pub words: Vec<u64>,
+}
+
+impl Header {
+    /// Whether it can be spelled: its name is one for its kind, a cartridge has 1 to 4 capacities of 4,096 to
+    /// 1,099,511,627,776 bytes, and a store none (own).
+    pub fn can_be_spelled(&self) -> bool
+        ensures { IsTrue result ↔ IsHeading (heading_of self.now) }
+    {
+        is_name(self.kind, &self.name)
+            && is_count(self.kind, self.words.len())
+            && are_capacities(&self.words)
+    }
+}
+
+fn is_name(kind: SideKind, name: &[u8; NAME_BYTES]) -> bool
+    ensures { IsTrue result ↔ IsName kind name.now }
+{
+    match kind {
+        SideKind::Cartridge => is_barcode_name(name),
+        SideKind::Store => is_drive_name(name),
+    }
+}
+
+fn is_count(kind: SideKind, count: usize) -> bool
+    ensures { IsTrue result ↔ IsCount kind count }
+{
+    match kind {
+        SideKind::Cartridge => count >= 1 && count <= MAX_PARTITIONS as usize,
+        SideKind::Store => count == 0,
+    }
+}
+
+fn are_capacities(words: &[u64]) -> bool
+    ensures { IsTrue result ↔ All IsCapacity words.now }
+{
+    words
+        .iter()
+        .all(|&word| word >= MIN_CAPACITY && word <= MAX_CAPACITY)
+}
+
+fn is_barcode_name(name: &[u8; NAME_BYTES]) -> bool
+    ensures { IsTrue result ↔ IsName SideKind.Cartridge name.now }
+{
+    let count = text_length(name);
+    Barcode::parse(&name[..count]).is_ok() && are_spaces(&name[count..])
+}
+
+// How many bytes stand before the first space.
+fn text_length(name: &[u8; NAME_BYTES]) -> usize
+    ensures bound { result ≤ NAME_BYTES }
+    ensures before { (k : ℕ) → k < result → slice_index name.now k ≢ 32 }
+    ensures space { result < NAME_BYTES → slice_index name.now result ≡ 32 }
+{
+    for (i, byte) in name.iter().enumerate() {
+        if *byte == b' ' {
+            return i;
+        }
+    }
+    NAME_BYTES
+}
+
+fn are_spaces(bytes: &[u8]) -> bool
+    ensures { IsTrue result ↔ All (λ byte. byte ≡ 32) bytes.now }
+{
+    bytes.iter().all(|&byte| byte == b' ')
+}
+
+fn is_drive_name(name: &[u8; NAME_BYTES]) -> bool
+    ensures { IsTrue result ↔ IsName SideKind.Store name.now }
+{
+    for number in 1..=DRIVES {
+        if *name == drive_name(number) {
+            return true;
+        }
+    }
+    false
+}
+
+// The name of that drive's store.
+fn drive_name(number: u8) -> [u8; NAME_BYTES]
+    requires { number < 20 }
+    ensures { result ≡ drive_name number }
+{
+    let mut name = *b"DRIVE           ";
+    if number < 10 {
+        name[5] = b'0' + number;
+    } else {
+        name[5] = b'1';
+        name[6] = b'0' + (number - 10);
+    }
+    name
+}

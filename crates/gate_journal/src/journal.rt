@@ -1,0 +1,282 @@
+//! An open side: frames are read from it and added to it.
+ghost use Rattle.std.specs.Prelude.{◌≡◌, ◌⊎◌, ◌+◌, ◌*◌, ◌<◌, ◌≤◌, ◌++◌, [], ◌∷◌, ℕ, List, length, true, false, OnOk, OnErr, IfOk, IfErr, slice_range, slice_index_or, if◌then◌else◌, is_ok};
+ghost use Rattle.tape_disk.specs.Disk.{Each, Keeps, Only};
+ghost use Rattle.tape_disk.specs.Moments.{LeavesOnly};
+ghost use Rattle.gate_journal.specs.Side.{IsBody, IsHeading, StandsFor, WithOrWithout};
+ghost use Rattle.gate_journal.specs.Answers.{Appended, Broke, IsFault, MatchWrite, NotMade, NotOpened, disk_after};
+ghost use Rattle.gate_journal.specs.Crash.{Unwritten};
+ghost use Rattle.gate_journal.specs.State.{room_behind, IsPlace, IsWithin, IsBodyAt, IsPart};
+ghost use Rattle.gate_journal.specs.Headers.{heading_of};
+
+use crate::device::{write_frame, write_new};
+use crate::error::{JournalError, Refused};
+use crate::header::Header;
+use crate::reading::{Frames, read_side};
+use crate::room::make_room;
+use crate::spelling::{START_BYTES, fill_frame, spell_closed};
+use std::alloc::Global;
+use std::marker::Model;
+use tape_disk::Disk;
+use vtl_base::limits::MAX_SIDE;
+
+/// An open side on a disk. After a device fault it has failed until it is opened again.
+#[derive(Drop)]
+pub struct Journal<D: Disk> {
+    disk: D,
+    header: Header,
+    places: Vec<(u64, u32)>,
+    buffer: Vec<u8>,
+    end: u64,
+    failed: bool,
+}
+
+impl<D: Disk> Model for Journal<D> {
+    ghost use Rattle.std.specs.Prelude.{◌≡◌, ◌+◌, ◌^◌, ◌<◌};
+    ghost use Rattle.std.specs.List.{All};
+    ghost use Rattle.gate_journal.specs.State.{OpenSide, side_code, bodies_at, IsPlace, IsOn};
+    ghost use Rattle.gate_journal.specs.Side.{IsHeading};
+    ghost use Rattle.gate_journal.specs.Headers.{heading_of};
+    ghost use Rattle.gate_journal.specs.Spare.{spare};
+
+    ghost Value = { OpenSide D };
+
+    ghost coded = { side_code D.code };
+
+    ghost view = { λ a. record {
+      disk = a.disk;
+      heading = heading_of a.header;
+      bodies = bodies_at (D.state a.disk).seen a.places.items;
+      places = a.places.items;
+      end = a.end;
+      failed = a.failed;
+      reserved = spare a.places a.buffer;
+    } };
+
+    ghost invariant = { λ a. IsHeading (heading_of a.header) × (a.end + 1 < 2 ^ 64) × All (IsPlace a.end) a.places.items
+        × ((D.state a.disk).honest → IsOn (D.state a.disk) (heading_of a.header) (bodies_at (D.state a.disk).seen a.places.items) a.places.items a.end a.failed) };
+}
+
+impl<D: Disk> Journal<D> {
+    /// Makes a side with no frames, whatever the disk held. After a device fault anything may stand there, and after
+    /// `NoMemory` the disk was not touched.
+    pub fn create(alloc: Global, disk: D, header: Header) -> Result<Journal<D>, Refused<D>>
+        requires { IsHeading (heading_of header) }
+        ensures disk { Keeps (D.state disk) (D.state (disk_after result)) }
+        ensures ok { IfOk result (λ journal. (journal.heading ≡ heading_of header)
+            × (journal.bodies ≡ []) × (journal.places ≡ []) × (journal.failed ≡ false)
+            × (journal.end ≡ 27 + 8 * length journal.heading.words)) }
+        ensures sure { IfOk result (λ journal. (D.state disk).honest →
+            Each (D.state journal.disk) (StandsFor journal.heading [])) }
+        ensures refused { IfErr result (λ refused. NotMade refused.error
+            (refused.disk ≡ disk) (λ fault. IsFault fault (D.state disk) (D.state refused.disk))) }
+    {
+        let mut disk = disk;
+        let Ok(bytes) = spell_closed(alloc, &header) else {
+            return Err(Refused {
+                error: JournalError::NoMemory,
+                disk,
+            });
+        };
+        match write_new(&mut disk, &bytes) {
+            Ok(()) => {
+                let end = START_BYTES as u64 + 8 * header.words.len() as u64;
+                Ok(Journal {
+                    disk,
+                    header,
+                    places: Vec::new(alloc),
+                    buffer: Vec::new(alloc),
+                    end,
+                    failed: false,
+                })
+            }
+            Err(fault) => Err(Refused {
+                error: JournalError::Device(fault),
+                disk,
+            }),
+        }
+    }
+
+    /// Opens the side that the disk holds. It begins with a sync, and writes nothing: at every moment of it, and after every
+    /// refusal, the disk stands for what it stood for. After `NotOurs` and `Damaged` that is sure too.
+    pub fn open(alloc: Global, disk: D) -> Result<Journal<D>, Refused<D>>
+        ensures disk { Keeps (D.state disk) (D.state (disk_after result)) }
+        ensures ok { IfOk result (λ journal. (journal.failed ≡ false) × ((D.state disk).honest →
+            StandsFor journal.heading journal.bodies (D.state disk).seen
+            × Only (D.state disk).seen (D.state journal.disk).may_leave)) }
+        ensures refused { IfErr result (λ refused.
+            NotOpened refused.error (D.state disk) (D.state refused.disk)) }
+        ensures any_moment { (D.state disk).honest →
+            LeavesOnly (D.state disk) (D.state (disk_after result)) (D.state disk).may_leave }
+    {
+        let mut disk = disk;
+        match read_side(alloc, &mut disk) {
+            Ok((header, frames)) => {
+                let Frames { places, end } = frames;
+                Ok(Journal {
+                    disk,
+                    header,
+                    places,
+                    buffer: Vec::new(alloc),
+                    end,
+                    failed: false,
+                })
+            }
+            Err(error) => Err(Refused { error, disk }),
+        }
+    }
+
+    /// Where nothing has failed, each image that a crash may leave stands for the side.
+    pub fn known(&self)
+        ensures { (D.state self.now.disk).honest → self.now.failed ≡ false →
+            Each (D.state self.now.disk) (StandsFor self.now.heading self.now.bodies) }
+    {
+        let _ = &self.end;
+    }
+
+    /// What the side says of itself.
+    pub fn header(&self) -> &Header
+        ensures value { heading_of result.now ≡ self.now.heading }
+        ensures valid { IsHeading self.now.heading }
+    {
+        &self.header
+    }
+
+    /// How many frames there are.
+    pub fn frames(&self) -> usize
+        ensures value { result ≡ length self.now.bodies }
+        ensures places { result ≡ length self.now.places }
+    {
+        self.places.len()
+    }
+
+    /// Where the body of that frame lies: its place and its length. The frame's gate stands 5 bytes before it.
+    pub fn body_at(&self, frame: usize) -> (u64, u32)
+        requires { frame < length self.now.places }
+        ensures value { result ≡ slice_index_or self.now.places frame result }
+        ensures inside { IsPlace self.now.end result }
+        ensures body { (D.state self.now.disk).honest →
+            IsBodyAt (D.state self.now.disk).seen self.now.heading self.now.bodies frame result }
+    {
+        self.places[frame]
+    }
+
+    /// Fills the buffer with bytes of a body, from that place of the disk on. After a device fault the side has failed.
+    pub fn read_body(&mut self, at: u64, buffer: &mut [u8]) -> Result<(), JournalError>
+        requires { IsWithin self.old.places at (length buffer.old) }
+        ensures disk { Keeps (D.state self.old.disk) (D.state self.new.disk) }
+        ensures same { self.new ≡ record self.old {
+          disk = self.new.disk;
+          bodies = self.new.bodies;
+          failed = self.new.failed;
+        } }
+        ensures answer { MatchWrite result
+            ((self.old.failed ≡ false) × (self.new.failed ≡ false)) ⊥ ⊥
+            (λ fault. (self.old.failed ≡ false) × (self.new.failed ≡ true)
+            × IsFault fault (D.state self.old.disk) (D.state self.new.disk))
+            ((self.old.failed ≡ true) × (self.new ≡ self.old)) }
+        ensures bytes { (D.state self.old.disk).honest →
+            OnOk result (IsPart self.old.bodies self.old.places at buffer.new) }
+        ensures bodies { (D.state self.old.disk).honest → self.new.bodies ≡ self.old.bodies }
+        ensures unwritten { (D.state self.old.disk).honest →
+            Unwritten (D.state self.old.disk) (D.state self.new.disk) }
+    {
+        if self.has_failed() {
+            return Err(JournalError::Failed);
+        }
+        match self.disk.read_at(at, buffer) {
+            Ok(()) => Ok(()),
+            Err(fault) => {
+                self.failed = true;
+                Err(JournalError::Device(fault))
+            }
+        }
+    }
+
+    /// Whether the disk failed: then nothing more is read or written.
+    pub fn has_failed(&self) -> bool
+        ensures { result ≡ self.now.failed }
+    {
+        self.failed
+    }
+
+    /// The bytes that may still be added. A frame takes 5 and its body's.
+    pub fn room(&self) -> u64
+        ensures { result ≡ room_behind self.now.end }
+    {
+        MAX_SIDE.saturating_sub(self.end + 1)
+    }
+
+    /// Makes room in memory for that many appends, which then take none.
+    pub fn reserve(&mut self, frames: usize) -> Result<(), JournalError>
+        ensures ok { OnOk result ((frames ≤ self.new.reserved) × (self.old.reserved ≤ self.new.reserved)
+            × (self.new ≡ record self.old { reserved = self.new.reserved })) }
+        ensures refused { IfErr result (λ error. (error ≡ JournalError.NoMemory)
+            × (self.old.reserved < frames) × (self.new ≡ self.old)) }
+    {
+        if frames == 0 {
+            return Ok(());
+        }
+        make_room(&mut self.places, &mut self.buffer, frames)?;
+        Ok(())
+    }
+
+    /// Adds a frame with this body. At Ok it is sure, and the room is less by 5 and the body's bytes. After `Device` it may
+    /// be there or not, and nothing more is written; after every other refusal nothing changed.
+    pub fn append(&mut self, body: &[u8]) -> Result<(), JournalError>
+        requires { IsBody body.now }
+        ensures disk { Keeps (D.state self.old.disk) (D.state self.new.disk) }
+        ensures heading { self.new.heading ≡ self.old.heading }
+        ensures answer { MatchWrite result
+            (Appended self.old self.new (length body.now))
+            ((self.old.failed ≡ false) × (length body.now + 5 ≤ room_behind self.old.end)
+            × (self.old.reserved ≡ 0) × (self.new ≡ self.old))
+            ((self.old.failed ≡ false) × (room_behind self.old.end < length body.now + 5) × (self.new ≡ self.old))
+            (λ fault. Broke self.old self.new (length body.now)
+            × IsFault fault (D.state self.old.disk) (D.state self.new.disk))
+            ((self.old.failed ≡ true) × (self.new ≡ self.old)) }
+        ensures bodies { (D.state self.old.disk).honest →
+            self.new.bodies ≡ (if is_ok result then self.old.bodies ++ body.now ∷ [] else self.old.bodies) }
+        ensures sure { (D.state self.old.disk).honest → OnOk result
+            (Each (D.state self.new.disk) (StandsFor self.new.heading self.new.bodies)) }
+        ensures any_moment { (D.state self.old.disk).honest → self.old.failed ≡ false →
+            LeavesOnly (D.state self.old.disk) (D.state self.new.disk)
+            (WithOrWithout self.old.heading self.old.bodies body.now) }
+    {
+        if self.failed {
+            return Err(JournalError::Failed);
+        }
+        let size = body.len() as u32;
+        if u64::from(size) + 5 > MAX_SIDE.saturating_sub(self.end + 1) {
+            return Err(JournalError::SideFull);
+        }
+        make_room(&mut self.places, &mut self.buffer, 1)?;
+        fill_frame(&mut self.buffer, body);
+        match write_frame(&mut self.disk, self.end, &self.buffer) {
+            Ok(()) => {
+                self.places.push_reserved((self.end + 5, size));
+                self.end += 5 + u64::from(size);
+                Ok(())
+            }
+            Err(fault) => {
+                self.failed = true;
+                Err(JournalError::Device(fault))
+            }
+        }
+    }
+
+    /// Gives the disk back.
+    pub fn close(self) -> D
+        ensures { result ≡ self.disk }
+    {
+        self.disk
+    }
+
+    /// The disk, to be looked at.
+    pub fn disk(&self) -> &D
+        ensures { result.now ≡ self.now.disk }
+    {
+        &self.disk
+    }
+}
+
+unsafe impl<D: Disk + Send> Send for Journal<D> {}

@@ -1,0 +1,23 @@
+//! What the definitions of a side say of each other. Each law is a function that does nothing, and its contract is the law.
+ghost use Rattle.std.specs.Prelude.{◌≡◌, ◌⊎◌, ℕ, List};
+ghost use Rattle.gate_journal.specs.Side.{Heading, StandsFor, IsNotOurs, IsDamagedAt};
+
+/// Each image stands for some side, is no side of this library, or is damaged at some place.
+pub fn each_image_is_told()
+    ensures { (image : List ℕ) →
+        ((heading : Heading) × (bodies : List (List ℕ)) × StandsFor heading bodies image)
+        ⊎ (IsNotOurs image ⊎ ((at : ℕ) × IsDamagedAt image at)) }
+{}
+
+/// No image is two of the three, stands for two sides, or is damaged at two places.
+pub fn no_image_is_told_twice()
+    ensures one_side { (image : List ℕ) (h k : Heading) (bs cs : List (List ℕ)) →
+        StandsFor h bs image → StandsFor k cs image → (h ≡ k) × (bs ≡ cs) }
+    ensures one_place { (image : List ℕ) (a b : ℕ) →
+        IsDamagedAt image a → IsDamagedAt image b → a ≡ b }
+    ensures sound { (image : List ℕ) (h : Heading) (bs : List (List ℕ)) (at : ℕ) →
+        StandsFor h bs image → IsDamagedAt image at → ⊥ }
+    ensures ours { (image : List ℕ) (h : Heading) (bs : List (List ℕ)) →
+        StandsFor h bs image → IsNotOurs image → ⊥ }
+    ensures ours_damaged { (image : List ℕ) (at : ℕ) → IsDamagedAt image at → IsNotOurs image → ⊥ }
+{}

@@ -1,0 +1,18 @@
+//! Frames behind gates, on a disk: each is there whole or not at all, wherever the work is stopped.
+#![tactic(auto)]
+
+mod device;
+pub mod error;
+pub mod header;
+pub mod journal;
+pub mod laws;
+mod reading;
+mod room;
+mod spelling;
+pub mod stops;
+#[cfg(test)]
+mod tests;
+
+pub use error::{JournalError, Refused};
+pub use header::{Header, SideKind};
+pub use journal::Journal;

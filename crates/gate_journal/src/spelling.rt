@@ -1,0 +1,97 @@
+//! How a side is laid out, format 1 (own). Numbers are big-endian.
+//!
+//! A gate is one byte. It is open at A5h and closed at every other value; a closed one is written 00h.
+//!
+//! | Place | Content |
+//! |---|---|
+//! | 0 | the side's gate, open |
+//! | 1 to 8 | `VTLCART1` of a cartridge, `VTLRESV1` of a drive's saved reservations |
+//! | 9 | the pair gate, 00h |
+//! | 10 | N, the count of capacities: 1 to 4 of a cartridge, 0 of a store |
+//! | 11 to 26 | the barcode, or `DRIVE` and the drive's number, with spaces behind it |
+//! | 27 on | N capacities in bytes, each a number of 8 bytes from 4,096 to 1,099,511,627,776 |
+//! | 27 + 8N | the gate of the first frame |
+//!
+//! A frame is its gate (1), the length of its body (4; 1 to 8,388,608) and its body, and is followed by the gate of the
+//! next frame. A side is read from the first gate on, and reading ends at the first closed one: what lies behind it counts
+//! for nothing. So a frame is added in four calls of the disk: behind the gate at the end, which stands closed, go length,
+//! body and the next closed gate in one write; a sync; A5h into the gate; a sync.
+ghost use Rattle.std.specs.Prelude.{◌≡◌, ◌≤◌, ◌<◌, ◌+◌, [], ◌∷◌, ◌++◌, length, drop, IfOk, vec_capacity};
+ghost use Rattle.std.specs.List.{flat_map};
+ghost use Rattle.std.specs.Int.{to_be_bytes, w32, w64};
+ghost use Rattle.gate_journal.specs.Side.{IsBody, IsHeading, spell_heading};
+ghost use Rattle.gate_journal.specs.Headers.{heading_of};
+ghost use Rattle.gate_journal.specs.declared.spelling.TheConstants.{FRAME_BYTES};
+
+use crate::header::{Header, NAME_BYTES};
+use byteorder::{BigEndian, ByteOrder};
+use std::alloc::{AllocError, Global};
+
+/// An open gate.
+pub(crate) const OPEN: u8 = 0xa5;
+
+/// A closed gate, as it is written.
+pub(crate) const CLOSED: u8 = 0x00;
+
+/// The bytes of a header before the capacities.
+pub(crate) const START_BYTES: usize = 27;
+
+/// The bytes that the longest frame takes of a side: its gate or the next one, its length and its body.
+pub(crate) const FRAME_BYTES: usize = 8_388_613;
+
+// A header in bytes.
+pub(crate) fn spell_header(alloc: Global, header: &Header) -> Result<Vec<u8>, AllocError>
+    requires { length header.now.words.items ≤ 4 }
+    ensures { IfOk result (λ bytes. bytes.items ≡ spell_heading (heading_of header.now)) }
+{
+    let mut bytes = Vec::new(alloc);
+    bytes.push(OPEN)?;
+    bytes.extend_from_slice(header.kind.mark())?;
+    bytes.push(CLOSED)?;
+    bytes.push(header.words.len() as u8)?;
+    bytes.extend_from_slice(&header.name)?;
+    spell_words(&mut bytes, &header.words)?;
+    Ok(bytes)
+}
+
+// Eight bytes for each number, behind what is there.
+fn spell_words(bytes: &mut Vec<u8>, words: &[u64]) -> Result<(), AllocError>
+    ensures { IfOk result (λ _. bytes.new.items ≡ bytes.old.items ++ flat_map (to_be_bytes w64) words.now) }
+{
+    for word in words {
+        let mut number = [0; 8];
+        BigEndian::write_u64(&mut number, *word);
+        bytes.extend_from_slice(&number)?;
+    }
+    Ok(())
+}
+
+// A header with its gate closed, and a closed gate behind it.
+pub(crate) fn spell_closed(alloc: Global, header: &Header) -> Result<Vec<u8>, AllocError>
+    requires { length header.now.words.items ≤ 4 }
+    ensures { IfOk result (λ bytes. bytes.items ≡ 0 ∷ drop 1 (spell_heading (heading_of header.now)) ++ 0 ∷ []) }
+{
+    let mut bytes = spell_header(alloc, header)?;
+    bytes[0] = CLOSED;
+    bytes.push(CLOSED)?;
+    Ok(bytes)
+}
+
+// Fills the buffer with what goes behind a gate: a length, a body, and the next gate, closed.
+pub(crate) fn fill_frame(buffer: &mut Vec<u8>, body: &[u8])
+    requires body { IsBody body.now }
+    requires room { FRAME_BYTES ≤ vec_capacity buffer.old }
+    ensures frame { buffer.new.items ≡ to_be_bytes w32 (length body.now) ++ body.now ++ 0 ∷ [] }
+    ensures room { FRAME_BYTES ≤ vec_capacity buffer.new }
+{
+    let mut size = [0; 4];
+    BigEndian::write_u32(&mut size, body.len() as u32);
+    buffer.clear();
+    let Ok(()) = buffer.extend_from_slice(&size) else {
+        unreachable!()
+    };
+    let Ok(()) = buffer.extend_from_slice(body) else {
+        unreachable!()
+    };
+    buffer.push_reserved(CLOSED);
+}

@@ -1,0 +1,65 @@
+//! Work for a clock: frames added to a side in memory, a plain copy of the same bytes, and a side of many frames that is opened.
+#![tactic(auto)]
+
+mod work;
+
+use std::alloc::Global;
+use std::env;
+use std::process::ExitCode;
+use std::time::Instant;
+use work::{appended, copied, opened, side_of, written};
+
+// What the word asks, done so often: how many bytes or frames came of it.
+fn done(alloc: Global, word: &str, count: u32) -> Option<usize> {
+    match word {
+        "append" => appended(alloc, count),
+        "copy" => copied(alloc, count),
+        "write" => written(alloc, count),
+        "side" => Some(side_of(alloc, count)?.bytes().len()),
+        _ => None,
+    }
+}
+
+// The microseconds that the work took, and what came of it. To open a side is timed alone.
+fn timed(rt: &HostRuntime, word: &str, count: u32) -> Option<(u128, usize)> {
+    let alloc = rt.alloc();
+    if word == "open" {
+        let side = side_of(alloc, count)?;
+        let start = Instant::now(rt).ok()?;
+        let frames = opened(alloc, side)?;
+        return Some((start.elapsed(rt).ok()?.as_micros(), frames));
+    }
+    let start = Instant::now(rt).ok()?;
+    let count = done(alloc, word, count)?;
+    Some((start.elapsed(rt).ok()?.as_micros(), count))
+}
+
+/// With `append N`, `copy N`, `write N`, `side N` or `open N` it tells the microseconds and what came of it; with no words it does a
+/// little of each and tells that alone.
+fn main(rt: HostRuntime) -> ExitCode {
+    let Ok(words) = env::args(&rt) else {
+        return ExitCode::from(1);
+    };
+    let mut words = words.skip(1);
+    let (Some(word), Some(count)) = (words.next(), words.next()) else {
+        for word in ["append", "copy", "write", "side", "open"] {
+            match timed(&rt, word, 3) {
+                Some((_, count)) => {
+                    let _ = println!(rt; "{word} {count}");
+                }
+                None => return ExitCode::from(2),
+            }
+        }
+        return ExitCode::from(0);
+    };
+    let Ok(count) = count.parse::<u32>() else {
+        return ExitCode::from(1);
+    };
+    match timed(&rt, word.as_str(), count) {
+        Some((time, count)) => {
+            let _ = println!(rt; "{time} {count}");
+            ExitCode::from(0)
+        }
+        None => ExitCode::from(2),
+    }
+}

@@ -1,0 +1,363 @@
+-- What the lines of a text say, read from its front.
+use Rattle.std.proofs.Common.{◌≡◌, ℕ, ◌+◌, ◌-◌, ◌<◌, ◌≤◌, Bool, true, false, cond, not, ◌||◌, List, [], ◌∷◌, ◌++◌, length, take, drop, map, Option, Some, None, Result, Ok, Err, IfOk, position, refl, sym, ap, ◌∙◌, subst, arith, rules, append_assoc, length-take-le, nat_lt, filter_map, take_while, eqb, ◌==◌, ◌&&◌, nat_le, if◌then◌else◌, slice_index, codes, bytes_eq}
+use Rattle.std.proofs.lemmas.Bool.Decides.{nat_tests}
+use Rattle.std.proofs.lemmas.List.{take-append-le, drop-append-le, length-append, append-nil, map-append}
+use Rattle.std.proofs.lemmas.List.Splits.{slice_split-cons_yes, slice_split-cons_no}
+use Rattle.std.proofs.lemmas.List.Folds.{prefix_len-append, list_any-append, list_all-append}
+use Rattle.std.proofs.lemmas.List.Elements.{filter_map-append}
+use Rattle.std.specs.List.{slice_split, onto_first, list_any, list_all, position_or_len, prefix_len}
+use Rattle.std.specs.Io.KnownBytes.{Consumes, IsAtEnd}
+use Rattle.vtl.specs.declared.lines.Line.{Line}
+use Rattle.vtl.specs.declared.lines.Meaning.{Meaning}
+use Rattle.vtl.specs.declared.lines.Meaning.TheVariants.{Nothing, PhaseEnd, Command, Refused}
+use Rattle.vtl.specs.Lines.{only_if, host_of, drive_of, bytes_of, decimal_of, command_of, command_in, data_of, said_with, said_by, fields_of}
+use Rattle.vtl.specs.Phases.{without_return, meaning_of, meanings_in, meanings_of, is_refused, is_phase_end, is_good, has_host, line_in, phases_to_run, by_host, in_turn}
+use Rattle.std.proofs.lemmas.List.Sums.{take_while-cons}
+use Rattle.vtl.specs.declared.phases.Next.{Next}
+use Rattle.vtl.specs.declared.phases.Phase.{Phase}
+use Rattle.vtl.specs.declared.faults.ScriptFault.{ScriptFault}
+use Rattle.vtl.specs.declared.faults.ScriptFault.TheVariants.{BadLine}
+use Rattle.vtl.specs.Reading.{Reading, Comes, work_left}
+use Rattle.vtl.specs.ReadPhase.{rest_of, Accepts, SaysFirst, TellsNext, RefusesNext, ReadsPhase, RefusesPhase, IsPhase}
+use Rattle.vtl.proofs.ReadingLemmas.{consumes_on, consumes_none}
+use Rattle.vtl.proofs.TurnLemmas.{by_host-none}
+use Rattle.vtl.proofs.SplitLemmas.{split_at, split_whole, found, missed}
+
+-- a text has a first part
+pub record HasFirst {X : Type 0} (p : X → Bool) (xs : List X) : Type 0 where
+  pub part : List X
+  pub parts : List (List X)
+  pub splits : slice_split p xs ≡ part ∷ parts
+
+first_with : {X : Type 0} (p : X → Bool) (x : X) (xs : List X) (b : Bool) → p x ≡ b → HasFirst p xs → HasFirst p (x ∷ xs)
+first_with p x xs true is rest = record { part = []; parts = slice_split p xs; splits = slice_split-cons_yes p x xs is }
+first_with p x xs false is rest = record { part = x ∷ rest.part; parts = rest.parts; splits = slice_split-cons_no p x xs is ∙ ap (onto_first x) rest.splits }
+
+pub first_of_split : {X : Type 0} (p : X → Bool) (xs : List X) → HasFirst p xs
+first_of_split p [] = record { part = []; parts = []; splits = refl }
+first_of_split p (x ∷ xs) = first_with p x xs (p x) refl (first_of_split p xs)
+
+front_with : {X : Type 0} (p : X → Bool) (x : X) (xs ys part : List X) (parts : List (List X)) (b : Bool) → p x ≡ b → (b || list_any p xs) ≡ false → (list_any p xs ≡ false → slice_split p (xs ++ ys) ≡ (xs ++ part) ∷ parts) → slice_split p (x ∷ (xs ++ ys)) ≡ (x ∷ (xs ++ part)) ∷ parts
+front_with p x xs ys part parts true is none rest = absurd (cc)
+front_with p x xs ys part parts false is none rest = slice_split-cons_no p x (xs ++ ys) is ∙ ap (onto_first x) (rest none)
+
+-- what has no end of a part goes onto the first part of the rest
+pub split_front : {X : Type 0} (p : X → Bool) (xs ys part : List X) (parts : List (List X)) → list_any p xs ≡ false → slice_split p ys ≡ part ∷ parts → slice_split p (xs ++ ys) ≡ (xs ++ part) ∷ parts
+split_front p [] ys part parts none h = h
+split_front p (x ∷ xs) ys part parts none h = front_with p x xs ys part parts (p x) refl none (λ rest. split_front p xs ys part parts rest h)
+
+pub split_end : {X : Type 0} (p : X → Bool) (xs : List X) (y : X) (ys : List X) → list_any p xs ≡ false → p y ≡ true → slice_split p (xs ++ y ∷ ys) ≡ xs ∷ slice_split p ys
+split_end p xs y ys none is = rw (split_front p xs (y ∷ ys) [] (slice_split p ys) none (slice_split-cons_yes p y ys is)) (ap (λ part. part ∷ slice_split p ys) (append-nil xs))
+
+pub split_all : {X : Type 0} (p : X → Bool) (xs : List X) → list_any p xs ≡ false → slice_split p xs ≡ xs ∷ []
+split_all p xs none = ap (slice_split p) (sym (append-nil xs)) ∙ split_front p xs [] [] [] none refl ∙ ap (λ part. part ∷ []) (append-nil xs)
+
+none_with : {X : Type 0} (p : X → Bool) (x : X) (xs : List X) (b : Bool) → p x ≡ b → length (x ∷ xs) ≤ position_or_len p (x ∷ xs) → (length xs ≤ position_or_len p xs → list_any p xs ≡ false) → (p x || list_any p xs) ≡ false
+none_with p x xs true is h rest = absurd (let k = rw is at h in omega (arith, k))
+none_with p x xs false is h rest = rw is (rest (let k = rw is at h in omega (arith, k)))
+
+pub none_of : {X : Type 0} (p : X → Bool) (xs : List X) → length xs ≤ position_or_len p xs → list_any p xs ≡ false
+none_of p [] h = refl
+none_of p (x ∷ xs) h = none_with p x xs (p x) refl h (none_of p xs)
+
+-- the place of the first stays, whatever follows
+pub position_append : (p : ℕ → Bool) (xs ys : List ℕ) (i : ℕ) → position p xs ≡ Some i → position p (xs ++ ys) ≡ Some i
+position_append p xs ys i h =
+    let is = found p xs i h in
+    let both = prefix_len-append (λ (x : ℕ). not (p x)) xs ys in
+    let long = length-append xs ys in
+    let at : position_or_len p (xs ++ ys) ≡ i = grind (arith, nat_tests, both, is.place, is.within) in
+    grind (arith, nat_tests, at, long, is.place, is.within)
+
+-- a first line that a line feed ends
+ended_first : (is_configured : ℕ → Bool) (line : List ℕ) (parts : List (List ℕ)) (rest : List ℕ) → HasFirst (λ byte. byte == 10) rest → meanings_in is_configured (line ∷ slice_split (λ byte. byte == 10) rest) ≡ meaning_of is_configured (length line) (without_return line) ∷ meanings_of is_configured rest
+ended_first is_configured line parts rest first = rw first.splits refl
+
+pub says_line : (is_configured : ℕ → Bool) (text : List ℕ) (count : ℕ) (more : List ℕ) → position (λ byte. byte == 10) text ≡ Some count → meanings_of is_configured (text ++ more) ≡ meaning_of is_configured count (without_return (take count text)) ∷ meanings_of is_configured (drop (count + 1) text ++ more)
+says_line is_configured text count more h =
+    let is_end : ℕ → Bool = λ byte. byte == 10 in
+    let is = found is_end text count h in
+    let within : count + 1 ≤ length text = omega (arith, is.place, is.within) in
+    let cut = split_at is_end (text ++ more) count (position_append is_end text more count h) in
+    let long : length (take count text) ≡ count = length-take-le count text (omega (arith, within)) in
+    let parts : slice_split is_end (text ++ more) ≡ take count text ∷ slice_split is_end (drop (count + 1) text ++ more) =
+    rw (take-append-le count text more (omega (arith, within)), drop-append-le (count + 1) text more within) at cut in
+    ap (meanings_in is_configured) parts
+    ∙ ended_first is_configured (take count text) [] (drop (count + 1) text ++ more) (first_of_split is_end (drop (count + 1) text ++ more))
+    ∙ ap (λ (n : ℕ). meaning_of is_configured n (without_return (take count text)) ∷ meanings_of is_configured (drop (count + 1) text ++ more)) long
+
+-- the last line
+pub says_last : (is_configured : ℕ → Bool) (text : List ℕ) → position (λ byte. byte == 10) text ≡ None → meanings_of is_configured text ≡ meaning_of is_configured (length text) text ∷ []
+says_last is_configured text none = ap (meanings_in is_configured) (split_whole (λ byte. byte == 10) text none)
+
+long_first : (is_configured : ℕ → Bool) (line : List ℕ) (parts : List (List ℕ)) → 2200000 < length line → (behind : List Meaning) × (meanings_in is_configured (line ∷ parts) ≡ Refused ∷ behind)
+long_first is_configured line [] long = let t : nat_lt 2200000 (length line) ≡ true = grind (arith, nat_tests) in ([], rw t refl)
+long_first is_configured line (next ∷ parts) long = let t : nat_lt 2200000 (length line) ≡ true = grind (arith, nat_tests) in (meanings_in is_configured (next ∷ parts), rw t refl)
+
+-- a line that is too long, whatever follows
+pub says_long : (is_configured : ℕ → Bool) (text more : List ℕ) → position (λ byte. byte == 10) text ≡ None → 2200000 < length text → (behind : List Meaning) × (meanings_of is_configured (text ++ more) ≡ Refused ∷ behind)
+says_long is_configured text more none long =
+    let is_end : ℕ → Bool = λ byte. byte == 10 in
+    let first = first_of_split is_end more in
+    let cut = split_front is_end text more first.part first.parts (none_of is_end text (missed is_end text none)) first.splits in
+    let refused = long_first is_configured (text ++ first.part) first.parts (omega (arith, long, length-append text first.part)) in
+    (refused.0, ap (meanings_in is_configured) cut ∙ refused.1)
+
+-- a phase whose lines are all good
+good_of : (said : List Meaning) → list_any is_refused said ≡ false → is_good said ≡ true
+good_of said none = rw none refl
+
+taken_good : (said : List Meaning) (rest : List (List Meaning)) → is_good said ≡ true → take_while is_good (said ∷ rest) ≡ said ∷ take_while is_good rest
+taken_good said rest good = take_while-cons is_good said rest ∙ rw good refl
+
+taken_bad : (said : List Meaning) (rest : List (List Meaning)) → is_good said ≡ false → take_while is_good (said ∷ rest) ≡ []
+taken_bad said rest bad = take_while-cons is_good said rest ∙ rw bad refl
+
+pub run_phase : (said more : List Meaning) → list_any is_refused said ≡ false → list_any is_phase_end said ≡ false → phases_to_run (said ++ PhaseEnd ∷ more) ≡ filter_map line_in said ∷ phases_to_run more
+run_phase said more good within =
+    ap (map (filter_map line_in)) (ap (take_while is_good) (split_end is_phase_end said PhaseEnd more within refl) ∙ taken_good said (slice_split is_phase_end more) (good_of said good))
+
+pub run_last : (said : List Meaning) → list_any is_refused said ≡ false → list_any is_phase_end said ≡ false → phases_to_run said ≡ filter_map line_in said ∷ []
+run_last said good within =
+    ap (map (filter_map line_in)) (ap (take_while is_good) (split_all is_phase_end said within) ∙ taken_good said [] (good_of said good))
+
+any_refused : (said part : List Meaning) → list_any is_refused (said ++ Refused ∷ part) ≡ true
+any_refused [] part = refl
+any_refused (Nothing ∷ said) part = any_refused said part
+any_refused (PhaseEnd ∷ said) part = any_refused said part
+any_refused (Command line ∷ said) part = any_refused said part
+any_refused (Refused ∷ said) part = refl
+
+pub run_none : (said behind : List Meaning) → list_any is_phase_end said ≡ false → phases_to_run (said ++ Refused ∷ behind) ≡ []
+run_none said behind within =
+    let first = first_of_split is_phase_end behind in
+    let splits = split_front is_phase_end said (Refused ∷ behind) (Refused ∷ first.part) first.parts within (ap (onto_first Refused) first.splits) in
+    let bad : is_good (said ++ Refused ∷ first.part) ≡ false = ap not (any_refused said first.part) in
+    ap (map (filter_map line_in)) (ap (take_while is_good) splits ∙ taken_bad (said ++ Refused ∷ first.part) first.parts bad)
+
+-- what a line says that a line feed ends
+pub line_says : (is_configured : ℕ → Bool) (unread unread' : List ℕ) (count : ℕ) (meaning : Meaning) → position (λ byte. byte == 10) unread ≡ Some count → meaning ≡ meaning_of is_configured count (without_return (take count unread)) → unread' ≡ drop (count + 1) unread → (more : List ℕ) → meanings_of is_configured (unread ++ more) ≡ meaning ∷ meanings_of is_configured (unread' ++ more)
+line_says is_configured unread unread' count meaning found is rest more = rw (is, rest) (says_line is_configured unread count more found)
+
+pub at_end : (left : Option (List ℕ)) → IsAtEnd left → rest_of left ≡ []
+at_end None h = refl
+at_end (Some xs) h = h
+
+-- the first line, and what is behind it, of all that is known
+whole : (is_configured : ℕ → Bool) (is_last : Bool) (text : List ℕ) (said : List Meaning) (unread : List ℕ) (left : Option (List ℕ)) → SaysFirst is_configured is_last text said unread left → (behind : List Meaning) × (meanings_of is_configured (text ++ rest_of left) ≡ said ++ behind)
+whole is_configured true text said unread left h =
+    ([], rw (at_end left h.0, append-nil text, append-nil said) h.1)
+whole is_configured false text said unread left h = (meanings_of is_configured (unread ++ rest_of left), h (rest_of left))
+
+-- the host of a command is one
+passed : (passes : ℕ → Bool) (n : ℕ) (b : Bool) (host : ℕ) → passes n ≡ b → (if b then Some n else None) ≡ Some host → passes host ≡ true
+passed passes n true host is some = let same : n ≡ host = cc in ap passes (sym same) ∙ is
+passed passes n false host is some = absurd (cc)
+
+host_passes : (passes : ℕ → Bool) (o : Option ℕ) (host : ℕ) → only_if passes o ≡ Some host → passes host ≡ true
+host_passes passes None host some = absurd (cc)
+host_passes passes (Some n) host some = passed passes n (passes n) host refl some
+
+hosts_of_command : (o drive : Option ℕ) (cdb sent : Option (List ℕ)) → ((host : ℕ) → o ≡ Some host → (nat_le 1 host && nat_le host 64) ≡ true) → list_all has_host (filter_map line_in (command_of o drive cdb sent ∷ [])) ≡ true
+hosts_of_command (Some host) (Some drive) (Some cdb) (Some sent) is_host = rw (is_host host refl) refl
+hosts_of_command None drive cdb sent is_host = refl
+hosts_of_command (Some host) None cdb sent is_host = refl
+hosts_of_command (Some host) (Some drive) None sent is_host = refl
+hosts_of_command (Some host) (Some drive) (Some cdb) None is_host = refl
+
+hosts_of_fields : (is_configured : ℕ → Bool) (host drive cdb : List ℕ) (o : Option (List ℕ)) → list_all has_host (filter_map line_in (command_in is_configured host drive cdb o ∷ [])) ≡ true
+hosts_of_fields is_configured host drive cdb None = refl
+hosts_of_fields is_configured host drive cdb (Some sent) =
+    hosts_of_command (host_of host) (drive_of is_configured drive) (bytes_of cdb) (bytes_of sent) (λ n is. host_passes (λ number. nat_le 1 number && nat_le number 64) (decimal_of host) n is)
+
+hosts_if : (b : Bool) (first second : Meaning) → list_all has_host (filter_map line_in (first ∷ [])) ≡ true → list_all has_host (filter_map line_in (second ∷ [])) ≡ true → list_all has_host (filter_map line_in ((if b then first else second) ∷ [])) ≡ true
+hosts_if true first second h k = h
+hosts_if false first second h k = k
+
+hosts_with : (is_configured : ℕ → Bool) (first : List ℕ) (rest : List (List ℕ)) → list_all has_host (filter_map line_in (said_with is_configured first rest ∷ [])) ≡ true
+hosts_with is_configured first [] = hosts_if (bytes_eq first (codes "--")) PhaseEnd Refused refl refl
+hosts_with is_configured first (drive ∷ []) = refl
+hosts_with is_configured first (drive ∷ cdb ∷ rest) = hosts_of_fields is_configured first drive cdb (data_of rest)
+
+hosts_by : (is_configured : ℕ → Bool) (fields : List (List ℕ)) → list_all has_host (filter_map line_in (said_by is_configured fields ∷ [])) ≡ true
+hosts_by is_configured [] = refl
+hosts_by is_configured (first ∷ rest) = hosts_if (slice_index first 0 == 35) Nothing (said_with is_configured first rest) refl (hosts_with is_configured first rest)
+
+pub hosts_of : (is_configured : ℕ → Bool) (count : ℕ) (line : List ℕ) (meaning : Meaning) → meaning ≡ meaning_of is_configured count line → list_all has_host (filter_map line_in (meaning ∷ [])) ≡ true
+hosts_of is_configured count line meaning is = rw is (hosts_if (nat_lt 2200000 count) Refused (said_by is_configured (fields_of line)) refl (hosts_by is_configured (fields_of line)))
+
+-- a line that was read, by what is told of it
+pub tells : (is_configured : ℕ → Bool) (left left' : Option (List ℕ)) (old mid new : Reading) (meaning : Meaning) (is_last : Bool) (number : ℕ) (result : Result Next ScriptFault) → list_all has_host (filter_map line_in (meaning ∷ [])) ≡ true → mid.bytes ≤ 2147483648 → new.bytes ≡ mid.bytes → Comes left old left' mid → SaysFirst is_configured is_last mid.unread (meaning ∷ []) new.unread left' → (is_last ≡ false → new.lines ≡ old.lines + 1) → (is_last ≡ false → work_left new < work_left old) → Accepts meaning is_last number result → IfOk result (TellsNext is_configured left old left' new)
+tells is_configured left left' old mid new meaning is_last number (Err fault) host within bytes comes says lines less accepts = tt
+tells is_configured left left' old mid new meaning is_last number (Ok next) host within bytes comes says lines less accepts =
+    rw accepts.0 (record {
+      read = comes.read;
+      taken = comes.taken;
+      says = rw (← comes.unread) says;
+      accepted = accepts.1;
+      host = host;
+      bytes = bytes ∙ comes.bytes;
+      within = omega (arith, bytes, within);
+      lines = lines;
+      less = less;
+    })
+
+pub refuses : (is_configured : ℕ → Bool) (left left' : Option (List ℕ)) (old mid new : Reading) (meaning : Meaning) (is_last : Bool) (number : ℕ) (result : Result Next ScriptFault) → Comes left old left' mid → SaysFirst is_configured is_last mid.unread (meaning ∷ []) new.unread left' → number ≡ old.lines + 1 → Accepts meaning is_last number result → (told : ℕ) → result ≡ Err (BadLine told) → RefusesNext is_configured left old left' told
+refuses is_configured left left' old mid new meaning is_last number (Ok next) comes says counted accepts told is = absurd (cc)
+refuses is_configured left left' old mid new meaning is_last number (Err fault) comes says counted accepts told is =
+    let all = whole is_configured is_last mid.unread (meaning ∷ []) new.unread left' says in
+    let number_told : told ≡ number = cc in
+    record {
+      read = comes.read;
+      taken = comes.taken;
+      number_is = number_told ∙ counted;
+      behind = all.0;
+      says = rw (← comes.unread, ← accepts.1) all.1;
+    }
+
+-- a line that does not end within its limit
+pub refuses_long : (is_configured : ℕ → Bool) (left left' : Option (List ℕ)) (old mid : Reading) (told : ℕ) → Comes left old left' mid → position (λ byte. byte == 10) mid.unread ≡ None → 2200000 < length mid.unread → told ≡ old.lines + 1 → RefusesNext is_configured left old left' told
+refuses_long is_configured left left' old mid told comes none long counted =
+    let all = says_long is_configured mid.unread (rest_of left') none long in
+    record {
+      read = comes.read;
+      taken = comes.taken;
+      number_is = counted;
+      behind = all.0;
+      says = rw (← comes.unread) all.1;
+    }
+
+-- no less can be taken up for what came
+pub work_same : (left left' : Option (List ℕ)) (old new : Reading) → Comes left old left' new → work_left new ≤ work_left old
+work_same left left' old new comes = omega (arith, comes.bytes, ap length comes.unread, length-append old.unread comes.read)
+
+-- some lines of a phase were read, with these commands
+pub record IsGathered (is_configured : ℕ → Bool) (left : Option (List ℕ)) (old : Reading) (left' : Option (List ℕ)) (new : Reading) (lines : List Line) : Type 0 where
+  pub read : List ℕ
+  pub taken : Consumes left left' read
+  pub said : List Meaning
+  pub says : (more : List ℕ) → meanings_of is_configured ((old.unread ++ read) ++ more) ≡ said ++ meanings_of is_configured (new.unread ++ more)
+  pub accepted : list_any is_refused said ≡ false
+  pub within : list_any is_phase_end said ≡ false
+  pub counted : new.lines ≡ old.lines + length said
+  pub less : work_left new ≤ work_left old
+  pub gathered : lines ≡ filter_map line_in said
+  pub hosts : list_all has_host lines ≡ true
+  pub bytes : new.bytes ≡ old.bytes + length read
+
+pub gathered_none : (is_configured : ℕ → Bool) (left : Option (List ℕ)) (reading : Reading) → IsGathered is_configured left reading left reading []
+gathered_none is_configured left reading = record {
+  read = [];
+  taken = consumes_none left;
+  said = [];
+  says = λ more. ap (λ (text : List ℕ). meanings_of is_configured (text ++ more)) (append-nil reading.unread);
+  accepted = refl;
+  within = refl;
+  counted = omega arith;
+  less = omega arith;
+  gathered = refl;
+  hosts = refl;
+  bytes = omega arith;
+}
+
+pub both_none : (p : Meaning → Bool) (said : List Meaning) (meaning : Meaning) → list_any p said ≡ false → p meaning ≡ false → list_any p (said ++ meaning ∷ []) ≡ false
+both_none p said meaning first second = list_any-append p said (meaning ∷ []) ∙ rw (first, second) refl
+
+-- the hosts of both lists are hosts
+all_hosts : (lines lines' more : List Line) → list_all has_host lines ≡ true → list_all has_host more ≡ true → lines' ≡ lines ++ more → list_all has_host lines' ≡ true
+all_hosts lines lines' more first second is = ap (list_all has_host) is ∙ list_all-append has_host lines more ∙ rw (first, second) refl
+
+-- what is read first, and then more
+pub texts : (old first second more : List ℕ) → (old ++ (first ++ second)) ++ more ≡ (old ++ first) ++ (second ++ more)
+texts old first second more = simp append_assoc
+
+pub gathers_on : (is_configured : ℕ → Bool) (a b c : Option (List ℕ)) (old mid new : Reading) (lines lines' : List Line) (next : Next) → IsGathered is_configured a old b mid lines → TellsNext is_configured b mid c new next → next.is_last ≡ false → is_phase_end next.meaning ≡ false → lines' ≡ lines ++ filter_map line_in (next.meaning ∷ []) → IsGathered is_configured a old c new lines'
+gathers_on is_configured a b c old mid new lines lines' next so tells on inside more_lines =
+    let second = rw on at tells.says in
+    record {
+      read = so.read ++ tells.read;
+      taken = consumes_on a b c so.read tells.read so.taken tells.taken;
+      said = so.said ++ next.meaning ∷ [];
+      says = λ more.
+          ap (meanings_of is_configured) (texts old.unread so.read tells.read more) ∙ so.says (tells.read ++ more)
+          ∙ ap (λ (text : List ℕ). so.said ++ meanings_of is_configured text) (sym (append_assoc mid.unread tells.read more))
+          ∙ ap (λ (said : List Meaning). so.said ++ said) (second more)
+          ∙ sym (append_assoc so.said (next.meaning ∷ []) (meanings_of is_configured (new.unread ++ more)));
+      accepted = both_none is_refused so.said next.meaning so.accepted tells.accepted;
+      within = both_none is_phase_end so.said next.meaning so.within inside;
+      counted = omega (arith, so.counted, tells.lines on, length-append so.said (next.meaning ∷ []));
+      less = omega (arith, so.less, tells.less on);
+      gathered = more_lines ∙ ap (λ (xs : List Line). xs ++ filter_map line_in (next.meaning ∷ [])) so.gathered ∙ sym (filter_map-append line_in so.said (next.meaning ∷ []));
+      hosts = all_hosts lines lines' (filter_map line_in (next.meaning ∷ [])) so.hosts tells.host more_lines;
+      bytes = omega (arith, so.bytes, tells.bytes, length-append so.read tells.read);
+    }
+
+says_then : (is_configured : ℕ → Bool) (is_last : Bool) (old mid new first second : List ℕ) (said more : List Meaning) (left : Option (List ℕ)) → ((rest : List ℕ) → meanings_of is_configured ((old ++ first) ++ rest) ≡ said ++ meanings_of is_configured (mid ++ rest)) → SaysFirst is_configured is_last (mid ++ second) more new left → SaysFirst is_configured is_last (old ++ (first ++ second)) (said ++ more) new left
+says_then is_configured true old mid new first second said more left so tells =
+    (tells.0, ap (meanings_of is_configured) (sym (append_assoc old first second)) ∙ so second ∙ ap (λ (xs : List Meaning). said ++ xs) tells.1)
+says_then is_configured false old mid new first second said more left so tells = λ rest.
+    ap (meanings_of is_configured) (texts old first second rest) ∙ so (second ++ rest)
+    ∙ ap (λ (text : List ℕ). said ++ meanings_of is_configured text) (sym (append_assoc mid second rest))
+    ∙ ap (λ (xs : List Meaning). said ++ xs) (tells rest)
+    ∙ sym (append_assoc said more (meanings_of is_configured (new ++ rest)))
+
+-- the lines up to the end of a phase are a phase
+ended_phase : (is_last : Bool) (said : List Meaning) (lines : List Line) → list_any is_refused said ≡ false → list_any is_phase_end said ≡ false → lines ≡ filter_map line_in said → IsPhase is_last (said ++ PhaseEnd ∷ []) lines
+ended_phase true said lines good within is =
+    ap in_turn (run_phase said [] good within) ∙ ap (λ (xs : List Line). by_host (filter_map line_in said) ++ (xs ++ [])) by_host-none
+    ∙ append-nil (by_host (filter_map line_in said)) ∙ ap by_host (sym is)
+ended_phase false said lines good within is = λ more. ap phases_to_run (append_assoc said (PhaseEnd ∷ []) more) ∙ run_phase said more good within ∙ ap (λ (xs : List Line). xs ∷ phases_to_run more) (sym is)
+
+-- and so are the lines up to the end of the text
+last_phase : (said : List Meaning) (lines : List Line) → list_any is_refused said ≡ false → list_any is_phase_end said ≡ false → lines ≡ filter_map line_in said → IsPhase true said lines
+last_phase said lines good within is = ap in_turn (run_last said good within) ∙ append-nil (by_host (filter_map line_in said)) ∙ ap by_host (sym is)
+
+-- the last line of a phase, by what it says and whether the text has ended
+ends_with : (meaning : Meaning) (is_last : Bool) (said : List Meaning) (lines lines' : List Line) → list_any is_refused said ≡ false → is_refused meaning ≡ false → list_any is_phase_end said ≡ false → (is_phase_end meaning || is_last) ≡ true → lines ≡ filter_map line_in said → lines' ≡ lines ++ filter_map line_in (meaning ∷ []) → IsPhase is_last (said ++ meaning ∷ []) lines'
+ends_with PhaseEnd is_last said lines lines' good one within ends is more =
+    ended_phase is_last said lines' good within (more ∙ append-nil lines ∙ is)
+ends_with Refused is_last said lines lines' good one within ends is more = absurd (cc)
+ends_with Nothing true said lines lines' good one within ends is more =
+    last_phase (said ++ Nothing ∷ []) lines' (both_none is_refused said Nothing good refl) (both_none is_phase_end said Nothing within refl)
+    (more ∙ ap (λ (xs : List Line). xs ++ []) is ∙ sym (filter_map-append line_in said (Nothing ∷ [])))
+ends_with (Command line) true said lines lines' good one within ends is more =
+    last_phase (said ++ Command line ∷ []) lines' (both_none is_refused said (Command line) good refl) (both_none is_phase_end said (Command line) within refl)
+    (more ∙ ap (λ (xs : List Line). xs ++ line ∷ []) is ∙ sym (filter_map-append line_in said (Command line ∷ [])))
+ends_with Nothing false said lines lines' good one within ends is more = absurd (cc)
+ends_with (Command line) false said lines lines' good one within ends is more = absurd (cc)
+
+pub phase_read : (is_configured : ℕ → Bool) (a b c : Option (List ℕ)) (old mid new : Reading) (lines : List Line) (next : Next) (phase : Phase) → IsGathered is_configured a old b mid lines → TellsNext is_configured b mid c new next → (is_phase_end next.meaning || next.is_last) ≡ true → phase.is_last ≡ next.is_last → phase.lines.items ≡ lines ++ filter_map line_in (next.meaning ∷ []) → ReadsPhase is_configured a old c new phase
+phase_read is_configured a b c old mid new lines next phase so tells ends same_last same_lines =
+    record {
+      read = so.read ++ tells.read;
+      taken = consumes_on a b c so.read tells.read so.taken tells.taken;
+      said = so.said ++ next.meaning ∷ [];
+      says = rw same_last (says_then is_configured next.is_last old.unread mid.unread new.unread so.read tells.read so.said (next.meaning ∷ []) c so.says tells.says);
+      accepted = both_none is_refused so.said next.meaning so.accepted tells.accepted;
+      lines = λ on. let counted = tells.lines (sym same_last ∙ on) in omega (arith, so.counted, counted, length-append so.said (next.meaning ∷ []));
+      less = λ on. let least = tells.less (sym same_last ∙ on) in omega (arith, so.less, least);
+      bytes = omega (arith, so.bytes, tells.bytes, length-append so.read tells.read);
+      within = tells.within;
+      hosts = all_hosts lines phase.lines.items (filter_map line_in (next.meaning ∷ [])) so.hosts tells.host same_lines;
+      is_phase = rw same_last (ends_with next.meaning next.is_last so.said lines phase.lines.items so.accepted tells.accepted so.within ends so.gathered same_lines);
+    }
+
+pub phase_refused : (is_configured : ℕ → Bool) (a b c : Option (List ℕ)) (old mid : Reading) (lines : List Line) (number : ℕ) → IsGathered is_configured a old b mid lines → RefusesNext is_configured b mid c number → RefusesPhase is_configured a old c number
+phase_refused is_configured a b c old mid lines number so refuses =
+    record {
+      read = so.read ++ refuses.read;
+      taken = consumes_on a b c so.read refuses.read so.taken refuses.taken;
+      said = so.said;
+      accepted = so.accepted;
+      number_is = omega (arith, refuses.number_is, so.counted);
+      behind = refuses.behind;
+      says =
+          ap (meanings_of is_configured) (texts old.unread so.read refuses.read (rest_of c)) ∙ so.says (refuses.read ++ rest_of c)
+          ∙ ap (λ (text : List ℕ). so.said ++ meanings_of is_configured text) (sym (append_assoc mid.unread refuses.read (rest_of c)))
+          ∙ ap (λ (xs : List Meaning). so.said ++ xs) refuses.says;
+      not_run = run_none so.said refuses.behind so.within;
+    }
+
+pub or_last : (b : Bool) → (b || true) ≡ true
+or_last true = refl
+or_last false = refl

@@ -1,0 +1,362 @@
+-- Scripts that are run phase by phase.
+use Rattle.std.proofs.Common.{◌≡◌, ℕ, ◌+◌, ◌<◌, ◌≤◌, Bool, true, false, cond, not, ◌||◌, nat_lt, List, [], ◌∷◌, ◌++◌, length, take, drop, Option, Some, None, Result, Ok, Err, IfSome, option_map, position, refl, sym, ap, ◌∙◌, subst, arith, append_assoc, take_all, flat_map, take-append-drop, ◌⊎◌, inl, inr}
+use Rattle.std.proofs.lemmas.Bool.Decides.{nat_tests}
+use Rattle.std.proofs.lemmas.List.{append-nil, length-append, take-append-le}
+use Rattle.std.proofs.Math.Seq.{take-append-add, take-append_seam}
+use Rattle.std.proofs.lemmas.List.Folds.{list_any-append}
+use Rattle.std.proofs.lemmas.Grind.{flat_map-append}
+use Rattle.std.specs.List.{list_any, position_or_len}
+use Rattle.std.specs.Io.KnownBytes.{Appends, Consumes, IsAtEnd}
+use Rattle.scsi_wire.specs.declared.replies.Reply.{Reply}
+use Rattle.vtl.specs.declared.lines.Line.{Line}
+use Rattle.vtl.specs.declared.lines.Meaning.{Meaning}
+use Rattle.vtl.specs.declared.lines.Meaning.TheVariants.{Refused}
+use Rattle.vtl.specs.declared.phases.Phase.{Phase}
+use Rattle.vtl.specs.declared.faults.ScriptFault.{ScriptFault}
+use Rattle.vtl.specs.declared.faults.ScriptFault.TheVariants.{BadLine, ReadFault, WriteFault, NoMemory}
+use Rattle.vtl.specs.Phases.{meanings_of, is_refused, refused_line, phases_to_run, by_host, in_turn}
+use Rattle.vtl.specs.Text.{reply_text, text_of}
+use Rattle.vtl.specs.Reading.{Reading, unbegun}
+use Rattle.vtl.specs.ReadPhase.{rest_of, SaysFirst, IsPhase, ReadsPhase, RefusesPhase}
+use Rattle.vtl.specs.Runs.{AnswersSome, EndsWith, Follows}
+use Rattle.vtl.specs.RunPhase.{EndsFrom, Finishes, GoesOn, RunsPhase}
+use Rattle.vtl.proofs.ReadingLemmas.{consumes_on, consumes_none}
+use Rattle.vtl.proofs.PhaseLemmas.{at_end, texts}
+use Rattle.vtl.proofs.TextLemmas.{appends_none, appends_on}
+
+-- the first place behind elements none of which passes
+behind_with : (p : Meaning → Bool) (x : Meaning) (xs ys : List Meaning) (b : Bool) → p x ≡ b → (b || list_any p xs) ≡ false → (list_any p xs ≡ false → position_or_len p (xs ++ ys) ≡ length xs + position_or_len p ys) → position_or_len p (x ∷ (xs ++ ys)) ≡ length (x ∷ xs) + position_or_len p ys
+behind_with p x xs ys true is none rest = absurd (cc)
+behind_with p x xs ys false is none rest = rw is (let k = rest none in omega (arith, k))
+
+all_behind : (p : Meaning → Bool) (xs ys : List Meaning) → list_any p xs ≡ false → position_or_len p (xs ++ ys) ≡ length xs + position_or_len p ys
+all_behind p [] ys none = omega arith
+all_behind p (x ∷ xs) ys none = behind_with p x xs ys (p x) refl none (all_behind p xs ys)
+
+same_test : (a p l : ℕ) → nat_lt (a + p) (a + l) ≡ nat_lt p l
+same_test a p l = grind (arith, nat_tests)
+
+shift_some : (b : Bool) (a p n : ℕ) → option_map (λ place. place + 1) (cond b (Some p) None) ≡ Some n → option_map (λ place. place + 1) (cond b (Some (a + p)) None) ≡ Some (a + n)
+shift_some true a p n h = let is : p + 1 ≡ n = cc in ap Some (omega (arith, is))
+shift_some false a p n h = absurd (cc)
+
+shift_none : (b : Bool) (a p : ℕ) → option_map (λ place. place + 1) (cond b (Some p) None) ≡ None → option_map (λ place. place + 1) (cond b (Some (a + p)) None) ≡ None
+shift_none true a p h = absurd (cc)
+shift_none false a p h = refl
+
+place_behind : (front said : List Meaning) → list_any is_refused front ≡ false → refused_line (front ++ said) ≡ option_map (λ place. place + 1) (cond (nat_lt (position_or_len is_refused said) (length said)) (Some (length front + position_or_len is_refused said)) None)
+place_behind front said none = rw (all_behind is_refused front said none, length-append front said, same_test (length front) (position_or_len is_refused said) (length said)) refl
+
+pub refused_behind : (front said : List Meaning) (place : ℕ) → list_any is_refused front ≡ false → refused_line said ≡ Some place → refused_line (front ++ said) ≡ Some (length front + place)
+refused_behind front said place none h = place_behind front said none ∙ shift_some (nat_lt (position_or_len is_refused said) (length said)) (length front) (position_or_len is_refused said) place h
+
+pub none_behind : (front said : List Meaning) → list_any is_refused front ≡ false → refused_line said ≡ None → refused_line (front ++ said) ≡ None
+none_behind front said none h = place_behind front said none ∙ shift_none (nat_lt (position_or_len is_refused said) (length said)) (length front) (position_or_len is_refused said) h
+
+none_refused : (said : List Meaning) → list_any is_refused said ≡ false → refused_line said ≡ None
+none_refused said none = ap refused_line (sym (append-nil said)) ∙ none_behind said [] none refl
+
+first_refused : (said behind : List Meaning) → list_any is_refused said ≡ false → refused_line (said ++ Refused ∷ behind) ≡ Some (length said + 1)
+first_refused said behind none =
+    let first : nat_lt 0 (length (Refused ∷ behind)) ≡ true = grind (arith, nat_tests) in
+    refused_behind said (Refused ∷ behind) 1 none (rw first refl)
+
+-- what is read, and then the rest that is known
+known_on : (left left' : Option (List ℕ)) (read text : List ℕ) → Consumes left left' read → IfSome left' (λ all. text ≡ all) → IfSome left (λ all. read ++ text ≡ all)
+known_on None left' read text taken known = tt
+known_on (Some xs) None read text taken known = absurd taken
+known_on (Some xs) (Some ys) read text taken known = ap (λ (rest : List ℕ). read ++ rest) known ∙ sym taken
+
+known_rest : (left : Option (List ℕ)) → IfSome left (λ all. rest_of left ≡ all)
+known_rest None = tt
+known_rest (Some xs) = refl
+
+in_turn-append : (first rest : List (List Line)) → in_turn (first ++ rest) ≡ in_turn first ++ in_turn rest
+in_turn-append first rest = flat_map-append by_host first rest
+
+text_of-append : (first rest : List Reply) → text_of (first ++ rest) ≡ text_of first ++ text_of rest
+text_of-append first rest = flat_map-append reply_text first rest
+
+take_part : (count : ℕ) (lines behind : List Line) → take (length (take count lines)) (lines ++ behind) ≡ take count lines
+take_part count lines behind =
+    ap (take (length (take count lines))) (ap (λ (xs : List Line). xs ++ behind) (sym (take-append-drop count lines)) ∙ append_assoc (take count lines) (drop count lines) behind)
+    ∙ take-append_seam (take count lines) (drop count lines ++ behind)
+
+-- what is run and written behind some phases
+runs_behind : (front said : List Meaning) (phases : List (List Line)) → phases_to_run (front ++ said) ≡ phases ++ phases_to_run said → in_turn (phases_to_run (front ++ said)) ≡ in_turn phases ++ in_turn (phases_to_run said)
+runs_behind front said phases to_run = ap in_turn to_run ∙ in_turn-append phases (phases_to_run said)
+
+lines_behind : (front said : List Meaning) (phases : List (List Line)) (lines : List Line) → phases_to_run (front ++ said) ≡ phases ++ phases_to_run said → lines ≡ in_turn (phases_to_run said) → in_turn phases ++ lines ≡ in_turn (phases_to_run (front ++ said))
+lines_behind front said phases lines to_run is = ap (λ (xs : List Line). in_turn phases ++ xs) is ∙ sym (runs_behind front said phases to_run)
+
+phases_behind : (front said : List Meaning) (phases : List (List Line)) (lines : List Line) (count : ℕ) → phases_to_run (front ++ said) ≡ phases ++ phases_to_run said → lines ≡ in_turn (take count (phases_to_run said)) → in_turn phases ++ lines ≡ in_turn (take (length phases + count) (phases_to_run (front ++ said)))
+phases_behind front said phases lines count to_run is =
+    ap (λ (xs : List Line). in_turn phases ++ xs) is
+    ∙ sym (ap (λ (xs : List (List Line)). in_turn (take (length phases + count) xs)) to_run ∙ ap in_turn (take-append-add phases (phases_to_run said) count) ∙ in_turn-append phases (take count (phases_to_run said)))
+
+some_behind : (front said : List Meaning) (phases : List (List Line)) (lines : List Line) (count : ℕ) → phases_to_run (front ++ said) ≡ phases ++ phases_to_run said → lines ≡ take count (in_turn (phases_to_run said)) → in_turn phases ++ lines ≡ take (length (in_turn phases) + count) (in_turn (phases_to_run (front ++ said)))
+some_behind front said phases lines count to_run is =
+    ap (λ (xs : List Line). in_turn phases ++ xs) is
+    ∙ sym (ap (take (length (in_turn phases) + count)) (runs_behind front said phases to_run) ∙ take-append-add (in_turn phases) (in_turn (phases_to_run said)) count)
+
+written_behind : (before during now : Option (List ℕ)) (first rest : List Reply) → Appends before during (text_of first) → Appends during now (text_of rest) → Appends before now (text_of (first ++ rest))
+written_behind before during now first rest one two = rw (text_of-append first rest) (appends_on before during now (text_of first) (text_of rest) one two)
+
+some_written_behind : (before during now : Option (List ℕ)) (first rest : List Reply) (count : ℕ) → Appends before during (text_of first) → Appends during now (text_of (take count rest)) → Appends before now (text_of (take (length first + count) (first ++ rest)))
+some_written_behind before during now first rest count one two = rw (take-append-add first rest count) (written_behind before during now first (take count rest) one two)
+
+-- the commands of a phase that was read, among those of the whole script
+pub record IsInScript (is_configured : ℕ → Bool) (text : List ℕ) (lines : List Line) : Type 0 where
+  pub behind : List Line
+  pub runs : in_turn (phases_to_run (meanings_of is_configured text)) ≡ by_host lines ++ behind
+  pub count : ℕ
+  pub phases : by_host lines ≡ in_turn (take count (phases_to_run (meanings_of is_configured text)))
+
+phase_in : (is_configured : ℕ → Bool) (is_last : Bool) (said all behind : List Meaning) (lines : List Line) → all ≡ said ++ behind → (is_last ≡ true → behind ≡ []) → IsPhase is_last said lines → (rest : List Line) × (in_turn (phases_to_run all) ≡ by_host lines ++ rest) × ((count : ℕ) × (by_host lines ≡ in_turn (take count (phases_to_run all))))
+phase_in is_configured true said all behind lines is last phase =
+    let whole : all ≡ said = is ∙ ap (λ (xs : List Meaning). said ++ xs) (last refl) ∙ append-nil said in
+    let runs : in_turn (phases_to_run all) ≡ by_host lines = ap in_turn (ap phases_to_run whole) ∙ phase in
+    ([], runs ∙ sym (append-nil (by_host lines)), (length (phases_to_run all), sym (ap in_turn (take_all (length (phases_to_run all)) (phases_to_run all) (omega arith)) ∙ runs)))
+phase_in is_configured false said all behind lines is last phase =
+    let first : phases_to_run all ≡ lines ∷ phases_to_run behind = ap phases_to_run is ∙ phase behind in
+    (in_turn (phases_to_run behind), ap in_turn first, (1, sym (ap (λ (xs : List (List Line)). in_turn (take 1 xs)) first ∙ append-nil (by_host lines))))
+
+behind_of : (is_configured : ℕ → Bool) (is_last : Bool) (text read : List ℕ) (said : List Meaning) (unread : List ℕ) (left : Option (List ℕ)) → SaysFirst is_configured is_last (text ++ read) said unread left → (behind : List Meaning) × (meanings_of is_configured (text ++ (read ++ rest_of left)) ≡ said ++ behind) × (is_last ≡ true → behind ≡ [])
+behind_of is_configured true text read said unread left says =
+    ([], ap (meanings_of is_configured) (sym (append_assoc text read (rest_of left)) ∙ ap (λ (xs : List ℕ). (text ++ read) ++ xs) (at_end left says.0) ∙ append-nil (text ++ read)) ∙ says.1 ∙ sym (append-nil said), λ is. refl)
+behind_of is_configured false text read said unread left says =
+    (meanings_of is_configured (unread ++ rest_of left), ap (meanings_of is_configured) (sym (append_assoc text read (rest_of left))) ∙ says (rest_of left), λ is. absurd (cc))
+
+-- the commands of a phase that was read are the first of those that a script runs
+pub in_script : (is_configured : ℕ → Bool) (left left' : Option (List ℕ)) (old new : Reading) (phase : Phase) → (reads : ReadsPhase is_configured left old left' new phase) → IsInScript is_configured (old.unread ++ (reads.read ++ rest_of left')) phase.lines.items
+in_script is_configured left left' old new phase reads =
+    let behind = behind_of is_configured phase.is_last old.unread reads.read reads.said new.unread left' reads.says in
+    let at = phase_in is_configured phase.is_last reads.said (meanings_of is_configured (old.unread ++ (reads.read ++ rest_of left'))) behind.0 phase.lines.items behind.1 behind.2 reads.is_phase in
+    record { behind = at.0; runs = at.1; count = at.2.0; phases = at.2.1 }
+
+module _ {P : Type 0} (is_configured : ℕ → Bool) (answers : P → List Line → List Reply → P → Type 0) (nothing : (runner : P) → answers runner [] [] runner) (on : (old mid new : P) (first rest : List Line) (replies others : List Reply) → answers old first replies mid → answers mid rest others new → answers old (first ++ rest) (replies ++ others) new) where
+  -- a phase was not read
+  pub finish_unread : (reading : Reading) (old : P) (left before : Option (List ℕ)) → Finishes is_configured answers reading old left before old before (Err ReadFault)
+  finish_unread reading old left before = record {
+    text = rest_of left;
+    known = known_rest left;
+    lines = [];
+    replies = [];
+    answered = nothing old;
+    ended = (0, refl, appends_none before);
+  }
+
+  pub finish_short : (reading : Reading) (old : P) (left before : Option (List ℕ)) → Finishes is_configured answers reading old left before old before (Err NoMemory)
+  finish_short reading old left before = record {
+    text = rest_of left;
+    known = known_rest left;
+    lines = [];
+    replies = [];
+    answered = nothing old;
+    ended = (0, 0, refl, appends_none before);
+  }
+
+  -- a line of a phase is refused
+  pub finish_refused : (reading : Reading) (old : P) (left left' before : Option (List ℕ)) (number : ℕ) → RefusesPhase is_configured left reading left' number → Finishes is_configured answers reading old left before old before (Err (BadLine number))
+  finish_refused reading old left left' before number refuses =
+      let says = ap (meanings_of is_configured) (sym (append_assoc reading.unread refuses.read (rest_of left'))) ∙ refuses.says in
+      record {
+        text = refuses.read ++ rest_of left';
+        known = known_on left left' refuses.read (rest_of left') refuses.taken (known_rest left');
+        lines = [];
+        replies = [];
+        answered = nothing old;
+        ended = (length refuses.said + 1, omega (arith, refuses.number_is), (ap refused_line says ∙ first_refused refuses.said refuses.behind refuses.accepted, sym (ap in_turn (ap phases_to_run says ∙ refuses.not_run)), appends_none before));
+      }
+
+  -- a phase was not read, or a line of it is refused
+  pub read_failed : (reading : Reading) (old : P) (left left' before : Option (List ℕ)) (fault : ScriptFault) → (fault ≡ WriteFault → ⊥) → ((number : ℕ) → fault ≡ BadLine number → RefusesPhase is_configured left reading left' number) → Finishes is_configured answers reading old left before old before (Err fault)
+  read_failed reading old left left' before (BadLine number) other refuses = finish_refused reading old left left' before number (refuses number refl)
+  read_failed reading old left left' before ReadFault other refuses = finish_unread reading old left before
+  read_failed reading old left left' before WriteFault other refuses = absurd (other refl)
+  read_failed reading old left left' before NoMemory other refuses = finish_short reading old left before
+
+  -- a phase was read, and its commands were not all run
+  pub finish_part : (reading reading' : Reading) (old : P) (left left' before : Option (List ℕ)) (new : P) (phase : Phase) → ReadsPhase is_configured left reading left' reading' phase → AnswersSome answers old (by_host phase.lines.items) new → Finishes is_configured answers reading old left before new before (Err NoMemory)
+  finish_part reading reading' old left left' before new phase reads some =
+      let lines = by_host phase.lines.items in
+      let at = in_script is_configured left left' reading reading' phase reads in
+      record {
+        text = reads.read ++ rest_of left';
+        known = known_on left left' reads.read (rest_of left') reads.taken (known_rest left');
+        lines = take some.count lines;
+        replies = some.replies;
+        answered = some.answered;
+        ended = (length (take some.count lines), 0, sym (ap (take (length (take some.count lines))) at.runs ∙ take_part some.count lines at.behind), appends_none before);
+      }
+
+  -- its commands were run, and the first of its answers were written
+  pub finish_print : (reading reading' : Reading) (old : P) (left left' before now : Option (List ℕ)) (new : P) (phase : Phase) (replies : List Reply) (written : ℕ) → ReadsPhase is_configured left reading left' reading' phase → answers old (by_host phase.lines.items) replies new → Appends before now (text_of (take written replies)) → Finishes is_configured answers reading old left before new now (Err NoMemory)
+  finish_print reading reading' old left left' before now new phase replies written reads answered appends =
+      let lines = by_host phase.lines.items in
+      let at = in_script is_configured left left' reading reading' phase reads in
+      record {
+        text = reads.read ++ rest_of left';
+        known = known_on left left' reads.read (rest_of left') reads.taken (known_rest left');
+        lines = lines;
+        replies = replies;
+        answered = answered;
+        ended = (length lines, written, sym (ap (take (length lines)) at.runs ∙ take-append_seam lines at.behind), appends);
+      }
+
+  -- a write failed
+  pub finish_unwritten : (reading reading' : Reading) (old : P) (left left' before now : Option (List ℕ)) (new : P) (phase : Phase) (replies : List Reply) → ReadsPhase is_configured left reading left' reading' phase → answers old (by_host phase.lines.items) replies new → Finishes is_configured answers reading old left before new now (Err WriteFault)
+  finish_unwritten reading reading' old left left' before now new phase replies reads answered =
+      let at = in_script is_configured left left' reading reading' phase reads in
+      record {
+        text = reads.read ++ rest_of left';
+        known = known_on left left' reads.read (rest_of left') reads.taken (known_rest left');
+        lines = by_host phase.lines.items;
+        replies = replies;
+        answered = answered;
+        ended = (at.count, at.phases);
+      }
+
+  -- the last phase was run and answered
+  pub finish_last : (reading reading' : Reading) (old : P) (left left' before now : Option (List ℕ)) (new : P) (phase : Phase) (replies : List Reply) → phase.is_last ≡ true → ReadsPhase is_configured left reading left' reading' phase → answers old (by_host phase.lines.items) replies new → Appends before now (text_of replies) → Finishes is_configured answers reading old left before new now (Ok tt)
+  finish_last reading reading' old left left' before now new phase replies last reads answered appends =
+      let says : SaysFirst is_configured true (reading.unread ++ reads.read) reads.said reading'.unread left' = rw last at reads.says in
+      let is_phase : IsPhase true reads.said phase.lines.items = rw last at reads.is_phase in
+      let text_is : reads.read ++ rest_of left' ≡ reads.read = ap (λ (xs : List ℕ). reads.read ++ xs) (at_end left' says.0) ∙ append-nil reads.read in
+      let said_is : meanings_of is_configured (reading.unread ++ (reads.read ++ rest_of left')) ≡ reads.said = ap (λ (xs : List ℕ). meanings_of is_configured (reading.unread ++ xs)) text_is ∙ says.1 in
+      record {
+        text = reads.read ++ rest_of left';
+        known = known_on left left' reads.read (rest_of left') reads.taken (known_rest left');
+        lines = by_host phase.lines.items;
+        replies = replies;
+        answered = answered;
+        ended = (omega (arith, ap length text_is, reads.bytes, reads.within), ap refused_line said_is ∙ none_refused reads.said reads.accepted, sym (ap in_turn (ap phases_to_run said_is) ∙ is_phase), appends);
+      }
+
+  -- a phase that is not the last was run and answered
+  pub go_on : (reading reading' : Reading) (old : P) (left left' before now : Option (List ℕ)) (new : P) (phase : Phase) (replies : List Reply) → phase.is_last ≡ false → ReadsPhase is_configured left reading left' reading' phase → answers old (by_host phase.lines.items) replies new → Appends before now (text_of replies) → GoesOn is_configured answers reading old left before reading' new left' now
+  go_on reading reading' old left left' before now new phase replies more reads answered appends =
+      record {
+        read = reads.read;
+        taken = reads.taken;
+        said = reads.said;
+        says = rw more at reads.says;
+        accepted = reads.accepted;
+        lines = reads.lines more;
+        bytes = reads.bytes;
+        phases = phase.lines.items ∷ [];
+        to_run = rw more at reads.is_phase;
+        replies = replies;
+        answered = rw (append-nil (by_host phase.lines.items)) answered;
+        written = appends;
+      }
+
+  -- nothing was run yet
+  pub begin : (reading : Reading) (old : P) (left before : Option (List ℕ)) → GoesOn is_configured answers reading old left before reading old left before
+  begin reading old left before = record {
+    read = [];
+    taken = consumes_none left;
+    said = [];
+    says = λ more. ap (λ (text : List ℕ). meanings_of is_configured (text ++ more)) (append-nil reading.unread);
+    accepted = refl;
+    lines = omega arith;
+    bytes = omega arith;
+    phases = [];
+    to_run = λ more. refl;
+    replies = [];
+    answered = nothing old;
+    written = appends_none before;
+  }
+
+  -- some phases, and then more
+  pub goes_on : (reading mid new : Reading) (old between last : P) (a b c before during after : Option (List ℕ)) → GoesOn is_configured answers reading old a before mid between b during → GoesOn is_configured answers mid between b during new last c after → GoesOn is_configured answers reading old a before new last c after
+  goes_on reading mid new old between last a b c before during after one two = record {
+    read = one.read ++ two.read;
+    taken = consumes_on a b c one.read two.read one.taken two.taken;
+    said = one.said ++ two.said;
+    says = λ more.
+        ap (meanings_of is_configured) (texts reading.unread one.read two.read more) ∙ one.says (two.read ++ more)
+        ∙ ap (λ (text : List ℕ). one.said ++ meanings_of is_configured text) (sym (append_assoc mid.unread two.read more))
+        ∙ ap (λ (said : List Meaning). one.said ++ said) (two.says more)
+        ∙ sym (append_assoc one.said two.said (meanings_of is_configured (new.unread ++ more)));
+    accepted = list_any-append is_refused one.said two.said ∙ rw (one.accepted, two.accepted) refl;
+    lines = omega (arith, one.lines, two.lines, length-append one.said two.said);
+    bytes = omega (arith, one.bytes, two.bytes, length-append one.read two.read);
+    phases = one.phases ++ two.phases;
+    to_run = λ more.
+        ap phases_to_run (append_assoc one.said two.said more) ∙ one.to_run (two.said ++ more)
+        ∙ ap (λ (phases : List (List Line)). one.phases ++ phases) (two.to_run more)
+        ∙ sym (append_assoc one.phases two.phases (phases_to_run more));
+    replies = one.replies ++ two.replies;
+    answered = rw (in_turn-append one.phases two.phases) (on old between last (in_turn one.phases) (in_turn two.phases) one.replies two.replies one.answered two.answered);
+    written = rw (text_of-append one.replies two.replies) (appends_on before during after (text_of one.replies) (text_of two.replies) one.written two.written);
+  }
+
+  -- the end of a script, from its start on
+  ends_behind : (reading mid : Reading) (old between new : P) (a b before during now : Option (List ℕ)) (one : GoesOn is_configured answers reading old a before mid between b during) (size : ℕ) (said : List Meaning) (lines : List Line) (replies : List Reply) (result : Result (Unit {0}) ScriptFault) → EndsFrom mid size said lines replies during now result → EndsFrom reading (length one.read + size) (one.said ++ said) (in_turn one.phases ++ lines) (one.replies ++ replies) before now result
+  ends_behind reading mid old between new a b before during now one size said lines replies (Ok done) ends =
+      (omega (arith, one.bytes, ends.0), none_behind one.said said one.accepted ends.1, lines_behind one.said said one.phases lines (one.to_run said) ends.2, written_behind before during now one.replies replies one.written ends.3)
+  ends_behind reading mid old between new a b before during now one size said lines replies (Err (BadLine number)) ends =
+      (length one.said + ends.0, omega (arith, one.lines, ends.1), (refused_behind one.said said ends.0 one.accepted ends.2.0, lines_behind one.said said one.phases lines (one.to_run said) ends.2.1, written_behind before during now one.replies replies one.written ends.2.2))
+  ends_behind reading mid old between new a b before during now one size said lines replies (Err ReadFault) ends =
+      (length one.phases + ends.0, phases_behind one.said said one.phases lines ends.0 (one.to_run said) ends.1, written_behind before during now one.replies replies one.written ends.2)
+  ends_behind reading mid old between new a b before during now one size said lines replies (Err WriteFault) ends =
+      (length one.phases + ends.0, phases_behind one.said said one.phases lines ends.0 (one.to_run said) ends.1)
+  ends_behind reading mid old between new a b before during now one size said lines replies (Err NoMemory) ends =
+      (length (in_turn one.phases) + ends.0, length one.replies + ends.1, some_behind one.said said one.phases lines ends.0 (one.to_run said) ends.2, some_written_behind before during now one.replies replies ends.1 one.written ends.3)
+
+  pub finish_on : (reading mid : Reading) (old between new : P) (a b before during now : Option (List ℕ)) (result : Result (Unit {0}) ScriptFault) → GoesOn is_configured answers reading old a before mid between b during → Finishes is_configured answers mid between b during new now result → Finishes is_configured answers reading old a before new now result
+  finish_on reading mid old between new a b before during now result one two =
+      let said_is : meanings_of is_configured (reading.unread ++ (one.read ++ two.text)) ≡ one.said ++ meanings_of is_configured (mid.unread ++ two.text) =
+      ap (meanings_of is_configured) (sym (append_assoc reading.unread one.read two.text)) ∙ one.says two.text in
+      record {
+        text = one.read ++ two.text;
+        known = known_on a b one.read two.text one.taken two.known;
+        lines = in_turn one.phases ++ two.lines;
+        replies = one.replies ++ two.replies;
+        answered = on old between new (in_turn one.phases) two.lines one.replies two.replies one.answered two.answered;
+        ended = rw (said_is, length-append one.read two.text) (ends_behind reading mid old between new a b before during now one (length two.text) (meanings_of is_configured (mid.unread ++ two.text)) two.lines two.replies result two.ended);
+      }
+
+  ends_whole : (size : ℕ) (said : List Meaning) (lines : List Line) (replies : List Reply) (before now : Option (List ℕ)) (result : Result (Unit {0}) ScriptFault) → EndsFrom unbegun size said lines replies before now result → EndsWith size said lines replies before now result
+  ends_whole size said lines replies before now (Ok done) ends = (omega (arith, ends.0), ends.1, ends.2, ends.3)
+  ends_whole size said lines replies before now (Err (BadLine number)) ends = let is : number ≡ ends.0 = omega (arith, ends.1) in rw is ends.2
+  ends_whole size said lines replies before now (Err ReadFault) ends = ends
+  ends_whole size said lines replies before now (Err WriteFault) ends = ends
+  ends_whole size said lines replies before now (Err NoMemory) ends = ends
+
+  -- what was run from the start on
+  pub follows : (old : P) (left before : Option (List ℕ)) (new : P) (now : Option (List ℕ)) (result : Result (Unit {0}) ScriptFault) → Finishes is_configured answers unbegun old left before new now result → Follows is_configured answers old left before new now result
+  follows old left before new now result ends = record {
+    text = ends.text;
+    known = ends.known;
+    lines = ends.lines;
+    replies = ends.replies;
+    answered = ends.answered;
+    ended = ends_whole (length ends.text) (meanings_of is_configured ends.text) ends.lines ends.replies before now result ends.ended;
+  }
+
+  -- the answers of a phase were not all written
+  pub write_failed : (reading reading' : Reading) (old : P) (left left' before now : Option (List ℕ)) (new : P) (phase : Phase) (replies : List Reply) (fault : ScriptFault) → ReadsPhase is_configured left reading left' reading' phase → answers old (by_host phase.lines.items) replies new → (fault ≡ WriteFault) ⊎ (fault ≡ NoMemory) → (fault ≡ NoMemory → (count : ℕ) × Appends before now (text_of (take count replies))) → Finishes is_configured answers reading old left before new now (Err fault)
+  write_failed reading reading' old left left' before now new phase replies (BadLine number) reads answered (inl is) some = absurd (cc)
+  write_failed reading reading' old left left' before now new phase replies (BadLine number) reads answered (inr is) some = absurd (cc)
+  write_failed reading reading' old left left' before now new phase replies ReadFault reads answered (inl is) some = absurd (cc)
+  write_failed reading reading' old left left' before now new phase replies ReadFault reads answered (inr is) some = absurd (cc)
+  write_failed reading reading' old left left' before now new phase replies WriteFault reads answered cause some =
+      finish_unwritten reading reading' old left left' before now new phase replies reads answered
+  write_failed reading reading' old left left' before now new phase replies NoMemory reads answered cause some =
+      let written = some refl in finish_print reading reading' old left left' before now new phase replies written.0 reads answered written.1
+
+  -- a phase was run and answered
+  pub phase_done : (reading reading' : Reading) (old : P) (left left' before now : Option (List ℕ)) (new : P) (phase : Phase) (replies : List Reply) (is_last : Bool) → phase.is_last ≡ is_last → ReadsPhase is_configured left reading left' reading' phase → answers old (by_host phase.lines.items) replies new → Appends before now (text_of replies) → RunsPhase is_configured answers reading old left before reading' new left' now (Ok (not is_last))
+  phase_done reading reading' old left left' before now new phase replies true last reads answered appends = finish_last reading reading' old left left' before now new phase replies last reads answered appends
+  phase_done reading reading' old left left' before now new phase replies false last reads answered appends = go_on reading reading' old left left' before now new phase replies last reads answered appends
+
+-- phases were run so far, and the drives are as they were
+pub record IsRunning {P : Type 0} (is_configured : P → ℕ → Bool) (answers : P → List Line → List Reply → P → Type 0) (old : P) (left before : Option (List ℕ)) (reading : Reading) (new : P) (left' now : Option (List ℕ)) : Type 0 where
+  pub goes : GoesOn (is_configured old) answers unbegun old left before reading new left' now
+  pub same : is_configured new ≡ is_configured old
+
+-- no line was run
+pub answers_no : {P : Type 0} (answers : P → List Line → List Reply → P → Type 0) (old : P) (lines : List Line) → answers old [] [] old → AnswersSome answers old lines old
+answers_no answers old lines nothing = record { count = 0; replies = []; answered = nothing }

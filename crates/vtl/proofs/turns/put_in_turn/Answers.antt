@@ -1,0 +1,16 @@
+use Rattle.std.proofs.Common.{◌≡◌, refl, sym, rules}
+use Rattle.std.proofs.lemmas.List.Sorted.{IsNonDecreasingBy-from_sort_by_key, answers_always}
+use Rattle.std.proofs.lemmas.Result.{on_ok_weaker}
+use Rattle.vtl.proofs.TurnLemmas.{by_host-rising, by_host-sorted}
+use Rattle.vtl.proofs.turns.put_in_turn.Goals as goal
+
+pub returns-then-are_in_turn : goal.returns-then-are_in_turn
+returns-then-are_in_turn c = sym (by_host-rising c.args.lines.now.items (rw c.as_slice.ensures.value at (c.are_in_turn.ensures c.if-are_in_turn.true)) c.requires)
+
+pub returns : goal.returns
+returns c =
+    on_ok_weaker c.sort_by_key.result (λ sorted.
+    by_host-sorted c.args.lines.now.items c.sort_by_key.new.self.items c.sort_by_key.ensures.permutation
+    (IsNonDecreasingBy-from_sort_by_key (λ line. line.host) _ sorted (λ a r q k. search rules))
+    (c.sort_by_key.ensures.stable (λ line. line.host) (answers_always _ (λ a r. r ≡ a.0.now.host) _ (λ f a r q k. search rules)))
+    c.requires) c.sort_by_key.ensures.sorted

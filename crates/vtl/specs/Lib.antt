@@ -1,0 +1,10 @@
+pub mod Faults
+pub mod Held
+pub mod Lines
+pub mod OneHost
+pub mod Phases
+pub mod ReadPhase
+pub mod Reading
+pub mod RunPhase
+pub mod Runs
+pub mod Text

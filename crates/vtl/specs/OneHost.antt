@@ -1,0 +1,46 @@
+-- Scripts of at most one host (own).
+use Rattle.std.specs.Prelude.{◌≡◌, ℕ, ◌==◌, ◌≤◌, Bool, false, true, List, map, filter_map, Option, Result, Ok}
+use Rattle.std.specs.List.{list_all, list_any}
+use Rattle.std.specs.Io.KnownBytes.{Appends}
+use Rattle.scsi_wire.specs.declared.replies.Reply.{Reply}
+use Rattle.volume_core.specs.declared.changes.Change.{Change}
+use Rattle.volume_core.specs.Medium.{Tape}
+use Rattle.drive_core.specs.State.{DriveState, Kept, Machine, machine_of, medium_in}
+use Rattle.drive_core.specs.Execute.{HonestIn}
+use Rattle.drive_core.specs.Run.{Run, Serves}
+use Rattle.vtl.specs.declared.lines.Line.{Line}
+use Rattle.vtl.specs.declared.lines.Meaning.{Meaning}
+use Rattle.vtl.specs.Phases.{meanings_of, is_refused, line_in, phases_to_run, in_turn}
+use Rattle.vtl.specs.Text.{text_of}
+use Rattle.vtl.specs.Held.{input_of}
+use Rattle.vtl.specs.Runs.{Follows}
+
+-- the commands of a script, in the order of its lines
+abbrev pub commands_in : List Meaning → List Line
+commands_in said = filter_map line_in said
+
+-- all commands are of one host
+pub record IsOfHost (host : ℕ) (lines : List Line) : Type 0 where
+  pub least : 1 ≤ host
+  pub most : host ≤ 64
+  pub all : list_all (λ line. line.host == host) lines ≡ true
+
+-- a script of one host is run line by line
+abbrev pub OneHostInOrder : Type 0
+OneHostInOrder =
+    (host : ℕ) (said : List Meaning) → IsOfHost host (commands_in said) → list_any is_refused said ≡ false
+    → in_turn (phases_to_run said) ≡ commands_in said
+
+-- a script of one host that is run to its end by a drive whose medium is honest, and in which no fault, want of
+-- memory or full side came: what is written is the text of the replies that the machine gives to the lines that were
+-- read, where it gives any in such a run, and nothing else
+abbrev pub OneHostIsAnswered : {M : Type 0} → (M → Tape) → (M → List Change → M → Type 0) → (M → Type 0) → Type 0
+OneHostIsAnswered {M} tape moves honest =
+    (is_configured : ℕ → Bool) (old new : DriveState M Kept) (left before now : Option (List ℕ))
+    (follows : Follows is_configured (λ old lines replies new. Serves tape moves honest old (map input_of lines) replies new) old left before new now (Ok tt))
+    (host : ℕ) (silent replies : List Reply) (made : List Change) (end : Machine)
+    → IsOfHost host (commands_in (meanings_of is_configured follows.text))
+    → HonestIn honest (medium_in old.bay)
+    → follows.answered.answers ≡ map Ok silent
+    → Run (Unit {0}) (machine_of tape old) (map input_of (commands_in (meanings_of is_configured follows.text))) (map Ok replies) made end
+    → Appends before now (text_of replies)

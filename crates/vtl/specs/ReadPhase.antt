@@ -1,0 +1,78 @@
+-- What is read of a script, phase by phase (own).
+use Rattle.std.specs.Prelude.{◌≡◌, ℕ, ◌+◌, ◌<◌, ◌≤◌, Bool, true, false, List, [], ◌∷◌, ◌++◌, length, Option, Some, None, Result, Ok, Err, unwrap_or, filter_map}
+use Rattle.std.specs.List.{list_any, list_all}
+use Rattle.std.specs.Io.KnownBytes.{Consumes, IsAtEnd}
+use Rattle.vtl.specs.declared.lines.Line.{Line}
+use Rattle.vtl.specs.declared.lines.Meaning.{Meaning}
+use Rattle.vtl.specs.declared.lines.Meaning.TheVariants.{Refused}
+use Rattle.vtl.specs.declared.phases.Next.{Next}
+use Rattle.vtl.specs.declared.phases.Phase.{Phase}
+use Rattle.vtl.specs.declared.faults.ScriptFault.{ScriptFault}
+use Rattle.vtl.specs.declared.faults.ScriptFault.TheVariants.{BadLine}
+use Rattle.vtl.specs.Phases.{meanings_of, is_refused, has_host, line_in, phases_to_run, by_host, in_turn}
+use Rattle.vtl.specs.Reading.{Reading, work_left}
+
+-- the bytes that a reader is known to have left
+abbrev pub rest_of : Option (List ℕ) → List ℕ
+rest_of left = unwrap_or left []
+
+-- a line that is refused has its number told
+abbrev pub Accepts : Meaning → Bool → ℕ → Result Next ScriptFault → Type 0
+Accepts meaning is_last number (Ok next) = (next ≡ record { meaning = meaning; is_last = is_last }) × (is_refused meaning ≡ false)
+Accepts meaning is_last number (Err fault) = (fault ≡ BadLine number) × (meaning ≡ Refused)
+
+-- what the bytes say that stand before the others of a text, whatever follows; at its end, with nothing behind them
+abbrev pub SaysFirst : (ℕ → Bool) → Bool → List ℕ → List Meaning → List ℕ → Option (List ℕ) → Type 0
+SaysFirst is_configured true text said unread left = IsAtEnd left × (meanings_of is_configured text ≡ said)
+SaysFirst is_configured false text said unread left =
+    (more : List ℕ) → meanings_of is_configured (text ++ more) ≡ said ++ meanings_of is_configured (unread ++ more)
+
+-- a line was read, and says this
+pub record TellsNext (is_configured : ℕ → Bool) (left : Option (List ℕ)) (old : Reading) (left' : Option (List ℕ)) (new : Reading) (next : Next) : Type 0 where
+  pub read : List ℕ
+  pub taken : Consumes left left' read
+  pub says : SaysFirst is_configured next.is_last (old.unread ++ read) (next.meaning ∷ []) new.unread left'
+  pub accepted : is_refused next.meaning ≡ false
+  pub host : list_all has_host (filter_map line_in (next.meaning ∷ [])) ≡ true
+  pub bytes : new.bytes ≡ old.bytes + length read
+  pub within : new.bytes ≤ 2147483648
+  pub lines : next.is_last ≡ false → new.lines ≡ old.lines + 1
+  pub less : next.is_last ≡ false → work_left new < work_left old
+
+-- the line of this number was read, and is refused
+pub record RefusesNext (is_configured : ℕ → Bool) (left : Option (List ℕ)) (old : Reading) (left' : Option (List ℕ)) (number : ℕ) : Type 0 where
+  pub read : List ℕ
+  pub taken : Consumes left left' read
+  pub number_is : number ≡ old.lines + 1
+  pub behind : List Meaning
+  pub says : meanings_of is_configured ((old.unread ++ read) ++ rest_of left') ≡ Refused ∷ behind
+
+-- the lines of a phase are those that are run before what follows; at the end of a text, they are the last
+abbrev pub IsPhase : Bool → List Meaning → List Line → Type 0
+IsPhase true said lines = in_turn (phases_to_run said) ≡ by_host lines
+IsPhase false said lines = (more : List Meaning) → phases_to_run (said ++ more) ≡ lines ∷ phases_to_run more
+
+-- a phase was read, with the lines to be run
+pub record ReadsPhase (is_configured : ℕ → Bool) (left : Option (List ℕ)) (old : Reading) (left' : Option (List ℕ)) (new : Reading) (phase : Phase) : Type 0 where
+  pub read : List ℕ
+  pub taken : Consumes left left' read
+  pub said : List Meaning
+  pub says : SaysFirst is_configured phase.is_last (old.unread ++ read) said new.unread left'
+  pub accepted : list_any is_refused said ≡ false
+  pub lines : phase.is_last ≡ false → new.lines ≡ old.lines + length said
+  pub less : phase.is_last ≡ false → work_left new < work_left old
+  pub bytes : new.bytes ≡ old.bytes + length read
+  pub within : new.bytes ≤ 2147483648
+  pub hosts : list_all has_host phase.lines.items ≡ true
+  pub is_phase : IsPhase phase.is_last said phase.lines.items
+
+-- a phase was read up to the line of this number, which is refused
+pub record RefusesPhase (is_configured : ℕ → Bool) (left : Option (List ℕ)) (old : Reading) (left' : Option (List ℕ)) (number : ℕ) : Type 0 where
+  pub read : List ℕ
+  pub taken : Consumes left left' read
+  pub said : List Meaning
+  pub accepted : list_any is_refused said ≡ false
+  pub number_is : number ≡ old.lines + length said + 1
+  pub behind : List Meaning
+  pub says : meanings_of is_configured ((old.unread ++ read) ++ rest_of left') ≡ said ++ Refused ∷ behind
+  pub not_run : phases_to_run (said ++ Refused ∷ behind) ≡ []

@@ -1,0 +1,45 @@
+-- How a script is run (own).
+use Rattle.std.specs.Prelude.{◌≡◌, ℕ, ◌+◌, ◌<◌, ◌≤◌, Bool, true, false, List, [], ◌++◌, length, take, Option, Some, None, Result, Ok, Err, IfSome}
+use Rattle.std.specs.Io.KnownBytes.{Appends}
+use Rattle.scsi_wire.specs.declared.replies.Reply.{Reply}
+use Rattle.vtl.specs.declared.lines.Line.{Line}
+use Rattle.vtl.specs.declared.lines.Meaning.{Meaning}
+use Rattle.vtl.specs.declared.faults.ScriptFault.{ScriptFault}
+use Rattle.vtl.specs.declared.faults.ScriptFault.TheVariants.{BadLine, ReadFault, WriteFault, NoMemory}
+use Rattle.vtl.specs.Phases.{meanings_of, refused_line, phases_to_run, in_turn}
+use Rattle.vtl.specs.Text.{text_of}
+
+-- some of the lines were answered, from the first on
+pub record AnswersSome {P : Type 0} (answers : P → List Line → List Reply → P → Type 0) (old : P) (lines : List Line) (new : P) : Type 0 where
+  pub count : ℕ
+  pub replies : List Reply
+  pub answered : answers old (take count lines) replies new
+
+-- how far a script was run, and what was written: `size` are its bytes, `said` is what its lines say
+abbrev pub EndsWith : ℕ → List Meaning → List Line → List Reply → Option (List ℕ) → Option (List ℕ) → Result (Unit {0}) ScriptFault → Type 0
+-- to its end, and no line was refused
+EndsWith size said lines replies before now (Ok done) =
+    (size ≤ 2147483648) × (refused_line said ≡ None) × (lines ≡ in_turn (phases_to_run said)) × Appends before now (text_of replies)
+-- up to the phase of the first line that is refused, and this is its number
+EndsWith size said lines replies before now (Err (BadLine number)) =
+    (refused_line said ≡ Some number) × (lines ≡ in_turn (phases_to_run said)) × Appends before now (text_of replies)
+-- some phases, from the first on
+EndsWith size said lines replies before now (Err ReadFault) =
+    (count : ℕ) × (lines ≡ in_turn (take count (phases_to_run said))) × Appends before now (text_of replies)
+-- the same, but the last phase's answers were written in part
+EndsWith size said lines replies before now (Err WriteFault) =
+    (count : ℕ) × (lines ≡ in_turn (take count (phases_to_run said)))
+-- some commands, from the first on, and the first of their answers were written
+EndsWith size said lines replies before now (Err NoMemory) =
+    (count : ℕ) × (written : ℕ) × (lines ≡ take count (in_turn (phases_to_run said))) × Appends before now (text_of (take written replies))
+
+-- a script was read, run and answered
+pub record Follows {P : Type 0} (is_configured : ℕ → Bool) (answers : P → List Line → List Reply → P → Type 0) (old : P) (left before : Option (List ℕ)) (new : P) (now : Option (List ℕ)) (result : Result (Unit {0}) ScriptFault) : Type 0 where
+  -- the text of the script: all that the reader has, where that is known
+  pub text : List ℕ
+  pub known : IfSome left (λ all. text ≡ all)
+  -- the commands that were run, one after another, and their answers
+  pub lines : List Line
+  pub replies : List Reply
+  pub answered : answers old lines replies new
+  pub ended : EndsWith (length text) (meanings_of is_configured text) lines replies before now result

@@ -1,0 +1,217 @@
+//! The bytes of a script, read in blocks.
+ghost use Rattle.std.specs.Prelude.{◌≡◌, ◌<◌, ◌≤◌, ◌+◌, ◌==◌, ◌++◌, ◌⊎◌, ℕ, length, take, drop, vec_len, position, Some, None, Ok, false, IfOk, IfErr, OnOk, OnErr};
+ghost use Rattle.std.specs.Io.KnownBytes.{Consumes, IsAtEnd};
+ghost use Rattle.vtl.specs.Reading.{unbegun, count_of, Comes, Ends};
+
+use crate::faults::ScriptFault;
+use crate::splits::place_of;
+use std::alloc::Global;
+use std::io::{ErrorKind, Read};
+use std::marker::Model;
+use vtl_base::limits::{LINE_BYTES, SCRIPT_BYTES, SCRIPT_READS};
+
+// The bytes that a read asks for.
+const BLOCK: usize = 65_536;
+
+/// The bytes of a script that were read, from the first line on that was not taken up.
+#[derive(Drop)]
+pub struct Blocks {
+    buffer: Vec<u8>,
+    start: usize,
+    bytes: u64,
+    reads: u64,
+    lines: u64,
+}
+
+/// Where the first line ends.
+pub enum Found {
+    /// At the line feed behind so many bytes.
+    Line(usize),
+    /// With the text, which has ended.
+    Last,
+    /// Not within the limit of a line.
+    TooLong,
+}
+
+impl Model for Blocks {
+    ghost use Rattle.std.specs.Prelude.{ℕ, ◌≤◌, ◌+◌, ◌-◌, drop, vec_len};
+    ghost use Rattle.vtl.specs.Reading.{Reading};
+
+    ghost Value = { Reading };
+
+    ghost view = { λ b. record { unread = drop b.start b.buffer.items; bytes = b.bytes; reads = b.reads; lines = b.lines } };
+
+    ghost invariant = { λ b. (b.start ≤ vec_len b.buffer) × (b.lines + (vec_len b.buffer - b.start) ≤ b.bytes) × (b.bytes ≤ 2147483648) × (b.reads ≤ 4294967296) };
+}
+
+// One read into this slice: how many bytes came, or None where the read was interrupted.
+fn read_once<R: Read>(reader: &mut R, slice: &mut [u8]) -> Result<Option<usize>, ScriptFault>
+    requires { 0 < length slice.old }
+    ensures taken { Consumes (R.remaining reader.old) (R.remaining reader.new) (take (count_of result) slice.new) }
+    ensures within { count_of result ≤ length slice.new }
+    ensures end { result ≡ Ok (Some 0) → IsAtEnd (R.remaining reader.new) }
+    ensures fault { IfErr result (λ fault. fault ≡ ScriptFault.ReadFault) }
+{
+    match reader.read(slice) {
+        Ok(count) => Ok(Some(count)),
+        Err(e) if e.kind() == ErrorKind::Interrupted => Ok(None),
+        Err(_) => Err(ScriptFault::ReadFault),
+    }
+}
+
+// One read into a buffer, behind the bytes that fill it.
+fn read_behind<R: Read>(
+    reader: &mut R,
+    buffer: &mut [u8],
+    filled: usize,
+) -> Result<Option<usize>, ScriptFault>
+    requires { filled < length buffer.old }
+    ensures front { take filled buffer.new ≡ take filled buffer.old }
+    ensures taken { Consumes (R.remaining reader.old) (R.remaining reader.new) (take (count_of result) (drop filled buffer.new)) }
+    ensures within { filled + count_of result ≤ length buffer.new }
+    ensures end { result ≡ Ok (Some 0) → IsAtEnd (R.remaining reader.new) }
+    ensures fault { IfErr result (λ fault. fault ≡ ScriptFault.ReadFault) }
+{
+    read_once(reader, &mut buffer[filled..])
+}
+
+// How many bytes a read gave.
+fn count(outcome: &Result<Option<usize>, ScriptFault>) -> usize
+    ensures { result ≡ count_of outcome.now }
+{
+    match outcome {
+        Ok(Some(count)) => *count,
+        Ok(None) | Err(_) => 0,
+    }
+}
+
+// One read, whose bytes are put behind those of the buffer.
+fn read_block<R: Read>(reader: &mut R, buffer: &mut Vec<u8>) -> Result<Option<usize>, ScriptFault>
+    ensures taken { OnOk result (Consumes (R.remaining reader.old) (R.remaining reader.new) (drop (vec_len buffer.old) buffer.new.items)) }
+    ensures front { OnOk result (take (vec_len buffer.old) buffer.new.items ≡ buffer.old.items) }
+    ensures count { vec_len buffer.new ≡ vec_len buffer.old + count_of result }
+    ensures end { result ≡ Ok (Some 0) → IsAtEnd (R.remaining reader.new) }
+    ensures fault { IfErr result (λ fault. (fault ≡ ScriptFault.ReadFault) ⊎ (fault ≡ ScriptFault.NoMemory)) }
+{
+    let filled = buffer.len();
+    buffer.resize(filled + BLOCK, 0)?;
+    let outcome = read_behind(reader, buffer.as_mut_slice(), filled);
+    buffer.truncate(filled + count(&outcome));
+    outcome
+}
+
+impl Blocks {
+    ghost use Rattle.std.specs.Prelude.{◌≡◌, ◌<◌, ◌≤◌, ◌+◌, ◌⊎◌, drop, take, length, Ok, Err, false, IfOk, IfErr, OnOk};
+    ghost use Rattle.vtl_base.specs.declared.limits.TheConstants.{SCRIPT_BYTES, SCRIPT_READS};
+    ghost use Rattle.vtl.specs.Reading.{unbegun, work_left, Comes, Ends};
+
+    /// Nothing yet.
+    pub fn new(alloc: Global) -> Self
+        ensures { result ≡ unbegun }
+    {
+        Blocks {
+            buffer: Vec::new(alloc),
+            start: 0,
+            bytes: 0,
+            reads: 0,
+            lines: 0,
+        }
+    }
+
+    // Gives up the room of the lines that were taken up.
+    fn close_up(&mut self)
+        ensures { self.new ≡ self.old }
+    {
+        let left = self.buffer.len() - self.start;
+        self.buffer.copy_within(self.start.., 0);
+        self.buffer.truncate(left);
+        self.start = 0;
+    }
+
+    // One read more. At `false` the text has ended, and at `true` bytes came or the read was interrupted.
+    fn fill<R: Read>(&mut self, reader: &mut R) -> Result<bool, ScriptFault>
+        ensures comes { OnOk result (Comes (R.remaining reader.old) self.old (R.remaining reader.new) self.new) }
+        ensures within { OnOk result (self.new.bytes ≤ SCRIPT_BYTES) }
+        ensures reads { OnOk result ((self.new.reads ≡ self.old.reads + 1) × (self.new.reads ≤ SCRIPT_READS)) }
+        ensures end { result ≡ Ok false → IsAtEnd (R.remaining reader.new) × (self.new.unread ≡ self.old.unread) }
+        ensures limit { self.old.reads ≡ SCRIPT_READS → result ≡ Err ScriptFault.ReadFault }
+        ensures fault { IfErr result (λ fault. (fault ≡ ScriptFault.ReadFault) ⊎ (fault ≡ ScriptFault.NoMemory)) }
+    {
+        if self.reads >= SCRIPT_READS {
+            return Err(ScriptFault::ReadFault);
+        }
+        self.reads += 1;
+        self.close_up();
+        match read_block(reader, &mut self.buffer)? {
+            None => Ok(true),
+            Some(0) => Ok(false),
+            Some(count) if count as u64 > SCRIPT_BYTES - self.bytes => {
+                self.start = 0;
+                self.buffer.clear();
+                Err(ScriptFault::ReadFault)
+            }
+            Some(count) => {
+                self.bytes += count as u64;
+                Ok(true)
+            }
+        }
+    }
+
+    /// Brings the first line into the buffer. The reader is called only where the line feed is not there.
+    pub fn find<R: Read>(&mut self, reader: &mut R) -> Result<Found, ScriptFault>
+        ensures comes { OnOk result (Comes (R.remaining reader.old) self.old (R.remaining reader.new) self.new) }
+        ensures within { OnOk result (self.new.bytes ≤ SCRIPT_BYTES) }
+        ensures found { IfOk result (λ found. Ends found self.new.unread (R.remaining reader.new)) }
+        ensures fault { IfErr result (λ fault. (fault ≡ ScriptFault.ReadFault) ⊎ (fault ≡ ScriptFault.NoMemory)) }
+    {
+        let mut searched = 0;
+        loop {
+            let unread = self.unread();
+            match place_of(b'\n', &unread[searched..]) {
+                Some(place) => return Ok(Found::Line(searched + place)),
+                None => searched = unread.len(),
+            }
+            if searched > LINE_BYTES {
+                return Ok(Found::TooLong);
+            }
+            if !self.fill(reader)? {
+                return Ok(Found::Last);
+            }
+        }
+    }
+
+    /// The first bytes of the first line.
+    pub fn front(&self, count: usize) -> &[u8]
+        requires { count ≤ length self.now.unread }
+        ensures { result.now ≡ take count self.now.unread }
+    {
+        &self.buffer[self.start..self.start + count]
+    }
+
+    /// All bytes that were not taken up.
+    pub fn unread(&self) -> &[u8]
+        ensures bytes { result.now ≡ self.now.unread }
+        ensures within { self.now.bytes ≤ SCRIPT_BYTES }
+    {
+        &self.buffer[self.start..]
+    }
+
+    /// How many lines were taken up.
+    pub fn lines(&self) -> u64
+        ensures lines { result ≡ self.now.lines }
+        ensures limit { result + length self.now.unread ≤ SCRIPT_BYTES }
+    {
+        self.lines
+    }
+
+    /// Takes up the first line, of so many bytes before its line feed.
+    pub fn take_up(&mut self, count: usize)
+        requires { count < length self.old.unread }
+        ensures line { self.new ≡ record self.old { unread = drop (count + 1) self.old.unread; lines = self.old.lines + 1 } }
+        ensures less { work_left self.new < work_left self.old }
+    {
+        let end = self.start + count;
+        self.start = end + 1;
+        self.lines += 1;
+    }
+}

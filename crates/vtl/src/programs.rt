@@ -1,0 +1,111 @@
+//! The program: the built-in configuration, and how a fault is told.
+ghost use Rattle.std.specs.Prelude.{◌≡◌};
+ghost use Rattle.vtl.specs.Faults.{status_of, fault_of};
+
+use crate::drives::HeldDrive;
+use crate::faults::ScriptFault;
+use crate::scripts::run_script;
+use drive_core::Drive;
+use std::alloc::Global;
+use std::{fmt, io};
+use volume_core::PlainMedium;
+use vtl_base::{DriveNo, NoMemory};
+
+// The drive and the capacity of the built-in configuration.
+const DRIVE: u8 = 1;
+
+const CAPACITY: u64 = 16_777_216;
+
+/// Why the program ends with a status that is not 0.
+#[derive(Clone, Copy, PartialEq, Eq, Debug)]
+pub enum VtlFault {
+    /// The command words are refused.
+    Words,
+    /// The configuration is refused.
+    Config,
+    /// A line of the script is refused. Lines are counted from 1 on.
+    Script { line: u64 },
+    /// A device, a file or a stream failed.
+    Device,
+    /// A growth was refused.
+    NoMemory,
+}
+
+impl From<ScriptFault> for VtlFault {
+    ghost use Rattle.std.specs.Prelude.{◌≡◌};
+    ghost use Rattle.vtl.specs.Faults.{fault_of};
+
+    ghost from_gives = { λ fault result. result ≡ fault_of fault };
+
+    fn from(fault: ScriptFault) -> Self {
+        match fault {
+            ScriptFault::BadLine { line } => VtlFault::Script { line },
+            ScriptFault::ReadFault | ScriptFault::WriteFault => VtlFault::Device,
+            ScriptFault::NoMemory => VtlFault::NoMemory,
+        }
+    }
+}
+
+impl From<NoMemory> for VtlFault {
+    fn from(_: NoMemory) -> Self {
+        VtlFault::NoMemory
+    }
+}
+
+/// The line on standard error that tells a fault. It takes no memory.
+#[derive(Clone, Copy, PartialEq, Eq, Debug)]
+pub struct FaultLine {
+    pub fault: VtlFault,
+}
+
+impl fmt::Display for FaultLine {
+    ghost use Rattle.std.specs.Prelude.{Some};
+    ghost use Rattle.vtl.specs.Faults.{fault_text};
+
+    ghost output = { λ line. Some (fault_text line.fault) };
+
+    fn fmt<W: fmt::Write>(&self, f: &mut fmt::Formatter<W>) -> fmt::Result {
+        match self.fault {
+            VtlFault::Words => write!(f, "vtl: command line refused"),
+            VtlFault::Config => write!(f, "vtl: configuration refused"),
+            VtlFault::Script { line } => write!(f, "vtl: script line {line} refused"),
+            VtlFault::Device => write!(f, "vtl: device fault"),
+            VtlFault::NoMemory => write!(f, "vtl: out of memory"),
+        }
+    }
+}
+
+/// The status that the program ends with at a fault, and the line that tells it.
+pub fn fault_line(fault: &VtlFault) -> (u8, FaultLine)
+    ensures status { result.0 ≡ status_of fault.now }
+    ensures line { result.1.fault ≡ fault.now }
+{
+    let status = match fault {
+        VtlFault::Words | VtlFault::Config | VtlFault::Script { .. } => 1,
+        VtlFault::Device => 2,
+        VtlFault::NoMemory => 3,
+    };
+    (status, FaultLine { fault: *fault })
+}
+
+/// The drive of the built-in configuration: drive 1, in which a cartridge of one partition of 16,777,216 bytes is loaded.
+pub fn built_in_drive(alloc: Global) -> Result<HeldDrive<PlainMedium>, VtlFault> {
+    let Some(number) = DriveNo::new(DRIVE) else {
+        return Err(VtlFault::Config);
+    };
+    let medium = PlainMedium::new(alloc, &[CAPACITY])?;
+    match Drive::power_on(alloc, Some(medium)) {
+        Ok(drive) => Ok(HeldDrive { number, drive }),
+        Err(_) => Err(VtlFault::NoMemory),
+    }
+}
+
+/// Runs the script on standard input against the built-in configuration, and writes the answers on standard output.
+pub fn run(rt: &(impl Input + Print + AllocGlobal)) -> Result<(), VtlFault> {
+    let alloc = rt.alloc();
+    let mut drive = built_in_drive(alloc)?;
+    let mut reader = rt.reader();
+    let mut writer = io::writer(rt);
+    run_script(alloc, &mut drive, &mut reader, &mut writer)?;
+    Ok(())
+}

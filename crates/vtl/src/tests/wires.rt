@@ -1,0 +1,124 @@
+//! A reader and a writer that know of one another, and fail where a test wants it.
+use std::alloc::Global;
+use std::cell::Cell;
+use std::io;
+use std::io::{ErrorKind, Read, Write};
+
+/// How a reader and a writer behave: the bytes of a read at most, and the call of either that fails, if any.
+#[derive(Clone, Copy)]
+pub struct Plan {
+    pub piece: usize,
+    pub bad_read: Option<(u32, ErrorKind)>,
+    pub bad_write: Option<u32>,
+}
+
+impl Plan {
+    pub fn whole() -> Self {
+        Plan {
+            piece: usize::MAX,
+            bad_read: None,
+            bad_write: None,
+        }
+    }
+}
+
+/// Whether answers were written that were not flushed, and whether a read came while it was so.
+#[derive(Drop)]
+pub struct Wire {
+    held: Cell<bool>,
+    read_early: Cell<bool>,
+}
+
+impl Wire {
+    pub fn new() -> Self {
+        Wire {
+            held: Cell::new(false),
+            read_early: Cell::new(false),
+        }
+    }
+
+    pub fn read_early(&self) -> bool {
+        self.read_early.get()
+    }
+}
+
+#[derive(Drop)]
+pub struct WireReader<'a> {
+    rest: &'a [u8],
+    plan: Plan,
+    calls: u32,
+    wire: &'a Wire,
+}
+
+impl<'a> WireReader<'a> {
+    pub fn new(rest: &'a [u8], plan: Plan, wire: &'a Wire) -> Self {
+        WireReader {
+            rest,
+            plan,
+            calls: 0,
+            wire,
+        }
+    }
+}
+
+impl Read for WireReader<'_> {
+    fn read(&mut self, buf: &mut [u8]) -> io::Result<usize> {
+        if self.wire.held.get() {
+            self.wire.read_early.set(true);
+        }
+        self.calls = self.calls.saturating_add(1);
+        if let Some((call, kind)) = self.plan.bad_read {
+            if call == self.calls {
+                return Err(io::Error::from(kind));
+            }
+        }
+        let count = self.plan.piece.min(buf.len()).min(self.rest.len());
+        buf[..count].copy_from_slice(&self.rest[..count]);
+        self.rest = &self.rest[count..];
+        Ok(count)
+    }
+}
+
+#[derive(Drop)]
+pub struct WireWriter<'a> {
+    text: Vec<u8>,
+    plan: Plan,
+    calls: u32,
+    wire: &'a Wire,
+}
+
+impl<'a> WireWriter<'a> {
+    pub fn new(alloc: Global, plan: Plan, wire: &'a Wire) -> Self {
+        WireWriter {
+            text: Vec::new(alloc),
+            plan,
+            calls: 0,
+            wire,
+        }
+    }
+
+    pub fn into_text(self) -> Vec<u8> {
+        self.text
+    }
+}
+
+impl Write for WireWriter<'_> {
+    fn write(&mut self, buf: &[u8]) -> io::Result<usize> {
+        self.calls = self.calls.saturating_add(1);
+        if self.plan.bad_write == Some(self.calls) {
+            return Err(io::Error::from(ErrorKind::Other));
+        }
+        self.text.extend_from_slice(buf)?;
+        self.wire.held.set(true);
+        Ok(buf.len())
+    }
+
+    fn flush(&mut self) -> io::Result<()> {
+        self.calls = self.calls.saturating_add(1);
+        if self.plan.bad_write == Some(self.calls) {
+            return Err(io::Error::from(ErrorKind::Other));
+        }
+        self.wire.held.set(false);
+        Ok(())
+    }
+}
