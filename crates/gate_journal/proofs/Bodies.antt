@@ -1,7 +1,7 @@
 -- Where bodies lie on a disk, and one body more.
-use Rattle.std.proofs.Common.{◌≡◌, ◌≢◌, inl, inr, ℕ, ◌+◌, ◌-◌, ◌<◌, ◌≤◌, List, [], ◌∷◌, ◌++◌, length, get_or, take, drop, refl, sym, ◌∙◌, ap, subst, arith, append_assoc, length-append, Bool, true, false, ⊎_elim}
+use Rattle.std.proofs.Common.{◌≡◌, ◌≢◌, inl, inr, ℕ, ◌+◌, ◌-◌, ◌<◌, List, [], ◌∷◌, ◌++◌, length, get_or, take, drop, refl, sym, ◌∙◌, ap, subst, arith, append_assoc, length-append, Bool, true, false}
 use Rattle.std.specs.Prelude.{slice_range}
-use Rattle.std.specs.List.{All, flat_map}
+use Rattle.std.specs.List.{flat_map}
 use Rattle.std.specs.Int.{to_be_bytes, w32}
 use Rattle.std.proofs.lemmas.List.{append-nil, take_at, drop_at, get_or_at}
 use Rattle.std.proofs.lemmas.List.Concat.{flat_map-append}
@@ -11,7 +11,7 @@ use Rattle.tape_disk.specs.Disk.{DiskState, IsDisk, Only, Each}
 use Rattle.tape_disk.specs.Moments.{LeavesOnly, stays, says, now}
 use Rattle.gate_journal.specs.Side.{OPEN, Heading, IsHeading, IsBody, IsSide, frame, spell_heading, spell, StandsFor, WithOrWithout}
 use Rattle.gate_journal.specs.State.{IsOn, bodies_at, places_from}
-use Rattle.gate_journal.specs.Crash.{Behind, Gated, BehindOrGated, Opened}
+use Rattle.gate_journal.specs.Crash.{BehindOrGated, Opened}
 use Rattle.gate_journal.proofs.Frames.{length-frame}
 
 -- what is written behind the gate: a length, a body, and the next gate, closed

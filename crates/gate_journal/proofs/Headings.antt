@@ -1,16 +1,16 @@
 -- A heading is spelled in one way, and one can find out whether bytes begin with one.
-use Rattle.std.proofs.Common.{◌≡◌, ◌⊎◌, inl, inr, ⊎_elim, ℕ, zero, suc, ◌<◌, ◌≤◌, ◌+◌, ◌-◌, ◌*◌, ◌^◌, List, [], ◌∷◌, ◌++◌, length, take, drop, get_or, replicate, refl, sym, ◌∙◌, ap, subst, arith, append_assoc, length-append, Bool, true, false, cond, nat_lt}
+use Rattle.std.proofs.Common.{◌≡◌, ℕ, ◌<◌, ◌≤◌, ◌+◌, ◌-◌, ◌*◌, ◌^◌, List, [], ◌∷◌, ◌++◌, length, take, drop, get_or, replicate, refl, sym, ◌∙◌, ap, subst, arith, append_assoc, length-append, true, false, cond, nat_lt}
 use Rattle.std.specs.Prelude.{codes}
 use Rattle.std.specs.List.{All, flat_map}
-use Rattle.std.specs.Int.{to_be_bytes, from_be_bytes, w64}
-use Rattle.std.proofs.lemmas.List.{take_at, drop_at, length-replicate, length-take-le, append-nil}
+use Rattle.std.specs.Int.{to_be_bytes, w64}
+use Rattle.std.proofs.lemmas.List.{take_at, drop_at, length-replicate}
 use Rattle.std.proofs.lemmas.List.Elements.{All-head, All-tail}
 use Rattle.std.proofs.lemmas.Bool.{cases_eq}
 use Rattle.vtl_base.specs.Barcode.{IsBarcode, is_symbol}
 use Rattle.gate_journal.specs.declared.header.SideKind.{SideKind}
 use Rattle.gate_journal.specs.declared.header.SideKind.TheVariants.{Cartridge, Store}
 use Rattle.gate_journal.specs.Side.{OPEN, Heading, padded, digits, drive_name, IsName, IsCount, IsCapacity, IsHeading, mark, spell_heading}
-use Rattle.gate_journal.specs.Reading.{words_of, heading_within, kind_told}
+use Rattle.gate_journal.specs.Reading.{words_of, heading_within}
 use Rattle.std.specs.Prelude.{slice_index}
 use Rattle.byteorder.specs.Numbers.{big_number-reads_back}
 use Rattle.gate_journal.proofs.Deciding.{Told, both, told_as, below, is_true, all, some_below, same}

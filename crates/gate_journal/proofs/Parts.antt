@@ -1,10 +1,10 @@
 -- Where one body lies, and parts of it.
-use Rattle.std.proofs.Common.{◌≡◌, ℕ, zero, suc, ◌+◌, ◌-◌, ◌<◌, ◌≤◌, List, [], ◌∷◌, ◌++◌, length, get_or, take, drop, map, refl, sym, ◌∙◌, ap, subst, arith, length-append, Bool, true, false}
-use Rattle.std.specs.Prelude.{slice_range, slice_index_or}
+use Rattle.std.proofs.Common.{◌≡◌, ℕ, zero, suc, ◌+◌, ◌-◌, ◌<◌, ◌≤◌, List, [], ◌∷◌, ◌++◌, length, get_or, take, drop, sym, ◌∙◌, ap, subst, arith, length-append, Bool, true}
+use Rattle.std.specs.Prelude.{slice_range}
 use Rattle.std.specs.List.{All, flat_map}
-use Rattle.std.proofs.lemmas.List.{get_or-map, get_or_default, length-map, drop-take, drop-drop, take-take}
+use Rattle.std.proofs.lemmas.List.{get_or-map, length-map, drop-take, drop-drop, take-take}
 use Rattle.std.proofs.lemmas.List.Elements.{All-get_or}
-use Rattle.tape_disk.specs.Disk.{DiskState, IsDisk, Same, Only}
+use Rattle.tape_disk.specs.Disk.{DiskState, Same}
 use Rattle.gate_journal.specs.Side.{Heading, frame, spell, spell_heading, StandsFor}
 use Rattle.gate_journal.specs.State.{IsOn, IsPlace, IsBodyAt, IsWithin, IsPart, bodies_at, places_from}
 use Rattle.gate_journal.proofs.Frames.{length-frame}

@@ -1,11 +1,11 @@
 -- What an image stands for is told of each image, and once.
-use Rattle.std.proofs.Common.{◌≡◌, ◌≢◌, ◌⊎◌, inl, inr, ⊎_elim, ℕ, ◌+◌, List, [], ◌∷◌, ◌++◌, length, drop, get_or, refl, sym, ◌∙◌, ap, subst, arith, append_assoc}
-use Rattle.std.specs.List.{All, flat_map}
+use Rattle.std.proofs.Common.{◌≡◌, ◌≢◌, ◌⊎◌, inl, inr, ⊎_elim, ℕ, List, [], ◌∷◌, ◌++◌, length, drop, refl, sym, ◌∙◌, ap, subst, append_assoc}
+use Rattle.std.specs.List.{flat_map}
 use Rattle.std.proofs.lemmas.Bool.{cases_eq}
 use Rattle.std.proofs.lemmas.List.{append-nil, append_cancel_left, drop_at}
 use Rattle.gate_journal.specs.declared.header.SideKind.{SideKind}
 use Rattle.gate_journal.specs.declared.header.SideKind.TheVariants.{Cartridge, Store}
-use Rattle.gate_journal.specs.Side.{OPEN, Heading, IsHeading, IsBody, IsSide, frame, spell_heading, spell, StandsFor, IsNotOurs, BeginsWithFrame, IsBroken, IsDamagedAt}
+use Rattle.gate_journal.specs.Side.{OPEN, Heading, IsHeading, IsSide, frame, spell_heading, spell, StandsFor, IsNotOurs, IsBroken, IsDamagedAt}
 use Rattle.gate_journal.proofs.Deciding.{Told, both, told_as, same}
 use Rattle.gate_journal.proofs.Frames.{Ends, read, one_end}
 use Rattle.gate_journal.proofs.Headings.{heading_at, told_heading, same_heading, heading_is}

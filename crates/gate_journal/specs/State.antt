@@ -1,12 +1,11 @@
 -- What contracts see of an open side.
 use Rattle.std.specs.Prelude.{◌≡◌, ◌<◌, ◌≤◌, ℕ, take, slice_index_or, ◌+◌, ◌-◌, List, [], ◌∷◌, ◌++◌, length, map, slice_range, Bool, true, false, refl}
 use Rattle.std.specs.Coded.{Coded, code_by, coded×, coded_ℕ, coded_bool, coded_list}
-use Rattle.std.specs.List.{All}
 use Rattle.vtl_base.specs.declared.limits.TheConstants.{MAX_BODY, MAX_SIDE}
 use Rattle.tape_disk.specs.Disk.{DiskState, Only}
 use Rattle.gate_journal.specs.declared.header.SideKind.{SideKind}
 use Rattle.gate_journal.specs.declared.header.SideKind.TheVariants.{Cartridge, Store}
-use Rattle.gate_journal.specs.Side.{Heading, IsSide, StandsFor, frame, spell, spell_heading}
+use Rattle.gate_journal.specs.Side.{Heading, IsSide, StandsFor, spell, spell_heading}
 
 -- an open side: its disk, what stands on it, and how far appends may go
 pub record OpenSide (D : Type 0) : Type 0 where

@@ -1,6 +1,9 @@
+pub mod HostLemmas
 pub mod OneHostLemmas
+pub mod PartLemmas
 pub mod PhaseLemmas
 pub mod ReadingLemmas
+pub mod RefusedLemmas
 pub mod ScriptLemmas
 pub mod SplitLemmas
 pub mod TextLemmas

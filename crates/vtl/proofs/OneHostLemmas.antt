@@ -1,34 +1,28 @@
 -- Scripts of at most one host.
-use Rattle.std.proofs.Common.{◌≡◌, ℕ, ◌+◌, ◌<◌, ◌≤◌, suc, Bool, true, false, cond, not, ◌&&◌, ◌||◌, nat_lt, nat_le, ◌==◌, List, [], ◌∷◌, ◌++◌, length, get_or, map, filter_map, flat_map, Option, Some, None, option_map, Result, Ok, Err, refl, sym, ap, ◌∙◌, subst, arith, append_assoc, take_while}
+use Rattle.std.proofs.Common.{◌≡◌, ℕ, ◌+◌, ◌<◌, ◌≤◌, Bool, true, false, cond, ◌&&◌, nat_lt, ◌==◌, List, [], ◌∷◌, ◌++◌, length, get_or, map, filter_map, Some, None, option_map, Ok, refl, sym, ap, ◌∙◌, arith, append_assoc}
 use Rattle.std.proofs.lemmas.Bool.Decides.{nat_tests}
 use Rattle.std.proofs.lemmas.List.{append-nil}
-use Rattle.std.proofs.lemmas.List.Sums.{AllPass-from_list_all, take_while-cons}
+use Rattle.std.proofs.lemmas.List.Sums.{AllPass-from_list_all}
 use Rattle.std.proofs.lemmas.List.Folds.{list_all-append}
 use Rattle.std.proofs.lemmas.List.Elements.{filter_map-append}
-use Rattle.std.specs.List.{list_all, list_any, slice_split, onto_first, position_or_len}
-use Rattle.std.specs.List.Sorted.{IsNonDecreasingBy}
-use Rattle.std.specs.Io.KnownBytes.{Appends}
+use Rattle.std.specs.List.{list_all, list_any, position_or_len}
 use Rattle.scsi_wire.specs.declared.replies.Reply.{Reply}
 use Rattle.volume_core.specs.declared.changes.Change.{Change}
 use Rattle.volume_core.specs.Medium.{Tape}
-use Rattle.drive_core.specs.declared.faults.Fault.{Fault}
 use Rattle.drive_core.specs.Faults.{reply_of}
-use Rattle.drive_core.specs.State.{DriveState, Kept, Machine, machine_of, medium_in}
-use Rattle.drive_core.specs.Step.{Input, Execute}
+use Rattle.drive_core.specs.State.{machine_of, medium_in}
 use Rattle.drive_core.specs.Execute.{HonestIn}
-use Rattle.drive_core.specs.Run.{Run, Serves}
 use Rattle.drive_core.specs.Determined.{AllAskAlike}
 use Rattle.drive_core.proofs.DeterminedLemmas.{runs_determined}
 use Rattle.drive_core.proofs.RunLemmas.{run_where}
 use Rattle.vtl.specs.declared.lines.Line.{Line}
 use Rattle.vtl.specs.declared.lines.Meaning.{Meaning}
 use Rattle.vtl.specs.declared.lines.Meaning.TheVariants.{Nothing, PhaseEnd, Command, Refused}
-use Rattle.vtl.specs.Phases.{meanings_of, is_refused, is_phase_end, is_good, refused_line, line_in, phases_to_run, by_host, has_host, in_turn}
-use Rattle.vtl.specs.Text.{text_of}
+use Rattle.vtl.specs.Phases.{meanings_of, is_refused, is_phase_end, refused_line, line_in, phases_to_run, by_host, has_host, in_turn}
 use Rattle.vtl.specs.Held.{input_of}
-use Rattle.vtl.specs.Runs.{Follows}
 use Rattle.vtl.specs.OneHost.{commands_in, IsOfHost, OneHostInOrder, OneHostIsAnswered}
-use Rattle.vtl.proofs.PhaseLemmas.{run_phase, run_last, both_none, none_of}
+use Rattle.vtl.proofs.PartLemmas.{none_of}
+use Rattle.vtl.proofs.PhaseLemmas.{run_phase, run_last, both_none}
 use Rattle.vtl.proofs.TurnLemmas.{by_host-rising}
 
 -- one host's commands are in the order of their turns

@@ -1,16 +1,14 @@
 -- What the lines of a text say, read from its front.
-use Rattle.std.proofs.Common.{◌≡◌, ℕ, ◌+◌, ◌-◌, ◌<◌, ◌≤◌, Bool, true, false, cond, not, ◌||◌, List, [], ◌∷◌, ◌++◌, length, take, drop, map, Option, Some, None, Result, Ok, Err, IfOk, position, refl, sym, ap, ◌∙◌, subst, arith, rules, append_assoc, length-take-le, nat_lt, filter_map, take_while, eqb, ◌==◌, ◌&&◌, nat_le, if◌then◌else◌, slice_index, codes, bytes_eq}
+use Rattle.std.proofs.Common.{◌≡◌, ℕ, ◌+◌, ◌<◌, ◌≤◌, Bool, true, false, not, ◌||◌, List, [], ◌∷◌, ◌++◌, length, take, drop, map, Option, Some, None, Result, Ok, Err, IfOk, position, refl, sym, ap, ◌∙◌, arith, append_assoc, length-take-le, nat_lt, filter_map, take_while, ◌==◌}
 use Rattle.std.proofs.lemmas.Bool.Decides.{nat_tests}
-use Rattle.std.proofs.lemmas.List.{take-append-le, drop-append-le, length-append, append-nil, map-append}
-use Rattle.std.proofs.lemmas.List.Splits.{slice_split-cons_yes, slice_split-cons_no}
-use Rattle.std.proofs.lemmas.List.Folds.{prefix_len-append, list_any-append, list_all-append}
+use Rattle.std.proofs.lemmas.List.{take-append-le, drop-append-le, length-append, append-nil}
+use Rattle.std.proofs.lemmas.List.Folds.{list_any-append, list_all-append}
 use Rattle.std.proofs.lemmas.List.Elements.{filter_map-append}
-use Rattle.std.specs.List.{slice_split, onto_first, list_any, list_all, position_or_len, prefix_len}
+use Rattle.std.specs.List.{slice_split, onto_first, list_any, list_all}
 use Rattle.std.specs.Io.KnownBytes.{Consumes, IsAtEnd}
 use Rattle.vtl.specs.declared.lines.Line.{Line}
 use Rattle.vtl.specs.declared.lines.Meaning.{Meaning}
 use Rattle.vtl.specs.declared.lines.Meaning.TheVariants.{Nothing, PhaseEnd, Command, Refused}
-use Rattle.vtl.specs.Lines.{only_if, host_of, drive_of, bytes_of, decimal_of, command_of, command_in, data_of, said_with, said_by, fields_of}
 use Rattle.vtl.specs.Phases.{without_return, meaning_of, meanings_in, meanings_of, is_refused, is_phase_end, is_good, has_host, line_in, phases_to_run, by_host, in_turn}
 use Rattle.std.proofs.lemmas.List.Sums.{take_while-cons}
 use Rattle.vtl.specs.declared.phases.Next.{Next}
@@ -22,52 +20,7 @@ use Rattle.vtl.specs.ReadPhase.{rest_of, Accepts, SaysFirst, TellsNext, RefusesN
 use Rattle.vtl.proofs.ReadingLemmas.{consumes_on, consumes_none}
 use Rattle.vtl.proofs.TurnLemmas.{by_host-none}
 use Rattle.vtl.proofs.SplitLemmas.{split_at, split_whole, found, missed}
-
--- a text has a first part
-pub record HasFirst {X : Type 0} (p : X → Bool) (xs : List X) : Type 0 where
-  pub part : List X
-  pub parts : List (List X)
-  pub splits : slice_split p xs ≡ part ∷ parts
-
-first_with : {X : Type 0} (p : X → Bool) (x : X) (xs : List X) (b : Bool) → p x ≡ b → HasFirst p xs → HasFirst p (x ∷ xs)
-first_with p x xs true is rest = record { part = []; parts = slice_split p xs; splits = slice_split-cons_yes p x xs is }
-first_with p x xs false is rest = record { part = x ∷ rest.part; parts = rest.parts; splits = slice_split-cons_no p x xs is ∙ ap (onto_first x) rest.splits }
-
-pub first_of_split : {X : Type 0} (p : X → Bool) (xs : List X) → HasFirst p xs
-first_of_split p [] = record { part = []; parts = []; splits = refl }
-first_of_split p (x ∷ xs) = first_with p x xs (p x) refl (first_of_split p xs)
-
-front_with : {X : Type 0} (p : X → Bool) (x : X) (xs ys part : List X) (parts : List (List X)) (b : Bool) → p x ≡ b → (b || list_any p xs) ≡ false → (list_any p xs ≡ false → slice_split p (xs ++ ys) ≡ (xs ++ part) ∷ parts) → slice_split p (x ∷ (xs ++ ys)) ≡ (x ∷ (xs ++ part)) ∷ parts
-front_with p x xs ys part parts true is none rest = absurd (cc)
-front_with p x xs ys part parts false is none rest = slice_split-cons_no p x (xs ++ ys) is ∙ ap (onto_first x) (rest none)
-
--- what has no end of a part goes onto the first part of the rest
-pub split_front : {X : Type 0} (p : X → Bool) (xs ys part : List X) (parts : List (List X)) → list_any p xs ≡ false → slice_split p ys ≡ part ∷ parts → slice_split p (xs ++ ys) ≡ (xs ++ part) ∷ parts
-split_front p [] ys part parts none h = h
-split_front p (x ∷ xs) ys part parts none h = front_with p x xs ys part parts (p x) refl none (λ rest. split_front p xs ys part parts rest h)
-
-pub split_end : {X : Type 0} (p : X → Bool) (xs : List X) (y : X) (ys : List X) → list_any p xs ≡ false → p y ≡ true → slice_split p (xs ++ y ∷ ys) ≡ xs ∷ slice_split p ys
-split_end p xs y ys none is = rw (split_front p xs (y ∷ ys) [] (slice_split p ys) none (slice_split-cons_yes p y ys is)) (ap (λ part. part ∷ slice_split p ys) (append-nil xs))
-
-pub split_all : {X : Type 0} (p : X → Bool) (xs : List X) → list_any p xs ≡ false → slice_split p xs ≡ xs ∷ []
-split_all p xs none = ap (slice_split p) (sym (append-nil xs)) ∙ split_front p xs [] [] [] none refl ∙ ap (λ part. part ∷ []) (append-nil xs)
-
-none_with : {X : Type 0} (p : X → Bool) (x : X) (xs : List X) (b : Bool) → p x ≡ b → length (x ∷ xs) ≤ position_or_len p (x ∷ xs) → (length xs ≤ position_or_len p xs → list_any p xs ≡ false) → (p x || list_any p xs) ≡ false
-none_with p x xs true is h rest = absurd (let k = rw is at h in omega (arith, k))
-none_with p x xs false is h rest = rw is (rest (let k = rw is at h in omega (arith, k)))
-
-pub none_of : {X : Type 0} (p : X → Bool) (xs : List X) → length xs ≤ position_or_len p xs → list_any p xs ≡ false
-none_of p [] h = refl
-none_of p (x ∷ xs) h = none_with p x xs (p x) refl h (none_of p xs)
-
--- the place of the first stays, whatever follows
-pub position_append : (p : ℕ → Bool) (xs ys : List ℕ) (i : ℕ) → position p xs ≡ Some i → position p (xs ++ ys) ≡ Some i
-position_append p xs ys i h =
-    let is = found p xs i h in
-    let both = prefix_len-append (λ (x : ℕ). not (p x)) xs ys in
-    let long = length-append xs ys in
-    let at : position_or_len p (xs ++ ys) ≡ i = grind (arith, nat_tests, both, is.place, is.within) in
-    grind (arith, nat_tests, at, long, is.place, is.within)
+use Rattle.vtl.proofs.PartLemmas.{HasFirst, first_of_split, split_front, split_end, split_all, none_of, position_append}
 
 -- a first line that a line feed ends
 ended_first : (is_configured : ℕ → Bool) (line : List ℕ) (parts : List (List ℕ)) (rest : List ℕ) → HasFirst (λ byte. byte == 10) rest → meanings_in is_configured (line ∷ slice_split (λ byte. byte == 10) rest) ≡ meaning_of is_configured (length line) (without_return line) ∷ meanings_of is_configured rest
@@ -148,43 +101,6 @@ whole : (is_configured : ℕ → Bool) (is_last : Bool) (text : List ℕ) (said 
 whole is_configured true text said unread left h =
     ([], rw (at_end left h.0, append-nil text, append-nil said) h.1)
 whole is_configured false text said unread left h = (meanings_of is_configured (unread ++ rest_of left), h (rest_of left))
-
--- the host of a command is one
-passed : (passes : ℕ → Bool) (n : ℕ) (b : Bool) (host : ℕ) → passes n ≡ b → (if b then Some n else None) ≡ Some host → passes host ≡ true
-passed passes n true host is some = let same : n ≡ host = cc in ap passes (sym same) ∙ is
-passed passes n false host is some = absurd (cc)
-
-host_passes : (passes : ℕ → Bool) (o : Option ℕ) (host : ℕ) → only_if passes o ≡ Some host → passes host ≡ true
-host_passes passes None host some = absurd (cc)
-host_passes passes (Some n) host some = passed passes n (passes n) host refl some
-
-hosts_of_command : (o drive : Option ℕ) (cdb sent : Option (List ℕ)) → ((host : ℕ) → o ≡ Some host → (nat_le 1 host && nat_le host 64) ≡ true) → list_all has_host (filter_map line_in (command_of o drive cdb sent ∷ [])) ≡ true
-hosts_of_command (Some host) (Some drive) (Some cdb) (Some sent) is_host = rw (is_host host refl) refl
-hosts_of_command None drive cdb sent is_host = refl
-hosts_of_command (Some host) None cdb sent is_host = refl
-hosts_of_command (Some host) (Some drive) None sent is_host = refl
-hosts_of_command (Some host) (Some drive) (Some cdb) None is_host = refl
-
-hosts_of_fields : (is_configured : ℕ → Bool) (host drive cdb : List ℕ) (o : Option (List ℕ)) → list_all has_host (filter_map line_in (command_in is_configured host drive cdb o ∷ [])) ≡ true
-hosts_of_fields is_configured host drive cdb None = refl
-hosts_of_fields is_configured host drive cdb (Some sent) =
-    hosts_of_command (host_of host) (drive_of is_configured drive) (bytes_of cdb) (bytes_of sent) (λ n is. host_passes (λ number. nat_le 1 number && nat_le number 64) (decimal_of host) n is)
-
-hosts_if : (b : Bool) (first second : Meaning) → list_all has_host (filter_map line_in (first ∷ [])) ≡ true → list_all has_host (filter_map line_in (second ∷ [])) ≡ true → list_all has_host (filter_map line_in ((if b then first else second) ∷ [])) ≡ true
-hosts_if true first second h k = h
-hosts_if false first second h k = k
-
-hosts_with : (is_configured : ℕ → Bool) (first : List ℕ) (rest : List (List ℕ)) → list_all has_host (filter_map line_in (said_with is_configured first rest ∷ [])) ≡ true
-hosts_with is_configured first [] = hosts_if (bytes_eq first (codes "--")) PhaseEnd Refused refl refl
-hosts_with is_configured first (drive ∷ []) = refl
-hosts_with is_configured first (drive ∷ cdb ∷ rest) = hosts_of_fields is_configured first drive cdb (data_of rest)
-
-hosts_by : (is_configured : ℕ → Bool) (fields : List (List ℕ)) → list_all has_host (filter_map line_in (said_by is_configured fields ∷ [])) ≡ true
-hosts_by is_configured [] = refl
-hosts_by is_configured (first ∷ rest) = hosts_if (slice_index first 0 == 35) Nothing (said_with is_configured first rest) refl (hosts_with is_configured first rest)
-
-pub hosts_of : (is_configured : ℕ → Bool) (count : ℕ) (line : List ℕ) (meaning : Meaning) → meaning ≡ meaning_of is_configured count line → list_all has_host (filter_map line_in (meaning ∷ [])) ≡ true
-hosts_of is_configured count line meaning is = rw is (hosts_if (nat_lt 2200000 count) Refused (said_by is_configured (fields_of line)) refl (hosts_by is_configured (fields_of line)))
 
 -- a line that was read, by what is told of it
 pub tells : (is_configured : ℕ → Bool) (left left' : Option (List ℕ)) (old mid new : Reading) (meaning : Meaning) (is_last : Bool) (number : ℕ) (result : Result Next ScriptFault) → list_all has_host (filter_map line_in (meaning ∷ [])) ≡ true → mid.bytes ≤ 2147483648 → new.bytes ≡ mid.bytes → Comes left old left' mid → SaysFirst is_configured is_last mid.unread (meaning ∷ []) new.unread left' → (is_last ≡ false → new.lines ≡ old.lines + 1) → (is_last ≡ false → work_left new < work_left old) → Accepts meaning is_last number result → IfOk result (TellsNext is_configured left old left' new)

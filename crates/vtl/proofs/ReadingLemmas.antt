@@ -1,7 +1,7 @@
 -- Bytes that come from a reader.
-use Rattle.std.proofs.Common.{◌≡◌, ℕ, ◌+◌, ◌-◌, ◌<◌, ◌≤◌, Bool, true, false, cond, not, List, [], ◌∷◌, ◌++◌, length, take, drop, Option, Some, None, Result, Ok, Err, OnOk, OnErr, position, refl, sym, ap, ◌∙◌, subst, arith, rules, append_assoc, length-drop, eqb, length-take-le, ◌==◌}
+use Rattle.std.proofs.Common.{◌≡◌, ℕ, ◌+◌, ◌≤◌, List, [], ◌++◌, length, take, drop, Option, Some, None, Result, Ok, Err, OnOk, OnErr, position, refl, sym, ap, ◌∙◌, subst, arith, append_assoc, length-drop, ◌==◌}
 use Rattle.std.proofs.lemmas.List.{drop_at, take-append-drop, take-append-le, take_all, append-nil, drop-append-le, length-append}
-use Rattle.std.specs.Io.KnownBytes.{Consumes, IsAtEnd}
+use Rattle.std.specs.Io.KnownBytes.{Consumes}
 use Rattle.vtl.specs.Reading.{Reading, Comes}
 
 -- what holds anyway holds at Ok

@@ -1,16 +1,13 @@
 -- Scripts that are run phase by phase.
-use Rattle.std.proofs.Common.{◌≡◌, ℕ, ◌+◌, ◌<◌, ◌≤◌, Bool, true, false, cond, not, ◌||◌, nat_lt, List, [], ◌∷◌, ◌++◌, length, take, drop, Option, Some, None, Result, Ok, Err, IfSome, option_map, position, refl, sym, ap, ◌∙◌, subst, arith, append_assoc, take_all, flat_map, take-append-drop, ◌⊎◌, inl, inr}
-use Rattle.std.proofs.lemmas.Bool.Decides.{nat_tests}
-use Rattle.std.proofs.lemmas.List.{append-nil, length-append, take-append-le}
+use Rattle.std.proofs.Common.{◌≡◌, ℕ, ◌+◌, Bool, true, false, not, List, [], ◌∷◌, ◌++◌, length, take, drop, Option, Some, None, Result, Ok, Err, IfSome, refl, sym, ap, ◌∙◌, arith, append_assoc, take_all, take-append-drop, ◌⊎◌, inl, inr}
+use Rattle.std.proofs.lemmas.List.{append-nil, length-append}
 use Rattle.std.proofs.Math.Seq.{take-append-add, take-append_seam}
 use Rattle.std.proofs.lemmas.List.Folds.{list_any-append}
 use Rattle.std.proofs.lemmas.Grind.{flat_map-append}
-use Rattle.std.specs.List.{list_any, position_or_len}
-use Rattle.std.specs.Io.KnownBytes.{Appends, Consumes, IsAtEnd}
+use Rattle.std.specs.Io.KnownBytes.{Appends, Consumes}
 use Rattle.scsi_wire.specs.declared.replies.Reply.{Reply}
 use Rattle.vtl.specs.declared.lines.Line.{Line}
 use Rattle.vtl.specs.declared.lines.Meaning.{Meaning}
-use Rattle.vtl.specs.declared.lines.Meaning.TheVariants.{Refused}
 use Rattle.vtl.specs.declared.phases.Phase.{Phase}
 use Rattle.vtl.specs.declared.faults.ScriptFault.{ScriptFault}
 use Rattle.vtl.specs.declared.faults.ScriptFault.TheVariants.{BadLine, ReadFault, WriteFault, NoMemory}
@@ -23,43 +20,7 @@ use Rattle.vtl.specs.RunPhase.{EndsFrom, Finishes, GoesOn, RunsPhase}
 use Rattle.vtl.proofs.ReadingLemmas.{consumes_on, consumes_none}
 use Rattle.vtl.proofs.PhaseLemmas.{at_end, texts}
 use Rattle.vtl.proofs.TextLemmas.{appends_none, appends_on}
-
--- the first place behind elements none of which passes
-behind_with : (p : Meaning → Bool) (x : Meaning) (xs ys : List Meaning) (b : Bool) → p x ≡ b → (b || list_any p xs) ≡ false → (list_any p xs ≡ false → position_or_len p (xs ++ ys) ≡ length xs + position_or_len p ys) → position_or_len p (x ∷ (xs ++ ys)) ≡ length (x ∷ xs) + position_or_len p ys
-behind_with p x xs ys true is none rest = absurd (cc)
-behind_with p x xs ys false is none rest = rw is (let k = rest none in omega (arith, k))
-
-all_behind : (p : Meaning → Bool) (xs ys : List Meaning) → list_any p xs ≡ false → position_or_len p (xs ++ ys) ≡ length xs + position_or_len p ys
-all_behind p [] ys none = omega arith
-all_behind p (x ∷ xs) ys none = behind_with p x xs ys (p x) refl none (all_behind p xs ys)
-
-same_test : (a p l : ℕ) → nat_lt (a + p) (a + l) ≡ nat_lt p l
-same_test a p l = grind (arith, nat_tests)
-
-shift_some : (b : Bool) (a p n : ℕ) → option_map (λ place. place + 1) (cond b (Some p) None) ≡ Some n → option_map (λ place. place + 1) (cond b (Some (a + p)) None) ≡ Some (a + n)
-shift_some true a p n h = let is : p + 1 ≡ n = cc in ap Some (omega (arith, is))
-shift_some false a p n h = absurd (cc)
-
-shift_none : (b : Bool) (a p : ℕ) → option_map (λ place. place + 1) (cond b (Some p) None) ≡ None → option_map (λ place. place + 1) (cond b (Some (a + p)) None) ≡ None
-shift_none true a p h = absurd (cc)
-shift_none false a p h = refl
-
-place_behind : (front said : List Meaning) → list_any is_refused front ≡ false → refused_line (front ++ said) ≡ option_map (λ place. place + 1) (cond (nat_lt (position_or_len is_refused said) (length said)) (Some (length front + position_or_len is_refused said)) None)
-place_behind front said none = rw (all_behind is_refused front said none, length-append front said, same_test (length front) (position_or_len is_refused said) (length said)) refl
-
-pub refused_behind : (front said : List Meaning) (place : ℕ) → list_any is_refused front ≡ false → refused_line said ≡ Some place → refused_line (front ++ said) ≡ Some (length front + place)
-refused_behind front said place none h = place_behind front said none ∙ shift_some (nat_lt (position_or_len is_refused said) (length said)) (length front) (position_or_len is_refused said) place h
-
-pub none_behind : (front said : List Meaning) → list_any is_refused front ≡ false → refused_line said ≡ None → refused_line (front ++ said) ≡ None
-none_behind front said none h = place_behind front said none ∙ shift_none (nat_lt (position_or_len is_refused said) (length said)) (length front) (position_or_len is_refused said) h
-
-none_refused : (said : List Meaning) → list_any is_refused said ≡ false → refused_line said ≡ None
-none_refused said none = ap refused_line (sym (append-nil said)) ∙ none_behind said [] none refl
-
-first_refused : (said behind : List Meaning) → list_any is_refused said ≡ false → refused_line (said ++ Refused ∷ behind) ≡ Some (length said + 1)
-first_refused said behind none =
-    let first : nat_lt 0 (length (Refused ∷ behind)) ≡ true = grind (arith, nat_tests) in
-    refused_behind said (Refused ∷ behind) 1 none (rw first refl)
+use Rattle.vtl.proofs.RefusedLemmas.{refused_behind, none_behind, none_refused, first_refused}
 
 -- what is read, and then the rest that is known
 known_on : (left left' : Option (List ℕ)) (read text : List ℕ) → Consumes left left' read → IfSome left' (λ all. text ≡ all) → IfSome left (λ all. read ++ text ≡ all)

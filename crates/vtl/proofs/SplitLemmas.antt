@@ -1,17 +1,17 @@
 -- Texts that are cut at the first byte of a kind.
-use Rattle.std.proofs.Common.{◌≡◌, ℕ, ◌+◌, ◌-◌, ◌<◌, ◌≤◌, Bool, true, false, cond, nat_lt, not, List, [], ◌∷◌, ◌++◌, length, take, drop, Option, Some, None, position, refl, sym, ap, ◌∙◌, arith, rules, filter, ◌==◌}
+use Rattle.std.proofs.Common.{◌≡◌, ℕ, ◌+◌, ◌-◌, ◌<◌, ◌≤◌, Bool, true, false, not, List, [], ◌∷◌, ◌++◌, length, take, drop, Option, Some, None, position, refl, sym, ap, ◌∙◌, arith, filter, ◌==◌}
 use Rattle.std.proofs.lemmas.Bool.Decides.{nat_tests}
-use Rattle.std.specs.List.{slice_split, onto_first, position_or_len, before_first, after_first, All}
+use Rattle.std.specs.List.{slice_split, onto_first, position_or_len}
 use Rattle.std.proofs.lemmas.List.Splits.{slice_split_first, slice_split-cons_no}
 use Rattle.std.proofs.lemmas.List.{take-append-drop, take_rest}
 use Rattle.std.proofs.lemmas.List.Sums.{prefix_len-le-length}
 use Rattle.std.proofs.lemmas.List.Folds.{prefix_len-append}
-use Rattle.std.proofs.Common.{length-take-le, length-drop, eqb, eq-eqb}
+use Rattle.std.proofs.Common.{length-take-le, length-drop}
 use Rattle.std.specs.List.{prefix_len}
 use Rattle.std.proofs.Common.{get_or}
 use Rattle.std.proofs.lemmas.List.Sums.{position_or_len_is}
 use Rattle.memchr.specs.Find.{IsFirstByte, is_byte}
-use Rattle.vtl.specs.Lines.{fields_of, is_some_byte}
+use Rattle.vtl.specs.Lines.{is_some_byte}
 
 -- a place that is found
 pub record IsFound (p : ℕ → Bool) (xs : List ℕ) (i : ℕ) : Type 0 where

@@ -1,5 +1,5 @@
 -- What a line of a script asks of a drive, and that such lines append (own).
-use Rattle.std.proofs.Common.{◌≡◌, List, ◌++◌, map}
+use Rattle.std.proofs.Common.{List, ◌++◌, map}
 use Rattle.std.proofs.lemmas.List.{map-append}
 use Rattle.scsi_wire.specs.declared.replies.Reply.{Reply}
 use Rattle.volume_core.specs.declared.changes.Change.{Change}

@@ -1,5 +1,5 @@
 -- Scripts of at most one host (own).
-use Rattle.std.specs.Prelude.{◌≡◌, ℕ, ◌==◌, ◌≤◌, Bool, false, true, List, map, filter_map, Option, Result, Ok}
+use Rattle.std.specs.Prelude.{◌≡◌, ℕ, ◌==◌, ◌≤◌, Bool, false, true, List, map, filter_map, Option, Ok}
 use Rattle.std.specs.List.{list_all, list_any}
 use Rattle.std.specs.Io.KnownBytes.{Appends}
 use Rattle.scsi_wire.specs.declared.replies.Reply.{Reply}

@@ -1,9 +1,9 @@
 -- What a script says: its lines, its phases, and the line that is refused (own).
-use Rattle.std.specs.Prelude.{◌≡◌, ℕ, ◌+◌, ◌-◌, ◌==◌, ◌&&◌, nat_lt, nat_le, Bool, true, false, if◌then◌else◌, List, [], ◌∷◌, ◌++◌, map, length, take, slice_index, filter, filter_map, flat_map, count_by, position, take_while, not, Option, Some, None, option_map}
+use Rattle.std.specs.Prelude.{ℕ, ◌+◌, ◌-◌, ◌==◌, ◌&&◌, nat_lt, nat_le, Bool, true, false, if◌then◌else◌, List, [], ◌∷◌, map, length, take, slice_index, filter, filter_map, flat_map, position, take_while, not, Option, Some, None, option_map}
 use Rattle.std.specs.List.{slice_split, list_any, range_with_len}
 use Rattle.vtl.specs.declared.lines.Line.{Line}
 use Rattle.vtl.specs.declared.lines.Meaning.{Meaning}
-use Rattle.vtl.specs.declared.lines.Meaning.TheVariants.{Nothing, PhaseEnd, Command, Refused}
+use Rattle.vtl.specs.declared.lines.Meaning.TheVariants.{PhaseEnd, Command, Refused}
 use Rattle.vtl.specs.Lines.{fields_of, said_by}
 
 -- a line without the carriage return at its end

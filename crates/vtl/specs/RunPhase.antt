@@ -1,5 +1,5 @@
 -- How a script is run from a place on, phase by phase (own).
-use Rattle.std.specs.Prelude.{◌≡◌, ℕ, ◌+◌, ◌<◌, ◌≤◌, Bool, true, false, List, [], ◌++◌, length, take, Option, Some, None, Result, Ok, Err, IfSome}
+use Rattle.std.specs.Prelude.{◌≡◌, ℕ, ◌+◌, Bool, true, false, List, ◌++◌, length, Option, Result, Ok, Err, IfSome}
 use Rattle.std.specs.List.{list_any}
 use Rattle.std.specs.Io.KnownBytes.{Appends, Consumes}
 use Rattle.scsi_wire.specs.declared.replies.Reply.{Reply}
@@ -7,7 +7,7 @@ use Rattle.vtl.specs.declared.lines.Line.{Line}
 use Rattle.vtl.specs.declared.lines.Meaning.{Meaning}
 use Rattle.vtl.specs.declared.faults.ScriptFault.{ScriptFault}
 use Rattle.vtl.specs.declared.faults.ScriptFault.TheVariants.{BadLine, ReadFault, WriteFault, NoMemory}
-use Rattle.vtl.specs.Phases.{meanings_of, is_refused, refused_line, phases_to_run, in_turn}
+use Rattle.vtl.specs.Phases.{meanings_of, is_refused, phases_to_run, in_turn}
 use Rattle.vtl.specs.Text.{text_of}
 use Rattle.vtl.specs.Reading.{Reading}
 use Rattle.vtl.specs.Runs.{EndsWith}

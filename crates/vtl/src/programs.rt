@@ -1,6 +1,8 @@
 //! The program: the built-in configuration, and how a fault is told.
-ghost use Rattle.std.specs.Prelude.{◌≡◌};
-ghost use Rattle.vtl.specs.Faults.{status_of, fault_of};
+ghost use Rattle.std.specs.Prelude.{◌≡◌, ◌∷◌, [], Some, IfOk, IfErr};
+ghost use Rattle.volume_core.specs.Volume.{empty_volume};
+ghost use Rattle.drive_core.specs.State.{powered_on};
+ghost use Rattle.vtl.specs.Faults.{status_of};
 
 use crate::drives::HeldDrive;
 use crate::faults::ScriptFault;
@@ -47,6 +49,11 @@ impl From<ScriptFault> for VtlFault {
 }
 
 impl From<NoMemory> for VtlFault {
+    ghost use Rattle.std.specs.Prelude.{◌≡◌};
+    ghost use Rattle.vtl.specs.declared.programs.VtlFault.TheVariants.{NoMemory};
+
+    ghost from_gives = { λ _ result. result ≡ NoMemory };
+
     fn from(_: NoMemory) -> Self {
         VtlFault::NoMemory
     }
@@ -89,7 +96,10 @@ pub fn fault_line(fault: &VtlFault) -> (u8, FaultLine)
 }
 
 /// The drive of the built-in configuration: drive 1, in which a cartridge of one partition of 16,777,216 bytes is loaded.
-pub fn built_in_drive(alloc: Global) -> Result<HeldDrive<PlainMedium>, VtlFault> {
+pub fn built_in_drive(alloc: Global) -> Result<HeldDrive<PlainMedium>, VtlFault>
+    ensures ok { IfOk result (λ held. (held.number ≡ DRIVE) × (held.drive ≡ powered_on (Some (empty_volume (CAPACITY ∷ []))))) }
+    ensures fault { IfErr result (λ fault. fault ≡ VtlFault.NoMemory) }
+{
     let Some(number) = DriveNo::new(DRIVE) else {
         return Err(VtlFault::Config);
     };

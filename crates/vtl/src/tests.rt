@@ -1,11 +1,12 @@
-//! The worked scripts, the borders of a line, and readers and writers that fail.
+//! The worked scripts, the turns of hosts, and how a fault is told.
+mod borders;
+mod failing;
 mod wires;
 
 use crate::faults::ScriptFault;
 use crate::programs::{VtlFault, built_in_drive, fault_line};
 use crate::scripts::run_script;
 use std::alloc::{AllocError, Global};
-use std::io::ErrorKind;
 use std::process::Abort;
 use std::test::Fail;
 use wires::{Plan, Wire, WireReader, WireWriter};
@@ -131,71 +132,6 @@ fn worked_scripts(rt: HostRuntime) -> Result<(), Fail> {
 }
 
 #[test]
-fn borders_of_lines(rt: HostRuntime) -> Result<(), Fail> {
-    let one: &[&str] = &[ATTENTION];
-    let none: &[&str] = &[];
-    let rows: [(&[u8], Wanted); 40] = [
-        // Skipped lines, spaces, and the end of a line.
-        (b"   \n  # 1 2\n\n#\n1 1 000000000000\n", (one, DONE)),
-        (b"  1   1  000000000000  \r\n", (one, DONE)),
-        (b"1 1 000000000000", (one, DONE)),
-        (b"1 1 000000000000\r", (none, bad(1))),
-        (b"1 1 000000000000\r\r\n", (none, bad(1))),
-        (b"1 1 000000000000\r \n", (none, bad(1))),
-        (b"1 1 000000000000\n \r", (none, bad(2))),
-        (b"\r\n1 1 000000000000\n", (one, DONE)),
-        // Hosts, drives and numbers.
-        (b"00001 00001 000000000000\n", (one, DONE)),
-        (b"000001 1 000000000000\n", (none, bad(1))),
-        (b"1 000001 000000000000\n", (none, bad(1))),
-        (b"64 1 000000000000\n", (one, DONE)),
-        (b"65 1 000000000000\n", (none, bad(1))),
-        (b"0 1 000000000000\n", (none, bad(1))),
-        (b"99999 1 000000000000\n", (none, bad(1))),
-        (b"257 1 000000000000\n", (none, bad(1))),
-        (b"1 0 000000000000\n", (none, bad(1))),
-        (b"1 2 000000000000\n", (none, bad(1))),
-        (b"1 257 000000000000\n", (none, bad(1))),
-        (b"+1 1 000000000000\n", (none, bad(1))),
-        (b"0x1 1 000000000000\n", (none, bad(1))),
-        // Fields and hex.
-        (b"1 1\n", (none, bad(1))),
-        (b"1\n", (none, bad(1))),
-        (b"1 1 0\n", (none, bad(1))),
-        (b"1 1 00000000000g\n", (none, bad(1))),
-        (b"1 1 000000000000 0\n", (none, bad(1))),
-        (b"1 1 000000000000 00 00\n", (none, bad(1))),
-        (b"1\t1 000000000000\n", (none, bad(1))),
-        (b"1 1 000000000000 # 1\n", (none, bad(1))),
-        (
-            b"1 1 A50000000000\n",
-            (&["CHECK 700005000000000a00000000200000000000\n"], DONE),
-        ),
-        // Phases, moves and the numbers of lines.
-        (b"--\n\n--\n--\n1 1 000000000000\n--\n", (one, DONE)),
-        (b"1 1 000000000000\n --  \n", (one, DONE)),
-        (b"1 1 000000000000\n--", (one, DONE)),
-        (b"1 1 000000000000\n---\n", (none, bad(2))),
-        (b"1 1 000000000000\n-- 1\n", (none, bad(2))),
-        (b"1 1 000000000000\n-\n", (none, bad(2))),
-        (b"1 1 000000000000\nmove 1001 1\n", (none, bad(2))),
-        (b"1 1 000000000000\n--\nmove 1 2 3\n", (one, bad(3))),
-        (
-            b"# 1\n\n--\n1 1 000000000000\n--\n1 1 000000000000\nx\ny\n",
-            (one, bad(7)),
-        ),
-        (
-            b"1 1 000000000000\n--\n2 2 000000000000\n--\n1 1 000000000000\n",
-            (one, bad(3)),
-        ),
-    ];
-    for (at, (script, wanted)) in rows.into_iter().enumerate() {
-        assert_ends(&rt, rt.alloc(), script, wanted, at)?;
-    }
-    Ok(())
-}
-
-#[test]
 fn hosts_take_turns(rt: HostRuntime) -> Result<(), Fail> {
     let script = b"3 1 a50000000000\n1 1 000000000000\n3 1 000000000000\n2 1 000000000000 00\n\
         1 1 000000000000\n--\n2 1 000000000000\n1 1 000000000000\n";
@@ -211,34 +147,6 @@ fn hosts_take_turns(rt: HostRuntime) -> Result<(), Fail> {
         DONE,
     );
     assert_ends(&rt, rt.alloc(), script, wanted, 0)
-}
-
-// A script with a line of so many bytes, behind one that is answered.
-fn with_long_line(alloc: Global, first: u8, length: usize) -> Result<Vec<u8>, AllocError> {
-    let mut script = joined(alloc, &["1 1 000000000000\n--\n"])?;
-    script.push(first)?;
-    for _ in 1..length {
-        script.push(b' ')?;
-    }
-    script.extend_from_slice(b"\n--\n1 1 000000000000\n")?;
-    Ok(script)
-}
-
-#[test]
-fn the_longest_line(rt: HostRuntime) -> Result<(), Fail> {
-    let one: &[&str] = &[ATTENTION];
-    let two: &[&str] = &[ATTENTION, "GOOD\n"];
-    let rows: [(u8, usize, Wanted); 4] = [
-        (b'#', 2_200_000, (two, DONE)),
-        (b'#', 2_200_001, (one, bad(3))),
-        (b' ', 2_200_000, (two, DONE)),
-        (b' ', 2_200_001, (one, bad(3))),
-    ];
-    for (at, (first, length, wanted)) in rows.into_iter().enumerate() {
-        let script = with_long_line(rt.alloc(), first, length)?;
-        assert_ends(&rt, rt.alloc(), script.as_slice(), wanted, at)?;
-    }
-    Ok(())
 }
 
 // A WRITE of this many bytes, its transfer length spelled in hex.
@@ -269,65 +177,6 @@ fn the_longest_block(rt: HostRuntime) -> Result<(), Fail> {
         DONE,
     );
     assert_ends(&rt, rt.alloc(), script.as_slice(), wanted, 0)
-}
-
-const TWO_PHASES: &[u8] = b"1 1 000000000000\n--\n1 1 000000000000\n";
-
-#[test]
-fn reads_that_fail(rt: HostRuntime) -> Result<(), Fail> {
-    // The script is read whole by the first read, or five bytes a read; the last read finds its end.
-    for (piece, reads) in [(usize::MAX, 2), (5, 9)] {
-        for call in 1..reads + 1 {
-            let plan = Plan {
-                piece,
-                bad_read: Some((call, ErrorKind::Other)),
-                bad_write: None,
-            };
-            let failed = answered(rt.alloc(), TWO_PHASES, plan)?;
-            assert_eq!(rt;
-                failed.end,
-                Err(ScriptFault::ReadFault),
-                "read {call} of {reads}"
-            );
-            let plan = Plan {
-                bad_read: Some((call, ErrorKind::Interrupted)),
-                ..plan
-            };
-            let interrupted = answered(rt.alloc(), TWO_PHASES, plan)?;
-            assert_eq!(rt; interrupted.end, DONE, "interrupted read {call} of {reads}");
-            assert!(rt; !interrupted.read_early, "early read {call} of {reads}");
-        }
-        let plan = Plan {
-            piece,
-            bad_read: Some((reads + 1, ErrorKind::Other)),
-            bad_write: None,
-        };
-        assert_eq!(rt;
-            answered(rt.alloc(), TWO_PHASES, plan)?.end,
-            DONE,
-            "{reads} reads"
-        );
-    }
-    Ok(())
-}
-
-#[test]
-fn writes_that_fail(rt: HostRuntime) -> Result<(), Fail> {
-    // Each phase is one write and one flush.
-    for call in 1..5 {
-        let plan = Plan {
-            bad_write: Some(call),
-            ..Plan::whole()
-        };
-        let failed = answered(rt.alloc(), TWO_PHASES, plan)?;
-        assert_eq!(rt; failed.end, Err(ScriptFault::WriteFault), "write {call}");
-    }
-    let plan = Plan {
-        bad_write: Some(5),
-        ..Plan::whole()
-    };
-    assert_eq!(rt; answered(rt.alloc(), TWO_PHASES, plan)?.end, DONE);
-    Ok(())
 }
 
 #[test]

@@ -1,5 +1,5 @@
-use Rattle.std.proofs.Common.{◌≡◌, ℕ, List, length, take, drop, ◌-◌, refl, ap, sym, ◌∙◌, subst, true, false, not}
-use Rattle.std.proofs.lemmas.Bool.{false≢true, not_from_true}
+use Rattle.std.proofs.Common.{◌≡◌, ap, sym, ◌∙◌, subst}
+use Rattle.std.proofs.lemmas.Bool.{false≢true}
 use Rattle.gate_journal.specs.Side.{Heading, IsHeading, spell_heading}
 use Rattle.gate_journal.specs.Headers.{heading_of}
 use Rattle.gate_journal.specs.Reading.{heading_within}

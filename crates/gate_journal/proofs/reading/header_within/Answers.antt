@@ -1,4 +1,4 @@
-use Rattle.std.proofs.Common.{◌≡◌, ℕ, List, length, take, drop, ◌-◌, refl, ap, sym, ◌∙◌}
+use Rattle.std.proofs.Common.{ap, ◌∙◌}
 use Rattle.std.proofs.lemmas.List.{take_rest}
 use Rattle.gate_journal.specs.Reading.{words_of}
 use Rattle.gate_journal.proofs.reading.header_within.Goals as goal

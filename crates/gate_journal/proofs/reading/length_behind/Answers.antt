@@ -1,4 +1,3 @@
-use Rattle.std.proofs.Common.{ℕ, ◌<◌, length}
 use Rattle.gate_journal.proofs.Marks.{open_mark}
 use Rattle.gate_journal.proofs.reading.length_behind.Goals as goal
 

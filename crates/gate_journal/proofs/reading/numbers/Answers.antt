@@ -1,4 +1,4 @@
-use Rattle.std.proofs.Common.{◌≡◌, ℕ, List, length, take, drop, ◌-◌, refl, ap, sym, ◌∙◌, ◌++◌, ◌∷◌, [], arith}
+use Rattle.std.proofs.Common.{ℕ, List, length, take, drop, ◌-◌, refl, ap, sym, ◌∙◌, ◌++◌}
 use Rattle.std.proofs.lemmas.List.{append-nil}
 use Rattle.gate_journal.specs.Reading.{words_of}
 use Rattle.gate_journal.proofs.Words.{words_none, one_more}

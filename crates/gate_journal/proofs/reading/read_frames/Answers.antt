@@ -1,8 +1,6 @@
-use Rattle.std.proofs.Common.{◌≡◌, ℕ, ◌<◌, ◌≤◌, List, ◌++◌, ◌∷◌, [], length, take, drop, ◌+◌, arith, subst, sym, ◌∙◌, ap}
+use Rattle.std.proofs.Common.{◌≡◌, ℕ, List, ◌++◌, ◌∷◌, [], drop, ◌+◌, arith, sym, ◌∙◌, ap}
 use Rattle.std.proofs.lemmas.Result.{err_from_is_err_and}
 use Rattle.tape_disk.proofs.Passing.{keeps_then}
-use Rattle.gate_journal.specs.Side.{OPEN, IsBroken, BeginsWithFrame}
-use Rattle.gate_journal.specs.Found.{Walked}
 use Rattle.gate_journal.proofs.Places.{one_more}
 use Rattle.gate_journal.proofs.Walks.{nothing_there, walked_more, broken_there, unwritten_then, not_read_since}
 use Rattle.gate_journal.proofs.reading.read_frames.Goals as goal

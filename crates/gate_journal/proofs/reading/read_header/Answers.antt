@@ -1,4 +1,4 @@
-use Rattle.std.proofs.Common.{◌≡◌, ℕ, List, ◌++◌, length, get_or, ◌+◌, ◌*◌, ◌-◌, ◌<◌, arith, sym, ◌∙◌, ap}
+use Rattle.std.proofs.Common.{ℕ, List, ◌++◌, ◌+◌, ◌*◌, arith, ◌∙◌, ap}
 use Rattle.std.specs.Prelude.{slice_range}
 use Rattle.gate_journal.specs.Headers.{heading_of}
 use Rattle.gate_journal.proofs.Walks.{too_short, header_there, no_header, count_read}

@@ -1,4 +1,4 @@
-use Rattle.std.proofs.Common.{◌≡◌, ℕ, ◌<◌, ◌≤◌, length, take, drop, ◌+◌, arith}
+use Rattle.std.proofs.Common.{◌<◌, ◌+◌, arith}
 use Rattle.gate_journal.proofs.Marks.{whole}
 use Rattle.gate_journal.proofs.reading.read_mark.Goals as goal
 

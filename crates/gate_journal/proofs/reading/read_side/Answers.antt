@@ -1,11 +1,11 @@
-use Rattle.std.proofs.Common.{◌≡◌, ℕ, List, ◌++◌, length, drop, ◌+◌, ◌*◌, arith, rules, subst, sym, ◌∙◌, ap}
+use Rattle.std.proofs.Common.{◌≡◌, ℕ, List, length, ◌+◌, ◌*◌, arith, rules, subst, sym, ◌∙◌}
 use Rattle.std.proofs.lemmas.Result.{err_from_is_err_and}
 use Rattle.tape_disk.proofs.Passing.{keeps_of, keeps_then}
 use Rattle.gate_journal.specs.Headers.{heading_of}
 use Rattle.gate_journal.specs.Side.{IsDamagedAt, spell_heading, StandsFor}
 use Rattle.gate_journal.specs.State.{bodies_at}
 use Rattle.gate_journal.proofs.Headings.{length_heading}
-use Rattle.gate_journal.proofs.Walks.{not_opened_since, damaged_there, stands_for, on_disk, seen_1, seen_2, seen_3, only_3}
+use Rattle.gate_journal.proofs.Walks.{not_opened_since, damaged_there, stands_for, on_disk, seen_2, only_3}
 use Rattle.gate_journal.proofs.reading.read_side.Goals as goal
 
 pub returns-in_err-frames-clause-answer : goal.returns-in_err-frames-clause-answer

@@ -1,7 +1,5 @@
-use Rattle.std.proofs.Common.{◌≤◌, take, drop, length, ap, ◌∙◌, arith, length-take-le}
+use Rattle.std.proofs.Common.{arith, length-take-le}
 use borrow.Rule.Slice.PartMut.{take_put}
-use Rattle.std.specs.Io.KnownBytes.{Consumes}
-use Rattle.vtl.specs.Reading.{count_of}
 use Rattle.vtl.proofs.ReadingLemmas.{consumes_in_place}
 use Rattle.vtl.proofs.blocks.read_behind.Goals as goal
 

@@ -1,4 +1,4 @@
-use Rattle.std.proofs.Common.{◌≡◌, ◌+◌, take, drop, subst, sym, ap, ◌∙◌, rules, ℕ, List}
+use Rattle.std.proofs.Common.{◌≡◌, ◌+◌, take, drop, subst, sym, ap, ◌∙◌, rules, ℕ}
 use Rattle.std.proofs.lemmas.List.{with_items_is, places, drop-take}
 use Rattle.std.specs.Io.KnownBytes.{Consumes}
 use Rattle.vtl.proofs.ReadingLemmas.{on_ok}

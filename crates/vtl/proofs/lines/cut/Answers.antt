@@ -1,4 +1,4 @@
-use Rattle.std.proofs.Common.{◌≡◌, ◌≤◌, ◌+◌, ◌-◌, ◌==◌, take, drop, length, length-drop, filter, ap, sym, ◌∙◌, arith}
+use Rattle.std.proofs.Common.{◌≤◌, ◌+◌, ◌-◌, ◌==◌, drop, length, length-drop, filter, ap, sym, ◌∙◌, arith}
 use Rattle.std.proofs.lemmas.List.{take_all}
 use Rattle.vtl.specs.Lines.{is_some_byte}
 use Rattle.vtl.proofs.SplitLemmas.{split_at, split_whole, no_last_field}

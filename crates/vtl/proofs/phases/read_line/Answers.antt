@@ -1,9 +1,8 @@
-use Rattle.std.proofs.Common.{◌≡◌, ◌+◌, ◌==◌, ◌∷◌, [], take, false, true, length, ap, sym, ◌∙◌, refl, arith, ℕ, Err}
+use Rattle.std.proofs.Common.{◌≡◌, ◌+◌, take, false, true, length, ap, sym, ◌∙◌, refl, arith, ℕ}
 use Rattle.vtl.specs.Phases.{meaning_of, without_return}
-use Rattle.vtl.specs.Reading.{Reading, work_left}
-use Rattle.vtl.specs.ReadPhase.{SaysFirst}
-use Rattle.vtl.specs.declared.faults.ScriptFault.TheVariants.{BadLine}
-use Rattle.vtl.proofs.PhaseLemmas.{line_says, says_last, tells, refuses, refuses_long, work_same, hosts_of}
+use Rattle.vtl.specs.Reading.{Reading}
+use Rattle.vtl.proofs.PhaseLemmas.{line_says, says_last, tells, refuses, refuses_long, work_same}
+use Rattle.vtl.proofs.HostLemmas.{hosts_of}
 use Rattle.vtl.proofs.phases.read_line.Goals as goal
 
 pub returns-in_ok-meaning-in-Line-clause-ok : goal.returns-in_ok-meaning-in-Line-clause-ok

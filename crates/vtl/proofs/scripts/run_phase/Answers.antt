@@ -1,7 +1,5 @@
-use Rattle.std.proofs.Common.{◌≡◌, ℕ, Err, Ok, refl, sym, ap, ◌∙◌}
+use Rattle.std.proofs.Common.{Err, refl, ap, ◌∙◌}
 use Rattle.std.proofs.lemmas.Result.{err_from_is_err_and}
-use Rattle.vtl.specs.declared.faults.ScriptFault.TheVariants.{BadLine, NoMemory}
-use Rattle.vtl.specs.Phases.{by_host}
 use Rattle.vtl.proofs.ScriptLemmas.{read_failed, finish_short, finish_part, write_failed, phase_done}
 use Rattle.vtl.proofs.scripts.run_phase.Goals as goal
 

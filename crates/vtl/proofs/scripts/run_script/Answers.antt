@@ -1,4 +1,4 @@
-use Rattle.std.proofs.Common.{◌≡◌, Err, Ok, refl, sym, ap, ◌∙◌}
+use Rattle.std.proofs.Common.{Err, Ok, refl, ◌∙◌}
 use Rattle.std.proofs.lemmas.Result.{err_from_is_err_and}
 use Rattle.vtl.specs.Reading.{unbegun}
 use Rattle.vtl.proofs.ScriptLemmas.{begin, goes_on, finish_on, follows}

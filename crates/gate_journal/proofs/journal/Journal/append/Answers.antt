@@ -1,4 +1,4 @@
-use Rattle.std.proofs.Common.{◌≡◌, ℕ, refl, length, ◌+◌, List, ◌++◌, ◌∷◌, [], true, false, sym, ◌∙◌, ap, subst, arith}
+use Rattle.std.proofs.Common.{ℕ, length, ◌+◌, List, ◌++◌, ◌∷◌, [], ◌∙◌, ap, arith}
 use Rattle.gate_journal.specs.Headers.{heading_of}
 use Rattle.gate_journal.proofs.Bodies.{moments, failed_on, failed_bodies, added_on, added_bodies, added_each}
 use Rattle.gate_journal.proofs.Places.{one_more}

@@ -1,4 +1,4 @@
-use Rattle.std.proofs.Common.{◌≡◌, List, ◌++◌, ◌∷◌, [], length, drop, ◌+◌, ◌*◌, ◌<◌, ◌≤◌, ℕ, refl, ◌∙◌, sym, ap, arith, rules, length-append}
+use Rattle.std.proofs.Common.{◌≡◌, List, ◌∷◌, length, drop, ◌+◌, ◌*◌, ◌≤◌, ℕ, ◌∙◌, ap, arith, rules}
 use Rattle.gate_journal.specs.Headers.{heading_of}
 use Rattle.gate_journal.specs.Side.{spell_heading}
 use Rattle.gate_journal.proofs.Bodies.{fresh}

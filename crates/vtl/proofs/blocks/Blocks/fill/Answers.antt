@@ -1,4 +1,4 @@
-use Rattle.std.proofs.Common.{◌≡◌, ◌≤◌, ◌+◌, length, take, drop, vec_len, sym, ap, ◌∙◌, arith, ℕ, List, Ok}
+use Rattle.std.proofs.Common.{◌≡◌, ◌+◌, length, vec_len, sym, ap, ◌∙◌, arith, ℕ, Ok}
 use Rattle.vtl.specs.Reading.{Reading, count_of}
 use Rattle.vtl.proofs.ReadingLemmas.{comes_behind}
 use Rattle.vtl.proofs.blocks.Blocks.fill.Goals as goal

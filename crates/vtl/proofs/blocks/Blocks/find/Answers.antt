@@ -1,4 +1,4 @@
-use Rattle.std.proofs.Common.{◌≡◌, ◌<◌, ◌==◌, length, take, drop, None, position, Ok, sym, ap, ◌∙◌, arith, ℕ, List}
+use Rattle.std.proofs.Common.{◌==◌, length, Ok, sym, ap, ◌∙◌, arith}
 use Rattle.vtl.proofs.SplitLemmas.{found_in, missed_in}
 use Rattle.vtl.proofs.ReadingLemmas.{searched_on}
 use Rattle.vtl.proofs.blocks.Blocks.find.Goals as goal

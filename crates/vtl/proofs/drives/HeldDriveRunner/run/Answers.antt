@@ -1,6 +1,5 @@
-use Rattle.std.proofs.Common.{◌≡◌, ℕ, List, [], ◌∷◌, ◌++◌, ◌+◌, map, take, ap, sym, ◌∙◌, arith}
+use Rattle.std.proofs.Common.{◌≡◌, ℕ, [], ◌∷◌, ◌++◌, ◌+◌, map, take, ap, sym, ◌∙◌, arith}
 use Rattle.std.proofs.lemmas.List.{take_more, map-append}
-use Rattle.scsi_wire.specs.declared.replies.Reply.{Reply}
 use Rattle.drive_core.specs.Execute.{Answers, asked}
 use Rattle.drive_core.proofs.RunLemmas.{serves_none, serves_on}
 use Rattle.vtl.specs.declared.lines.Line.{Line}
