@@ -13,7 +13,7 @@ for a rule of this project; a definition that only names a part of the one besid
 One word for one thing, in code, contracts and documents: *tape* (what a medium holds: partitions of objects), *place* or *object number* (from 0 on), *image* (bytes that a crash may leave), *frame*, *stored*, *pending* (accepted and not stored yet),
 *settle* (store all that is pending), *refusal* (changes nothing), *fault* (a disk's call failed), *conflict* (a reservation's answer), *room* (bytes left).
 """
-SOURCE = re.compile(r"\(([^()]*(?:\([^()]*\)[^()]*)*)\)\s*$")
+SOURCE = re.compile(r"\(([^()]*(?:\([^()]*\)[^()]*)*)\)\.?\s*$")
 
 
 def definitions(path):

@@ -8,12 +8,12 @@ use Rattle.gate_journal.specs.declared.error.Refused.{Refused}
 use Rattle.gate_journal.specs.State.{OpenSide, room_behind}
 use Rattle.gate_journal.specs.Side.{IsNotOurs, IsDamagedAt}
 
--- the disk failed since the old moment, and the fault tells how often so far
+-- the disk failed since the old moment, and the fault tells how often so far (own)
 pub record IsFault (fault : DevFault) (old new : DiskState) : Type 0 where
   pub cause : old.failures < new.failures
   pub told : fault.failures ≡ min new.failures (2 ^ 64 - 1)
 
--- a fact for each answer of a call that writes: done, want of memory, a full side, a fault, a fault before
+-- a fact for each answer of a call that writes: done, want of memory, a full side, a fault, a fault before (own)
 abbrev pub MatchWrite : Result Unit JournalError → Type 0 → Type 0 → Type 0 → (DevFault → Type 0) → Type 0 → Type 0
 MatchWrite (Ok done) ok memory full device failed = ok
 MatchWrite (Err NoMemory) ok memory full device failed = memory
@@ -23,7 +23,7 @@ MatchWrite (Err Failed) ok memory full device failed = failed
 MatchWrite (Err NotOurs) ok memory full device failed = ⊥
 MatchWrite (Err (Damaged at)) ok memory full device failed = ⊥
 
--- an append of that many bytes was done
+-- an append of that many bytes was done (own)
 pub record Appended {D : Type 0} (old new : OpenSide D) (count : ℕ) : Type 0 where
   pub was_fine : old.failed ≡ false
   pub fitted : count + 5 ≤ room_behind old.end
@@ -32,7 +32,7 @@ pub record Appended {D : Type 0} (old new : OpenSide D) (count : ℕ) : Type 0 w
   pub places : new.places ≡ old.places ++ (old.end + 5, count) ∷ []
   pub reserved : old.reserved ≤ new.reserved + 1
 
--- the disk failed in an append of that many bytes
+-- the disk failed in an append of that many bytes (own)
 pub record Broke {D : Type 0} (old new : OpenSide D) (count : ℕ) : Type 0 where
   pub was_fine : old.failed ≡ false
   pub fitted : count + 5 ≤ room_behind old.end
@@ -41,12 +41,12 @@ pub record Broke {D : Type 0} (old new : OpenSide D) (count : ℕ) : Type 0 wher
   pub places : new.places ≡ old.places
   pub reserved : old.reserved ≤ new.reserved
 
--- the disk that a call gives back, in an open side or beside its refusal
+-- the disk that a call gives back, in an open side or beside its refusal (own)
 abbrev pub disk_after : {D : Type 0} → Result (OpenSide D) (Refused D) → D
 disk_after (Ok side) = side.disk
 disk_after (Err refused) = refused.disk
 
--- why a side is not opened: what the old bytes are, which are then sure; or the disk, or memory
+-- why a side is not opened: what the old bytes are, which are then sure; or the disk, or memory (own)
 abbrev pub NotOpened : JournalError → DiskState → DiskState → Type 0
 NotOpened NotOurs old new = old.honest → IsNotOurs old.seen × Only old.seen new.may_leave
 NotOpened (Damaged at) old new = old.honest → IsDamagedAt old.seen at × Only old.seen new.may_leave
@@ -55,7 +55,7 @@ NotOpened NoMemory old new = Unit {0}
 NotOpened SideFull old new = ⊥
 NotOpened Failed old new = ⊥
 
--- why a side is not made: memory, and the disk was not touched; or the disk
+-- why a side is not made: memory, and the disk was not touched; or the disk (own)
 abbrev pub NotMade : JournalError → Type 0 → (DevFault → Type 0) → Type 0
 NotMade NoMemory memory device = memory
 NotMade (Device fault) memory device = device fault

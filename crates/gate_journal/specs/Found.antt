@@ -12,7 +12,7 @@ use Rattle.gate_journal.specs.Headers.{heading_of}
 use Rattle.gate_journal.specs.Answers.{IsFault, NotOpened}
 use Rattle.gate_journal.specs.State.{IsOn, IsPlace, bodies_at, places_from}
 
--- a reader is refused by the disk or by memory, or for one of these causes
+-- a reader is refused by the disk or by memory, or for one of these causes (own)
 abbrev pub NotRead : JournalError → Type 0 → (ℕ → Type 0) → DiskState → DiskState → Type 0
 NotRead NotOurs not_ours damaged old new = not_ours
 NotRead (Damaged at) not_ours damaged old new = damaged at
@@ -21,18 +21,18 @@ NotRead NoMemory not_ours damaged old new = Unit {0}
 NotRead SideFull not_ours damaged old new = ⊥
 NotRead Failed not_ours damaged old new = ⊥
 
--- that many bytes from that place on
+-- that many bytes from that place on (own)
 abbrev pub FindsRow : Result (Vec ℕ Global) JournalError → ℕ → ℕ → DiskState → DiskState → Type 0
 FindsRow (Ok bytes) at count old new = (length bytes.items ≡ count) × (old.honest → bytes.items ≡ slice_range old.seen at (at + count))
 FindsRow (Err error) at count old new = NotRead error ⊥ (λ place. ⊥) old new
 
--- the header that the disk begins with, or none
+-- the header that the disk begins with, or none (own)
 abbrev pub FindsHeader : Result Header JournalError → DiskState → DiskState → Type 0
 FindsHeader (Ok header) old new =
     IsHeading (heading_of header) × (old.honest → (rest : List ℕ) × (old.seen ≡ spell_heading (heading_of header) ++ rest))
 FindsHeader (Err error) old new = NotRead error (old.honest → IsNotOurs old.seen) (λ at. ⊥) old new
 
--- a closed gate at that place; a whole frame and a further byte, with the length of its body; or an open gate and no such frame
+-- a closed gate at that place; a whole frame and a further byte, with the length of its body; or an open gate and no such frame (own)
 abbrev pub FindsMark : Result (Option ℕ) JournalError → ℕ → ℕ → DiskState → DiskState → Type 0
 FindsMark (Ok None) at len old new = old.honest → (gate : ℕ) × (rest : List ℕ) × (gate ≢ OPEN) × (drop at old.seen ≡ gate ∷ rest)
 FindsMark (Ok (Some size)) at len old new =
@@ -41,14 +41,14 @@ FindsMark (Ok (Some size)) at len old new =
 FindsMark (Err error) at len old new =
     NotRead error ⊥ (λ place. (place ≡ at) × (old.honest → ((tail : List ℕ) × (drop at old.seen ≡ OPEN ∷ tail)) × (BeginsWithFrame (drop at old.seen) → ⊥))) old new
 
--- bodies lie one after another from the start up to that place
+-- bodies lie one after another from the start up to that place (own)
 pub record Walked (seen : List ℕ) (start : ℕ) (bodies : List (List ℕ)) (places : List (ℕ × ℕ)) (at : ℕ) : Type 0 where
   pub holds : All IsBody bodies
   pub split : drop start seen ≡ flat_map frame bodies ++ drop at seen
   pub places_are : places ≡ places_from start bodies
   pub at_is : at ≡ start + length (flat_map frame bodies)
 
--- the frames up to a closed gate, or the place where they break off
+-- the frames up to a closed gate, or the place where they break off (own)
 abbrev pub FindsFrames : Result Frames JournalError → ℕ → DiskState → DiskState → Type 0
 FindsFrames (Ok frames) start old new =
     (frames.end + 1 < 2 ^ 64) × (start ≤ frames.end) × All (IsPlace frames.end) frames.places.items
@@ -57,7 +57,7 @@ FindsFrames (Ok frames) start old new =
 FindsFrames (Err error) start old new =
     NotRead error ⊥ (λ at. old.honest → (bodies : List (List ℕ)) × (places : List (ℕ × ℕ)) × Walked old.seen start bodies places at × IsBroken bodies (drop at old.seen)) old new
 
--- an open side and why it is one, or why it is none
+-- an open side and why it is one, or why it is none (own)
 abbrev pub FindsSide : Result (Header × Frames) JournalError → DiskState → DiskState → Type 0
 FindsSide (Ok side) old new =
     IsHeading (heading_of side.0) × (side.1.end + 1 < 2 ^ 64) × All (IsPlace side.1.end) side.1.places.items

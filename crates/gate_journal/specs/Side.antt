@@ -22,7 +22,7 @@ pub record Heading : Type 0 where
 abbrev pub padded : List ℕ → List ℕ
 padded text = text ++ replicate (NAME_BYTES - length text) 32
 
--- a number below 20 in decimal digits
+-- a number below 20 in decimal digits (own)
 abbrev pub digits : ℕ → List ℕ
 digits n = if nat_lt n 10 then (48 + n) ∷ [] else 49 ∷ (38 + n) ∷ []
 
@@ -71,7 +71,7 @@ frame body = OPEN ∷ to_be_bytes w32 (length body) ++ body
 abbrev pub spell : Heading → List (List ℕ) → List ℕ
 spell heading bodies = spell_heading heading ++ flat_map frame bodies
 
--- a heading and bodies that can be spelled
+-- a heading and bodies that can be spelled (own)
 pub record IsSide (heading : Heading) (bodies : List (List ℕ)) : Type 0 where
   pub begins : IsHeading heading
   pub holds : All IsBody bodies
@@ -85,7 +85,7 @@ StandsFor heading bodies image =
 abbrev pub IsNotOurs : List ℕ → Type 0
 IsNotOurs image = (heading : Heading) (rest : List ℕ) → IsHeading heading → image ≡ spell heading [] ++ rest → ⊥
 
--- a whole frame, and a further byte
+-- a whole frame, and a further byte (own)
 abbrev pub BeginsWithFrame : List ℕ → Type 0
 BeginsWithFrame bytes = (body : List ℕ) × (further : ℕ) × (more : List ℕ) × IsBody body × (bytes ≡ frame body ++ further ∷ more)
 
@@ -100,6 +100,6 @@ IsDamagedAt image at =
     (heading : Heading) × (bodies : List (List ℕ)) × (rest : List ℕ) × IsSide heading bodies × (image ≡ spell heading bodies ++ rest)
     × (length (spell heading bodies) ≡ at) × IsBroken bodies rest
 
--- with the new body or without it
+-- with the new body or without it (own)
 abbrev pub WithOrWithout : Heading → List (List ℕ) → List ℕ → List ℕ → Type 0
 WithOrWithout heading bodies body image = StandsFor heading bodies image ⊎ StandsFor heading (bodies ++ body ∷ []) image

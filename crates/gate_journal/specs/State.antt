@@ -7,7 +7,7 @@ use Rattle.gate_journal.specs.declared.header.SideKind.{SideKind}
 use Rattle.gate_journal.specs.declared.header.SideKind.TheVariants.{Cartridge, Store}
 use Rattle.gate_journal.specs.Side.{Heading, IsSide, StandsFor, spell, spell_heading}
 
--- an open side: its disk, what stands on it, and how far appends may go
+-- an open side: its disk, what stands on it, and how far appends may go (own)
 pub record OpenSide (D : Type 0) : Type 0 where
   pub disk : D
   pub heading : Heading
@@ -54,19 +54,19 @@ room_behind end = MAX_SIDE - (end + 1)
 abbrev pub bodies_at : List ℕ → List (ℕ × ℕ) → List (List ℕ)
 bodies_at bytes places = map (λ place. slice_range bytes place.0 (place.0 + place.1)) places
 
--- where the bodies lie whose first gate is at that place
+-- where the bodies lie whose first gate is at that place (own)
 abbrev pub places_from : ℕ → List (List ℕ) → List (ℕ × ℕ)
 places_from at [] = []
 places_from at (body ∷ bodies) = (at + 5, length body) ∷ places_from (at + 5 + length body) bodies
 
--- a body that lies before the end, behind a gate and a length
+-- a body that lies before the end, behind a gate and a length (own)
 pub record IsPlace (end : ℕ) (place : ℕ × ℕ) : Type 0 where
   pub gate : 5 ≤ place.0
   pub some : 1 ≤ place.1
   pub short : place.1 ≤ MAX_BODY
   pub within : place.0 + place.1 ≤ end
 
--- the disk of an open side begins with its spelling; where nothing has failed it stands for the side, and that is sure
+-- the disk of an open side begins with its spelling; where nothing has failed it stands for the side, and that is sure (own)
 pub record IsOn (disk : DiskState) (heading : Heading) (bodies : List (List ℕ)) (places : List (ℕ × ℕ)) (end : ℕ) (failed : Bool) : Type 0 where
   pub side : IsSide heading bodies
   pub begins : (rest : List ℕ) × (disk.seen ≡ spell heading bodies ++ rest)
@@ -74,18 +74,18 @@ pub record IsOn (disk : DiskState) (heading : Heading) (bodies : List (List ℕ)
   pub end_is : end ≡ length (spell heading bodies)
   pub at_rest : failed ≡ false → StandsFor heading bodies disk.seen × Only disk.seen disk.may_leave
 
--- the body of that frame lies there: behind its gate, where a read gives it
+-- the body of that frame lies there: behind its gate, where a read gives it (own)
 pub record IsBodyAt (seen : List ℕ) (heading : Heading) (bodies : List (List ℕ)) (frame : ℕ) (place : ℕ × ℕ) : Type 0 where
   pub gate : place.0 ≡ length (spell heading (take frame bodies)) + 5
   pub sized : place.1 ≡ length (slice_index_or bodies frame [])
   pub there : slice_index_or bodies frame [] ≡ slice_range seen place.0 (place.0 + place.1)
 
--- that many bytes from that place on lie inside one body
+-- that many bytes from that place on lie inside one body (own)
 abbrev pub IsWithin : List (ℕ × ℕ) → ℕ → ℕ → Type 0
 IsWithin places at count =
     (i : ℕ) × (i < length places) × ((slice_index_or places i (0, 0)).0 ≤ at) × (at + count ≤ (slice_index_or places i (0, 0)).0 + (slice_index_or places i (0, 0)).1)
 
--- the bytes at that place are those of the body that lies there, so far into it
+-- the bytes at that place are those of the body that lies there, so far into it (own)
 abbrev pub IsPart : List (List ℕ) → List (ℕ × ℕ) → ℕ → List ℕ → Type 0
 IsPart bodies places at bytes =
     (i into : ℕ) → i < length places → at ≡ (slice_index_or places i (0, 0)).0 + into → into + length bytes ≤ (slice_index_or places i (0, 0)).1

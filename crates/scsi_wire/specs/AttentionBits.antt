@@ -7,7 +7,7 @@ use Rattle.scsi_wire.specs.declared.attention_sets.Attention.TheVariants.{PowerO
 use Rattle.scsi_wire.specs.AttentionSets.{AttentionSet}
 use Rattle.scsi_wire.specs.SenseData.{bit_if}
 
--- the bit of an attention
+-- the bit of an attention (own)
 abbrev pub bit_of : Attention → ℕ
 bit_of PowerOn = 0x01
 bit_of MediumChanged = 0x02
@@ -16,7 +16,7 @@ bit_of RegistrationsPreempted = 0x08
 bit_of ReservationsReleased = 0x10
 bit_of ModeChanged = 0x20
 
--- the attentions whose bits are set in a byte
+-- the attentions whose bits are set in a byte (own)
 abbrev pub set_of_bits : ℕ → AttentionSet
 set_of_bits bits = record {
   power_on = bit_at bits 0 == 1;
@@ -27,7 +27,7 @@ set_of_bits bits = record {
   mode_changed = bit_at bits 5 == 1;
 }
 
--- the byte that has the bits of a set
+-- the byte that has the bits of a set (own)
 abbrev pub bits_of : AttentionSet → ℕ
 bits_of set = bit_if set.power_on 0x01 + bit_if set.medium_changed 0x02 + bit_if set.reservations_preempted 0x04
     + bit_if set.registrations_preempted 0x08 + bit_if set.reservations_released 0x10 + bit_if set.mode_changed 0x20

@@ -12,11 +12,11 @@ pub record AttentionSet : Type 0 where
   pub reservations_released : Bool
   pub mode_changed : Bool
 
--- no attention
+-- no attention (own)
 abbrev pub no_attentions : AttentionSet
 no_attentions = record { power_on = false; medium_changed = false; reservations_preempted = false; registrations_preempted = false; reservations_released = false; mode_changed = false }
 
--- whether an attention is in a set
+-- whether an attention is in a set (own)
 abbrev pub contains : Attention → AttentionSet → Bool
 contains PowerOn set = set.power_on
 contains MediumChanged set = set.medium_changed
@@ -25,7 +25,7 @@ contains RegistrationsPreempted set = set.registrations_preempted
 contains ReservationsReleased set = set.reservations_released
 contains ModeChanged set = set.mode_changed
 
--- a set in which an attention is or is not, the others as they were
+-- a set in which an attention is or is not, the others as they were (own)
 abbrev pub set_to : Bool → Attention → AttentionSet → AttentionSet
 set_to pending PowerOn set = record set { power_on = pending }
 set_to pending MediumChanged set = record set { medium_changed = pending }
@@ -34,11 +34,11 @@ set_to pending RegistrationsPreempted set = record set { registrations_preempted
 set_to pending ReservationsReleased set = record set { reservations_released = pending }
 set_to pending ModeChanged set = record set { mode_changed = pending }
 
--- a set with an attention put in
+-- a set with an attention put in (own)
 abbrev pub with_attention : Attention → AttentionSet → AttentionSet
 with_attention attention set = set_to true attention set
 
--- a set with an attention taken out
+-- a set with an attention taken out (own)
 abbrev pub without : Attention → AttentionSet → AttentionSet
 without attention set = set_to false attention set
 
@@ -46,6 +46,6 @@ without attention set = set_to false attention set
 abbrev pub in_order : List Attention
 in_order = PowerOn ∷ MediumChanged ∷ ReservationsPreempted ∷ RegistrationsPreempted ∷ ReservationsReleased ∷ ModeChanged ∷ []
 
--- the attention of a set that is told first
+-- the attention of a set that is told first (own)
 abbrev pub first_of : AttentionSet → Option Attention
 first_of set = find (λ attention. contains attention set) in_order

@@ -11,7 +11,7 @@ use Rattle.scsi_wire.specs.declared.sense_data.Sense.{Sense}
 use Rattle.scsi_wire.specs.Opcodes.{opcode_of, block_length}
 use Rattle.scsi_wire.specs.Senses.{unknown_code, bad_field}
 
--- a bit of a byte, bit 0 the lowest
+-- a bit of a byte, bit 0 the lowest (own)
 abbrev pub is_bit_set : ℕ → ℕ → Bool
 is_bit_set byte bit = bit_at byte bit == 1
 
@@ -39,7 +39,7 @@ fields_of code.Read cdb = if is_fixed cdb then None else Some (Read (transfer_le
 fields_of code.Write cdb = if is_fixed cdb || nat_lt MAX_BLOCK (transfer_length cdb) then None else Some (Write (transfer_length cdb))
 fields_of code.WriteFilemarks cdb = Some (WriteFilemarks (transfer_length cdb) (is_immediate cdb))
 
--- the command of a block, where its length and its fields are right
+-- the command of a block, where its length and its fields are right (own)
 abbrev pub command_of : Opcode → List ℕ → Option Command
 command_of opcode cdb = if length cdb == block_length opcode then fields_of opcode cdb else None
 
@@ -56,7 +56,7 @@ abbrev pub checked : Option Command → Result Command Sense
 checked None = Err bad_field
 checked (Some command) = Ok command
 
--- a block's command, once its code was looked for
+-- a block's command, once its code was looked for (own)
 abbrev pub decoded_as : Option Opcode → List ℕ → Result Command Sense
 decoded_as None cdb = Err unknown_code
 decoded_as (Some opcode) cdb = checked (command_of opcode cdb)

@@ -16,11 +16,11 @@ row_of Read = new_row 0x08 6 false true true
 row_of Write = new_row 0x0a 6 false true true
 row_of WriteFilemarks = new_row 0x10 6 false true true
 
--- the codes that are known
+-- the codes that are known (own)
 abbrev pub opcodes : List Opcode
 opcodes = TestUnitReady ∷ Rewind ∷ Read ∷ Write ∷ WriteFilemarks ∷ []
 
--- the code that a byte is
+-- the code that a byte is (own)
 abbrev pub opcode_at : ℕ → Option Opcode
 opcode_at byte = find (λ opcode. (row_of opcode).code == byte) opcodes
 
@@ -33,7 +33,7 @@ opcode_of (byte ∷ rest) = opcode_at byte
 abbrev pub block_length : Opcode → ℕ
 block_length opcode = (row_of opcode).bytes
 
--- the bytes of a command block that begins with this byte
+-- the bytes of a command block that begins with this byte (own)
 abbrev pub length_at : ℕ → Option ℕ
 length_at byte = option_map block_length (opcode_at byte)
 

@@ -5,7 +5,7 @@ use Rattle.scsi_wire.specs.declared.sense_data.SenseKey.{SenseKey}
 use Rattle.scsi_wire.specs.declared.sense_data.SenseKey.TheVariants.{NoSense, NotReady, MediumError, HardwareError, IllegalRequest, UnitAttention, BlankCheck, AbortedCommand, VolumeOverflow}
 use Rattle.scsi_wire.specs.declared.sense_data.Sense.{Sense}
 
--- sense data of a key, an additional code and its qualifier alone
+-- sense data of a key, an additional code and its qualifier alone (own)
 abbrev pub plain_sense : SenseKey → ℕ → ℕ → Sense
 plain_sense key code qualifier = record { key = key; code = code; qualifier = qualifier; filemark = false; end_of_medium = false; wrong_length = false; information = None; deferred = false }
 
@@ -21,7 +21,7 @@ key_number BlankCheck = 0x8
 key_number AbortedCommand = 0xb
 key_number VolumeOverflow = 0xd
 
--- a bit that is set or not
+-- a bit that is set or not (own)
 abbrev pub bit_if : Bool → ℕ → ℕ
 bit_if set value = if set then value else 0
 

@@ -17,11 +17,11 @@ pub record DiskState : Type 1 where
   -- how many calls have failed; it has no bound
   pub failures : ℕ
 
--- the second begins with the first
+-- the second begins with the first (own)
 abbrev pub IsPrefixOf : List ℕ → List ℕ → Type 0
 IsPrefixOf xs ys = (rest : List ℕ) × (ys ≡ xs ++ rest)
 
--- new is old with these bytes at this place, and longer where they pass its end
+-- new is old with these bytes at this place, and longer where they pass its end (own)
 abbrev pub Holds : ℕ → List ℕ → List ℕ → List ℕ → Type 0
 Holds at bytes old new = new ≡ take at old ++ bytes ++ drop (at + length bytes) old
 
@@ -36,15 +36,15 @@ pub record Smeared (at n : ℕ) (old new : List ℕ) : Type 0 where
 abbrev pub Cut : ℕ → List ℕ → List ℕ → Type 0
 Cut at old new = IsPrefixOf (take at old) new
 
--- each new image is an old one after the step
+-- each new image is an old one after the step (own)
 abbrev pub Follows : (List ℕ → List ℕ → Type 0) → (List ℕ → Type 0) → (List ℕ → Type 0) → Type 0
 Follows step old new = (image : List ℕ) → new image → (before : List ℕ) × old before × step before image
 
--- this is the only image
+-- this is the only image (own)
 abbrev pub Only : List ℕ → (List ℕ → Type 0) → Type 0
 Only image images = (other : List ℕ) → images other → other ≡ image
 
--- each image that a crash now may leave has P
+-- each image that a crash now may leave has P (own)
 abbrev pub Each : DiskState → (List ℕ → Type 0) → Type 0
 Each disk P = (image : List ℕ) → disk.may_leave image → P image
 

@@ -3,7 +3,7 @@ use Rattle.std.specs.Prelude.{ℕ, ◌-◌, ◌<◌, ◌==◌, nat_lt, Bool, tru
 use Rattle.vtl_base.specs.declared.faults.DevFault.{DevFault}
 use Rattle.tape_disk.specs.Disk.{DiskState, IsDisk, Same}
 
--- the state of such a disk: that of the disk below, with a count of failures of its own
+-- the state of such a disk: that of the disk below, with a count of failures of its own (own)
 abbrev pub over : DiskState → ℕ → DiskState
 over below failures = record below { failures = failures }
 
@@ -25,7 +25,7 @@ abbrev pub is_due : Option ℕ → Bool
 is_due None = false
 is_due (Some left) = left == 0
 
--- the same after one call more
+-- the same after one call more (own)
 abbrev pub after_call : Option ℕ → Option ℕ
 after_call None = None
 after_call (Some left) = if left == 0 then None else Some (left - 1)

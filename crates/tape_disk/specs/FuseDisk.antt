@@ -8,7 +8,7 @@ module _ {D : Type 0} where
   abbrev pub disk_below : FuseDisk D → D
   disk_below fuse = fuse.below.disk
 
-  -- the calls that will pass
+  -- the calls that will pass (own)
   abbrev pub calls_left : FuseDisk D → ℕ
   calls_left fuse = fuse.left
 

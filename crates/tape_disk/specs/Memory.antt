@@ -5,7 +5,7 @@ use Rattle.tape_disk.specs.declared.log.Call.{Call}
 use Rattle.tape_disk.specs.declared.log.Call.TheVariants as call
 use Rattle.tape_disk.specs.declared.log.Log.{Log}
 
--- a call that was kept
+-- a call that was kept (own)
 abbrev pub event_of : Call → Event
 event_of (call.Wrote idle at bytes) = Wrote idle.value at bytes.items
 event_of (call.CutTo idle len) = CutTo idle.value len

@@ -3,7 +3,7 @@ use Rattle.std.specs.Prelude.{◌⊎◌, ℕ, ◌≤◌, List}
 use Rattle.tape_disk.specs.Disk.{DiskState, Each, Elapses, IsDisk}
 use Rattle.std.proofs.Common.{inl, inr, ⊎_elim, arith}
 
--- Each image that a crash since the old moment might have left has P.
+-- Each image that a crash since the old moment might have left has P (own).
 pub record LeavesOnly (old new : DiskState) (P : List ℕ → Type 0) : Type 0 where
   pub later : old.moment ≤ new.moment
   pub each : (image : List ℕ) → new.left_since old.moment image → P image

@@ -8,7 +8,7 @@ module _ {D : Type 0} where
   abbrev pub disk_below : OnceDisk D → D
   disk_below once = once.below.disk
 
-  -- the calls that pass before the one that fails; none once it has failed
+  -- the calls that pass before the one that fails; none once it has failed (own)
   abbrev pub calls_left : OnceDisk D → Option ℕ
   calls_left once = once.left
 

@@ -20,11 +20,11 @@ pub record Past : Type 0 where
   -- the calls since then that changed nothing
   pub idle : ℕ
 
--- the bytes with these ones written at a place, or at the end where that comes first
+-- the bytes with these ones written at a place, or at the end where that comes first (own)
 abbrev pub overwritten : ℕ → List ℕ → List ℕ → List ℕ
 overwritten at bytes old = take at old ++ bytes ++ drop (at + length bytes) old
 
--- the calls up to now
+-- the calls up to now (own)
 abbrev pub clock_of : List Event → ℕ
 clock_of [] = 0
 clock_of (Wrote idle at bytes ∷ older) = clock_of older + idle + 1
@@ -36,30 +36,30 @@ is_sync (Synced idle) = true
 is_sync (Wrote idle at bytes) = false
 is_sync (CutTo idle len) = false
 
--- how many syncs there were
+-- how many syncs there were (own)
 abbrev pub syncs_of : List Event → ℕ
 syncs_of events = count_by is_sync events
 
--- how many bytes were written since the last sync
+-- how many bytes were written since the last sync (own)
 abbrev pub unsynced : List Event → ℕ
 unsynced [] = 0
 unsynced (Wrote idle at bytes ∷ older) = unsynced older + length bytes
 unsynced (CutTo idle len ∷ older) = unsynced older
 unsynced (Synced idle ∷ older) = 0
 
--- the first n of the bytes, and the fill in place of the others
+-- the first n of the bytes, and the fill in place of the others (own)
 abbrev pub landed : ℕ → ℕ → List ℕ → List ℕ
 landed n fill bytes = take n bytes ++ replicate (length bytes - n) fill
 
 module _ (base : List ℕ) where
-  -- what a read gives
+  -- what a read gives (own)
   abbrev pub seen_of : List Event → List ℕ
   seen_of [] = base
   seen_of (Wrote idle at bytes ∷ older) = overwritten at bytes (seen_of older)
   seen_of (CutTo idle len ∷ older) = take len (seen_of older)
   seen_of (Synced idle ∷ older) = seen_of older
 
-  -- what a crash now may leave: what the disk model says of each call since the last sync
+  -- what a crash now may leave: what the disk model says of each call since the last sync (own)
   abbrev pub Image : List Event → List ℕ → Type 0
   Image [] image = image ≡ base
   Image (Wrote idle at bytes ∷ older) image = (before : List ℕ) × Image older before × Smeared at (length bytes) before image
@@ -67,7 +67,7 @@ module _ (base : List ℕ) where
   Image (Synced idle ∷ older) image = image ≡ seen_of older
 
   -- what a crash at the moment t or later might have left: what it may leave now, or, where t is no
-  -- later than the newest call, what it might have left before that
+  -- later than the newest call, what it might have left before that (own)
   abbrev pub Since : List Event → ℕ → List ℕ → Type 0
   Since [] t image = Image [] image
   Since (Wrote idle at bytes ∷ older) t image = Image (Wrote idle at bytes ∷ older) image ⊎ ((t ≤ clock_of older + idle) × Since older t image)
@@ -75,26 +75,26 @@ module _ (base : List ℕ) where
   Since (Synced idle ∷ older) t image = Image (Synced idle ∷ older) image ⊎ ((t ≤ clock_of older + idle) × Since older t image)
 
   -- one image that a crash now may leave: of the bytes written since the last sync the first `keep`
-  -- landed, the others hold the fill, and each cut was carried out
+  -- landed, the others hold the fill, and each cut was carried out (own)
   abbrev pub torn : ℕ → ℕ → List Event → List ℕ
   torn keep fill [] = base
   torn keep fill (Wrote idle at bytes ∷ older) = overwritten at (landed (keep - unsynced older) fill bytes) (torn keep fill older)
   torn keep fill (CutTo idle len ∷ older) = take len (torn keep fill older)
   torn keep fill (Synced idle ∷ older) = seen_of older
 
--- a disk that begins with these bytes
+-- a disk that begins with these bytes (own)
 abbrev pub begun : List ℕ → Past
 begun bytes = record { base = bytes; events = []; idle = 0 }
 
--- after a call that changed nothing
+-- after a call that changed nothing (own)
 abbrev pub rested : Past → Past
 rested past = record past { idle = past.idle + 1 }
 
--- after a call that is kept
+-- after a call that is kept (own)
 abbrev pub kept : Event → Past → Past
 kept event past = record past { events = event ∷ past.events; idle = 0 }
 
--- the disk of this past, which is always honest
+-- the disk of this past, which is always honest (own)
 abbrev pub state_of : Past → ℕ → DiskState
 state_of past failures = record {
   honest = Unit {0};

@@ -5,14 +5,14 @@ use Rattle.vtl.specs.declared.faults.ScriptFault.TheVariants as script
 use Rattle.vtl.specs.declared.programs.VtlFault.{VtlFault}
 use Rattle.vtl.specs.declared.programs.VtlFault.TheVariants.{Words, Config, Script, Device, NoMemory}
 
--- the program's fault that a script's fault is
+-- the program's fault that a script's fault is (own)
 abbrev pub fault_of : ScriptFault → VtlFault
 fault_of (script.BadLine line) = Script line
 fault_of script.ReadFault = Device
 fault_of script.WriteFault = Device
 fault_of script.NoMemory = NoMemory
 
--- the status: 1 where something is refused, 2 at a device, a file or a stream, 3 at want of memory
+-- the status: 1 where something is refused, 2 at a device, a file or a stream, 3 at want of memory (own)
 abbrev pub status_of : VtlFault → ℕ
 status_of Words = 1
 status_of Config = 1
@@ -20,7 +20,7 @@ status_of (Script line) = 1
 status_of Device = 2
 status_of NoMemory = 3
 
--- the line on standard error
+-- the line on standard error (own)
 abbrev pub fault_text : VtlFault → List ℕ
 fault_text Words = codes "vtl: command line refused"
 fault_text Config = codes "vtl: configuration refused"

@@ -11,7 +11,7 @@ use Rattle.drive_core.specs.Step.{Input, Execute}
 use Rattle.drive_core.proofs.RunLemmas.{serves_append}
 use Rattle.vtl.specs.declared.lines.Line.{Line}
 
--- to carry its command block out, for its host, with the bytes that it sends
+-- to carry its command block out, for its host, with the bytes that it sends (own)
 abbrev pub input_of : Line → Input
 input_of line = Execute (asked line.host line.cdb line.sent)
 

@@ -15,17 +15,17 @@ use Rattle.vtl.specs.Text.{text_of}
 use Rattle.vtl.specs.Held.{input_of}
 use Rattle.vtl.specs.Runs.{Follows}
 
--- the commands of a script, in the order of its lines
+-- the commands of a script, in the order of its lines (own)
 abbrev pub commands_in : List Meaning → List Line
 commands_in said = filter_map line_in said
 
--- all commands are of one host
+-- all commands are of one host (own)
 pub record IsOfHost (host : ℕ) (lines : List Line) : Type 0 where
   pub least : 1 ≤ host
   pub most : host ≤ 64
   pub all : list_all (λ line. line.host == host) lines ≡ true
 
--- a script of one host is run line by line
+-- a script of one host is run line by line (own)
 abbrev pub OneHostInOrder : Type 0
 OneHostInOrder =
     (host : ℕ) (said : List Meaning) → IsOfHost host (commands_in said) → list_any is_refused said ≡ false
@@ -33,7 +33,7 @@ OneHostInOrder =
 
 -- a script of one host that is run to its end by a drive whose medium is honest, and in which no fault, want of
 -- memory or full side came: what is written is the text of the replies that the machine gives to the lines that were
--- read, where it gives any in such a run, and nothing else
+-- read, where it gives any in such a run, and nothing else (own)
 abbrev pub OneHostIsAnswered : {M : Type 0} → (M → Tape) → (M → List Change → M → Type 0) → (M → Type 0) → Type 0
 OneHostIsAnswered {M} tape moves honest =
     (is_configured : ℕ → Bool) (old new : DriveState M Kept) (left before now : Option (List ℕ))

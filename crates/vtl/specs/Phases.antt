@@ -6,24 +6,24 @@ use Rattle.vtl.specs.declared.lines.Meaning.{Meaning}
 use Rattle.vtl.specs.declared.lines.Meaning.TheVariants.{PhaseEnd, Command, Refused}
 use Rattle.vtl.specs.Lines.{fields_of, said_by}
 
--- a line without the carriage return at its end
+-- a line without the carriage return at its end (own)
 abbrev pub without_return : List ℕ → List ℕ
 without_return line =
     if nat_lt 0 (length line) && slice_index line (length line - 1) == 13 then take (length line - 1) line else line
 
--- what a line says that has so many bytes before its line feed, and these that count
+-- what a line says that has so many bytes before its line feed, and these that count (own)
 abbrev pub meaning_of : (ℕ → Bool) → ℕ → List ℕ → Meaning
 meaning_of is_configured count line =
     if nat_lt 2200000 count then Refused else said_by is_configured (fields_of line)
 
--- what the lines say whose bytes these are, the last of which lacks a line feed
+-- what the lines say whose bytes these are, the last of which lacks a line feed (own)
 abbrev pub meanings_in : (ℕ → Bool) → List (List ℕ) → List Meaning
 meanings_in is_configured [] = []
 meanings_in is_configured (line ∷ []) = meaning_of is_configured (length line) line ∷ []
 meanings_in is_configured (line ∷ next ∷ lines) =
     meaning_of is_configured (length line) (without_return line) ∷ meanings_in is_configured (next ∷ lines)
 
--- what the lines of a text say: a line feed ends a line, and behind the last there is one more, which says nothing where it is empty
+-- what the lines of a text say: a line feed ends a line, and behind the last there is one more, which says nothing where it is empty (own)
 abbrev pub meanings_of : (ℕ → Bool) → List ℕ → List Meaning
 meanings_of is_configured text = meanings_in is_configured (slice_split (λ byte. byte == 10) text)
 
@@ -39,26 +39,26 @@ abbrev pub line_in : Meaning → Option Line
 line_in (Command line) = Some line
 line_in other = None
 
--- whether no line of a phase is refused
+-- whether no line of a phase is refused (own)
 abbrev pub is_good : List Meaning → Bool
 is_good said = not (list_any is_refused said)
 
--- the phases that are run, each its commands: those before the first that has a refused line
+-- the phases that are run, each its commands: those before the first that has a refused line (own)
 abbrev pub phases_to_run : List Meaning → List (List Line)
 phases_to_run said = map (filter_map line_in) (take_while is_good (slice_split is_phase_end said))
 
--- the number of the first line that is refused, from 1 on
+-- the number of the first line that is refused, from 1 on (own)
 abbrev pub refused_line : List Meaning → Option ℕ
 refused_line said = option_map (λ place. place + 1) (position is_refused said)
 
--- whether the host of a command is one: 1 to 64
+-- whether the host of a command is one: 1 to 64 (own)
 abbrev pub has_host : Line → Bool
 has_host line = nat_le 1 line.host && nat_le line.host 64
 
--- the commands of a phase in the order of their turns: by rising host, each host's in their order
+-- the commands of a phase in the order of their turns: by rising host, each host's in their order (own)
 unfoldable pub by_host : List Line → List Line
 by_host lines = flat_map (λ host. filter (λ line. line.host == host) lines) (range_with_len 1 64)
 
--- all commands of some phases in the order of their turns
+-- all commands of some phases in the order of their turns (own)
 abbrev pub in_turn : List (List Line) → List Line
 in_turn phases = flat_map by_host phases

@@ -12,22 +12,22 @@ use Rattle.vtl.specs.declared.faults.ScriptFault.TheVariants.{BadLine}
 use Rattle.vtl.specs.Phases.{meanings_of, is_refused, has_host, line_in, phases_to_run, by_host, in_turn}
 use Rattle.vtl.specs.Reading.{Reading, work_left}
 
--- the bytes that a reader is known to have left
+-- the bytes that a reader is known to have left (own)
 abbrev pub rest_of : Option (List ℕ) → List ℕ
 rest_of left = unwrap_or left []
 
--- a line that is refused has its number told
+-- a line that is refused has its number told (own)
 abbrev pub Accepts : Meaning → Bool → ℕ → Result Next ScriptFault → Type 0
 Accepts meaning is_last number (Ok next) = (next ≡ record { meaning = meaning; is_last = is_last }) × (is_refused meaning ≡ false)
 Accepts meaning is_last number (Err fault) = (fault ≡ BadLine number) × (meaning ≡ Refused)
 
--- what the bytes say that stand before the others of a text, whatever follows; at its end, with nothing behind them
+-- what the bytes say that stand before the others of a text, whatever follows; at its end, with nothing behind them (own)
 abbrev pub SaysFirst : (ℕ → Bool) → Bool → List ℕ → List Meaning → List ℕ → Option (List ℕ) → Type 0
 SaysFirst is_configured true text said unread left = IsAtEnd left × (meanings_of is_configured text ≡ said)
 SaysFirst is_configured false text said unread left =
     (more : List ℕ) → meanings_of is_configured (text ++ more) ≡ said ++ meanings_of is_configured (unread ++ more)
 
--- a line was read, and says this
+-- a line was read, and says this (own)
 pub record TellsNext (is_configured : ℕ → Bool) (left : Option (List ℕ)) (old : Reading) (left' : Option (List ℕ)) (new : Reading) (next : Next) : Type 0 where
   pub read : List ℕ
   pub taken : Consumes left left' read
@@ -39,7 +39,7 @@ pub record TellsNext (is_configured : ℕ → Bool) (left : Option (List ℕ)) (
   pub lines : next.is_last ≡ false → new.lines ≡ old.lines + 1
   pub less : next.is_last ≡ false → work_left new < work_left old
 
--- the line of this number was read, and is refused
+-- the line of this number was read, and is refused (own)
 pub record RefusesNext (is_configured : ℕ → Bool) (left : Option (List ℕ)) (old : Reading) (left' : Option (List ℕ)) (number : ℕ) : Type 0 where
   pub read : List ℕ
   pub taken : Consumes left left' read
@@ -47,12 +47,12 @@ pub record RefusesNext (is_configured : ℕ → Bool) (left : Option (List ℕ))
   pub behind : List Meaning
   pub says : meanings_of is_configured ((old.unread ++ read) ++ rest_of left') ≡ Refused ∷ behind
 
--- the lines of a phase are those that are run before what follows; at the end of a text, they are the last
+-- the lines of a phase are those that are run before what follows; at the end of a text, they are the last (own)
 abbrev pub IsPhase : Bool → List Meaning → List Line → Type 0
 IsPhase true said lines = in_turn (phases_to_run said) ≡ by_host lines
 IsPhase false said lines = (more : List Meaning) → phases_to_run (said ++ more) ≡ lines ∷ phases_to_run more
 
--- a phase was read, with the lines to be run
+-- a phase was read, with the lines to be run (own)
 pub record ReadsPhase (is_configured : ℕ → Bool) (left : Option (List ℕ)) (old : Reading) (left' : Option (List ℕ)) (new : Reading) (phase : Phase) : Type 0 where
   pub read : List ℕ
   pub taken : Consumes left left' read
@@ -66,7 +66,7 @@ pub record ReadsPhase (is_configured : ℕ → Bool) (left : Option (List ℕ)) 
   pub hosts : list_all has_host phase.lines.items ≡ true
   pub is_phase : IsPhase phase.is_last said phase.lines.items
 
--- a phase was read up to the line of this number, which is refused
+-- a phase was read up to the line of this number, which is refused (own)
 pub record RefusesPhase (is_configured : ℕ → Bool) (left : Option (List ℕ)) (old : Reading) (left' : Option (List ℕ)) (number : ℕ) : Type 0 where
   pub read : List ℕ
   pub taken : Consumes left left' read

@@ -5,28 +5,28 @@ use Rattle.vtl.specs.declared.faults.ScriptFault.{ScriptFault}
 use Rattle.vtl.specs.declared.blocks.Found.{Found}
 use Rattle.vtl.specs.declared.blocks.Found.TheVariants.{Line, Last, TooLong}
 
--- how far a script was read, as a contract sees it
+-- how far a script was read, as a contract sees it (own)
 pub record Reading : Type 0 where
   pub unread : List ℕ  -- the bytes that came, but for those of the lines that were taken up
   pub bytes : ℕ  -- the bytes that came
   pub reads : ℕ  -- the reads that brought them
   pub lines : ℕ  -- the lines that were taken up
 
--- at the start
+-- at the start (own)
 abbrev pub unbegun : Reading
 unbegun = record { unread = []; bytes = 0; reads = 0; lines = 0 }
 
--- the bytes that may still be taken up
+-- the bytes that may still be taken up (own)
 abbrev pub work_left : Reading → ℕ
 work_left reading = (2147483648 + length reading.unread) - reading.bytes
 
--- how many bytes a read gave: none where it failed or was interrupted
+-- how many bytes a read gave: none where it failed or was interrupted (own)
 abbrev pub count_of : Result (Option ℕ) ScriptFault → ℕ
 count_of (Ok (Some count)) = count
 count_of (Ok None) = 0
 count_of (Err fault) = 0
 
--- some bytes came from a reader that knew the bytes `left`, and stand behind the others
+-- some bytes came from a reader that knew the bytes `left`, and stand behind the others (own)
 pub record Comes (left : Option (List ℕ)) (old : Reading) (left' : Option (List ℕ)) (new : Reading) : Type 0 where
   pub read : List ℕ
   pub taken : Consumes left left' read
@@ -34,7 +34,7 @@ pub record Comes (left : Option (List ℕ)) (old : Reading) (left' : Option (Lis
   pub bytes : new.bytes ≡ old.bytes + length read
   pub lines : new.lines ≡ old.lines
 
--- where the first line ends: at its line feed, with the text, or not within its limit
+-- where the first line ends: at its line feed, with the text, or not within its limit (own)
 abbrev pub Ends : Found → List ℕ → Option (List ℕ) → Type 0
 Ends (Line count) unread left = position (λ byte. byte == 10) unread ≡ Some count
 Ends Last unread left = (position (λ byte. byte == 10) unread ≡ None) × IsAtEnd left

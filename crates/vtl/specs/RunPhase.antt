@@ -12,7 +12,7 @@ use Rattle.vtl.specs.Text.{text_of}
 use Rattle.vtl.specs.Reading.{Reading}
 use Rattle.vtl.specs.Runs.{EndsWith}
 
--- as at the end of a script, where it is run from the place on that a reading tells: lines are counted from its lines on
+-- as at the end of a script, where it is run from the place on that a reading tells: lines are counted from its lines on (own)
 abbrev pub EndsFrom : Reading → ℕ → List Meaning → List Line → List Reply → Option (List ℕ) → Option (List ℕ) → Result (Unit {0}) ScriptFault → Type 0
 EndsFrom reading size said lines replies before now (Ok done) = EndsWith (reading.bytes + size) said lines replies before now (Ok done)
 EndsFrom reading size said lines replies before now (Err (BadLine number)) =
@@ -21,7 +21,7 @@ EndsFrom reading size said lines replies before now (Err ReadFault) = EndsWith s
 EndsFrom reading size said lines replies before now (Err WriteFault) = EndsWith size said lines replies before now (Err WriteFault)
 EndsFrom reading size said lines replies before now (Err NoMemory) = EndsWith size said lines replies before now (Err NoMemory)
 
--- what a reading has not taken up was run to its end
+-- what a reading has not taken up was run to its end (own)
 pub record Finishes {P : Type 0} (is_configured : ℕ → Bool) (answers : P → List Line → List Reply → P → Type 0) (reading : Reading) (old : P) (left before : Option (List ℕ)) (new : P) (now : Option (List ℕ)) (result : Result (Unit {0}) ScriptFault) : Type 0 where
   pub text : List ℕ
   pub known : IfSome left (λ all. text ≡ all)
@@ -30,7 +30,7 @@ pub record Finishes {P : Type 0} (is_configured : ℕ → Bool) (answers : P →
   pub answered : answers old lines replies new
   pub ended : EndsFrom reading (length text) (meanings_of is_configured (reading.unread ++ text)) lines replies before now result
 
--- some phases were run, and the text goes on
+-- some phases were run, and the text goes on (own)
 pub record GoesOn {P : Type 0} (is_configured : ℕ → Bool) (answers : P → List Line → List Reply → P → Type 0) (reading : Reading) (old : P) (left before : Option (List ℕ)) (reading' : Reading) (new : P) (left' now : Option (List ℕ)) : Type 0 where
   pub read : List ℕ
   pub taken : Consumes left left' read
@@ -45,7 +45,7 @@ pub record GoesOn {P : Type 0} (is_configured : ℕ → Bool) (answers : P → L
   pub answered : answers old (in_turn phases) replies new
   pub written : Appends before now (text_of replies)
 
--- a phase was run: at `true` the text goes on
+-- a phase was run: at `true` the text goes on (own)
 abbrev pub RunsPhase : {P : Type 0} (is_configured : ℕ → Bool) (answers : P → List Line → List Reply → P → Type 0) (reading : Reading) (old : P) (left before : Option (List ℕ)) (reading' : Reading) (new : P) (left' now : Option (List ℕ)) → Result Bool ScriptFault → Type 0
 RunsPhase is_configured answers reading old left before reading' new left' now (Ok true) = GoesOn is_configured answers reading old left before reading' new left' now
 RunsPhase is_configured answers reading old left before reading' new left' now (Ok false) = Finishes is_configured answers reading old left before new now (Ok tt)

@@ -9,13 +9,13 @@ use Rattle.vtl.specs.declared.faults.ScriptFault.TheVariants.{BadLine, ReadFault
 use Rattle.vtl.specs.Phases.{meanings_of, refused_line, phases_to_run, in_turn}
 use Rattle.vtl.specs.Text.{text_of}
 
--- some of the lines were answered, from the first on
+-- some of the lines were answered, from the first on (own)
 pub record AnswersSome {P : Type 0} (answers : P → List Line → List Reply → P → Type 0) (old : P) (lines : List Line) (new : P) : Type 0 where
   pub count : ℕ
   pub replies : List Reply
   pub answered : answers old (take count lines) replies new
 
--- how far a script was run, and what was written: `size` are its bytes, `said` is what its lines say
+-- how far a script was run, and what was written: `size` are its bytes, `said` is what its lines say (own)
 abbrev pub EndsWith : ℕ → List Meaning → List Line → List Reply → Option (List ℕ) → Option (List ℕ) → Result (Unit {0}) ScriptFault → Type 0
 -- to its end, and no line was refused
 EndsWith size said lines replies before now (Ok done) =
@@ -33,7 +33,7 @@ EndsWith size said lines replies before now (Err WriteFault) =
 EndsWith size said lines replies before now (Err NoMemory) =
     (count : ℕ) × (written : ℕ) × (lines ≡ take count (in_turn (phases_to_run said))) × Appends before now (text_of (take written replies))
 
--- a script was read, run and answered
+-- a script was read, run and answered (own)
 pub record Follows {P : Type 0} (is_configured : ℕ → Bool) (answers : P → List Line → List Reply → P → Type 0) (old : P) (left before : Option (List ℕ)) (new : P) (now : Option (List ℕ)) (result : Result (Unit {0}) ScriptFault) : Type 0 where
   -- the text of the script: all that the reader has, where that is known
   pub text : List ℕ
