@@ -68,6 +68,10 @@ fn a_side_byte_by_byte(rt: HostRuntime) -> Result<(), Fail> {
         (journal.body_at(0), journal.body_at(1)),
         ((40, 15), (60, 10))
     );
+    let (at, size) = journal.body_at(0);
+    let mut body = vec![in alloc; 0u8; size as usize]?;
+    assert_eq!(rt; journal.read_body(at, &mut body), Ok(()));
+    assert_eq!(rt; body.as_slice(), FIRST.as_slice());
     assert_eq!(rt; journal.header().name, *b"T00001L6        ");
     assert_eq!(rt; journal.header().words.as_slice(), [4096].as_slice());
     Ok(())
