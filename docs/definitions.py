@@ -37,7 +37,7 @@ def definitions(path):
 def main():
     text = [HEAD]
     for entry in open(os.path.join(TOP, "crates.txt"), encoding="utf-8"):
-        name = entry.split("#")[0].split(":")[0].strip()
+        name = entry.split("#")[0].split(":")[0].partition(" ")[0].strip()
         folder = os.path.join(TOP, "crates", name, "specs")
         if not name or not os.path.isdir(folder):
             continue
