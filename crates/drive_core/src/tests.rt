@@ -5,6 +5,7 @@ use crate::laws::{answers_are_determined, honest_steps, runs_append};
 use crate::{Drive, Fault};
 use failing::FailingMedium;
 use scsi_wire::{Reply, Status};
+use std::alloc::Global;
 use std::process::Abort;
 use std::test::Fail;
 use volume_core::{Catalog, Medium, PlainMedium};
@@ -56,13 +57,27 @@ fn assert_reply(rt: &impl Abort, reply: &Reply, wanted: Wanted, at: usize) {
     assert_eq!(rt; reply.bytes.as_slice(), wanted.1, "bytes at {at}");
 }
 
-#[test]
-fn a_host_is_answered(rt: HostRuntime) -> Result<(), Fail> {
-    let alloc = rt.alloc();
+// A drive with one partition of 4,096 bytes.
+fn loaded(alloc: Global) -> Result<Drive<PlainMedium>, Fail> {
     let medium = PlainMedium::new(alloc, &[4_096])?;
-    let mut drive = Drive::power_on(alloc, Some(medium)).map_err(|_| NoMemory)?;
+    Ok(Drive::power_on(alloc, Some(medium)).map_err(|_| NoMemory)?)
+}
+
+// A host, its command and the bytes that it sends, and what is wanted of the reply.
+type Row<'a> = (u8, &'a [u8], &'a [u8], Wanted<'a>);
+
+fn assert_rows(rt: &impl Abort, drive: &mut Drive<PlainMedium>, rows: &[Row]) {
+    for (at, (host, cdb, sent, wanted)) in rows.iter().enumerate() {
+        let nexus = Nexus::new(*host).expect(rt, "a nexus");
+        assert_reply(rt, &drive.execute(nexus, cdb, sent), *wanted, at);
+    }
+}
+
+#[test]
+fn a_host_writes(rt: HostRuntime) -> Result<(), Fail> {
+    let alloc = rt.alloc();
     let too_much = vec![in alloc; 7u8; 4_096]?;
-    let rows: [(u8, &[u8], &[u8], Wanted); 26] = [
+    let rows: [Row; 16] = [
         (1, &[0xa5; 12], &[], check(5, 0x20, 0)),
         (1, &[], &[], check(5, 0x20, 0)),
         (1, &TEST_UNIT_READY, &[], check(6, 0x29, 0)),
@@ -89,6 +104,17 @@ fn a_host_is_answered(rt: HostRuntime) -> Result<(), Fail> {
         ),
         (1, &[0x10, 0, 0, 0, 0, 0], &[], GOOD),
         (1, &[0x10, 1, 0, 0, 0, 0], &[], GOOD),
+    ];
+    assert_rows(&rt, &mut loaded(alloc)?, &rows);
+    Ok(())
+}
+
+#[test]
+fn a_host_reads(rt: HostRuntime) -> Result<(), Fail> {
+    let rows: [Row; 13] = [
+        (1, &TEST_UNIT_READY, &[], check(6, 0x29, 0)),
+        (1, &WRITE_5, b"hello", GOOD),
+        (1, &[0x10, 0, 0, 0, 1, 0], &[], GOOD),
         (1, &REWIND, &[], GOOD),
         (1, &[0x08, 0, 0, 0, 0, 0], &[], GOOD),
         (1, &READ_5, &[], (None, b"hello")),
@@ -105,10 +131,7 @@ fn a_host_is_answered(rt: HostRuntime) -> Result<(), Fail> {
         (1, &REWIND, &[], GOOD),
         (1, &[0x08, 2, 0, 0, 3, 0], &[], (None, b"hel")),
     ];
-    for (at, (host, cdb, sent, wanted)) in rows.into_iter().enumerate() {
-        let nexus = Nexus::new(host).expect(&rt, "a nexus");
-        assert_reply(&rt, &drive.execute(nexus, cdb, sent), wanted, at);
-    }
+    assert_rows(&rt, &mut loaded(rt.alloc())?, &rows);
     Ok(())
 }
 

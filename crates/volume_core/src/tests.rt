@@ -28,12 +28,18 @@ fn marks(part: u8, at: u32, count: u32) -> Change {
     Change::Marks { part, at, count }
 }
 
-#[test]
-fn the_first_refusal_that_holds_is_answered(rt: HostRuntime) -> Result<(), Fail> {
-    let alloc = rt.alloc();
+// Two partitions, the first with two blocks of 1,000 bytes.
+fn two_blocks(alloc: Global) -> Result<Volume, Fail> {
     let mut volume = Volume::new(alloc, &[4_096, TEBIBYTE])?;
     volume.apply(put(alloc, 0, 0, 1_000)?)?;
     volume.apply(put(alloc, 0, 1, 1_000)?)?;
+    Ok(volume)
+}
+
+#[test]
+fn the_first_refusal_that_holds_is_answered(rt: HostRuntime) -> Result<(), Fail> {
+    let alloc = rt.alloc();
+    let mut volume = two_blocks(alloc)?;
     for (part, at, length, refusal) in [
         (2, 3, 1_048_577, Refusal::NoPartition),
         (255, 0, 1, Refusal::NoPartition),
@@ -52,6 +58,15 @@ fn the_first_refusal_that_holds_is_answered(rt: HostRuntime) -> Result<(), Fail>
             "{length} bytes at {at}"
         );
     }
+    assert_eq!(rt; (volume.count(0), volume.used(0, 2)), (2, 2_032));
+    volume.apply(put(alloc, 1, 0, 1_048_576)?)?;
+    assert_eq!(rt; volume.used(1, 1), 1_048_592);
+    Ok(())
+}
+
+#[test]
+fn marks_are_refused_as_blocks_are(rt: HostRuntime) -> Result<(), Fail> {
+    let mut volume = two_blocks(rt.alloc())?;
     for (part, at, count, refusal) in [
         (4, 9, 0, Refusal::NoPartition),
         (0, 9, 0, Refusal::PastEnd),
@@ -71,8 +86,6 @@ fn the_first_refusal_that_holds_is_answered(rt: HostRuntime) -> Result<(), Fail>
     assert_eq!(rt; (volume.count(0), volume.used(0, 2)), (2, 2_032));
     volume.apply(marks(0, 2, 129))?;
     assert_eq!(rt; volume.used(0, u32::MAX), 4_096);
-    volume.apply(put(alloc, 1, 0, 1_048_576)?)?;
-    assert_eq!(rt; volume.used(1, 1), 1_048_592);
     Ok(())
 }
 
@@ -106,6 +119,11 @@ fn a_partition_of_4096_bytes_fills(rt: HostRuntime) -> Result<(), Fail> {
     }
     let answer = volume.apply(marks(0, 5, 1));
     assert_eq!(rt; answer, Err(ApplyError::Refused(Refusal::NoRoom)));
+    Ok(())
+}
+
+#[test]
+fn the_early_zone_begins_behind_its_border(rt: HostRuntime) {
     for (capacity, used, early) in [
         (4_111, 3_855, false),
         (4_111, 3_856, true),
@@ -118,7 +136,6 @@ fn a_partition_of_4096_bytes_fills(rt: HostRuntime) -> Result<(), Fail> {
             "{used} of {capacity}"
         );
     }
-    Ok(())
 }
 
 #[test]

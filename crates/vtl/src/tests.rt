@@ -68,13 +68,8 @@ fn assert_ends(
 }
 
 #[test]
-fn worked_scripts(rt: HostRuntime) -> Result<(), Fail> {
-    let rows: [(&[u8], Wanted); 8] = [
-        (b"", (&[], DONE)),
-        (
-            b"1 1 000000000000\n1 1 000000000000\n",
-            (&[ATTENTION, "GOOD\n"], DONE),
-        ),
+fn blocks_and_marks_are_read(rt: HostRuntime) -> Result<(), Fail> {
+    let rows: [(&[u8], Wanted); 3] = [
         (
             b"1 1 000000000000\n1 1 000000000000\n1 1 0a0000000500 68656c6c6f\n1 1 100000000100\n\
             1 1 010000000000\n1 1 080000000500\n1 1 080000000500\n",
@@ -111,6 +106,21 @@ fn worked_scripts(rt: HostRuntime) -> Result<(), Fail> {
                 ],
                 DONE,
             ),
+        ),
+    ];
+    for (at, (script, wanted)) in rows.into_iter().enumerate() {
+        assert_ends(&rt, rt.alloc(), script, wanted, at)?;
+    }
+    Ok(())
+}
+
+#[test]
+fn short_scripts(rt: HostRuntime) -> Result<(), Fail> {
+    let rows: [(&[u8], Wanted); 5] = [
+        (b"", (&[], DONE)),
+        (
+            b"1 1 000000000000\n1 1 000000000000\n",
+            (&[ATTENTION, "GOOD\n"], DONE),
         ),
         (
             b"1 1 000000000000\n1 1 080100000100\n",
