@@ -1,3 +1,4 @@
+pub mod BehindLemmas
 pub mod HostLemmas
 pub mod OneHostLemmas
 pub mod PartLemmas

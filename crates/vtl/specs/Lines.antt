@@ -69,8 +69,3 @@ abbrev pub said_by : (ℕ → Bool) → List (List ℕ) → Meaning
 said_by is_configured [] = Nothing
 said_by is_configured (first ∷ rest) =
     if slice_index first 0 == 35 then Nothing else said_with is_configured first rest
-
--- what a line of these bytes says (own)
-abbrev pub meaning_of : (ℕ → Bool) → List ℕ → Meaning
-meaning_of is_configured line =
-    if nat_lt 2200000 (length line) then Refused else said_by is_configured (fields_of line)

@@ -1,6 +1,7 @@
 -- What a script says: its lines, its phases, and the line that is refused (own).
 use Rattle.std.specs.Prelude.{ℕ, ◌+◌, ◌-◌, ◌==◌, ◌&&◌, nat_lt, nat_le, Bool, true, false, if◌then◌else◌, List, [], ◌∷◌, map, length, take, slice_index, filter, filter_map, flat_map, position, take_while, not, Option, Some, None, option_map}
 use Rattle.std.specs.List.{slice_split, list_any, range_with_len}
+use Rattle.vtl_base.specs.declared.limits.TheConstants.{LINE_BYTES}
 use Rattle.vtl.specs.declared.lines.Line.{Line}
 use Rattle.vtl.specs.declared.lines.Meaning.{Meaning}
 use Rattle.vtl.specs.declared.lines.Meaning.TheVariants.{PhaseEnd, Command, Refused}
@@ -14,7 +15,7 @@ without_return line =
 -- what a line says that has so many bytes before its line feed, and these that count (own)
 abbrev pub meaning_of : (ℕ → Bool) → ℕ → List ℕ → Meaning
 meaning_of is_configured count line =
-    if nat_lt 2200000 count then Refused else said_by is_configured (fields_of line)
+    if nat_lt LINE_BYTES count then Refused else said_by is_configured (fields_of line)
 
 -- what the lines say whose bytes these are, the last of which lacks a line feed (own)
 abbrev pub meanings_in : (ℕ → Bool) → List (List ℕ) → List Meaning

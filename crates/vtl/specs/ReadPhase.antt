@@ -2,6 +2,7 @@
 use Rattle.std.specs.Prelude.{◌≡◌, ℕ, ◌+◌, ◌<◌, ◌≤◌, Bool, true, false, List, [], ◌∷◌, ◌++◌, length, Option, Result, Ok, Err, unwrap_or, filter_map}
 use Rattle.std.specs.List.{list_any, list_all}
 use Rattle.std.specs.Io.KnownBytes.{Consumes, IsAtEnd}
+use Rattle.vtl_base.specs.declared.limits.TheConstants.{SCRIPT_BYTES}
 use Rattle.vtl.specs.declared.lines.Line.{Line}
 use Rattle.vtl.specs.declared.lines.Meaning.{Meaning}
 use Rattle.vtl.specs.declared.lines.Meaning.TheVariants.{Refused}
@@ -35,7 +36,7 @@ pub record TellsNext (is_configured : ℕ → Bool) (left : Option (List ℕ)) (
   pub accepted : is_refused next.meaning ≡ false
   pub host : list_all has_host (filter_map line_in (next.meaning ∷ [])) ≡ true
   pub bytes : new.bytes ≡ old.bytes + length read
-  pub within : new.bytes ≤ 2147483648
+  pub within : new.bytes ≤ SCRIPT_BYTES
   pub lines : next.is_last ≡ false → new.lines ≡ old.lines + 1
   pub less : next.is_last ≡ false → work_left new < work_left old
 
@@ -62,7 +63,7 @@ pub record ReadsPhase (is_configured : ℕ → Bool) (left : Option (List ℕ)) 
   pub lines : phase.is_last ≡ false → new.lines ≡ old.lines + length said
   pub less : phase.is_last ≡ false → work_left new < work_left old
   pub bytes : new.bytes ≡ old.bytes + length read
-  pub within : new.bytes ≤ 2147483648
+  pub within : new.bytes ≤ SCRIPT_BYTES
   pub hosts : list_all has_host phase.lines.items ≡ true
   pub is_phase : IsPhase phase.is_last said phase.lines.items
 

@@ -1,6 +1,7 @@
 -- How far a script was read (own).
 use Rattle.std.specs.Prelude.{◌≡◌, ℕ, ◌+◌, ◌-◌, ◌<◌, ◌==◌, List, [], ◌++◌, length, position, Option, Some, None, Result, Ok, Err}
 use Rattle.std.specs.Io.KnownBytes.{Consumes, IsAtEnd}
+use Rattle.vtl_base.specs.declared.limits.TheConstants.{SCRIPT_BYTES, LINE_BYTES}
 use Rattle.vtl.specs.declared.faults.ScriptFault.{ScriptFault}
 use Rattle.vtl.specs.declared.blocks.Found.{Found}
 use Rattle.vtl.specs.declared.blocks.Found.TheVariants.{Line, Last, TooLong}
@@ -18,7 +19,7 @@ unbegun = record { unread = []; bytes = 0; reads = 0; lines = 0 }
 
 -- the bytes that may still be taken up (own)
 abbrev pub work_left : Reading → ℕ
-work_left reading = (2147483648 + length reading.unread) - reading.bytes
+work_left reading = (SCRIPT_BYTES + length reading.unread) - reading.bytes
 
 -- how many bytes a read gave: none where it failed or was interrupted (own)
 abbrev pub count_of : Result (Option ℕ) ScriptFault → ℕ
@@ -38,4 +39,4 @@ pub record Comes (left : Option (List ℕ)) (old : Reading) (left' : Option (Lis
 abbrev pub Ends : Found → List ℕ → Option (List ℕ) → Type 0
 Ends (Line count) unread left = position (λ byte. byte == 10) unread ≡ Some count
 Ends Last unread left = (position (λ byte. byte == 10) unread ≡ None) × IsAtEnd left
-Ends TooLong unread left = (position (λ byte. byte == 10) unread ≡ None) × (2200000 < length unread)
+Ends TooLong unread left = (position (λ byte. byte == 10) unread ≡ None) × (LINE_BYTES < length unread)

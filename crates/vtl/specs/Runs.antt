@@ -1,6 +1,7 @@
 -- How a script is run (own).
 use Rattle.std.specs.Prelude.{◌≡◌, ℕ, ◌≤◌, Bool, List, length, take, Option, Some, None, Result, Ok, Err, IfSome}
 use Rattle.std.specs.Io.KnownBytes.{Appends}
+use Rattle.vtl_base.specs.declared.limits.TheConstants.{SCRIPT_BYTES}
 use Rattle.scsi_wire.specs.declared.replies.Reply.{Reply}
 use Rattle.vtl.specs.declared.lines.Line.{Line}
 use Rattle.vtl.specs.declared.lines.Meaning.{Meaning}
@@ -19,7 +20,7 @@ pub record AnswersSome {P : Type 0} (answers : P → List Line → List Reply �
 abbrev pub EndsWith : ℕ → List Meaning → List Line → List Reply → Option (List ℕ) → Option (List ℕ) → Result (Unit {0}) ScriptFault → Type 0
 -- to its end, and no line was refused
 EndsWith size said lines replies before now (Ok done) =
-    (size ≤ 2147483648) × (refused_line said ≡ None) × (lines ≡ in_turn (phases_to_run said)) × Appends before now (text_of replies)
+    (size ≤ SCRIPT_BYTES) × (refused_line said ≡ None) × (lines ≡ in_turn (phases_to_run said)) × Appends before now (text_of replies)
 -- up to the phase of the first line that is refused, and this is its number
 EndsWith size said lines replies before now (Err (BadLine number)) =
     (refused_line said ≡ Some number) × (lines ≡ in_turn (phases_to_run said)) × Appends before now (text_of replies)

@@ -35,19 +35,28 @@ pub enum Found {
 
 impl Model for Blocks {
     ghost use Rattle.std.specs.Prelude.{ℕ, ◌≤◌, ◌+◌, ◌-◌, drop, vec_len};
+    ghost use Rattle.vtl_base.specs.declared.limits.TheConstants.{SCRIPT_BYTES, SCRIPT_READS};
     ghost use Rattle.vtl.specs.Reading.{Reading};
 
     ghost Value = { Reading };
 
-    ghost view = { λ b. record { unread = drop b.start b.buffer.items; bytes = b.bytes; reads = b.reads; lines = b.lines } };
+    ghost view = { λ b. record {
+      unread = drop b.start b.buffer.items;
+      bytes = b.bytes;
+      reads = b.reads;
+      lines = b.lines;
+    } };
 
-    ghost invariant = { λ b. (b.start ≤ vec_len b.buffer) × (b.lines + (vec_len b.buffer - b.start) ≤ b.bytes) × (b.bytes ≤ 2147483648) × (b.reads ≤ 4294967296) };
+    ghost invariant = { λ b. (b.start ≤ vec_len b.buffer)
+        × (b.lines + (vec_len b.buffer - b.start) ≤ b.bytes)
+        × (b.bytes ≤ SCRIPT_BYTES) × (b.reads ≤ SCRIPT_READS) };
 }
 
 // One read into this slice: how many bytes came, or None where the read was interrupted.
 fn read_once<R: Read>(reader: &mut R, slice: &mut [u8]) -> Result<Option<usize>, ScriptFault>
     requires { 0 < length slice.old }
-    ensures taken { Consumes (R.remaining reader.old) (R.remaining reader.new) (take (count_of result) slice.new) }
+    ensures taken { Consumes (R.remaining reader.old) (R.remaining reader.new)
+        (take (count_of result) slice.new) }
     ensures within { count_of result ≤ length slice.new }
     ensures end { result ≡ Ok (Some 0) → IsAtEnd (R.remaining reader.new) }
     ensures fault { IfErr result (λ fault. fault ≡ ScriptFault.ReadFault) }
@@ -67,7 +76,8 @@ fn read_behind<R: Read>(
 ) -> Result<Option<usize>, ScriptFault>
     requires { filled < length buffer.old }
     ensures front { take filled buffer.new ≡ take filled buffer.old }
-    ensures taken { Consumes (R.remaining reader.old) (R.remaining reader.new) (take (count_of result) (drop filled buffer.new)) }
+    ensures taken { Consumes (R.remaining reader.old) (R.remaining reader.new)
+        (take (count_of result) (drop filled buffer.new)) }
     ensures within { filled + count_of result ≤ length buffer.new }
     ensures end { result ≡ Ok (Some 0) → IsAtEnd (R.remaining reader.new) }
     ensures fault { IfErr result (λ fault. fault ≡ ScriptFault.ReadFault) }
@@ -87,11 +97,13 @@ fn count(outcome: &Result<Option<usize>, ScriptFault>) -> usize
 
 // One read, whose bytes are put behind those of the buffer.
 fn read_block<R: Read>(reader: &mut R, buffer: &mut Vec<u8>) -> Result<Option<usize>, ScriptFault>
-    ensures taken { OnOk result (Consumes (R.remaining reader.old) (R.remaining reader.new) (drop (vec_len buffer.old) buffer.new.items)) }
+    ensures taken { OnOk result (Consumes (R.remaining reader.old) (R.remaining reader.new)
+        (drop (vec_len buffer.old) buffer.new.items)) }
     ensures front { OnOk result (take (vec_len buffer.old) buffer.new.items ≡ buffer.old.items) }
     ensures count { vec_len buffer.new ≡ vec_len buffer.old + count_of result }
     ensures end { result ≡ Ok (Some 0) → IsAtEnd (R.remaining reader.new) }
-    ensures fault { IfErr result (λ fault. (fault ≡ ScriptFault.ReadFault) ⊎ (fault ≡ ScriptFault.NoMemory)) }
+    ensures fault { IfErr result (λ fault.
+        (fault ≡ ScriptFault.ReadFault) ⊎ (fault ≡ ScriptFault.NoMemory)) }
 {
     let filled = buffer.len();
     buffer.resize(filled + BLOCK, 0)?;
@@ -128,14 +140,19 @@ impl Blocks {
         self.start = 0;
     }
 
-    // One read more. At `false` the text has ended, and at `true` bytes came or the read was interrupted.
+    // One read more. At `false` the text has ended, and at `true` bytes came or the read was
+    // interrupted.
     fn fill<R: Read>(&mut self, reader: &mut R) -> Result<bool, ScriptFault>
-        ensures comes { OnOk result (Comes (R.remaining reader.old) self.old (R.remaining reader.new) self.new) }
+        ensures comes { OnOk result
+            (Comes (R.remaining reader.old) self.old (R.remaining reader.new) self.new) }
         ensures within { OnOk result (self.new.bytes ≤ SCRIPT_BYTES) }
-        ensures reads { OnOk result ((self.new.reads ≡ self.old.reads + 1) × (self.new.reads ≤ SCRIPT_READS)) }
-        ensures end { result ≡ Ok false → IsAtEnd (R.remaining reader.new) × (self.new.unread ≡ self.old.unread) }
+        ensures reads { OnOk result
+            ((self.new.reads ≡ self.old.reads + 1) × (self.new.reads ≤ SCRIPT_READS)) }
+        ensures end { result ≡ Ok false →
+            IsAtEnd (R.remaining reader.new) × (self.new.unread ≡ self.old.unread) }
         ensures limit { self.old.reads ≡ SCRIPT_READS → result ≡ Err ScriptFault.ReadFault }
-        ensures fault { IfErr result (λ fault. (fault ≡ ScriptFault.ReadFault) ⊎ (fault ≡ ScriptFault.NoMemory)) }
+        ensures fault { IfErr result (λ fault.
+            (fault ≡ ScriptFault.ReadFault) ⊎ (fault ≡ ScriptFault.NoMemory)) }
     {
         if self.reads >= SCRIPT_READS {
             return Err(ScriptFault::ReadFault);
@@ -157,12 +174,15 @@ impl Blocks {
         }
     }
 
-    /// Brings the first line into the buffer. The reader is called only where the line feed is not there.
+    /// Brings the first line into the buffer. The reader is called only where the line feed is not
+    /// there.
     pub fn find<R: Read>(&mut self, reader: &mut R) -> Result<Found, ScriptFault>
-        ensures comes { OnOk result (Comes (R.remaining reader.old) self.old (R.remaining reader.new) self.new) }
+        ensures comes { OnOk result
+            (Comes (R.remaining reader.old) self.old (R.remaining reader.new) self.new) }
         ensures within { OnOk result (self.new.bytes ≤ SCRIPT_BYTES) }
         ensures found { IfOk result (λ found. Ends found self.new.unread (R.remaining reader.new)) }
-        ensures fault { IfErr result (λ fault. (fault ≡ ScriptFault.ReadFault) ⊎ (fault ≡ ScriptFault.NoMemory)) }
+        ensures fault { IfErr result (λ fault.
+            (fault ≡ ScriptFault.ReadFault) ⊎ (fault ≡ ScriptFault.NoMemory)) }
     {
         let mut searched = 0;
         loop {
@@ -207,7 +227,10 @@ impl Blocks {
     /// Takes up the first line, of so many bytes before its line feed.
     pub fn take_up(&mut self, count: usize)
         requires { count < length self.old.unread }
-        ensures line { self.new ≡ record self.old { unread = drop (count + 1) self.old.unread; lines = self.old.lines + 1 } }
+        ensures line { self.new ≡ record self.old {
+          unread = drop (count + 1) self.old.unread;
+          lines = self.old.lines + 1;
+        } }
         ensures less { work_left self.new < work_left self.old }
     {
         let end = self.start + count;

@@ -23,7 +23,8 @@ pub struct HeldDrive<M: Medium> {
 impl<M: Medium> Runner for HeldDrive<M> {
     ghost is_configured = { λ held number. number == held.number };
 
-    ghost answers = { λ old lines replies new. Serves M.tape M.moves M.honest old.drive (map input_of lines) replies new.drive };
+    ghost answers = { λ old lines replies new.
+        Serves M.tape M.moves M.honest old.drive (map input_of lines) replies new.drive };
 
     fn configured(&self, drive: DriveNo) -> bool {
         drive == self.number
@@ -43,5 +44,6 @@ impl<M: Medium> Runner for HeldDrive<M> {
     ghost answers_none = { λ held. serves_none M.tape M.moves M.honest M.moves_nowhere held.drive };
 
     ghost answers_on = { λ old mid new first rest replies others one two.
-        held_on M.tape M.moves M.honest M.moves_on old.drive mid.drive new.drive first rest replies others one two };
+        held_on M.tape M.moves M.honest M.moves_on old.drive mid.drive new.drive
+        first rest replies others one two };
 }

@@ -179,7 +179,8 @@ fn said_with<P: Runner>(
 
 /// What a line of these bytes says, its line feed and the carriage return before it left out.
 pub fn said_by<P: Runner>(alloc: Global, runner: &P, line: &[u8]) -> Result<Meaning, NoMemory>
-    ensures { IfOk result (λ meaning. meaning ≡ said_by (P.is_configured runner.now) (fields_of line.now)) }
+    ensures { IfOk result (λ meaning.
+        meaning ≡ said_by (P.is_configured runner.now) (fields_of line.now)) }
 {
     let Some((first, rest)) = next_field(line) else {
         return Ok(Meaning::Nothing);

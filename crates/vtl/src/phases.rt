@@ -43,7 +43,8 @@ fn meaning_of<P: Runner>(
     count: usize,
     line: &[u8],
 ) -> Result<Meaning, NoMemory>
-    ensures { IfOk result (λ meaning. meaning ≡ meaning_of (P.is_configured runner.now) count line.now) }
+    ensures { IfOk result (λ meaning.
+        meaning ≡ meaning_of (P.is_configured runner.now) count line.now) }
 {
     if count > LINE_BYTES {
         return Ok(Meaning::Refused);
@@ -68,8 +69,11 @@ fn read_line<P: Runner, R: Read>(
     blocks: &mut Blocks,
     reader: &mut R,
 ) -> Result<Next, ScriptFault>
-    ensures ok { IfOk result (TellsNext (P.is_configured runner.now) (R.remaining reader.old) blocks.old (R.remaining reader.new) blocks.new) }
-    ensures refused { (number : ℕ) → result ≡ Err (ScriptFault.BadLine number) → RefusesNext (P.is_configured runner.now) (R.remaining reader.old) blocks.old (R.remaining reader.new) number }
+    ensures ok { IfOk result (TellsNext (P.is_configured runner.now)
+        (R.remaining reader.old) blocks.old (R.remaining reader.new) blocks.new) }
+    ensures refused { (number : ℕ) → result ≡ Err (ScriptFault.BadLine number) →
+        RefusesNext (P.is_configured runner.now)
+        (R.remaining reader.old) blocks.old (R.remaining reader.new) number }
     ensures fault { IfErr result (λ fault. fault ≢ ScriptFault.WriteFault) }
 {
     let number = blocks.lines() + 1;
@@ -91,7 +95,8 @@ fn read_line<P: Runner, R: Read>(
 // Adds the command of a line, and answers whether the phase ends with it.
 fn gather(lines: &mut Vec<Line>, meaning: Meaning) -> Result<bool, ScriptFault>
     ensures ends { IfOk result (λ is_end. is_end ≡ is_phase_end meaning) }
-    ensures lines { OnOk result (lines.new.items ≡ lines.old.items ++ filter_map line_in (meaning ∷ [])) }
+    ensures lines { OnOk result
+        (lines.new.items ≡ lines.old.items ++ filter_map line_in (meaning ∷ [])) }
     ensures fault { IfErr result (λ fault. fault ≡ ScriptFault.NoMemory) }
 {
     match meaning {
@@ -111,8 +116,11 @@ pub fn read_phase<P: Runner, R: Read>(
     blocks: &mut Blocks,
     reader: &mut R,
 ) -> Result<Phase, ScriptFault>
-    ensures ok { IfOk result (ReadsPhase (P.is_configured runner.now) (R.remaining reader.old) blocks.old (R.remaining reader.new) blocks.new) }
-    ensures refused { (number : ℕ) → result ≡ Err (ScriptFault.BadLine number) → RefusesPhase (P.is_configured runner.now) (R.remaining reader.old) blocks.old (R.remaining reader.new) number }
+    ensures ok { IfOk result (ReadsPhase (P.is_configured runner.now)
+        (R.remaining reader.old) blocks.old (R.remaining reader.new) blocks.new) }
+    ensures refused { (number : ℕ) → result ≡ Err (ScriptFault.BadLine number) →
+        RefusesPhase (P.is_configured runner.now)
+        (R.remaining reader.old) blocks.old (R.remaining reader.new) number }
     ensures fault { IfErr result (λ fault. fault ≢ ScriptFault.WriteFault) }
 {
     let mut lines = Vec::new(alloc);

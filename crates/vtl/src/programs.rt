@@ -95,9 +95,11 @@ pub fn fault_line(fault: &VtlFault) -> (u8, FaultLine)
     (status, FaultLine { fault: *fault })
 }
 
-/// The drive of the built-in configuration: drive 1, in which a cartridge of one partition of 16,777,216 bytes is loaded.
+/// The drive of the built-in configuration: drive 1, in which a cartridge of one partition of
+/// 16,777,216 bytes is loaded.
 pub fn built_in_drive(alloc: Global) -> Result<HeldDrive<PlainMedium>, VtlFault>
-    ensures ok { IfOk result (λ held. (held.number ≡ DRIVE) × (held.drive ≡ powered_on (Some (empty_volume (CAPACITY ∷ []))))) }
+    ensures ok { IfOk result (λ held. (held.number ≡ DRIVE)
+        × (held.drive ≡ powered_on (Some (empty_volume (CAPACITY ∷ []))))) }
     ensures fault { IfErr result (λ fault. fault ≡ VtlFault.NoMemory) }
 {
     let Some(number) = DriveNo::new(DRIVE) else {
@@ -110,7 +112,8 @@ pub fn built_in_drive(alloc: Global) -> Result<HeldDrive<PlainMedium>, VtlFault>
     }
 }
 
-/// Runs the script on standard input against the built-in configuration, and writes the answers on standard output.
+/// Runs the script on standard input against the built-in configuration, and writes the answers on
+/// standard output.
 pub fn run(rt: &(impl Input + Print + AllocGlobal)) -> Result<(), VtlFault> {
     let alloc = rt.alloc();
     let mut drive = built_in_drive(alloc)?;

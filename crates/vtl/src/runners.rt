@@ -14,15 +14,16 @@ pub trait Runner {
     /// Whether there is a drive of this number.
     ghost is_configured: { Self → ℕ → Bool };
 
-    /// From the first value on these lines, one after another, may be answered so, which leaves the last.
+    /// From the first value on these lines, one after another, may be answered so, which leaves the
+    /// last.
     ghost answers: { Self → List Line → List Reply → Self → Type 0 };
 
     /// Whether this drive is configured.
     fn configured(&self, drive: DriveNo) -> bool
         ensures { result ≡ is_configured self.now drive };
 
-    /// Runs the lines of one phase, each of which names a configured drive: an answer for each, in order. Where
-    /// memory is wanting, only the first of them were run.
+    /// Runs the lines of one phase, each of which names a configured drive: an answer for each, in
+    /// order. Where memory is wanting, only the first of them were run.
     fn run(&mut self, alloc: Global, lines: &[Line]) -> Result<Vec<Reply>, NoMemory>
         ensures ok { IfOk result (λ replies. answers self.old lines.now replies.items self.new) }
         ensures err { OnErr result (AnswersSome answers self.old lines.now self.new) }

@@ -21,7 +21,9 @@ fn run_phase<P: Runner, R: Read, W: Write>(
     reader: &mut R,
     writer: &mut W,
 ) -> Result<bool, ScriptFault>
-    ensures runs { RunsPhase (P.is_configured runner.old) P.answers blocks.old runner.old (R.remaining reader.old) (W.contents writer.old) blocks.new runner.new (R.remaining reader.new) (W.contents writer.new) result }
+    ensures runs { RunsPhase (P.is_configured runner.old) P.answers
+        blocks.old runner.old (R.remaining reader.old) (W.contents writer.old)
+        blocks.new runner.new (R.remaining reader.new) (W.contents writer.new) result }
     ensures less { result ≡ Ok true → work_left blocks.new < work_left blocks.old }
     ensures same { P.is_configured runner.new ≡ P.is_configured runner.old }
 {
@@ -32,15 +34,17 @@ fn run_phase<P: Runner, R: Read, W: Write>(
     Ok(!is_last)
 }
 
-/// Reads a script, runs it phase by phase and writes the answers, and nothing else. No byte is read between a phase's
-/// last line and the flush of its answers.
+/// Reads a script, runs it phase by phase and writes the answers, and nothing else. No byte is read
+/// between a phase's last line and the flush of its answers.
 pub fn run_script<P: Runner, R: Read, W: Write>(
     alloc: Global,
     runner: &mut P,
     reader: &mut R,
     writer: &mut W,
 ) -> Result<(), ScriptFault>
-    ensures { Follows (P.is_configured runner.old) P.answers runner.old (R.remaining reader.old) (W.contents writer.old) runner.new (W.contents writer.new) result }
+    ensures { Follows (P.is_configured runner.old) P.answers
+        runner.old (R.remaining reader.old) (W.contents writer.old)
+        runner.new (W.contents writer.new) result }
 {
     let mut blocks = Blocks::new(alloc);
     while run_phase(alloc, runner, &mut blocks, reader, writer)? {}

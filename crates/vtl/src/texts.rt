@@ -42,7 +42,8 @@ fn add_reply(alloc: Global, text: &mut Vec<u8>, reply: &Reply) -> Result<(), All
 
 // Writes a text, and leaves it empty.
 fn put<W: Write>(writer: &mut W, text: &mut Vec<u8>) -> Result<(), ScriptFault>
-    ensures written { OnOk result (Appends (W.contents writer.old) (W.contents writer.new) text.old.items) }
+    ensures written { OnOk result
+        (Appends (W.contents writer.old) (W.contents writer.new) text.old.items) }
     ensures empty { OnOk result (text.new.items ≡ []) }
     ensures fault { IfErr result (λ fault. fault ≡ ScriptFault.WriteFault) }
 {
@@ -53,15 +54,19 @@ fn put<W: Write>(writer: &mut W, text: &mut Vec<u8>) -> Result<(), ScriptFault>
     Ok(())
 }
 
-/// Writes the lines of answers, in order, and flushes them. Where memory is wanting, those of the first are written.
+/// Writes the lines of answers, in order, and flushes them. Where memory is wanting, those of the
+/// first are written.
 pub fn print_replies<W: Write>(
     alloc: Global,
     writer: &mut W,
     replies: &[Reply],
 ) -> Result<(), ScriptFault>
-    ensures ok { OnOk result (Appends (W.contents writer.old) (W.contents writer.new) (text_of replies.now)) }
-    ensures some { result ≡ Err ScriptFault.NoMemory → (count : ℕ) × Appends (W.contents writer.old) (W.contents writer.new) (text_of (take count replies.now)) }
-    ensures fault { IfErr result (λ fault. (fault ≡ ScriptFault.WriteFault) ⊎ (fault ≡ ScriptFault.NoMemory)) }
+    ensures ok { OnOk result
+        (Appends (W.contents writer.old) (W.contents writer.new) (text_of replies.now)) }
+    ensures some { result ≡ Err ScriptFault.NoMemory → (count : ℕ) × Appends
+        (W.contents writer.old) (W.contents writer.new) (text_of (take count replies.now)) }
+    ensures fault { IfErr result (λ fault.
+        (fault ≡ ScriptFault.WriteFault) ⊎ (fault ≡ ScriptFault.NoMemory)) }
 {
     let mut text = Vec::new(alloc);
     for reply in replies {

@@ -19,7 +19,8 @@ fn are_in_turn(lines: &[Line]) -> bool
     true
 }
 
-/// Puts the commands of a phase in the order of their turns: by rising host, each host's in their order.
+/// Puts the commands of a phase in the order of their turns: by rising host, each host's in their
+/// order.
 pub fn put_in_turn(lines: &mut Vec<Line>) -> Result<(), AllocError>
     requires { list_all has_host lines.old.items ≡ true }
     ensures { OnOk result (lines.new.items ≡ by_host lines.old.items) }

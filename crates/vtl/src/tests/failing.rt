@@ -9,7 +9,8 @@ const TWO_PHASES: &[u8] = b"1 1 000000000000\n--\n1 1 000000000000\n";
 
 #[test]
 fn reads_that_fail(rt: HostRuntime) -> Result<(), Fail> {
-    // The script is read whole by the first read, or five bytes a read; the last read finds its end.
+    // The script is read whole by the first read, or five bytes a read; the last read finds its
+    // end.
     for (piece, reads) in [(usize::MAX, 2), (5, 9)] {
         for call in 1..reads + 1 {
             let plan = Plan {

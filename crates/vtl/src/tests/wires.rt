@@ -4,7 +4,8 @@ use std::cell::Cell;
 use std::io;
 use std::io::{ErrorKind, Read, Write};
 
-/// How a reader and a writer behave: the bytes of a read at most, and the call of either that fails, if any.
+/// How a reader and a writer behave: the bytes of a read at most, and the call of either that
+/// fails, if any.
 #[derive(Clone, Copy)]
 pub struct Plan {
     pub piece: usize,
