@@ -1,8 +1,9 @@
 -- Places of bodies that lie before the end.
-use Rattle.std.proofs.Common.{◌≡◌, ℕ, ◌+◌, ◌≤◌, List, [], ◌∷◌, ◌++◌, arith}
+use Rattle.std.proofs.Common.{◌≡◌, ℕ, ◌+◌, ◌<◌, ◌≤◌, List, [], ◌∷◌, ◌++◌, length, get_or, ap, sym, ◌∙◌, arith}
 use Rattle.std.specs.List.{All}
+use Rattle.std.proofs.lemmas.List.{get_or_default}
 use Rattle.std.proofs.lemmas.List.Elements.{All-push, All-weaker, All-same, All-nil}
-use Rattle.gate_journal.specs.State.{IsPlace}
+use Rattle.gate_journal.specs.State.{IsPlace, IsWithin}
 
 pub further : (end end' : ℕ) → end ≤ end' → (places : List (ℕ × ℕ)) → All (IsPlace end) places → All (IsPlace end') places
 further end end' more places all =
@@ -16,3 +17,10 @@ one_more end size end' places places' all is some short far =
 
 pub none_yet : (end : ℕ) (places : List (ℕ × ℕ)) → places ≡ [] → All (IsPlace end) places
 none_yet end places none = All-same (IsPlace end) places [] none (All-nil (IsPlace end))
+
+pub whole_body : (places : List (ℕ × ℕ)) (i : ℕ) (place : ℕ × ℕ) → i < length places → place ≡ get_or places i place → IsWithin places place.0 place.1
+whole_body places i place inside is =
+    let same : get_or places i (0, 0) ≡ place = get_or_default places i (0, 0) place inside ∙ sym is in
+    let at : (get_or places i (0, 0)).0 ≡ place.0 = ap (λ (p : ℕ × ℕ). p.0) same in
+    let size : (get_or places i (0, 0)).1 ≡ place.1 = ap (λ (p : ℕ × ℕ). p.1) same in
+    (i, inside, omega (arith, at), omega (arith, at, size))

@@ -2,6 +2,7 @@
 use Rattle.std.specs.Prelude.{◌≡◌, ◌≢◌, ◌<◌, ◌≤◌, ◌+◌, ◌^◌, ℕ, List, ◌∷◌, ◌++◌, length, drop, Result, Ok, Err, Option, Some, None, false, slice_range, Vec}
 use Rattle.std.specs.declared.alloc.Global.{Global}
 use Rattle.std.specs.List.{All, flat_map}
+use Rattle.vtl_base.specs.declared.limits.TheConstants.{MAX_BODY}
 use Rattle.tape_disk.specs.Disk.{DiskState, Only}
 use Rattle.gate_journal.specs.declared.header.Header.{Header}
 use Rattle.gate_journal.specs.declared.reading.Frames.{Frames}
@@ -36,7 +37,7 @@ FindsHeader (Err error) old new = NotRead error (old.honest → IsNotOurs old.se
 abbrev pub FindsMark : Result (Option ℕ) JournalError → ℕ → ℕ → DiskState → DiskState → Type 0
 FindsMark (Ok None) at len old new = old.honest → (gate : ℕ) × (rest : List ℕ) × (gate ≢ OPEN) × (drop at old.seen ≡ gate ∷ rest)
 FindsMark (Ok (Some size)) at len old new =
-    (1 ≤ size) × (size ≤ 8388608) × (at + 5 + size < len)
+    (1 ≤ size) × (size ≤ MAX_BODY) × (at + 5 + size < len)
     × (old.honest → (body : List ℕ) × (rest : List ℕ) × (length body ≡ size) × (drop at old.seen ≡ frame body ++ rest) × (rest ≡ drop (at + 5 + size) old.seen))
 FindsMark (Err error) at len old new =
     NotRead error ⊥ (λ place. (place ≡ at) × (old.honest → ((tail : List ℕ) × (drop at old.seen ≡ OPEN ∷ tail)) × (BeginsWithFrame (drop at old.seen) → ⊥))) old new

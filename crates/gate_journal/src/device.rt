@@ -13,7 +13,8 @@ use vtl_base::DevFault;
 fn store_at<D: Disk>(disk: &mut D, at: u64, bytes: &[u8]) -> Result<(), DevFault>
     requires { (D.state disk.old).honest → at ≤ length (D.state disk.old).seen }
     ensures passes { Passes (D.state disk.old) (D.state disk.new) result }
-    ensures any_moment { (D.state disk.old).honest → LeavesOnly (D.state disk.old) (D.state disk.new)
+    ensures any_moment { (D.state disk.old).honest →
+        LeavesOnly (D.state disk.old) (D.state disk.new)
         (Touched at (length bytes.now) (D.state disk.old).may_leave) }
     ensures stored { (D.state disk.old).honest → OnOk result
         (Holds at bytes.now (D.state disk.old).seen (D.state disk.new).seen
@@ -26,9 +27,11 @@ fn store_at<D: Disk>(disk: &mut D, at: u64, bytes: &[u8]) -> Result<(), DevFault
 // Opens the gate at that place. What stands behind it has to be sure.
 fn open_gate<D: Disk>(disk: &mut D, at: u64) -> Result<(), DevFault>
     requires gate { (D.state disk.old).honest → at < length (D.state disk.old).seen }
-    requires sure { (D.state disk.old).honest → Only (D.state disk.old).seen (D.state disk.old).may_leave }
+    requires sure { (D.state disk.old).honest →
+        Only (D.state disk.old).seen (D.state disk.old).may_leave }
     ensures passes { Passes (D.state disk.old) (D.state disk.new) result }
-    ensures any_moment { (D.state disk.old).honest → LeavesOnly (D.state disk.old) (D.state disk.new)
+    ensures any_moment { (D.state disk.old).honest →
+        LeavesOnly (D.state disk.old) (D.state disk.new)
         (Smeared at 1 (D.state disk.old).seen) }
     ensures opened { (D.state disk.old).honest → OnOk result
         (Holds at (OPEN ∷ []) (D.state disk.old).seen (D.state disk.new).seen
@@ -41,10 +44,13 @@ fn open_gate<D: Disk>(disk: &mut D, at: u64) -> Result<(), DevFault>
 pub(crate) fn write_frame<D: Disk>(disk: &mut D, end: u64, bytes: &[u8]) -> Result<(), DevFault>
     requires room { end + 1 < 2 ^ 64 }
     requires gate { (D.state disk.old).honest → end < length (D.state disk.old).seen }
-    requires sure { (D.state disk.old).honest → Only (D.state disk.old).seen (D.state disk.old).may_leave }
+    requires sure { (D.state disk.old).honest →
+        Only (D.state disk.old).seen (D.state disk.old).may_leave }
     ensures passes { Passes (D.state disk.old) (D.state disk.new) result }
-    ensures any_moment { (D.state disk.old).honest → LeavesOnly (D.state disk.old) (D.state disk.new)
-        (BehindOrGated (take end (D.state disk.old).seen) (slice_index (D.state disk.old).seen end) bytes.now) }
+    ensures any_moment { (D.state disk.old).honest →
+        LeavesOnly (D.state disk.old) (D.state disk.new)
+        (BehindOrGated (take end (D.state disk.old).seen)
+        (slice_index (D.state disk.old).seen end) bytes.now) }
     ensures opened { (D.state disk.old).honest → OnOk result
         (Opened (take end (D.state disk.old).seen) bytes.now (D.state disk.new).seen
         × Only (D.state disk.new).seen (D.state disk.new).may_leave) }

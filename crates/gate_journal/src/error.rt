@@ -21,7 +21,8 @@ pub enum JournalError {
     /// The frame would pass the longest side.
     #[error("side full")]
     SideFull,
-    /// The disk failed. What stands there is one of what stood before the call and what it was to leave.
+    /// The disk failed. What stands there is one of what stood before the call and what it was to
+    /// leave.
     #[error("device fault")]
     Device(DevFault),
     /// The disk failed in an earlier call. The side has to be opened again.

@@ -43,8 +43,8 @@ pub struct Header {
 }
 
 impl Header {
-    /// Whether it can be spelled: its name is one for its kind, a cartridge has 1 to 4 capacities of 4,096 to
-    /// 1,099,511,627,776 bytes, and a store none (own).
+    /// Whether it can be spelled: its name is one for its kind, a cartridge has 1 to 4 capacities
+    /// of 4,096 to 1,099,511,627,776 bytes, and a store none (own).
     pub fn can_be_spelled(&self) -> bool
         ensures { IsTrue result ↔ IsHeading (heading_of self.now) }
     {

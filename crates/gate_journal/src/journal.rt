@@ -52,13 +52,15 @@ impl<D: Disk> Model for Journal<D> {
       reserved = spare a.places a.buffer;
     } };
 
-    ghost invariant = { λ a. IsHeading (heading_of a.header) × (a.end + 1 < 2 ^ 64) × All (IsPlace a.end) a.places.items
-        × ((D.state a.disk).honest → IsOn (D.state a.disk) (heading_of a.header) (bodies_at (D.state a.disk).seen a.places.items) a.places.items a.end a.failed) };
+    ghost invariant = { λ a. IsHeading (heading_of a.header) × (a.end + 1 < 2 ^ 64)
+        × All (IsPlace a.end) a.places.items
+        × ((D.state a.disk).honest → IsOn (D.state a.disk) (heading_of a.header)
+        (bodies_at (D.state a.disk).seen a.places.items) a.places.items a.end a.failed) };
 }
 
 impl<D: Disk> Journal<D> {
-    /// Makes a side with no frames, whatever the disk held. After a device fault anything may stand there, and after
-    /// `NoMemory` the disk was not touched.
+    /// Makes a side with no frames, whatever the disk held. The header is one that can be spelled.
+    /// After a device fault anything may stand there, and after `NoMemory` the disk was not touched.
     pub fn create(alloc: Global, disk: D, header: Header) -> Result<Journal<D>, Refused<D>>
         requires { IsHeading (heading_of header) }
         ensures disk { Keeps (D.state disk) (D.state (disk_after result)) }
@@ -96,8 +98,9 @@ impl<D: Disk> Journal<D> {
         }
     }
 
-    /// Opens the side that the disk holds. It begins with a sync, and writes nothing: at every moment of it, and after every
-    /// refusal, the disk stands for what it stood for. After `NotOurs` and `Damaged` that is sure too.
+    /// Opens the side that the disk holds. It begins with a sync, and writes nothing: at every
+    /// moment of it, and after every refusal, the disk stands for what it stood for. After
+    /// `NotOurs` and `Damaged` that is sure too.
     pub fn open(alloc: Global, disk: D) -> Result<Journal<D>, Refused<D>>
         ensures disk { Keeps (D.state disk) (D.state (disk_after result)) }
         ensures ok { IfOk result (λ journal. (journal.failed ≡ false) × ((D.state disk).honest →
@@ -149,18 +152,21 @@ impl<D: Disk> Journal<D> {
         self.places.len()
     }
 
-    /// Where the body of that frame lies: its place and its length. The frame's gate stands 5 bytes before it.
+    /// Where the body of that frame lies: its place and its length. The frame's gate stands 5 bytes
+    /// before it.
     pub fn body_at(&self, frame: usize) -> (u64, u32)
         requires { frame < length self.now.places }
         ensures value { result ≡ slice_index_or self.now.places frame result }
         ensures inside { IsPlace self.now.end result }
+        ensures whole { IsWithin self.now.places result.0 result.1 }
         ensures body { (D.state self.now.disk).honest →
             IsBodyAt (D.state self.now.disk).seen self.now.heading self.now.bodies frame result }
     {
         self.places[frame]
     }
 
-    /// Fills the buffer with bytes of a body, from that place of the disk on. After a device fault the side has failed.
+    /// Fills the buffer with bytes of a body, from that place of the disk on. After a device fault
+    /// the side has failed.
     pub fn read_body(&mut self, at: u64, buffer: &mut [u8]) -> Result<(), JournalError>
         requires { IsWithin self.old.places at (length buffer.old) }
         ensures disk { Keeps (D.state self.old.disk) (D.state self.new.disk) }
@@ -199,16 +205,19 @@ impl<D: Disk> Journal<D> {
         self.failed
     }
 
-    /// The bytes that may still be added. A frame takes 5 and its body's.
+    /// The bytes that may still be added, up to 1,099,511,627,776 in all. A frame takes 5 and its
+    /// body's.
     pub fn room(&self) -> u64
         ensures { result ≡ room_behind self.now.end }
     {
         MAX_SIDE.saturating_sub(self.end + 1)
     }
 
-    /// Makes room in memory for that many appends, which then take none.
+    /// Makes room in memory for that many appends, which then take none: 16 bytes each, and once
+    /// 8,388,613 for the longest frame.
     pub fn reserve(&mut self, frames: usize) -> Result<(), JournalError>
-        ensures ok { OnOk result ((frames ≤ self.new.reserved) × (self.old.reserved ≤ self.new.reserved)
+        ensures ok { OnOk result ((frames ≤ self.new.reserved)
+            × (self.old.reserved ≤ self.new.reserved)
             × (self.new ≡ record self.old { reserved = self.new.reserved })) }
         ensures refused { IfErr result (λ error. (error ≡ JournalError.NoMemory)
             × (self.old.reserved < frames) × (self.new ≡ self.old)) }
@@ -220,8 +229,9 @@ impl<D: Disk> Journal<D> {
         Ok(())
     }
 
-    /// Adds a frame with this body. At Ok it is sure, and the room is less by 5 and the body's bytes. After `Device` it may
-    /// be there or not, and nothing more is written; after every other refusal nothing changed.
+    /// Adds a frame with this body of 1 to 8,388,608 bytes. At Ok it is sure, and the room is less
+    /// by 5 and the body's bytes. After `Device` it may be there or not, and nothing more is
+    /// written; after every other refusal nothing changed.
     pub fn append(&mut self, body: &[u8]) -> Result<(), JournalError>
         requires { IsBody body.now }
         ensures disk { Keeps (D.state self.old.disk) (D.state self.new.disk) }
@@ -230,12 +240,13 @@ impl<D: Disk> Journal<D> {
             (Appended self.old self.new (length body.now))
             ((self.old.failed ≡ false) × (length body.now + 5 ≤ room_behind self.old.end)
             × (self.old.reserved ≡ 0) × (self.new ≡ self.old))
-            ((self.old.failed ≡ false) × (room_behind self.old.end < length body.now + 5) × (self.new ≡ self.old))
+            ((self.old.failed ≡ false) × (room_behind self.old.end < length body.now + 5)
+            × (self.new ≡ self.old))
             (λ fault. Broke self.old self.new (length body.now)
             × IsFault fault (D.state self.old.disk) (D.state self.new.disk))
             ((self.old.failed ≡ true) × (self.new ≡ self.old)) }
-        ensures bodies { (D.state self.old.disk).honest →
-            self.new.bodies ≡ (if is_ok result then self.old.bodies ++ body.now ∷ [] else self.old.bodies) }
+        ensures bodies { (D.state self.old.disk).honest → self.new.bodies
+            ≡ (if is_ok result then self.old.bodies ++ body.now ∷ [] else self.old.bodies) }
         ensures sure { (D.state self.old.disk).honest → OnOk result
             (Each (D.state self.new.disk) (StandsFor self.new.heading self.new.bodies)) }
         ensures any_moment { (D.state self.old.disk).honest → self.old.failed ≡ false →

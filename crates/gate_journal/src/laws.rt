@@ -1,4 +1,4 @@
-//! What the definitions of a side say of each other. Each law is a function that does nothing, and its contract is the law.
+//! Laws of a side's definitions. Each is a function that does nothing, and its contract is the law.
 ghost use Rattle.std.specs.Prelude.{◌≡◌, ◌⊎◌, ℕ, List};
 ghost use Rattle.gate_journal.specs.Side.{Heading, StandsFor, IsNotOurs, IsDamagedAt};
 

@@ -1,4 +1,4 @@
-//! A side is read: its header, and then gate and length of each frame. No byte is read twice, and no body.
+//! A side is read: its header, then gate and length of each frame. No byte is read twice, no body.
 ghost use Rattle.std.specs.Prelude.{◌≡◌, ◌≢◌, ◌+◌, ◌*◌, ◌<◌, ◌≤◌, ◌^◌, ◌++◌, [], ◌∷◌, ℕ, List, length, drop, true, false, take, ◌==◌, if◌then◌else◌, OnOk, IfOk, IfSome, IfNone, MatchResult, slice_index};
 ghost use Rattle.tape_disk.specs.Disk.{Elapses, Keeps, Passes, Syncs};
 ghost use Rattle.gate_journal.specs.Side.{Heading, IsHeading, spell_heading, OPEN};
@@ -54,7 +54,8 @@ fn make_sure<D: Disk>(disk: &mut D) -> Result<(), DevFault>
 // The header that the disk begins with.
 fn read_header<D: Disk>(alloc: Global, disk: &mut D) -> Result<Header, JournalError>
     ensures disk { Keeps (D.state disk.old) (D.state disk.new) }
-    ensures unwritten { (D.state disk.old).honest → Unwritten (D.state disk.old) (D.state disk.new) }
+    ensures unwritten { (D.state disk.old).honest →
+        Unwritten (D.state disk.old) (D.state disk.new) }
     ensures answer { FindsHeader result (D.state disk.old) (D.state disk.new) }
 {
     let len = disk.len();
@@ -86,7 +87,8 @@ fn read_row<D: Disk>(
 ) -> Result<Vec<u8>, JournalError>
     requires { (D.state disk.old).honest → at + count ≤ length (D.state disk.old).seen }
     ensures disk { Keeps (D.state disk.old) (D.state disk.new) }
-    ensures unwritten { (D.state disk.old).honest → Unwritten (D.state disk.old) (D.state disk.new) }
+    ensures unwritten { (D.state disk.old).honest →
+        Unwritten (D.state disk.old) (D.state disk.new) }
     ensures answer { FindsRow result at count (D.state disk.old) (D.state disk.new) }
 {
     let mut bytes = vec![in alloc; 0; count]?;
@@ -94,7 +96,8 @@ fn read_row<D: Disk>(
     Ok(bytes)
 }
 
-// The header that these bytes spell, where they spell one: what is taken for it has to spell them again.
+// The header that these bytes spell, where they spell one: what is taken for it has to spell them
+// again.
 fn header_of(alloc: Global, bytes: &[u8]) -> Result<Option<Header>, AllocError>
     requires { length bytes.now ≡ 27 + 8 * slice_index bytes.now 10 }
     ensures found { IfOk result (λ header. IfSome header (λ h.
@@ -152,12 +155,14 @@ fn numbers(alloc: Global, bytes: &[u8]) -> Result<Vec<u64>, AllocError>
     Ok(numbers)
 }
 
-// Gate and length at that place, which lies inside the disk: the body's length, or None where the gate is closed.
+// Gate and length at that place, which lies inside the disk: the body's length, or None where the
+// gate is closed.
 fn read_mark<D: Disk>(disk: &mut D, at: u64, len: u64) -> Result<Option<u32>, JournalError>
     requires inside { at < len }
     requires len { (D.state disk.old).honest → len ≡ length (D.state disk.old).seen }
     ensures disk { Keeps (D.state disk.old) (D.state disk.new) }
-    ensures unwritten { (D.state disk.old).honest → Unwritten (D.state disk.old) (D.state disk.new) }
+    ensures unwritten { (D.state disk.old).honest →
+        Unwritten (D.state disk.old) (D.state disk.new) }
     ensures answer { FindsMark result at len (D.state disk.old) (D.state disk.new) }
 {
     if len - at < 5 {
@@ -193,7 +198,8 @@ fn length_behind(mark: &[u8; 5]) -> u32
 fn read_frames<D: Disk>(alloc: Global, disk: &mut D, start: u64) -> Result<Frames, JournalError>
     requires { (D.state disk.old).honest → start ≤ length (D.state disk.old).seen }
     ensures disk { Keeps (D.state disk.old) (D.state disk.new) }
-    ensures unwritten { (D.state disk.old).honest → Unwritten (D.state disk.old) (D.state disk.new) }
+    ensures unwritten { (D.state disk.old).honest →
+        Unwritten (D.state disk.old) (D.state disk.new) }
     ensures answer { FindsFrames result start (D.state disk.old) (D.state disk.new) }
 {
     let len = disk.len();

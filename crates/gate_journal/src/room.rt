@@ -16,7 +16,8 @@ pub(crate) fn make_room(
     ensures same { places.new.items ≡ places.old.items }
     ensures grows { spare places.old buffer.old ≤ spare places.new buffer.new }
     ensures ok { OnOk result ((frames ≤ spare places.new buffer.new)
-        × (vec_len places.new + frames ≤ vec_capacity places.new) × (FRAME_BYTES ≤ vec_capacity buffer.new)) }
+        × (vec_len places.new + frames ≤ vec_capacity places.new)
+        × (FRAME_BYTES ≤ vec_capacity buffer.new)) }
     ensures err { OnErr result ((spare places.old buffer.old < frames)
         × (spare places.new buffer.new ≡ spare places.old buffer.old)) }
 {

@@ -1,6 +1,7 @@
 //! How a side is laid out, format 1 (own). Numbers are big-endian.
 //!
-//! A gate is one byte. It is open at A5h and closed at every other value; a closed one is written 00h.
+//! A gate is one byte. It is open at A5h and closed at every other value; a closed one is written
+//! 00h.
 //!
 //! | Place | Content |
 //! |---|---|
@@ -12,10 +13,11 @@
 //! | 27 on | N capacities in bytes, each a number of 8 bytes from 4,096 to 1,099,511,627,776 |
 //! | 27 + 8N | the gate of the first frame |
 //!
-//! A frame is its gate (1), the length of its body (4; 1 to 8,388,608) and its body, and is followed by the gate of the
-//! next frame. A side is read from the first gate on, and reading ends at the first closed one: what lies behind it counts
-//! for nothing. So a frame is added in four calls of the disk: behind the gate at the end, which stands closed, go length,
-//! body and the next closed gate in one write; a sync; A5h into the gate; a sync.
+//! A frame is its gate (1), the length of its body (4; 1 to 8,388,608) and its body, and is
+//! followed by the gate of the next frame. A side is read from the first gate on, and reading ends
+//! at the first closed one: what lies behind it counts for nothing. So a frame is added in four
+//! calls of the disk: behind the gate at the end, which stands closed, go length, body and the next
+//! closed gate in one write; a sync; A5h into the gate; a sync.
 ghost use Rattle.std.specs.Prelude.{◌≡◌, ◌≤◌, ◌<◌, ◌+◌, [], ◌∷◌, ◌++◌, length, drop, IfOk, vec_capacity};
 ghost use Rattle.std.specs.List.{flat_map};
 ghost use Rattle.std.specs.Int.{to_be_bytes, w32, w64};
@@ -36,7 +38,8 @@ pub(crate) const CLOSED: u8 = 0x00;
 /// The bytes of a header before the capacities.
 pub(crate) const START_BYTES: usize = 27;
 
-/// The bytes that the longest frame takes of a side: its gate or the next one, its length and its body.
+/// The bytes that the longest frame takes of a side: its gate or the next one, its length and its
+/// body.
 pub(crate) const FRAME_BYTES: usize = 8_388_613;
 
 // A header in bytes.
@@ -56,7 +59,8 @@ pub(crate) fn spell_header(alloc: Global, header: &Header) -> Result<Vec<u8>, Al
 
 // Eight bytes for each number, behind what is there.
 fn spell_words(bytes: &mut Vec<u8>, words: &[u64]) -> Result<(), AllocError>
-    ensures { IfOk result (λ _. bytes.new.items ≡ bytes.old.items ++ flat_map (to_be_bytes w64) words.now) }
+    ensures { IfOk result (λ _.
+        bytes.new.items ≡ bytes.old.items ++ flat_map (to_be_bytes w64) words.now) }
 {
     for word in words {
         let mut number = [0; 8];
@@ -69,7 +73,8 @@ fn spell_words(bytes: &mut Vec<u8>, words: &[u64]) -> Result<(), AllocError>
 // A header with its gate closed, and a closed gate behind it.
 pub(crate) fn spell_closed(alloc: Global, header: &Header) -> Result<Vec<u8>, AllocError>
     requires { length header.now.words.items ≤ 4 }
-    ensures { IfOk result (λ bytes. bytes.items ≡ 0 ∷ drop 1 (spell_heading (heading_of header.now)) ++ 0 ∷ []) }
+    ensures { IfOk result (λ bytes.
+        bytes.items ≡ 0 ∷ drop 1 (spell_heading (heading_of header.now)) ++ 0 ∷ []) }
 {
     let mut bytes = spell_header(alloc, header)?;
     bytes[0] = CLOSED;

@@ -1,4 +1,4 @@
-//! A run over a disk is stopped at each of its calls, for the tests of the crates above: what may a crash leave there?
+//! A run over a disk is stopped at each of its calls, for the tests of the crates above.
 ghost use Rattle.std.specs.Prelude.{◌+◌, ◌≤◌, IfOk, vec_len};
 
 use std::alloc::Global;
@@ -7,7 +7,8 @@ use vtl_base::NoMemory;
 
 /// Something that is done on a disk.
 pub trait Run {
-    /// Does it, and gives the disk that was reached and whether all of it went through. A later call of it does the same.
+    /// Does it, and gives the disk that was reached and whether all of it went through. A later
+    /// call of it does the same.
     fn run(&self, alloc: Global, disk: FuseDisk<MemDisk>) -> (MemDisk, bool);
 }
 
@@ -22,8 +23,9 @@ pub struct Stop {
     pub disk: MemDisk,
 }
 
-/// Stops the run before its first call of the disk, before its second, and so on until it goes through. At each stop none,
-/// one or all of the bytes that are not sure have landed, and the others are 00h, A5h or FFh.
+/// Stops the run before its first call of the disk, before its second, and so on until it goes
+/// through. At each stop none, one or all of the bytes that are not sure have landed, and the
+/// others are 00h, A5h or FFh.
 pub fn stop_at_each_call<R: Run>(
     alloc: Global,
     disk: &MemDisk,

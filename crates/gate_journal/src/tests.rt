@@ -3,12 +3,17 @@ use crate::stops::{Run, stop_at_each_call};
 use crate::{Header, Journal, JournalError, Refused, SideKind};
 use std::alloc::{AllocError, Global};
 use std::test::Fail;
+use std::thread;
+use std::thread::Threads;
 use tape_disk::{Disk, FuseDisk, MemDisk};
 use vtl_base::DevFault;
 
-// A cartridge `T00001L6` of one partition of 4,096 bytes, with two frames, whose gates stand at 35, 55 and 70.
-const SIDE: [u8; 71] =
-    *b"\xa5VTLCART1\0\x01T00001L6        \0\0\0\0\0\0\x10\0\xa5\0\0\0\x0f\x01\0\0\0\0\0\0\0\0\x05hello\xa5\0\0\0\x0a\x02\0\0\0\0\x01\0\0\0\x01\0";
+// A cartridge `T00001L6` of one partition of 4,096 bytes, with two frames, whose gates stand at 35,
+// 55 and 70.
+const SIDE: [u8; 71] = *b"\xa5VTLCART1\0\x01T00001L6        \0\0\0\0\0\0\x10\0\
+    \xa5\0\0\0\x0f\x01\0\0\0\0\0\0\0\0\x05hello\
+    \xa5\0\0\0\x0a\x02\0\0\0\0\x01\0\0\0\x01\
+    \0";
 
 const FIRST: [u8; 15] = *b"\x01\0\0\0\0\0\0\0\0\x05hello";
 
@@ -96,7 +101,10 @@ impl Run for Appending {
 fn an_append_is_there_or_not(rt: HostRuntime) -> Result<(), Fail> {
     let alloc = rt.alloc();
     let before = MemDisk::from_bytes(alloc, &SIDE)?;
-    for stop in stop_at_each_call(alloc, &before, &Appending)? {
+    let stops = stop_at_each_call(alloc, &before, &Appending)?;
+    // Six calls to open and four to append: eleven places to stop, and nine crashes at each.
+    assert_eq!(rt; stops.len(), 99);
+    for stop in stops {
         let (calls, ended) = (stop.calls, stop.ended);
         let frames = frames_of(alloc, stop.disk);
         if ended {
@@ -148,7 +156,9 @@ impl Run for Opening {
 fn an_opening_changes_nothing(rt: HostRuntime) -> Result<(), Fail> {
     let alloc = rt.alloc();
     let before = MemDisk::from_bytes(alloc, &SIDE)?;
-    for stop in stop_at_each_call(alloc, &before, &Opening)? {
+    let stops = stop_at_each_call(alloc, &before, &Opening)?;
+    assert_eq!(rt; stops.len(), 63);
+    for stop in stops {
         assert_eq!(rt; stop.disk.bytes(), SIDE.as_slice());
     }
     Ok(())
@@ -172,7 +182,9 @@ impl Run for Making {
 fn a_side_is_made_or_not(rt: HostRuntime) -> Result<(), Fail> {
     let alloc = rt.alloc();
     for before in [MemDisk::new(alloc), MemDisk::from_bytes(alloc, &SIDE)?] {
-        for stop in stop_at_each_call(alloc, &before, &Making)? {
+        let stops = stop_at_each_call(alloc, &before, &Making)?;
+        assert_eq!(rt; stops.len(), 54);
+        for stop in stops {
             let (calls, ended) = (stop.calls, stop.ended);
             let frames = frames_of(alloc, stop.disk);
             if ended {
@@ -234,5 +246,35 @@ fn every_cut_and_every_gate(rt: HostRuntime) -> Result<(), Fail> {
             assert_eq!(rt; found, expected, "{value} at {gate}");
         }
     }
+    Ok(())
+}
+
+// Adds a frame in another thread, and gives the side back.
+fn added_elsewhere<D: Disk + Drop + Send, R: Threads>(rt: &R, side: Journal<D>) -> Journal<D> {
+    let (side, ()) = thread::join(
+        rt,
+        move || {
+            let mut side = side;
+            let _ = side.append(&FIRST);
+            side
+        },
+        || (),
+    );
+    side
+}
+
+#[test]
+fn a_side_in_another_thread(rt: HostRuntime) -> Result<(), Fail> {
+    let alloc = rt.alloc();
+    let Ok(side) = made(alloc, MemDisk::new(alloc), cartridge(alloc)?) else {
+        return Err(Fail::from("not made"));
+    };
+    let side = added_elsewhere(&rt, side);
+    assert_eq!(rt; side.frames(), 1);
+    let Ok(side) = Journal::open(alloc, FuseDisk::new(side.close(), 9)) else {
+        return Err(Fail::from("not opened"));
+    };
+    let side = added_elsewhere(&rt, side);
+    assert_eq!(rt; (side.frames(), side.has_failed()), (2, false));
     Ok(())
 }
