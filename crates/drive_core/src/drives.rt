@@ -21,8 +21,8 @@ use vtl_base::{Bytes, Nexus, NoMemory};
 // The beginning of the medium (SSC-4).
 const START: Position = Position { part: 0, object: 0 };
 
-/// A drive over any medium (SSC-4). To a contract it is a `DriveState` that holds the medium itself;
-/// `machine_of` makes the machine of it, which knows the medium as a tape.
+/// A drive over any medium (SSC-4). To a contract it is a `DriveState` that holds the medium
+/// itself; `machine_of` makes the machine of it, which knows the medium as a tape.
 #[derive(Drop)]
 pub struct Drive<M: Medium> {
     alloc: Global,
@@ -97,8 +97,8 @@ impl<M: Medium> Drive<M> {
         }
     }
 
-    /// Loads a medium into an empty drive: it stands at its start, and every nexus is to be told that
-    /// the medium may have changed. One that has failed comes back with the reply.
+    /// Loads a medium into an empty drive: it stands at its start, and every nexus is to be told
+    /// that the medium may have changed. One that has failed comes back with the reply.
     pub fn load(&mut self, medium: M) -> Result<(), (M, Reply)>
         requires empty { self.old.bay ≡ Bays.Empty }
         requires awake { (M.tape medium).awake ≡ true }

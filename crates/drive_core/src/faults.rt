@@ -15,8 +15,8 @@ pub enum Fault {
     Writing,
     /// The device failed while a block was read. The medium has failed.
     Reading,
-    /// The side is full, and nothing changed. The residue is what was not written, where it is told:
-    /// bytes of a block, or marks.
+    /// The side is full, and nothing changed. The residue is what was not written, where it is
+    /// told: bytes of a block, or marks.
     SideFull { residue: Option<u32> },
 }
 

@@ -86,7 +86,8 @@ fn fetch<M: Medium>(
     requires works { (M.tape medium.old).failed ≡ false }
     requires block { kind_at (volume_of (M.tape medium.old)) part at ≡ Some Kinds.Block }
     ensures bytes { M.honest medium.old
-        → IfOk result (λ block. block_at (volume_of (M.tape medium.old)) part at ≡ Some block.items) }
+        → IfOk result (λ block.
+        block_at (volume_of (M.tape medium.old)) part at ≡ Some block.items) }
     ensures bound { IfOk result (λ block. length block.items ≤ MAX_BLOCK) }
     ensures answer { FetchesBlock (M.tape medium.old) result (M.tape medium.new) }
     ensures moved { M.moves medium.old [] medium.new }

@@ -1,4 +1,4 @@
-//! Work for a clock: frames added to a side in memory, a plain copy of the same bytes, and a side of many frames that is opened.
+//! Work for a clock: frames are added to a side, as many bytes are copied, and a side is opened.
 #![tactic(auto)]
 
 mod work;
@@ -34,8 +34,8 @@ fn timed(rt: &HostRuntime, word: &str, count: u32) -> Option<(u128, usize)> {
     Some((start.elapsed(rt).ok()?.as_micros(), count))
 }
 
-/// With `append N`, `copy N`, `write N`, `side N` or `open N` it tells the microseconds and what came of it; with no words it does a
-/// little of each and tells that alone.
+/// With `append N`, `copy N`, `write N`, `side N` or `open N` it tells the microseconds and what
+/// came of it; with no words it does a little of each and tells that alone.
 fn main(rt: HostRuntime) -> ExitCode {
     let Ok(words) = env::args(&rt) else {
         return ExitCode::from(1);

@@ -22,8 +22,8 @@ fn new_side(alloc: Global) -> Option<Journal<MemDisk>> {
     Journal::create(alloc, MemDisk::new(alloc), header).ok()
 }
 
-// Adds a frame. Where a growth was refused it is tried once more: want of memory changed nothing, and after a fault of
-// the disk the side is opened again, and has the frame or not.
+// Adds a frame. Where a growth was refused it is tried once more: want of memory changed nothing,
+// and after a fault of the disk the side is opened again, and has the frame or not.
 fn add(alloc: Global, side: Journal<MemDisk>, body: &[u8]) -> Option<Journal<MemDisk>>
     requires { IsBody body.now }
 {
@@ -63,7 +63,8 @@ pub fn appended(alloc: Global, count: u32) -> Option<usize> {
     Some(filled(alloc, new_side(alloc)?, count, &body)?.frames())
 }
 
-/// Writes that many pieces of 1,000 bytes at the end of a disk, and as many of 10 bytes over them: how many bytes it has.
+/// Writes that many pieces of 1,000 bytes at the end of a disk, and as many of 10 bytes over them:
+/// how many bytes it has.
 pub fn written(alloc: Global, count: u32) -> Option<usize> {
     let piece = [90; 1_000];
     let mut disk = MemDisk::new(alloc);

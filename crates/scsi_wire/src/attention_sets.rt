@@ -53,9 +53,9 @@ impl Flags for AttnFlags {
 
     ghost exact = { ⊤ };
 
-    ghost table = { (codes "POWER_ON", 0x01) ∷ (codes "MEDIUM_CHANGED", 0x02) ∷ (codes "RESERVATIONS_PREEMPTED", 0x04)
-        ∷ (codes "REGISTRATIONS_PREEMPTED", 0x08) ∷ (codes "RESERVATIONS_RELEASED", 0x10)
-        ∷ (codes "MODE_CHANGED", 0x20) ∷ [] };
+    ghost table = { (codes "POWER_ON", 0x01) ∷ (codes "MEDIUM_CHANGED", 0x02)
+        ∷ (codes "RESERVATIONS_PREEMPTED", 0x04) ∷ (codes "REGISTRATIONS_PREEMPTED", 0x08)
+        ∷ (codes "RESERVATIONS_RELEASED", 0x10) ∷ (codes "MODE_CHANGED", 0x20) ∷ [] };
 
     ghost set_of = { λ flags. flags.0 };
 
@@ -92,7 +92,8 @@ impl Model for AttnSet {
 
     ghost inverse = { λ set. record { flags = record { 0 = bits_of set } } };
 
-    ghost inverse_ok = { λ set fits. ap (λ bits. record { flags = record { 0 = bits } }) (bits_of-set_of_bits set.flags.0 fits) };
+    ghost inverse_ok = { λ set fits. ap (λ bits. record { flags = record { 0 = bits } })
+        (bits_of-set_of_bits set.flags.0 fits) };
 }
 
 impl Attention {

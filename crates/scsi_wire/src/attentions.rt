@@ -6,7 +6,8 @@ use crate::attention_sets::{Attention, AttnSet};
 use std::marker::Model;
 use vtl_base::Nexus;
 
-/// The attentions of each of the 64 nexuses. To a contract it is the list of their sets, by rising nexus.
+/// The attentions of each of the 64 nexuses. To a contract it is the list of their sets, by rising
+/// nexus.
 #[derive(Drop)]
 pub struct Attentions {
     sets: [AttnSet; 64],

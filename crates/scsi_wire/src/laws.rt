@@ -6,7 +6,8 @@ pub fn codes_differ()
     ensures { CodesDiffer }
 {}
 
-/// A set has an attention that was put in, lacks one that was taken out, and neither touches another.
+/// A set has an attention that was put in, lacks one that was taken out, and neither touches
+/// another.
 pub fn sets_are_sets()
     ensures put_in { HasWhatIsPutIn }
     ensures taken_out { LacksWhatIsTakenOut }

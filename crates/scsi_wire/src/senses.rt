@@ -1,4 +1,4 @@
-//! All sense data that drives and changers answer, each by its name (SPC-4, SSC-4, SMC-3, additional sense codes).
+//! All sense data that drives and changers answer, by name (SPC-4, SSC-4, SMC-3).
 ghost use Rattle.std.specs.Prelude.{◌≡◌};
 ghost use Rattle.scsi_wire.specs.Senses.{at_mark, attention_sense, bad_address, bad_field, bad_list, bad_list_length, bad_release, beginning, destination_full, early_warning, end_of_data, late_fault, medium_failed, no_memory, no_room, not_present, nothing_to_tell, other_length, read_fault, source_empty, store_full, unknown_code, write_fault};
 

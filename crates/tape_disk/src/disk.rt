@@ -4,9 +4,10 @@ ghost use Rattle.tape_disk.specs.Disk.{DiskState, IsDisk, Elapses, Passes, Same,
 
 use vtl_base::DevFault;
 
-/// A row of bytes behind a device (own). What is written is safe once a sync answered Ok: until then a
-/// crash may leave any bytes in each written range, from the old end on, and past each cut. Where the
-/// disk is honest: of a dishonest one a contract says that faults are counted, and nothing of its bytes.
+/// A row of bytes behind a device (own). What is written is safe once a sync answered Ok: until
+/// then a crash may leave any bytes in each written range, from the old end on, and past each cut.
+/// Where the disk is honest: of a dishonest one a contract says that faults are counted, and
+/// nothing of its bytes.
 pub trait Disk {
     ghost state: { Self → DiskState };
 
@@ -23,24 +24,26 @@ pub trait Disk {
         ensures bytes { (state self.old).honest → OnOk result
             (buffer.new ≡ slice_range (state self.old).seen at (at + length buffer.old)) };
 
-    /// Writes over what stands from a place on, and past the end. The place is the end at most. After a
-    /// fault a read too may give any bytes in the range, and from the old end on.
+    /// Writes over what stands from a place on, and past the end. The place is the end at most.
+    /// After a fault a read too may give any bytes in the range, and from the old end on.
     fn write_at(&mut self, at: u64, bytes: &[u8]) -> Result<(), DevFault>
         requires { (state self.old).honest → at ≤ length (state self.old).seen }
         ensures passes { Passes (state self.old) (state self.new) result }
         ensures time { (state self.old).honest → Elapses (state self.old) (state self.new) }
-        ensures writes { (state self.old).honest → Writes at bytes.now result (state self.old) (state self.new) };
+        ensures writes { (state self.old).honest →
+            Writes at bytes.now result (state self.old) (state self.new) };
 
-    /// Takes away the bytes from a place on. The place is the end at most. After a fault a read too may
-    /// give any bytes from there on.
+    /// Takes away the bytes from a place on. The place is the end at most. After a fault a read too
+    /// may give any bytes from there on.
     fn cut(&mut self, len: u64) -> Result<(), DevFault>
         requires { (state self.old).honest → len ≤ length (state self.old).seen }
         ensures passes { Passes (state self.old) (state self.new) result }
         ensures time { (state self.old).honest → Elapses (state self.old) (state self.new) }
-        ensures cuts { (state self.old).honest → Cuts len result (state self.old) (state self.new) };
+        ensures cuts { (state self.old).honest →
+            Cuts len result (state self.old) (state self.new) };
 
-    /// At Ok a crash leaves what a read gives, until the next write or cut. After a fault nothing that
-    /// was not safe before is sure, for a read either.
+    /// At Ok a crash leaves what a read gives, until the next write or cut. After a fault nothing
+    /// that was not safe before is sure, for a read either.
     fn sync(&mut self) -> Result<(), DevFault>
         ensures passes { Passes (state self.old) (state self.new) result }
         ensures time { (state self.old).honest → Elapses (state self.old) (state self.new) }

@@ -4,7 +4,8 @@ ghost use Rattle.std.specs.Prelude.{◌≡◌, ◌+◌, ◌-◌, ◌^◌, min, �
 use crate::count::Count;
 use vtl_base::DevFault;
 
-/// The failures of a disk. Their count has no bound, and the number that a fault tells is held at the greatest.
+/// The failures of a disk. Their count has no bound, and the number that a fault tells is held at
+/// the greatest.
 #[derive(Drop)]
 pub(crate) struct Failures {
     told: u64,

@@ -58,7 +58,8 @@ impl<D: Disk> Disk for FuseDisk<D> {
 
     ghost state = { λ disk. fuse_state D.state disk };
 
-    ghost is_disk = { λ disk honest. is_disk_over (D.state (disk_below disk)) (fuse_state D.state disk).failures
+    ghost is_disk = { λ disk honest.
+        is_disk_over (D.state (disk_below disk)) (fuse_state D.state disk).failures
         (D.is_disk (disk_below disk) honest) };
 
     fn len(&self) -> u64 {
@@ -73,8 +74,8 @@ impl<D: Disk> Disk for FuseDisk<D> {
             Elapses (fuse_state D.state self.old) (fuse_state D.state self.new) }
         ensures same { (fuse_state D.state self.old).honest →
             Same (fuse_state D.state self.old) (fuse_state D.state self.new) }
-        ensures bytes { (fuse_state D.state self.old).honest → OnOk result
-            (buffer.new ≡ slice_range (fuse_state D.state self.old).seen at (at + length buffer.old)) }
+        ensures bytes { (fuse_state D.state self.old).honest → OnOk result (buffer.new
+            ≡ slice_range (fuse_state D.state self.old).seen at (at + length buffer.old)) }
         ensures fails { Passed (holds (calls_left self.old)) result
             (D.state (disk_below self.old)) (D.state (disk_below self.new)) }
         ensures left { calls_left self.new ≡ calls_left self.old - 1 }

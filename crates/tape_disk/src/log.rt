@@ -7,8 +7,8 @@ use crate::overwrite::overwrite;
 use std::alloc::{AllocError, Global};
 use std::collections::LinkedList;
 
-/// A call that changed the disk or made it safe. `idle` counts the calls before it, since the last such
-/// one, that did neither.
+/// A call that changed the disk or made it safe. `idle` counts the calls before it, since the last
+/// such one, that did neither.
 #[derive(Drop)]
 pub(crate) enum Call {
     Wrote {
@@ -141,10 +141,11 @@ impl Log {
             .count() as u64
     }
 
-    /// What a crash leaves: of the bytes written since the last sync the first `keep` land, and the others
-    /// hold the fill.
+    /// What a crash leaves: of the bytes written since the last sync the first `keep` land, and the
+    /// others hold the fill.
     pub(crate) fn torn(self, keep: u64, fill: u8) -> Result<Vec<u8>, AllocError>
-        ensures { IfOk result (λ image. image.items ≡ torn self.base.items keep fill (past_of self).events) }
+        ensures { IfOk result (λ image.
+            image.items ≡ torn self.base.items keep fill (past_of self).events) }
     {
         let mut syncs = self.syncs();
         let mut left = keep;

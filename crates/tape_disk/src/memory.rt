@@ -12,8 +12,8 @@ use std::alloc::{AllocError, Global};
 use vtl_base::{DevFault, NoMemory};
 
 /// A disk in memory, which is always honest. Its log keeps what it began with and each byte written
-/// since, beside the bytes that a read gives: a side that is written once takes its bytes twice, and
-/// each byte that is written over another takes one more. A growth that is refused is a counted
+/// since, beside the bytes that a read gives: a side that is written once takes its bytes twice,
+/// and each byte that is written over another takes one more. A growth that is refused is a counted
 /// failure, and changes nothing.
 #[derive(Drop)]
 pub struct MemDisk {
@@ -60,7 +60,8 @@ impl MemDisk {
 
     /// Another disk with the same past.
     pub fn copy(&self) -> Result<MemDisk, NoMemory>
-        ensures { IfOk result (λ copy. (past copy ≡ past self.now) × (failures copy ≡ failures self.now)) }
+        ensures { IfOk result (λ copy.
+            (past copy ≡ past self.now) × (failures copy ≡ failures self.now)) }
     {
         Ok(MemDisk {
             alloc: self.alloc,
@@ -84,16 +85,19 @@ impl MemDisk {
         self.log.syncs()
     }
 
-    /// The disk that a crash leaves: of the bytes written since the last sync the first `keep` landed, in
-    /// the order of the writes, and the others hold the fill. Each cut since then was carried out.
+    /// The disk that a crash leaves: of the bytes written since the last sync the first `keep`
+    /// landed, in the order of the writes, and the others hold the fill. Each cut since then was
+    /// carried out.
     pub fn crash(self, keep: u64, fill: u8) -> Result<MemDisk, NoMemory>
-        ensures image { IfOk result (λ disk. (past disk ≡ begun (torn (past self).base keep fill (past self).events))
+        ensures image { IfOk result (λ disk.
+            (past disk ≡ begun (torn (past self).base keep fill (past self).events))
             × (failures disk ≡ 0)) }
 
         // It is one of the images that a crash may leave, and from then on the only one.
         ensures allowed { Image (past self).base (past self).events
             (torn (past self).base keep fill (past self).events) }
-        ensures only { IfOk result (λ disk. Only (torn (past self).base keep fill (past self).events)
+        ensures only { IfOk result (λ disk.
+            Only (torn (past self).base keep fill (past self).events)
             (Image (past disk).base (past disk).events)) }
     {
         let alloc = self.alloc;
@@ -114,9 +118,11 @@ impl MemDisk {
 
 // Keeps the write, and then does it.
 fn write(bytes: &mut Vec<u8>, log: &mut Log, at: u64, new: &[u8]) -> Result<(), AllocError>
-    ensures ok { OnOk result ((past_of log.new ≡ kept (Wrote log.old.idle.value at new.now) (past_of log.old))
+    ensures ok { OnOk result (
+        (past_of log.new ≡ kept (Wrote log.old.idle.value at new.now) (past_of log.old))
         × (bytes.new.items ≡ overwritten at new.now bytes.old.items)) }
-    ensures err { OnErr result ((past_of log.new ≡ past_of log.old) × (bytes.new.items ≡ bytes.old.items)) }
+    ensures err { OnErr result (
+        (past_of log.new ≡ past_of log.old) × (bytes.new.items ≡ bytes.old.items)) }
 {
     let place = at as usize;
     bytes.reserve(new.len().saturating_sub(bytes.len().saturating_sub(place)))?;

@@ -7,7 +7,8 @@ use crate::disk::Disk;
 use crate::failing::Failing;
 use vtl_base::DevFault;
 
-/// A disk of which one call fails, and does nothing to the disk below. Those before it and those after it pass.
+/// A disk of which one call fails, and does nothing to the disk below. Those before it and those
+/// after it pass.
 #[derive(Drop)]
 pub struct OnceDisk<D> {
     below: Failing<D>,
@@ -66,7 +67,8 @@ impl<D: Disk> Disk for OnceDisk<D> {
 
     ghost state = { λ disk. once_state D.state disk };
 
-    ghost is_disk = { λ disk honest. is_disk_over (D.state (disk_below disk)) (once_state D.state disk).failures
+    ghost is_disk = { λ disk honest.
+        is_disk_over (D.state (disk_below disk)) (once_state D.state disk).failures
         (D.is_disk (disk_below disk) honest) };
 
     fn len(&self) -> u64 {
@@ -81,8 +83,8 @@ impl<D: Disk> Disk for OnceDisk<D> {
             Elapses (once_state D.state self.old) (once_state D.state self.new) }
         ensures same { (once_state D.state self.old).honest →
             Same (once_state D.state self.old) (once_state D.state self.new) }
-        ensures bytes { (once_state D.state self.old).honest → OnOk result
-            (buffer.new ≡ slice_range (once_state D.state self.old).seen at (at + length buffer.old)) }
+        ensures bytes { (once_state D.state self.old).honest → OnOk result (buffer.new
+            ≡ slice_range (once_state D.state self.old).seen at (at + length buffer.old)) }
         ensures fails { Passed (not (is_due (calls_left self.old))) result
             (D.state (disk_below self.old)) (D.state (disk_below self.new)) }
         ensures left { calls_left self.new ≡ after_call (calls_left self.old) }

@@ -4,11 +4,13 @@ ghost use Rattle.tape_disk.specs.Past.{overwritten};
 
 use std::alloc::AllocError;
 
-/// Writes at a place, or at the end where that comes first. It takes memory only for what passes the end.
+/// Writes at a place, or at the end where that comes first. It takes memory only for what passes
+/// the end.
 pub(crate) fn overwrite(bytes: &mut Vec<u8>, at: usize, new: &[u8]) -> Result<(), AllocError>
     ensures ok { OnOk result (bytes.new.items ≡ overwritten at new.now bytes.old.items) }
     ensures err { OnErr result (bytes.new.items ≡ bytes.old.items) }
-    ensures fits { vec_len bytes.old + (length new.now - (vec_len bytes.old - at)) ≤ vec_capacity bytes.old → IsOk result }
+    ensures fits { vec_len bytes.old + (length new.now - (vec_len bytes.old - at))
+        ≤ vec_capacity bytes.old → IsOk result }
 {
     let place = at.min(bytes.len());
     let within = new.len().min(bytes.len() - place);

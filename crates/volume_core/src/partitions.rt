@@ -75,7 +75,8 @@ impl Partition {
 
     // Carries a change out that is meant for this partition, or refuses it.
     pub(crate) fn apply(&mut self, change: Change) -> Result<(), ApplyError>
-        ensures answer { Answers (refusal_in (Some self.old) change) self.old (part_after self.old change) result self.new }
+        ensures answer { Answers (refusal_in (Some self.old) change) self.old
+            (part_after self.old change) result self.new }
         ensures limits { IsPart self.new }
     {
         let at = change.kept() as usize;

@@ -12,7 +12,8 @@ use thiserror::Error;
 #[error("a barcode has 1 to 16 of A to Z and 0 to 9")]
 pub struct BadBarcode;
 
-/// The name of a cartridge: 1 to 16 bytes of `A` to `Z` and `0` to `9` (own). To a contract it is these bytes.
+/// The name of a cartridge: 1 to 16 bytes of `A` to `Z` and `0` to `9` (own). To a contract it is
+/// these bytes.
 #[derive(Clone, Debug, Drop)]
 pub struct Barcode {
     symbols: [u8; MAX_BARCODE],

@@ -5,7 +5,8 @@ use crate::faults::NoMemory;
 use std::alloc::Global;
 use std::marker::Model;
 
-/// Bytes, as a block, a command block or data. To a contract they are a list, with no word of how they are kept.
+/// Bytes, as a block, a command block or data. To a contract they are a list, with no word of how
+/// they are kept.
 #[derive(Drop)]
 pub struct Bytes {
     buffer: Vec<u8>,

@@ -12,7 +12,8 @@ pub const MAX_CAPACITY: u64 = 1_099_511_627_776;
 /// The bytes of the longest block. The shortest has one.
 pub const MAX_BLOCK: u32 = 1_048_576;
 
-/// What an object takes of its partition's capacity beside a block's own bytes. A filemark takes this alone.
+/// What an object takes of its partition's capacity beside a block's own bytes. A filemark takes
+/// this alone.
 pub const OBJECT_COST: u64 = 16;
 
 /// The objects that a partition has at most.

@@ -5,10 +5,12 @@ ghost use Rattle.vtl_base.specs.declared.limits.TheConstants.{NEXUSES, DRIVES, S
 use crate::limits::{DRIVES, FIRST_SLOT, NEXUSES, SLOTS};
 use std::marker::Model;
 
-/// A partition's number, from 0 on (SSC-4). Any `u8` is one, whether a tape has such a partition or not.
+/// A partition's number, from 0 on (SSC-4). Any `u8` is one, whether a tape has such a partition or
+/// not.
 pub type PartNo = u8;
 
-/// An object's number in its partition, from 0 on (SSC-4). Any `u32` is one, whether there is such an object or not.
+/// An object's number in its partition, from 0 on (SSC-4). Any `u32` is one, whether there is such
+/// an object or not.
 pub type ObjNo = u32;
 
 /// The number of a host at every drive, its nexus, from 1 to 64 (own; SAM-5 has the word).
@@ -58,7 +60,8 @@ impl Nexus {
     }
 }
 
-/// The number of a drive, which is its element address as well, from 1 to 16 (own; SMC-3 has the word address).
+/// The number of a drive, which is its element address as well, from 1 to 16 (own; SMC-3 has the
+/// word address).
 #[derive(Clone, Copy, PartialEq, Eq, Debug)]
 pub struct DriveNo {
     number: u8,

@@ -100,5 +100,6 @@ impl Medium for FailingMedium {
 
     ghost moves_nowhere = { λ medium. moves_nowhere_by_changes medium.plain };
 
-    ghost moves_on = { λ a b c first second one two. moves_on_by_changes a.plain b.plain c.plain first second one two };
+    ghost moves_on = { λ a b c first second one two.
+        moves_on_by_changes a.plain b.plain c.plain first second one two };
 }
