@@ -34,11 +34,11 @@ consumes_none (Some xs) = refl
 
 -- nothing came
 pub comes_none : (left : Option (List ℕ)) (reading : Reading) → Comes left reading left reading
-comes_none left reading = record { read = []; taken = consumes_none left; unread = sym (append-nil reading.unread); bytes = omega arith; lines = refl }
+comes_none left reading = record { read = []; taken = consumes_none left; unread = sym (append-nil reading.unread); bytes = omega arith; reads = omega arith; lines = refl }
 
 -- bytes that stand behind those of a buffer come to the unread ones
-pub comes_behind : (left left' : Option (List ℕ)) (old : Reading) (start count bytes reads lines : ℕ) (items now : List ℕ) → old.unread ≡ drop start items → bytes ≡ old.bytes → lines ≡ old.lines → start ≤ length items → take (length items) now ≡ items → length now ≡ length items + count → Consumes left left' (drop (length items) now) → Comes left old left' (record { unread = drop start now; bytes = bytes + count; reads = reads; lines = lines })
-comes_behind left left' old start count bytes reads lines items now unread of_bytes of_lines within front more taken =
+pub comes_behind : (left left' : Option (List ℕ)) (old : Reading) (start count bytes reads lines : ℕ) (items now : List ℕ) → old.unread ≡ drop start items → bytes ≡ old.bytes → old.reads ≤ reads → lines ≡ old.lines → start ≤ length items → take (length items) now ≡ items → length now ≡ length items + count → Consumes left left' (drop (length items) now) → Comes left old left' (record { unread = drop start now; bytes = bytes + count; reads = reads; lines = lines })
+comes_behind left left' old start count bytes reads lines items now unread of_bytes of_reads of_lines within front more taken =
     let n = length items in
     let all : now ≡ items ++ drop n now = sym (take-append-drop n now) ∙ ap (λ (xs : List ℕ). xs ++ drop n now) front in
     let long : length (drop n now) ≡ count = omega (arith, length-drop n now, more) in
@@ -47,6 +47,7 @@ comes_behind left left' old start count bytes reads lines items now unread of_by
       taken = taken;
       unread = ap (drop start) all ∙ drop-append-le start items (drop n now) within ∙ ap (λ (xs : List ℕ). xs ++ drop n now) (sym unread);
       bytes = omega (arith, long, of_bytes);
+      reads = of_reads;
       lines = of_lines;
     }
 
@@ -56,6 +57,7 @@ comes_on a b c old mid new first second = record {
   taken = consumes_on a b c first.read second.read first.taken second.taken;
   unread = second.unread ∙ ap (λ (xs : List ℕ). xs ++ second.read) first.unread ∙ append_assoc old.unread first.read second.read;
   bytes = omega (arith, first.bytes, second.bytes, length-append first.read second.read);
+  reads = omega (arith, first.reads, second.reads);
   lines = second.lines ∙ first.lines;
 }
 

@@ -1,5 +1,5 @@
 -- How far a script was read (own).
-use Rattle.std.specs.Prelude.{◌≡◌, ℕ, ◌+◌, ◌-◌, ◌<◌, ◌==◌, List, [], ◌++◌, length, position, Option, Some, None, Result, Ok, Err}
+use Rattle.std.specs.Prelude.{◌≡◌, ℕ, ◌+◌, ◌-◌, ◌<◌, ◌≤◌, ◌==◌, List, [], ◌++◌, length, position, Option, Some, None, Result, Ok, Err}
 use Rattle.std.specs.Io.KnownBytes.{Consumes, IsAtEnd}
 use Rattle.vtl_base.specs.declared.limits.TheConstants.{SCRIPT_BYTES, LINE_BYTES}
 use Rattle.vtl.specs.declared.faults.ScriptFault.{ScriptFault}
@@ -33,6 +33,7 @@ pub record Comes (left : Option (List ℕ)) (old : Reading) (left' : Option (Lis
   pub taken : Consumes left left' read
   pub unread : new.unread ≡ old.unread ++ read
   pub bytes : new.bytes ≡ old.bytes + length read
+  pub reads : old.reads ≤ new.reads
   pub lines : new.lines ≡ old.lines
 
 -- where the first line ends: at its line feed, with the text, or not within its limit (own)

@@ -16,6 +16,7 @@ returns-in-Some-2-clause-comes g c =
     before.start c.in-Some.count before.bytes before.reads before.lines items now
     (sym (ap (λ (r : Reading). r.unread) c.self.view_is) ∙ sym (ap (λ (r : Reading). r.unread) c.close_up.ensures) ∙ sym (ap (λ (r : Reading). r.unread) c.self-2.view_is))
     (ap (λ (r : Reading). r.bytes) c.self-2.view_is ∙ ap (λ (r : Reading). r.bytes) c.close_up.ensures ∙ ap (λ (r : Reading). r.bytes) c.self.view_is)
+    (omega (arith, ap (λ (r : Reading). r.reads) c.self-2.view_is, ap (λ (r : Reading). r.reads) c.close_up.ensures, ap (λ (r : Reading). r.reads) c.self.view_is))
     (ap (λ (r : Reading). r.lines) c.self-2.view_is ∙ ap (λ (r : Reading). r.lines) c.close_up.ensures ∙ ap (λ (r : Reading). r.lines) c.self.view_is)
     (omega arith)
     (rw length_is at c.in_ok-read_block.ensures.front)
