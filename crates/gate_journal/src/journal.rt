@@ -60,7 +60,8 @@ impl<D: Disk> Model for Journal<D> {
 
 impl<D: Disk> Journal<D> {
     /// Makes a side with no frames, whatever the disk held. The header is one that can be spelled.
-    /// After a device fault anything may stand there, and after `NoMemory` the disk was not touched.
+    /// After a device fault anything may stand there, and after `NoMemory` the disk was not
+    /// touched.
     pub fn create(alloc: Global, disk: D, header: Header) -> Result<Journal<D>, Refused<D>>
         requires { IsHeading (heading_of header) }
         ensures disk { Keeps (D.state disk) (D.state (disk_after result)) }

@@ -84,7 +84,8 @@ pub trait Medium: Catalog {
     /// Puts a block behind the first `at` objects of a partition. What stood there is gone.
     fn put(&mut self, part: PartNo, at: ObjNo, block: Bytes) -> Result<(), MediumError>
         requires { (Self.tape self.old).awake ≡ true }
-        ensures answer { Accepts (Self.tape self.old) (Put part at block) result (Self.tape self.new) }
+        ensures answer { Accepts (Self.tape self.old) (Put part at block) result
+            (Self.tape self.new) }
         ensures moves { moves self.old (accepted_by result (Put part at block)) self.new }
         ensures cause { HasCause result (failures self.old) (failures self.new) }
         ensures honest { honest self.old ↔ honest self.new };
@@ -92,7 +93,8 @@ pub trait Medium: Catalog {
     /// Puts this many marks behind the first `at` objects of a partition. What stood there is gone.
     fn marks(&mut self, part: PartNo, at: ObjNo, count: u32) -> Result<(), MediumError>
         requires { (Self.tape self.old).awake ≡ true }
-        ensures answer { Accepts (Self.tape self.old) (Marks part at count) result (Self.tape self.new) }
+        ensures answer { Accepts (Self.tape self.old) (Marks part at count) result
+            (Self.tape self.new) }
         ensures moves { moves self.old (accepted_by result (Marks part at count)) self.new }
         ensures cause { HasCause result (failures self.old) (failures self.new) }
         ensures honest { honest self.old ↔ honest self.new };

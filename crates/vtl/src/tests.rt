@@ -69,7 +69,7 @@ fn assert_ends(
 
 #[test]
 fn blocks_and_marks_are_read(rt: HostRuntime) -> Result<(), Fail> {
-    let rows: [(&[u8], Wanted); 3] = [
+    let rows: [(&[u8], Wanted); 2] = [
         (
             b"1 1 000000000000\n1 1 000000000000\n1 1 0a0000000500 68656c6c6f\n1 1 100000000100\n\
             1 1 010000000000\n1 1 080000000500\n1 1 080000000500\n",
@@ -94,24 +94,27 @@ fn blocks_and_marks_are_read(rt: HostRuntime) -> Result<(), Fail> {
                 DONE,
             ),
         ),
-        (
-            b"1 1 000000000000\n1 1 100000000100\n1 1 010000000000\n1 1 080000000000\n\
-            1 1 0a0000000000\n1 1 080000000500\n1 1 080000000500\n",
-            (
-                &[
-                    ATTENTION,
-                    "GOOD\nGOOD\nGOOD\nGOOD\n",
-                    "CHECK f00080000000050a00000000000100000000\n",
-                    "CHECK f00008000000050a00000000000500000000\n",
-                ],
-                DONE,
-            ),
-        ),
     ];
     for (at, (script, wanted)) in rows.into_iter().enumerate() {
         assert_ends(&rt, rt.alloc(), script, wanted, at)?;
     }
     Ok(())
+}
+
+#[test]
+fn the_end_of_data_is_read(rt: HostRuntime) -> Result<(), Fail> {
+    let script = b"1 1 000000000000\n1 1 100000000100\n1 1 010000000000\n1 1 080000000000\n\
+        1 1 0a0000000000\n1 1 080000000500\n1 1 080000000500\n";
+    let wanted: Wanted = (
+        &[
+            ATTENTION,
+            "GOOD\nGOOD\nGOOD\nGOOD\n",
+            "CHECK f00080000000050a00000000000100000000\n",
+            "CHECK f00008000000050a00000000000500000000\n",
+        ],
+        DONE,
+    );
+    assert_ends(&rt, rt.alloc(), script, wanted, 0)
 }
 
 #[test]

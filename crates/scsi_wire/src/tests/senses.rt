@@ -5,12 +5,8 @@ use std::test::Fail;
 use vtl_base::Bytes;
 
 #[test]
-fn sense_bytes(rt: HostRuntime) {
-    let rows = [
-        (
-            Sense::nothing_to_tell(),
-            b"\x70\x00\x00\x00\x00\x00\x00\x0a\x00\x00\x00\x00\x00\x00\x00\x00\x00\x00",
-        ),
+fn refusals_in_bytes(rt: HostRuntime) {
+    for (sense, bytes) in [
         (
             Sense::unknown_code(),
             b"\x70\x00\x05\x00\x00\x00\x00\x0a\x00\x00\x00\x00\x20\x00\x00\x00\x00\x00",
@@ -47,6 +43,18 @@ fn sense_bytes(rt: HostRuntime) {
             Sense::store_full(),
             b"\x70\x00\x05\x00\x00\x00\x00\x0a\x00\x00\x00\x00\x55\x04\x00\x00\x00\x00",
         ),
+    ] {
+        assert_eq!(rt; sense.bytes().as_slice(), bytes.as_slice());
+    }
+}
+
+#[test]
+fn faults_in_bytes(rt: HostRuntime) {
+    for (sense, bytes) in [
+        (
+            Sense::nothing_to_tell(),
+            b"\x70\x00\x00\x00\x00\x00\x00\x0a\x00\x00\x00\x00\x00\x00\x00\x00\x00\x00",
+        ),
         (
             Sense::not_present(),
             b"\x70\x00\x02\x00\x00\x00\x00\x0a\x00\x00\x00\x00\x3a\x00\x00\x00\x00\x00",
@@ -71,6 +79,14 @@ fn sense_bytes(rt: HostRuntime) {
             Sense::no_memory(),
             b"\x70\x00\x0b\x00\x00\x00\x00\x0a\x00\x00\x00\x00\x55\x03\x00\x00\x00\x00",
         ),
+    ] {
+        assert_eq!(rt; sense.bytes().as_slice(), bytes.as_slice());
+    }
+}
+
+#[test]
+fn ends_of_tape_in_bytes(rt: HostRuntime) {
+    for (sense, bytes) in [
         (
             Sense::early_warning(),
             b"\xf0\x00\x40\x00\x00\x00\x00\x0a\x00\x00\x00\x00\x00\x02\x00\x00\x00\x00",
@@ -107,6 +123,14 @@ fn sense_bytes(rt: HostRuntime) {
             Sense::wrong_length(0xffff_fffe),
             b"\xf0\x00\x20\xff\xff\xff\xfe\x0a\x00\x00\x00\x00\x00\x00\x00\x00\x00\x00",
         ),
+    ] {
+        assert_eq!(rt; sense.bytes().as_slice(), bytes.as_slice());
+    }
+}
+
+#[test]
+fn attentions_in_bytes(rt: HostRuntime) {
+    for (sense, bytes) in [
         (
             Sense::attention(Attention::PowerOn),
             b"\x70\x00\x06\x00\x00\x00\x00\x0a\x00\x00\x00\x00\x29\x00\x00\x00\x00\x00",
@@ -131,8 +155,7 @@ fn sense_bytes(rt: HostRuntime) {
             Sense::attention(Attention::ModeChanged),
             b"\x70\x00\x06\x00\x00\x00\x00\x0a\x00\x00\x00\x00\x2a\x01\x00\x00\x00\x00",
         ),
-    ];
-    for (sense, bytes) in rows {
+    ] {
         assert_eq!(rt; sense.bytes().as_slice(), bytes.as_slice());
     }
 }

@@ -4,10 +4,10 @@ use std::alloc::{AllocError, Global};
 use std::test::Fail;
 
 #[test]
-fn borders_of_lines(rt: HostRuntime) -> Result<(), Fail> {
+fn ends_of_lines_and_numbers(rt: HostRuntime) -> Result<(), Fail> {
     let one: &[&str] = &[ATTENTION];
     let none: &[&str] = &[];
-    let rows: [(&[u8], Wanted); 40] = [
+    let rows: [(&[u8], Wanted); 21] = [
         // Skipped lines, spaces, and the end of a line.
         (b"   \n  # 1 2\n\n#\n1 1 000000000000\n", (one, DONE)),
         (b"  1   1  000000000000  \r\n", (one, DONE)),
@@ -31,6 +31,18 @@ fn borders_of_lines(rt: HostRuntime) -> Result<(), Fail> {
         (b"1 257 000000000000\n", (none, bad(1))),
         (b"+1 1 000000000000\n", (none, bad(1))),
         (b"0x1 1 000000000000\n", (none, bad(1))),
+    ];
+    for (at, (script, wanted)) in rows.into_iter().enumerate() {
+        assert_ends(&rt, rt.alloc(), script, wanted, at)?;
+    }
+    Ok(())
+}
+
+#[test]
+fn fields_and_phases(rt: HostRuntime) -> Result<(), Fail> {
+    let one: &[&str] = &[ATTENTION];
+    let none: &[&str] = &[];
+    let rows: [(&[u8], Wanted); 19] = [
         // Fields and hex.
         (b"1 1\n", (none, bad(1))),
         (b"1\n", (none, bad(1))),
