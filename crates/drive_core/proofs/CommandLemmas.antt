@@ -4,7 +4,7 @@ use Rattle.scsi_wire.specs.declared.replies.Reply.{Reply}
 use Rattle.scsi_wire.specs.declared.commands.Command.{Command}
 use Rattle.scsi_wire.specs.declared.commands.Command.TheVariants.{TestUnitReady, Rewind, Read, Write, WriteFilemarks}
 use Rattle.scsi_wire.specs.Replies.{good_with, check_with}
-use Rattle.scsi_wire.specs.Senses.{no_room}
+use Rattle.scsi_wire.specs.Senses.{volume_overflow}
 use Rattle.volume_core.specs.declared.changes.Change.{Change}
 use Rattle.volume_core.specs.declared.changes.Refusal.{Refusal}
 use Rattle.volume_core.specs.declared.changes.Refusal.TheVariants.{NoRoom, NoPartition, PastEnd, TooLong}
@@ -76,7 +76,7 @@ module _ (old old' : Mounted) (reply reply' : Reply) (made made' : List Change) 
         positions = h.2.position ∙ ap (behind change) p ∙ ap (λ (x : Change). behind x old'.position) e ∙ sym k.2.position;
       }
   answers (Some NoRoom) (Some NoRoom) settles change change' c e h k = record {
-    replies = h.0 ∙ ap (λ (x : Change). check_with (no_room (Some (amount_of x))) []) e ∙ sym k.0;
+    replies = h.0 ∙ ap (λ (x : Change). check_with (volume_overflow (Some (amount_of x))) []) e ∙ sym k.0;
     changes = h.1 ∙ sym k.1;
     sights = ap (λ (x : Mounted). sight_of x.tape) h.2 ∙ s ∙ sym (ap (λ (x : Mounted). sight_of x.tape) k.2);
     positions = ap (λ (x : Mounted). x.position) h.2 ∙ p ∙ sym (ap (λ (x : Mounted). x.position) k.2);

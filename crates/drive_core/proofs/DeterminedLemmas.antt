@@ -5,11 +5,11 @@ use Rattle.scsi_wire.specs.declared.sense_data.Sense.{Sense}
 use Rattle.scsi_wire.specs.declared.attention_sets.Attention.{Attention}
 use Rattle.scsi_wire.specs.declared.opcodes.Opcode.{Opcode}
 use Rattle.scsi_wire.specs.declared.commands.Command.{Command}
-use Rattle.scsi_wire.specs.Attentions.{attention_of, told, told_to_all}
+use Rattle.scsi_wire.specs.Attentions.{attention_of, cleared, established_for_all}
 use Rattle.scsi_wire.specs.declared.attention_sets.Attention.TheVariants.{MediumChanged}
-use Rattle.scsi_wire.specs.Opcodes.{opcode_of, is_exempt, needs_tape}
+use Rattle.scsi_wire.specs.Opcodes.{opcode_of, is_exempt, needs_medium}
 use Rattle.scsi_wire.specs.Commands.{command_of, sent_length}
-use Rattle.scsi_wire.specs.Senses.{unknown_code, bad_field, not_present, medium_failed, late_fault, attention_sense}
+use Rattle.scsi_wire.specs.Senses.{invalid_operation_code, invalid_field, medium_not_present, medium_failed, deferred_write_error, attention_sense}
 use Rattle.volume_core.specs.declared.changes.Change.{Change}
 use Rattle.volume_core.specs.Medium.{Tape}
 use Rattle.drive_core.specs.declared.bays.Bay.{Bay}
@@ -38,8 +38,8 @@ module _ (old old' : Machine) (reply reply' : Reply) (made made' : List Change) 
   loads_where false false tape tape' f s h k =
       let told : reply ≡ reply' = cc (h.0, k.0) in
       let left : seen_of (loaded old tape) ≡ seen_of (loaded old' tape') =
-      ap (λ (x : Seen). record x { bay = Loaded (sight_of tape); position = start; attentions = told_to_all x.attentions MediumChanged }) e
-      ∙ ap (λ (x : Sight). record (seen_of old') { bay = Loaded x; position = start; attentions = told_to_all old'.attentions MediumChanged }) s in
+      ap (λ (x : Seen). record x { bay = Loaded (sight_of tape); position = start; attentions = established_for_all x.attentions MediumChanged }) e
+      ∙ ap (λ (x : Sight). record (seen_of old') { bay = Loaded x; position = start; attentions = established_for_all old'.attentions MediumChanged }) s in
       record { replies = told; changes = h.1 ∙ sym k.1; drives = ap seen_of h.2 ∙ left ∙ sym (ap seen_of k.2) }
   loads_where true false tape tape' f s h k = cc
   loads_where false true tape tape' f s h k = cc
@@ -70,17 +70,17 @@ module _ (old old' : Machine) (reply reply' : Reply) (made made' : List Change) 
     on_tape (Loaded t) (Unloaded t') command same h k = absurd k
 
     at_sent : (b : Bool) (command : Command) → AtSent (Unit {0}) old request (Ok reply) made new b command → AtSent (Unit {0}) old' request (Ok reply') made' new' b command → AreAlike reply reply' made made' new new'
-    at_sent false command h k = refuses bad_field old old' e h k
+    at_sent false command h k = refuses invalid_field old old' e h k
     at_sent true command h k = on_tape old.bay old'.bay command (ap (λ (x : Seen). x.bay) e) h k
 
     at_mode : (b b' : Bool) (command : Command) → b ≡ b' → AtMode (Unit {0}) old request (Ok reply) made new b command → AtMode (Unit {0}) old' request (Ok reply') made' new' b' command → AreAlike reply reply' made made' new new'
-    at_mode false false command s h k = refuses bad_field old old' e h k
+    at_mode false false command s h k = refuses invalid_field old old' e h k
     at_mode true true command s h k = at_sent (length request.sent == sent_length command) command h k
     at_mode true false command s h k = cc
     at_mode false true command s h k = cc
 
     at_fields : (command : Option Command) → AtFields (Unit {0}) old request (Ok reply) made new command → AtFields (Unit {0}) old' request (Ok reply') made' new' command → AreAlike reply reply' made made' new new'
-    at_fields None h k = refuses bad_field old old' e h k
+    at_fields None h k = refuses invalid_field old old' e h k
     at_fields (Some command) h k =
         at_mode (suits_mode old.buffered command) (suits_mode old'.buffered command) command (ap (λ (x : Seen). suits_mode x.buffered command) e) h k
 
@@ -91,8 +91,8 @@ module _ (old old' : Machine) (reply reply' : Reply) (made made' : List Change) 
     at_medium false true opcode s h k = cc
 
     at_bay : (bay bay' : Bay Tape) (opcode : Opcode) → bay_of sight_of bay ≡ bay_of sight_of bay' → AtBay (Unit {0}) old request (Ok reply) made new bay opcode → AtBay (Unit {0}) old' request (Ok reply') made' new' bay' opcode → AreAlike reply reply' made made' new new'
-    at_bay Empty Empty opcode s h k = refuses not_present old old' e h k
-    at_bay (Unloaded t) (Unloaded t') opcode s h k = refuses not_present old old' e h k
+    at_bay Empty Empty opcode s h k = refuses medium_not_present old old' e h k
+    at_bay (Unloaded t) (Unloaded t') opcode s h k = refuses medium_not_present old old' e h k
     at_bay (Loaded t) (Loaded t') opcode s h k =
         let same : sight_of t ≡ sight_of t' = cc in
         at_medium t.failed t'.failed opcode (ap (λ (x : Sight). x.failed) same) h k
@@ -108,18 +108,18 @@ module _ (old old' : Machine) (reply reply' : Reply) (made made' : List Change) 
     at_tape true opcode h k = at_bay old.bay old'.bay opcode (ap (λ (x : Seen). x.bay) e) h k
 
     at_attention : (a a' : Option Attention) (opcode : Opcode) → a ≡ a' → AtAttention (Unit {0}) old request (Ok reply) made new a opcode → AtAttention (Unit {0}) old' request (Ok reply') made' new' a' opcode → AreAlike reply reply' made made' new new'
-    at_attention None None opcode s h k = at_tape (needs_tape opcode) opcode h k
+    at_attention None None opcode s h k = at_tape (needs_medium opcode) opcode h k
     at_attention (Some a) (Some a') opcode s h k =
         let same : a ≡ a' = cc in
-        let h' : Refuses (attention_sense a') (record old { attentions = told old.attentions request.nexus a' }) (Ok reply) made new = rw (sym same) h in
-        refuses (attention_sense a') (record old { attentions = told old.attentions request.nexus a' }) (record old' { attentions = told old'.attentions request.nexus a' })
-        (ap (λ (x : Seen). record x { attentions = told x.attentions request.nexus a' }) e) h' k
+        let h' : Refuses (attention_sense a') (record old { attentions = cleared old.attentions request.nexus a' }) (Ok reply) made new = rw (sym same) h in
+        refuses (attention_sense a') (record old { attentions = cleared old.attentions request.nexus a' }) (record old' { attentions = cleared old'.attentions request.nexus a' })
+        (ap (λ (x : Seen). record x { attentions = cleared x.attentions request.nexus a' }) e) h' k
     at_attention None (Some a') opcode s h k = cc
     at_attention (Some a) None opcode s h k = cc
 
     at_deferred : (b b' : Bool) (opcode : Opcode) → b ≡ b' → AtDeferred (Unit {0}) old request (Ok reply) made new b opcode → AtDeferred (Unit {0}) old' request (Ok reply') made' new' b' opcode → AreAlike reply reply' made made' new new'
     at_deferred true true opcode s h k =
-        refuses late_fault (record old { deferred = false }) (record old' { deferred = false }) (ap (λ (x : Seen). record x { deferred = false }) e) h k
+        refuses deferred_write_error (record old { deferred = false }) (record old' { deferred = false }) (ap (λ (x : Seen). record x { deferred = false }) e) h k
     at_deferred false false opcode s h k =
         at_attention (attention_of old.attentions request.nexus) (attention_of old'.attentions request.nexus) opcode (ap (λ (x : Seen). attention_of x.attentions request.nexus) e) h k
     at_deferred true false opcode s h k = cc
@@ -130,7 +130,7 @@ module _ (old old' : Machine) (reply reply' : Reply) (made made' : List Change) 
     at_exempt false opcode h k = at_deferred old.deferred old'.deferred opcode (ap (λ (x : Seen). x.deferred) e) h k
 
     at_code : (o : Option Opcode) → AtCode (Unit {0}) old request (Ok reply) made new o → AtCode (Unit {0}) old' request (Ok reply') made' new' o → AreAlike reply reply' made made' new new'
-    at_code None h k = refuses unknown_code old old' e h k
+    at_code None h k = refuses invalid_operation_code old old' e h k
     at_code (Some opcode) h k = at_exempt (is_exempt opcode) opcode h k
 
 pub steps_determined : StepsAreDetermined

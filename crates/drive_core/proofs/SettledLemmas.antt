@@ -11,10 +11,10 @@ use Rattle.scsi_wire.specs.declared.opcodes.Opcode.{Opcode}
 use Rattle.scsi_wire.specs.declared.commands.Command.{Command}
 use Rattle.scsi_wire.specs.declared.commands.Command.TheVariants.{TestUnitReady, Rewind, Read, Write, WriteFilemarks}
 use Rattle.scsi_wire.specs.Attentions.{attention_of}
-use Rattle.scsi_wire.specs.Attentions.{told as taught}
-use Rattle.scsi_wire.specs.Opcodes.{opcode_of, is_exempt, needs_tape}
+use Rattle.scsi_wire.specs.Attentions.{cleared as taught}
+use Rattle.scsi_wire.specs.Opcodes.{opcode_of, is_exempt, needs_medium}
 use Rattle.scsi_wire.specs.Commands.{command_of, sent_length, checked, decoded_as}
-use Rattle.scsi_wire.specs.Senses.{bad_field, not_present, medium_failed, late_fault, attention_sense, no_room}
+use Rattle.scsi_wire.specs.Senses.{invalid_field, medium_not_present, medium_failed, deferred_write_error, attention_sense, volume_overflow}
 use Rattle.scsi_wire.specs.Replies.{check_with}
 use Rattle.volume_core.specs.declared.changes.Change.{Change}
 use Rattle.volume_core.specs.declared.changes.Refusal.{Refusal}
@@ -49,7 +49,7 @@ unacknowledged sense bytes other (inr warning) = other warning.1.0
 add_settled : (cause : Option Refusal) (change : Change) (old : Mounted) (reply : Reply) (made : List Change) (new : Mounted) → AddAnswer cause true change old reply made new → Acknowledges reply → new.tape.pending ≡ []
 add_settled None change old reply made new h told = h.4 refl
 add_settled (Some NoRoom) change old reply made new h told =
-    absurd (unacknowledged (no_room (Some (amount_of change))) [] (λ e. cc) (subst (λ (r : Reply). Acknowledges r) h.0 told))
+    absurd (unacknowledged (volume_overflow (Some (amount_of change))) [] (λ e. cc) (subst (λ (r : Reply). Acknowledges r) h.0 told))
 add_settled (Some NoPartition) change old reply made new h told = absurd h
 add_settled (Some PastEnd) change old reply made new h told = absurd h
 add_settled (Some TooLong) change old reply made new h told = absurd h
@@ -96,11 +96,11 @@ module _ (H : Type 0) where
     tape_settled (Unloaded tape) command sure counted h = absurd h
 
     sent_settled : (b : Bool) (command : Command) → (length request.sent == sent_length command) ≡ b → synchronizes old.buffered command ≡ true → AtSent H old request (Ok reply) made new b command → NothingPending new
-    sent_settled false command counted sure h = refused bad_field old (λ e. cc) h
+    sent_settled false command counted sure h = refused invalid_field old (λ e. cc) h
     sent_settled true command counted sure h = tape_settled old.bay command sure (eqb-true (length request.sent) (sent_length command) counted) h
 
     mode_settled : (b : Bool) (command : Command) → synchronizes old.buffered command ≡ true → AtMode H old request (Ok reply) made new b command → NothingPending new
-    mode_settled false command sure h = refused bad_field old (λ e. cc) h
+    mode_settled false command sure h = refused invalid_field old (λ e. cc) h
     mode_settled true command sure h = sent_settled (length request.sent == sent_length command) command refl sure h
 
     fields_settled : (command : Option Command) → IsOkAnd (checked command) (λ known. synchronizes old.buffered known ≡ true) → AtFields H old request (Ok reply) made new command → NothingPending new
@@ -113,19 +113,19 @@ module _ (H : Type 0) where
 
     bay_settled : (bay : Bay Tape) (opcode : Opcode) → IsOkAnd (checked (command_of opcode request.cdb)) (λ known. synchronizes old.buffered known ≡ true) → AtBay H old request (Ok reply) made new bay opcode → NothingPending new
     bay_settled (Loaded tape) opcode sure h = medium_settled tape.failed opcode sure h
-    bay_settled Empty opcode sure h = refused not_present old (λ e. cc) h
-    bay_settled (Unloaded tape) opcode sure h = refused not_present old (λ e. cc) h
+    bay_settled Empty opcode sure h = refused medium_not_present old (λ e. cc) h
+    bay_settled (Unloaded tape) opcode sure h = refused medium_not_present old (λ e. cc) h
 
     needs_settled : (b : Bool) (opcode : Opcode) → IsOkAnd (checked (command_of opcode request.cdb)) (λ known. synchronizes old.buffered known ≡ true) → AtTape H old request (Ok reply) made new b opcode → NothingPending new
     needs_settled false opcode sure h = fields_settled (command_of opcode request.cdb) sure h
     needs_settled true opcode sure h = bay_settled old.bay opcode sure h
 
     attention_settled : (a : Option Attention) (opcode : Opcode) → IsOkAnd (checked (command_of opcode request.cdb)) (λ known. synchronizes old.buffered known ≡ true) → AtAttention H old request (Ok reply) made new a opcode → NothingPending new
-    attention_settled None opcode sure h = needs_settled (needs_tape opcode) opcode sure h
+    attention_settled None opcode sure h = needs_settled (needs_medium opcode) opcode sure h
     attention_settled (Some attention) opcode sure h = refused (attention_sense attention) (record old { attentions = taught old.attentions request.nexus attention }) (attention_key attention) h
 
     deferred_settled : (b : Bool) (opcode : Opcode) → IsOkAnd (checked (command_of opcode request.cdb)) (λ known. synchronizes old.buffered known ≡ true) → AtDeferred H old request (Ok reply) made new b opcode → NothingPending new
-    deferred_settled true opcode sure h = refused late_fault (record old { deferred = false }) (λ e. cc) h
+    deferred_settled true opcode sure h = refused deferred_write_error (record old { deferred = false }) (λ e. cc) h
     deferred_settled false opcode sure h = attention_settled (attention_of old.attentions request.nexus) opcode sure h
 
     exempt_settled : (b : Bool) (opcode : Opcode) → IsOkAnd (checked (command_of opcode request.cdb)) (λ known. synchronizes old.buffered known ≡ true) → AtExempt H old request (Ok reply) made new b opcode → NothingPending new

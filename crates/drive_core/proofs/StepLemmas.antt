@@ -6,7 +6,7 @@ use Rattle.scsi_wire.specs.declared.opcodes.Opcode.{Opcode}
 use Rattle.scsi_wire.specs.declared.commands.Command.{Command}
 use Rattle.scsi_wire.specs.declared.commands.Command.TheVariants.{TestUnitReady, Rewind, Read, Write, WriteFilemarks}
 use Rattle.scsi_wire.specs.Attentions.{attention_of}
-use Rattle.scsi_wire.specs.Opcodes.{opcode_of, is_exempt, needs_tape}
+use Rattle.scsi_wire.specs.Opcodes.{opcode_of, is_exempt, needs_medium}
 use Rattle.scsi_wire.specs.Commands.{command_of, sent_length}
 use Rattle.volume_core.specs.declared.changes.Change.{Change}
 use Rattle.volume_core.specs.Medium.{Tape}
@@ -78,7 +78,7 @@ module _ (H H' : Type 0) (so : H → H') where
 
     attention_where : (a : Option Attention) (opcode : Opcode) → AtAttention H' old request answer made new a opcode → AtAttention H old request answer made new a opcode
     attention_where (Some attention) opcode h = h
-    attention_where None opcode h = needs_where (needs_tape opcode) opcode h
+    attention_where None opcode h = needs_where (needs_medium opcode) opcode h
 
     deferred_where : (b : Bool) (opcode : Opcode) → AtDeferred H' old request answer made new b opcode → AtDeferred H old request answer made new b opcode
     deferred_where true opcode h = h

@@ -2,7 +2,7 @@
 use Rattle.std.specs.Prelude.{◌≡◌, ◌+◌, ◌++◌, ◌⊎◌, ℕ, List, [], ◌∷◌, length, Option, None, Some, Bool, true, false, Result, Ok, Err}
 use Rattle.scsi_wire.specs.declared.replies.Reply.{Reply}
 use Rattle.scsi_wire.specs.Replies.{good_with, check_with}
-use Rattle.scsi_wire.specs.Senses.{no_room, medium_failed}
+use Rattle.scsi_wire.specs.Senses.{volume_overflow, medium_failed}
 use Rattle.volume_core.specs.declared.changes.Change.{Change}
 use Rattle.volume_core.specs.declared.changes.Change.TheVariants.{Put, Marks, Erase}
 use Rattle.volume_core.specs.declared.changes.Refusal.{Refusal}
@@ -47,7 +47,7 @@ AddAnswer None settles change old reply made new =
     (reply ≡ good_with []) × (made ≡ change ∷ []) × IsAdded change old new
     × (new.tape.failed ≡ false) × (settles ≡ true → new.tape.pending ≡ [])
 AddAnswer (Some NoRoom) settles change old reply made new =
-    (reply ≡ check_with (no_room (Some (amount_of change))) []) × (made ≡ []) × (new ≡ old)
+    (reply ≡ check_with (volume_overflow (Some (amount_of change))) []) × (made ≡ []) × (new ≡ old)
 AddAnswer (Some _) settles change old reply made new = ⊥
 
 -- a change is made at the position, or nothing is changed. A side is full only where what is pending
@@ -68,7 +68,7 @@ AddWork settles change old (Err Reading) made new = ⊥
 
 -- what comes of a change that a medium did not accept (own)
 abbrev pub refused_as : MediumError → ℕ → Result Reply Fault
-refused_as (medium.Refused cause) amount = Ok (check_with (no_room (Some amount)) [])
+refused_as (medium.Refused cause) amount = Ok (check_with (volume_overflow (Some amount)) [])
 refused_as medium.NoMemory amount = Err NoMemory
 refused_as medium.SideFull amount = Err (SideFull (Some amount))
 refused_as medium.Device amount = Err Writing

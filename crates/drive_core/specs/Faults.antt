@@ -3,16 +3,16 @@ use Rattle.std.specs.Prelude.{[], Result, Ok, Err}
 use Rattle.scsi_wire.specs.declared.replies.Reply.{Reply}
 use Rattle.scsi_wire.specs.declared.sense_data.Sense.{Sense}
 use Rattle.scsi_wire.specs.Replies.{check_with}
-use Rattle.scsi_wire.specs.Senses.{no_memory, write_fault, read_fault, no_room}
+use Rattle.scsi_wire.specs.Senses.{insufficient_resources, write_error, read_error, volume_overflow}
 use Rattle.drive_core.specs.declared.faults.Fault.{Fault}
 use Rattle.drive_core.specs.declared.faults.Fault.TheVariants.{NoMemory, Writing, Reading, SideFull}
 
 -- the sense data of a fault (SPC-4, SSC-4, additional sense codes; which is told where is own)
 abbrev pub fault_sense : Fault → Sense
-fault_sense NoMemory = no_memory
-fault_sense Writing = write_fault
-fault_sense Reading = read_fault
-fault_sense (SideFull residue) = no_room residue
+fault_sense NoMemory = insufficient_resources
+fault_sense Writing = write_error
+fault_sense Reading = read_error
+fault_sense (SideFull residue) = volume_overflow residue
 
 -- CHECK CONDITION for a fault, with no data (own)
 abbrev pub fault_reply : Fault → Reply

@@ -3,7 +3,7 @@ use Rattle.std.specs.Prelude.{◌≡◌, ◌≤◌, ◌+◌, ◌-◌, ◌%◌, �
 use Rattle.vtl_base.specs.declared.limits.TheConstants.{MAX_BLOCK}
 use Rattle.scsi_wire.specs.declared.replies.Reply.{Reply}
 use Rattle.scsi_wire.specs.Replies.{good_with, check_with}
-use Rattle.scsi_wire.specs.Senses.{end_of_data, at_mark, other_length}
+use Rattle.scsi_wire.specs.Senses.{end_of_data, filemark_detected, incorrect_length}
 use Rattle.volume_core.specs.declared.objects.Object.{Object}
 use Rattle.volume_core.specs.declared.objects.Object.TheVariants.{Block, Mark}
 use Rattle.volume_core.specs.Volume.{objects_of}
@@ -33,7 +33,7 @@ abbrev pub block_reply : Bool → ℕ → List ℕ → Reply
 block_reply suppress asked block =
     if asked == length block then good_with block
     else (if suppress then good_with (take asked block)
-    else check_with (other_length (residue_of asked (length block))) (take asked block))
+    else check_with (incorrect_length (residue_of asked (length block))) (take asked block))
 
 -- a host is given a block; where the medium is honest, its bytes are those on the tape
 -- (SSC-4, READ(6); honesty own)
@@ -51,7 +51,7 @@ abbrev pub ReadAnswer :
 ReadAnswer honest None suppress asked before reply now =
     (reply ≡ check_with (end_of_data (Some asked)) []) × (now ≡ before)
 ReadAnswer honest (Some Mark) suppress asked before reply now =
-    (reply ≡ check_with (at_mark asked) []) × (now ≡ next before)
+    (reply ≡ check_with (filemark_detected asked) []) × (now ≡ next before)
 ReadAnswer honest (Some (Block block)) suppress asked before reply now =
     GivesBlock honest block suppress asked reply × (now ≡ next before)
 

@@ -3,7 +3,7 @@ use Rattle.std.specs.Prelude.{◌≡◌, ◌<◌, ◌≤◌, List, length, repli
 use Rattle.vtl_base.specs.declared.limits.TheConstants.{NEXUSES}
 use Rattle.scsi_wire.specs.declared.attention_sets.Attention.TheVariants.{PowerOn, MediumChanged}
 use Rattle.scsi_wire.specs.AttentionSets.{AttentionSet, no_attentions, with_attention}
-use Rattle.scsi_wire.specs.Attentions.{told_to_all}
+use Rattle.scsi_wire.specs.Attentions.{established_for_all}
 use Rattle.volume_core.specs.Volume.{Part, objects_of}
 use Rattle.volume_core.specs.Medium.{Tape, volume_of}
 use Rattle.drive_core.specs.declared.bays.Bay.{Bay}
@@ -117,5 +117,5 @@ abbrev pub loaded : {M : Type 0} → DriveState M Kept → M → DriveState M Ke
 loaded drive medium = record drive {
   bay = Loaded medium;
   position = start;
-  attentions = told_to_all drive.attentions MediumChanged;
+  attentions = established_for_all drive.attentions MediumChanged;
 }

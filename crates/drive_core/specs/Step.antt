@@ -5,10 +5,10 @@ use Rattle.scsi_wire.specs.declared.replies.Reply.{Reply}
 use Rattle.scsi_wire.specs.declared.opcodes.Opcode.{Opcode}
 use Rattle.scsi_wire.specs.declared.commands.Command.{Command}
 use Rattle.scsi_wire.specs.declared.commands.Command.TheVariants.{WriteFilemarks}
-use Rattle.scsi_wire.specs.Attentions.{attention_of, told}
-use Rattle.scsi_wire.specs.Senses.{unknown_code, bad_field, not_present, medium_failed, late_fault, attention_sense}
+use Rattle.scsi_wire.specs.Attentions.{attention_of, cleared}
+use Rattle.scsi_wire.specs.Senses.{invalid_operation_code, invalid_field, medium_not_present, medium_failed, deferred_write_error, attention_sense}
 use Rattle.scsi_wire.specs.Replies.{conflict}
-use Rattle.scsi_wire.specs.Opcodes.{opcode_of, is_exempt, is_reserved, needs_tape}
+use Rattle.scsi_wire.specs.Opcodes.{opcode_of, is_exempt, is_stopped_by_reservation, needs_medium}
 use Rattle.scsi_wire.specs.Commands.{command_of, sent_length}
 use Rattle.volume_core.specs.declared.changes.Change.{Change}
 use Rattle.volume_core.specs.Medium.{Tape}
@@ -41,17 +41,17 @@ module _
     (new : Machine) where
   -- check 6, last: as many bytes were sent as the block says; then the work (own)
   abbrev pub AtSent : Bool → Command → Type 0
-  AtSent false command = Refuses bad_field old answer made new
+  AtSent false command = Refuses invalid_field old answer made new
   AtSent true command = Work honest command request old answer made new
 
   -- check 6, then: the fields suit the mode (own)
   abbrev pub AtMode : Bool → Command → Type 0
-  AtMode false command = Refuses bad_field old answer made new
+  AtMode false command = Refuses invalid_field old answer made new
   AtMode true command = AtSent (length request.sent == sent_length command) command
 
   -- check 6, first: the block's length and its fields (own)
   abbrev pub AtFields : Option Command → Type 0
-  AtFields None = Refuses bad_field old answer made new
+  AtFields None = Refuses invalid_field old answer made new
   AtFields (Some command) = AtMode (suits_mode old.buffered command) command
 
   -- check 5, then: the medium has not failed (own)
@@ -62,7 +62,7 @@ module _
   -- check 5, first: a cartridge is loaded (own)
   abbrev pub AtBay : Bay Tape → Opcode → Type 0
   AtBay (Loaded tape) opcode = AtMedium tape.failed opcode
-  AtBay _ opcode = Refuses not_present old answer made new
+  AtBay _ opcode = Refuses medium_not_present old answer made new
 
   -- check 5 is for commands that need a tape (own)
   abbrev pub AtTape : Bool → Opcode → Type 0
@@ -72,21 +72,21 @@ module _
   -- check 4: no reservation keeps the nexus out of this command (own, one rule for all types)
   abbrev pub AtReservation : Bool → Opcode → Type 0
   AtReservation true opcode = (answer ≡ Ok conflict) × (made ≡ []) × (new ≡ old)
-  AtReservation false opcode = AtTape (needs_tape opcode) opcode
+  AtReservation false opcode = AtTape (needs_medium opcode) opcode
 
   -- check 3: no attention is pending for the nexus; one is told, and is then no longer pending
   -- (SPC-4, unit attention conditions)
   abbrev pub AtAttention : Option Attention → Opcode → Type 0
   AtAttention (Some attention) opcode =
       Refuses (attention_sense attention)
-      (record old { attentions = told old.attentions request.nexus attention }) answer made new
+      (record old { attentions = cleared old.attentions request.nexus attention }) answer made new
   AtAttention None opcode =
-      AtReservation (if keeps_out old.reservations request.nexus then is_reserved opcode else false) opcode
+      AtReservation (if keeps_out old.reservations request.nexus then is_stopped_by_reservation opcode else false) opcode
 
   -- check 2: no deferred error is to be told; it is told once, to whoever comes first
   -- (SPC-4, deferred errors; to any nexus, own)
   abbrev pub AtDeferred : Bool → Opcode → Type 0
-  AtDeferred true opcode = Refuses late_fault (record old { deferred = false }) answer made new
+  AtDeferred true opcode = Refuses deferred_write_error (record old { deferred = false }) answer made new
   AtDeferred false opcode = AtAttention (attention_of old.attentions request.nexus) opcode
 
   -- checks 2 to 5 are not for exempt commands (SPC-4, INQUIRY, REQUEST SENSE)
@@ -96,7 +96,7 @@ module _
 
   -- check 1: the code is known (SPC-4, operation code)
   abbrev pub AtCode : Option Opcode → Type 0
-  AtCode None = Refuses unknown_code old answer made new
+  AtCode None = Refuses invalid_operation_code old answer made new
   AtCode (Some opcode) = AtExempt (is_exempt opcode) opcode
 
   -- a request is checked, and carried out where no check stops it; the first that does answers

@@ -63,7 +63,7 @@ fn refuse(alloc: Global, error: MediumError, amount: u32) -> Result<Reply, Fault
 {
     match error {
         MediumError::Refused(_) => Ok(Reply::check(
-            Sense::no_room(Some(amount)),
+            Sense::volume_overflow(Some(amount)),
             Bytes::new(alloc),
         )),
         MediumError::NoMemory => Err(Fault::NoMemory),

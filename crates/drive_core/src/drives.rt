@@ -119,7 +119,7 @@ impl<M: Medium> Drive<M> {
             Bay::Empty => {}
             Bay::Unloaded(_other) | Bay::Loaded(_other) => unreachable!(),
         }
-        self.attentions.insert_all(Attention::MediumChanged);
+        self.attentions.establish_for_all(Attention::MediumChanged);
         Ok(())
     }
 
@@ -148,11 +148,11 @@ impl<M: Medium> Drive<M> {
             self.old result self.new }
     {
         let Some(opcode) = Opcode::of(cdb) else {
-            return Ok(refuse(self.alloc, Sense::unknown_code()));
+            return Ok(refuse(self.alloc, Sense::invalid_operation_code()));
         };
         if self.deferred {
             self.deferred = false;
-            return Ok(refuse(self.alloc, Sense::late_fault()));
+            return Ok(refuse(self.alloc, Sense::deferred_write_error()));
         }
         if let Some(attention) = self.attentions.take(nexus) {
             return Ok(refuse(self.alloc, Sense::attention(attention)));
@@ -175,19 +175,19 @@ impl<M: Medium> Drive<M> {
             self.old result self.new }
     {
         let Bay::Loaded(medium) = &mut self.bay else {
-            return Ok(refuse(self.alloc, Sense::not_present()));
+            return Ok(refuse(self.alloc, Sense::medium_not_present()));
         };
         if medium.has_failed() {
             return Ok(refuse(self.alloc, Sense::medium_failed()));
         }
         let Some(command) = Command::of(opcode, cdb) else {
-            return Ok(refuse(self.alloc, Sense::bad_field()));
+            return Ok(refuse(self.alloc, Sense::invalid_field()));
         };
         if !suits_mode(command, self.buffered) {
-            return Ok(refuse(self.alloc, Sense::bad_field()));
+            return Ok(refuse(self.alloc, Sense::invalid_field()));
         }
         if sent.len() != command.sent_length() as usize {
-            return Ok(refuse(self.alloc, Sense::bad_field()));
+            return Ok(refuse(self.alloc, Sense::invalid_field()));
         }
         work(
             self.alloc,

@@ -43,10 +43,10 @@ impl Fault {
         ensures { result ≡ fault_sense self }
     {
         match self {
-            Fault::NoMemory => Sense::no_memory(),
-            Fault::Writing => Sense::write_fault(),
-            Fault::Reading => Sense::read_fault(),
-            Fault::SideFull { residue } => Sense::no_room(residue),
+            Fault::NoMemory => Sense::insufficient_resources(),
+            Fault::Writing => Sense::write_error(),
+            Fault::Reading => Sense::read_error(),
+            Fault::SideFull { residue } => Sense::volume_overflow(residue),
         }
     }
 }

@@ -69,7 +69,7 @@ fn give<M: Medium>(
         }
         Some(Kind::Mark) => {
             position.object += 1;
-            Ok(Reply::check(Sense::at_mark(length), Bytes::new(alloc)))
+            Ok(Reply::check(Sense::filemark_detected(length), Bytes::new(alloc)))
         }
         None => unreachable!(),
     }
@@ -117,7 +117,7 @@ fn block_reply(mut block: Vec<u8>, asked: u32, suppress_length: bool) -> Reply
         return Reply::good(Bytes::from_vec(block));
     }
     Reply::check(
-        Sense::wrong_length(asked.wrapping_sub(has)),
+        Sense::incorrect_length(asked.wrapping_sub(has)),
         Bytes::from_vec(block),
     )
 }

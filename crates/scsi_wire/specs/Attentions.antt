@@ -13,19 +13,19 @@ abbrev pub attention_of : List AttentionSet → ℕ → Option Attention
 attention_of sets nexus = attention_in (slice_get sets (nexus - 1))
 
 -- the attentions once a nexus with this set was told one (own)
-abbrev pub told_in : Option AttentionSet → List AttentionSet → ℕ → Attention → List AttentionSet
-told_in None sets nexus attention = sets
-told_in (Some set) sets nexus attention = slice_set sets (nexus - 1) (without attention set)
+abbrev pub cleared_in : Option AttentionSet → List AttentionSet → ℕ → Attention → List AttentionSet
+cleared_in None sets nexus attention = sets
+cleared_in (Some set) sets nexus attention = slice_set sets (nexus - 1) (without attention set)
 
 -- the attentions once a nexus was told this one (own)
-abbrev pub told : List AttentionSet → ℕ → Attention → List AttentionSet
-told sets nexus attention = told_in (slice_get sets (nexus - 1)) sets nexus attention
+abbrev pub cleared : List AttentionSet → ℕ → Attention → List AttentionSet
+cleared sets nexus attention = cleared_in (slice_get sets (nexus - 1)) sets nexus attention
 
 -- the attentions once a nexus was told this one, if any (own)
 abbrev pub taken : List AttentionSet → ℕ → Option Attention → List AttentionSet
 taken sets nexus None = sets
-taken sets nexus (Some attention) = told sets nexus attention
+taken sets nexus (Some attention) = cleared sets nexus attention
 
 -- the attentions once this one is pending for every nexus (own)
-abbrev pub told_to_all : List AttentionSet → Attention → List AttentionSet
-told_to_all sets attention = map (with_attention attention) sets
+abbrev pub established_for_all : List AttentionSet → Attention → List AttentionSet
+established_for_all sets attention = map (with_attention attention) sets

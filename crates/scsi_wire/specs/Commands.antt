@@ -9,7 +9,7 @@ use Rattle.scsi_wire.specs.declared.commands.Command.{Command}
 use Rattle.scsi_wire.specs.declared.commands.Command.TheVariants.{TestUnitReady, Rewind, Read, Write, WriteFilemarks}
 use Rattle.scsi_wire.specs.declared.sense_data.Sense.{Sense}
 use Rattle.scsi_wire.specs.Opcodes.{opcode_of, block_length}
-use Rattle.scsi_wire.specs.Senses.{unknown_code, bad_field}
+use Rattle.scsi_wire.specs.Senses.{invalid_operation_code, invalid_field}
 
 -- a bit of a byte, bit 0 the lowest (own)
 abbrev pub is_bit_set : ℕ → ℕ → Bool
@@ -53,12 +53,12 @@ sent_length (WriteFilemarks count immediate) = 0
 
 -- a command, or the refusal where there is none (SPC-4)
 abbrev pub checked : Option Command → Result Command Sense
-checked None = Err bad_field
+checked None = Err invalid_field
 checked (Some command) = Ok command
 
 -- a block's command, once its code was looked for (own)
 abbrev pub decoded_as : Option Opcode → List ℕ → Result Command Sense
-decoded_as None cdb = Err unknown_code
+decoded_as None cdb = Err invalid_operation_code
 decoded_as (Some opcode) cdb = checked (command_of opcode cdb)
 
 -- a block's command, or why it has none: first the code, then length and fields (own, the order of checks)

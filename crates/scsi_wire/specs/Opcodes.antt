@@ -6,7 +6,7 @@ use Rattle.scsi_wire.specs.declared.opcodes.Row.{Row}
 
 -- a row: code, bytes of its blocks, exempt from all checks of state, stopped by a reservation, needs a loaded tape (own)
 abbrev pub new_row : ℕ → ℕ → Bool → Bool → Bool → Row
-new_row code bytes exempt stopped on_tape = record { code = code; bytes = bytes; exempt = exempt; stopped = stopped; on_tape = on_tape }
+new_row code bytes exempt stopped on_medium = record { code = code; bytes = bytes; exempt = exempt; stopped = stopped; on_medium = on_medium }
 
 -- the table (SPC-4, SSC-4, command codes; the last three columns own)
 abbrev pub row_of : Opcode → Row
@@ -42,9 +42,9 @@ abbrev pub is_exempt : Opcode → Bool
 is_exempt opcode = (row_of opcode).exempt
 
 -- stopped by another host's reservation (own, one rule for all types)
-abbrev pub is_reserved : Opcode → Bool
-is_reserved opcode = (row_of opcode).stopped
+abbrev pub is_stopped_by_reservation : Opcode → Bool
+is_stopped_by_reservation opcode = (row_of opcode).stopped
 
 -- needs a loaded cartridge that has not failed (own)
-abbrev pub needs_tape : Opcode → Bool
-needs_tape opcode = (row_of opcode).on_tape
+abbrev pub needs_medium : Opcode → Bool
+needs_medium opcode = (row_of opcode).on_medium

@@ -7,7 +7,7 @@ use Rattle.scsi_wire.specs.declared.sense_data.Sense.{Sense}
 
 -- sense data of a key, an additional code and its qualifier alone (own)
 abbrev pub plain_sense : SenseKey → ℕ → ℕ → Sense
-plain_sense key code qualifier = record { key = key; code = code; qualifier = qualifier; filemark = false; end_of_medium = false; wrong_length = false; information = None; deferred = false }
+plain_sense key code qualifier = record { key = key; code = code; qualifier = qualifier; filemark = false; end_of_medium = false; incorrect_length = false; information = None; deferred = false }
 
 -- the number of a sense key (SPC-4, sense keys)
 abbrev pub key_number : SenseKey → ℕ
@@ -31,7 +31,7 @@ response_byte sense = (if sense.deferred then 0x71 else 0x70) + bit_if (is_some 
 
 -- byte 2: FILEMARK, EOM, ILI in bits 7 to 5, and the key (SPC-4, fixed format)
 abbrev pub key_byte : Sense → ℕ
-key_byte sense = bit_if sense.filemark 0x80 + bit_if sense.end_of_medium 0x40 + bit_if sense.wrong_length 0x20 + key_number sense.key
+key_byte sense = bit_if sense.filemark 0x80 + bit_if sense.end_of_medium 0x40 + bit_if sense.incorrect_length 0x20 + key_number sense.key
 
 -- the bytes: INFORMATION in 3 to 6, the length of the rest in 7, code and qualifier in 12 and 13 (SPC-4, fixed format; always 18, own)
 abbrev pub sense_bytes : Sense → List ℕ

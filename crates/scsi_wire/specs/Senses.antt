@@ -7,32 +7,32 @@ use Rattle.scsi_wire.specs.declared.sense_data.SenseKey.TheVariants.{NoSense, No
 use Rattle.scsi_wire.specs.SenseData.{plain_sense}
 
 -- nothing to tell (SPC-4, REQUEST SENSE)
-abbrev pub nothing_to_tell : Sense
-nothing_to_tell = plain_sense NoSense 0x00 0x00
+abbrev pub no_sense : Sense
+no_sense = plain_sense NoSense 0x00 0x00
 
 -- a command block has no code, or one that is not known (SPC-4, command processing)
-abbrev pub unknown_code : Sense
-unknown_code = plain_sense IllegalRequest 0x20 0x00
+abbrev pub invalid_operation_code : Sense
+invalid_operation_code = plain_sense IllegalRequest 0x20 0x00
 
 -- the length of a command block, one of its fields or the count of bytes sent with it is wrong (SPC-4)
-abbrev pub bad_field : Sense
-bad_field = plain_sense IllegalRequest 0x24 0x00
+abbrev pub invalid_field : Sense
+invalid_field = plain_sense IllegalRequest 0x24 0x00
 
 -- a parameter list has a wrong length (SPC-4)
-abbrev pub bad_list_length : Sense
-bad_list_length = plain_sense IllegalRequest 0x1a 0x00
+abbrev pub parameter_list_length_error : Sense
+parameter_list_length_error = plain_sense IllegalRequest 0x1a 0x00
 
 -- a field of a parameter list is wrong (SPC-4)
-abbrev pub bad_list : Sense
-bad_list = plain_sense IllegalRequest 0x26 0x00
+abbrev pub invalid_parameter : Sense
+invalid_parameter = plain_sense IllegalRequest 0x26 0x00
 
 -- a reservation is released under another type than its own (SPC-4, PERSISTENT RESERVE OUT)
-abbrev pub bad_release : Sense
-bad_release = plain_sense IllegalRequest 0x26 0x04
+abbrev pub invalid_release : Sense
+invalid_release = plain_sense IllegalRequest 0x26 0x04
 
 -- an element address is no slot's and no drive's (SMC-3)
-abbrev pub bad_address : Sense
-bad_address = plain_sense IllegalRequest 0x21 0x01
+abbrev pub invalid_element_address : Sense
+invalid_element_address = plain_sense IllegalRequest 0x21 0x01
 
 -- the destination of a move holds a cartridge (SMC-3, MOVE MEDIUM)
 abbrev pub destination_full : Sense
@@ -47,52 +47,52 @@ abbrev pub store_full : Sense
 store_full = plain_sense IllegalRequest 0x55 0x04
 
 -- no cartridge is loaded (SSC-4)
-abbrev pub not_present : Sense
-not_present = plain_sense NotReady 0x3a 0x00
+abbrev pub medium_not_present : Sense
+medium_not_present = plain_sense NotReady 0x3a 0x00
 
 -- the medium has failed, and stays so until it is unloaded and loaded (own)
 abbrev pub medium_failed : Sense
 medium_failed = plain_sense HardwareError 0x44 0x00
 
 -- a device failed while a command wrote out (own)
-abbrev pub write_fault : Sense
-write_fault = plain_sense MediumError 0x0c 0x00
+abbrev pub write_error : Sense
+write_error = plain_sense MediumError 0x0c 0x00
 
 -- a device failed while pending changes were stored between two commands: a deferred error (own)
-abbrev pub late_fault : Sense
-late_fault = record (plain_sense MediumError 0x0c 0x00) { deferred = true }
+abbrev pub deferred_write_error : Sense
+deferred_write_error = record (plain_sense MediumError 0x0c 0x00) { deferred = true }
 
 -- a device failed while a block was read or a cartridge loaded, or the side was refused (own)
-abbrev pub read_fault : Sense
-read_fault = plain_sense MediumError 0x11 0x00
+abbrev pub read_error : Sense
+read_error = plain_sense MediumError 0x11 0x00
 
 -- a growth was refused (own)
-abbrev pub no_memory : Sense
-no_memory = plain_sense AbortedCommand 0x55 0x03
+abbrev pub insufficient_resources : Sense
+insufficient_resources = plain_sense AbortedCommand 0x55 0x03
 
 -- what was written is there, and the partition is nearly full (SSC-4, WRITE(6); INFORMATION own)
 abbrev pub early_warning : Sense
 early_warning = record (plain_sense NoSense 0x00 0x02) { end_of_medium = true; information = Some 0 }
 
 -- what was to be written does not fit, and nothing changed; residue is what was not written, if it is told (SSC-4, WRITE(6); that nothing changed own)
-abbrev pub no_room : Option ℕ → Sense
-no_room residue = record (plain_sense VolumeOverflow 0x00 0x02) { end_of_medium = true; information = residue }
+abbrev pub volume_overflow : Option ℕ → Sense
+volume_overflow residue = record (plain_sense VolumeOverflow 0x00 0x02) { end_of_medium = true; information = residue }
 
 -- the end of data was met; residue is what was not passed or read, if it is told (SSC-4, READ(6), SPACE(6), LOCATE(10))
 abbrev pub end_of_data : Option ℕ → Sense
 end_of_data residue = record (plain_sense BlankCheck 0x00 0x05) { information = residue }
 
 -- a filemark was met; residue is what was not passed or read (SSC-4, READ(6), SPACE(6))
-abbrev pub at_mark : ℕ → Sense
-at_mark residue = record (plain_sense NoSense 0x00 0x01) { filemark = true; information = Some residue }
+abbrev pub filemark_detected : ℕ → Sense
+filemark_detected residue = record (plain_sense NoSense 0x00 0x01) { filemark = true; information = Some residue }
 
 -- the beginning of a partition was met; residue is what was not passed (SSC-4, SPACE(6))
 abbrev pub beginning : ℕ → Sense
 beginning residue = record (plain_sense NoSense 0x00 0x04) { end_of_medium = true; information = Some residue }
 
 -- a block has another length than a read; residue is the read's length minus the block's, in two's complement (SSC-4, READ(6))
-abbrev pub other_length : ℕ → Sense
-other_length residue = record (plain_sense NoSense 0x00 0x00) { wrong_length = true; information = Some residue }
+abbrev pub incorrect_length : ℕ → Sense
+incorrect_length residue = record (plain_sense NoSense 0x00 0x00) { incorrect_length = true; information = Some residue }
 
 -- a unit attention, each with a code of its own (SPC-4, unit attention conditions)
 abbrev pub attention_sense : Attention → Sense

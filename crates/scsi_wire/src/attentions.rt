@@ -1,6 +1,6 @@
 //! The unit attentions that are pending for every host of a drive.
 ghost use Rattle.std.specs.Prelude.{◌≡◌, replicate};
-ghost use Rattle.scsi_wire.specs.Attentions.{attention_of, taken, told_to_all};
+ghost use Rattle.scsi_wire.specs.Attentions.{attention_of, taken, established_for_all};
 
 use crate::attention_sets::{Attention, AttnSet};
 use std::marker::Model;
@@ -43,15 +43,15 @@ impl Attentions {
     }
 
     /// Makes an attention pending for every nexus.
-    pub fn insert_all(&mut self, attention: Attention)
-        ensures { self.new ≡ told_to_all self.old attention }
+    pub fn establish_for_all(&mut self, attention: Attention)
+        ensures { self.new ≡ established_for_all self.old attention }
     {
         insert_in_each(&mut self.sets, attention);
     }
 }
 
 fn insert_in_each(sets: &mut [AttnSet], attention: Attention)
-    ensures { sets.new ≡ told_to_all sets.old attention }
+    ensures { sets.new ≡ established_for_all sets.old attention }
 {
     for set in sets.iter_mut() {
         set.insert(attention);

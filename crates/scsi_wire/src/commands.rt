@@ -102,7 +102,7 @@ impl Cdb {
     pub fn decode(cdb: &[u8]) -> Result<Command, Sense>
         ensures { result ≡ decoded cdb.now }
     {
-        let opcode = Opcode::of(cdb).ok_or(Sense::unknown_code())?;
-        Command::of(opcode, cdb).ok_or(Sense::bad_field())
+        let opcode = Opcode::of(cdb).ok_or(Sense::invalid_operation_code())?;
+        Command::of(opcode, cdb).ok_or(Sense::invalid_field())
     }
 }

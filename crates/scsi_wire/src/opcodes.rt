@@ -1,6 +1,6 @@
 //! The command codes, in one table.
 ghost use Rattle.std.specs.Prelude.{◌≡◌};
-ghost use Rattle.scsi_wire.specs.Opcodes.{new_row, row_of, opcode_at, opcode_of, block_length, length_at, is_exempt, is_reserved, needs_tape};
+ghost use Rattle.scsi_wire.specs.Opcodes.{new_row, row_of, opcode_at, opcode_of, block_length, length_at, is_exempt, is_stopped_by_reservation, needs_medium};
 
 /// The codes that are known.
 #[derive(Clone, Copy, PartialEq, Eq, Debug)]
@@ -19,7 +19,7 @@ struct Row {
     bytes: usize,
     exempt: bool,
     stopped: bool,
-    on_tape: bool,
+    on_medium: bool,
 }
 
 const KNOWN: [Opcode; 5] = [
@@ -31,15 +31,15 @@ const KNOWN: [Opcode; 5] = [
 ];
 
 impl Row {
-    fn new(code: u8, bytes: usize, exempt: bool, stopped: bool, on_tape: bool) -> Self
-        ensures { result ≡ new_row code bytes exempt stopped on_tape }
+    fn new(code: u8, bytes: usize, exempt: bool, stopped: bool, on_medium: bool) -> Self
+        ensures { result ≡ new_row code bytes exempt stopped on_medium }
     {
         Row {
             code,
             bytes,
             exempt,
             stopped,
-            on_tape,
+            on_medium,
         }
     }
 }
@@ -61,17 +61,17 @@ impl Opcode {
     }
 
     /// Whether another host's reservation stops its commands (own, one rule for all types).
-    pub fn is_reserved(self) -> bool
-        ensures { result ≡ is_reserved self }
+    pub fn is_stopped_by_reservation(self) -> bool
+        ensures { result ≡ is_stopped_by_reservation self }
     {
         self.row().stopped
     }
 
     /// Whether its commands need a loaded cartridge that has not failed.
-    pub fn needs_tape(self) -> bool
-        ensures { result ≡ needs_tape self }
+    pub fn needs_medium(self) -> bool
+        ensures { result ≡ needs_medium self }
     {
-        self.row().on_tape
+        self.row().on_medium
     }
 
     /// The bytes of its command blocks.

@@ -16,7 +16,7 @@ pub enum SenseKey {
     VolumeOverflow = 0xd,
 }
 
-/// Sense data in fixed format (SPC-4). `wrong_length` is ILI; without `information` VALID is 0.
+/// Sense data in fixed format (SPC-4). `incorrect_length` is ILI; without `information` VALID is 0.
 #[derive(Clone, Copy, PartialEq, Eq, Debug)]
 pub struct Sense {
     pub key: SenseKey,
@@ -24,7 +24,7 @@ pub struct Sense {
     pub qualifier: u8,
     pub filemark: bool,
     pub end_of_medium: bool,
-    pub wrong_length: bool,
+    pub incorrect_length: bool,
     pub information: Option<u32>,
     pub deferred: bool,
 }
@@ -55,7 +55,7 @@ impl Sense {
             qualifier,
             filemark: false,
             end_of_medium: false,
-            wrong_length: false,
+            incorrect_length: false,
             information: None,
             deferred: false,
         }
@@ -69,7 +69,7 @@ impl Sense {
         let valid = bit_if(self.information.is_some(), 0x80);
         let flags = bit_if(self.filemark, 0x80)
             + bit_if(self.end_of_medium, 0x40)
-            + bit_if(self.wrong_length, 0x20);
+            + bit_if(self.incorrect_length, 0x20);
         let [a, b, c, d] = self.information.unwrap_or(0).to_be_bytes();
         [
             response + valid,

@@ -1,59 +1,59 @@
 //! All sense data that drives and changers answer, by name (SPC-4, SSC-4, SMC-3).
 ghost use Rattle.std.specs.Prelude.{◌≡◌};
-ghost use Rattle.scsi_wire.specs.Senses.{at_mark, attention_sense, bad_address, bad_field, bad_list, bad_list_length, bad_release, beginning, destination_full, early_warning, end_of_data, late_fault, medium_failed, no_memory, no_room, not_present, nothing_to_tell, other_length, read_fault, source_empty, store_full, unknown_code, write_fault};
+ghost use Rattle.scsi_wire.specs.Senses.{filemark_detected, attention_sense, invalid_element_address, invalid_field, invalid_parameter, parameter_list_length_error, invalid_release, beginning, destination_full, early_warning, end_of_data, deferred_write_error, medium_failed, insufficient_resources, volume_overflow, medium_not_present, no_sense, incorrect_length, read_error, source_empty, store_full, invalid_operation_code, write_error};
 
 use crate::attention_sets::Attention;
 use crate::sense_data::{Sense, SenseKey};
 
 impl Sense {
     /// Nothing to tell (NO ADDITIONAL SENSE INFORMATION).
-    pub fn nothing_to_tell() -> Self
-        ensures { result ≡ nothing_to_tell }
+    pub fn no_sense() -> Self
+        ensures { result ≡ no_sense }
     {
         Sense::plain(SenseKey::NoSense, 0x00, 0x00)
     }
 
     /// A command block has no code, or one that is not known (INVALID COMMAND OPERATION
     /// CODE).
-    pub fn unknown_code() -> Self
-        ensures { result ≡ unknown_code }
+    pub fn invalid_operation_code() -> Self
+        ensures { result ≡ invalid_operation_code }
     {
         Sense::plain(SenseKey::IllegalRequest, 0x20, 0x00)
     }
 
     /// The length of a command block, one of its fields or the count of bytes sent with
     /// it is wrong (INVALID FIELD IN CDB).
-    pub fn bad_field() -> Self
-        ensures { result ≡ bad_field }
+    pub fn invalid_field() -> Self
+        ensures { result ≡ invalid_field }
     {
         Sense::plain(SenseKey::IllegalRequest, 0x24, 0x00)
     }
 
     /// A parameter list has a wrong length (PARAMETER LIST LENGTH ERROR).
-    pub fn bad_list_length() -> Self
-        ensures { result ≡ bad_list_length }
+    pub fn parameter_list_length_error() -> Self
+        ensures { result ≡ parameter_list_length_error }
     {
         Sense::plain(SenseKey::IllegalRequest, 0x1a, 0x00)
     }
 
     /// A field of a parameter list is wrong (INVALID FIELD IN PARAMETER LIST).
-    pub fn bad_list() -> Self
-        ensures { result ≡ bad_list }
+    pub fn invalid_parameter() -> Self
+        ensures { result ≡ invalid_parameter }
     {
         Sense::plain(SenseKey::IllegalRequest, 0x26, 0x00)
     }
 
     /// A reservation is released under another type than its own (INVALID RELEASE OF
     /// PERSISTENT RESERVATION).
-    pub fn bad_release() -> Self
-        ensures { result ≡ bad_release }
+    pub fn invalid_release() -> Self
+        ensures { result ≡ invalid_release }
     {
         Sense::plain(SenseKey::IllegalRequest, 0x26, 0x04)
     }
 
     /// An element address is no slot's and no drive's (INVALID ELEMENT ADDRESS).
-    pub fn bad_address() -> Self
-        ensures { result ≡ bad_address }
+    pub fn invalid_element_address() -> Self
+        ensures { result ≡ invalid_element_address }
     {
         Sense::plain(SenseKey::IllegalRequest, 0x21, 0x01)
     }
@@ -81,8 +81,8 @@ impl Sense {
     }
 
     /// No cartridge is loaded (MEDIUM NOT PRESENT).
-    pub fn not_present() -> Self
-        ensures { result ≡ not_present }
+    pub fn medium_not_present() -> Self
+        ensures { result ≡ medium_not_present }
     {
         Sense::plain(SenseKey::NotReady, 0x3a, 0x00)
     }
@@ -96,16 +96,16 @@ impl Sense {
     }
 
     /// A device failed while a command wrote out (WRITE ERROR).
-    pub fn write_fault() -> Self
-        ensures { result ≡ write_fault }
+    pub fn write_error() -> Self
+        ensures { result ≡ write_error }
     {
         Sense::plain(SenseKey::MediumError, 0x0c, 0x00)
     }
 
     /// A device failed while pending changes were stored between two commands: a
     /// deferred error (WRITE ERROR).
-    pub fn late_fault() -> Self
-        ensures { result ≡ late_fault }
+    pub fn deferred_write_error() -> Self
+        ensures { result ≡ deferred_write_error }
     {
         Sense {
             deferred: true,
@@ -115,15 +115,15 @@ impl Sense {
 
     /// A device failed while a block was read or a cartridge loaded, or the side was
     /// refused (UNRECOVERED READ ERROR).
-    pub fn read_fault() -> Self
-        ensures { result ≡ read_fault }
+    pub fn read_error() -> Self
+        ensures { result ≡ read_error }
     {
         Sense::plain(SenseKey::MediumError, 0x11, 0x00)
     }
 
     /// A growth was refused (INSUFFICIENT RESOURCES).
-    pub fn no_memory() -> Self
-        ensures { result ≡ no_memory }
+    pub fn insufficient_resources() -> Self
+        ensures { result ≡ insufficient_resources }
     {
         Sense::plain(SenseKey::AbortedCommand, 0x55, 0x03)
     }
@@ -142,8 +142,8 @@ impl Sense {
 
     /// What was to be written does not fit, and nothing changed (END-OF-
     /// PARTITION/MEDIUM DETECTED). `residue` is what was not written, if it is told.
-    pub fn no_room(residue: Option<u32>) -> Self
-        ensures { result ≡ no_room residue }
+    pub fn volume_overflow(residue: Option<u32>) -> Self
+        ensures { result ≡ volume_overflow residue }
     {
         Sense {
             end_of_medium: true,
@@ -165,8 +165,8 @@ impl Sense {
 
     /// A filemark was met (FILEMARK DETECTED). `residue` is what was not passed or
     /// read.
-    pub fn at_mark(residue: u32) -> Self
-        ensures { result ≡ at_mark residue }
+    pub fn filemark_detected(residue: u32) -> Self
+        ensures { result ≡ filemark_detected residue }
     {
         Sense {
             filemark: true,
@@ -189,11 +189,11 @@ impl Sense {
 
     /// A block has another length than a read (NO ADDITIONAL SENSE INFORMATION).
     /// `residue` is the read's length minus the block's, in two's complement.
-    pub fn wrong_length(residue: u32) -> Self
-        ensures { result ≡ other_length residue }
+    pub fn incorrect_length(residue: u32) -> Self
+        ensures { result ≡ incorrect_length residue }
     {
         Sense {
-            wrong_length: true,
+            incorrect_length: true,
             information: Some(residue),
             ..Sense::plain(SenseKey::NoSense, 0x00, 0x00)
         }

@@ -1,1 +1,2 @@
 pub mod Barcode
+pub mod Below

@@ -29,7 +29,7 @@ fn attentions_in_order(rt: HostRuntime) -> Result<(), Fail> {
         assert!(rt; !set.contains(*attention));
     }
     assert_eq!(rt; attentions.take(last), None);
-    attentions.insert_all(Attention::ModeChanged);
+    attentions.establish_for_all(Attention::ModeChanged);
     assert_eq!(rt; attentions.take(last), Some(Attention::ModeChanged));
     assert_eq!(rt; attentions.take(last), None);
     for attention in order.iter() {

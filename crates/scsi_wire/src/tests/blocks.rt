@@ -29,10 +29,10 @@ fn every_code_at_every_length(rt: HostRuntime) {
         block[0] = code;
         for length in 0..=16usize {
             let expected = match known {
-                _ if length == 0 => Err(Sense::unknown_code()),
-                None => Err(Sense::unknown_code()),
+                _ if length == 0 => Err(Sense::invalid_operation_code()),
+                None => Err(Sense::invalid_operation_code()),
                 Some((_, command)) if length == 6 => Ok(command),
-                Some(_) => Err(Sense::bad_field()),
+                Some(_) => Err(Sense::invalid_field()),
             };
             assert_eq!(rt; Cdb::decode(&block[..length]), expected);
             let opcode = if length == 0 {
@@ -64,8 +64,8 @@ fn fields(rt: HostRuntime) {
         (b"\x08\x00\x00\x00\x05\x00", read(5, false)),
         (b"\x08\x02\x12\x34\x56\x00", read(0x12_3456, true)),
         (b"\x08\xfc\xff\xff\xff\xff", read(0xff_ffff, false)),
-        (b"\x08\x01\x00\x00\x01\x00", Err(Sense::bad_field())),
-        (b"\x08\x03\x00\x00\x01\x00", Err(Sense::bad_field())),
+        (b"\x08\x01\x00\x00\x01\x00", Err(Sense::invalid_field())),
+        (b"\x08\x03\x00\x00\x01\x00", Err(Sense::invalid_field())),
         (
             b"\x0a\x00\x00\x00\x05\x00",
             Ok(Command::Write { length: 5 }),
@@ -74,8 +74,8 @@ fn fields(rt: HostRuntime) {
             b"\x0a\xfe\x10\x00\x00\xff",
             Ok(Command::Write { length: 1_048_576 }),
         ),
-        (b"\x0a\x00\x10\x00\x01\x00", Err(Sense::bad_field())),
-        (b"\x0a\x01\x00\x00\x01\x00", Err(Sense::bad_field())),
+        (b"\x0a\x00\x10\x00\x01\x00", Err(Sense::invalid_field())),
+        (b"\x0a\x01\x00\x00\x01\x00", Err(Sense::invalid_field())),
         (b"\x10\x00\x00\x00\x01\x00", marks(1, false)),
         (b"\x10\x01\xff\xff\xff\x00", marks(0xff_ffff, true)),
         (b"\x10\xfe\x00\x00\x00\xff", marks(0, false)),
@@ -101,8 +101,8 @@ fn the_table(rt: HostRuntime) {
     ];
     for (opcode, reserved) in rows {
         assert!(rt; !opcode.is_exempt());
-        assert_eq!(rt; opcode.is_reserved(), reserved);
-        assert!(rt; opcode.needs_tape());
+        assert_eq!(rt; opcode.is_stopped_by_reservation(), reserved);
+        assert!(rt; opcode.needs_medium());
         assert_eq!(rt; opcode.block_length(), 6usize);
     }
 }

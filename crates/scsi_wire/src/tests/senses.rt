@@ -8,27 +8,27 @@ use vtl_base::Bytes;
 fn refusals_in_bytes(rt: HostRuntime) {
     for (sense, bytes) in [
         (
-            Sense::unknown_code(),
+            Sense::invalid_operation_code(),
             b"\x70\x00\x05\x00\x00\x00\x00\x0a\x00\x00\x00\x00\x20\x00\x00\x00\x00\x00",
         ),
         (
-            Sense::bad_field(),
+            Sense::invalid_field(),
             b"\x70\x00\x05\x00\x00\x00\x00\x0a\x00\x00\x00\x00\x24\x00\x00\x00\x00\x00",
         ),
         (
-            Sense::bad_list_length(),
+            Sense::parameter_list_length_error(),
             b"\x70\x00\x05\x00\x00\x00\x00\x0a\x00\x00\x00\x00\x1a\x00\x00\x00\x00\x00",
         ),
         (
-            Sense::bad_list(),
+            Sense::invalid_parameter(),
             b"\x70\x00\x05\x00\x00\x00\x00\x0a\x00\x00\x00\x00\x26\x00\x00\x00\x00\x00",
         ),
         (
-            Sense::bad_release(),
+            Sense::invalid_release(),
             b"\x70\x00\x05\x00\x00\x00\x00\x0a\x00\x00\x00\x00\x26\x04\x00\x00\x00\x00",
         ),
         (
-            Sense::bad_address(),
+            Sense::invalid_element_address(),
             b"\x70\x00\x05\x00\x00\x00\x00\x0a\x00\x00\x00\x00\x21\x01\x00\x00\x00\x00",
         ),
         (
@@ -52,11 +52,11 @@ fn refusals_in_bytes(rt: HostRuntime) {
 fn faults_in_bytes(rt: HostRuntime) {
     for (sense, bytes) in [
         (
-            Sense::nothing_to_tell(),
+            Sense::no_sense(),
             b"\x70\x00\x00\x00\x00\x00\x00\x0a\x00\x00\x00\x00\x00\x00\x00\x00\x00\x00",
         ),
         (
-            Sense::not_present(),
+            Sense::medium_not_present(),
             b"\x70\x00\x02\x00\x00\x00\x00\x0a\x00\x00\x00\x00\x3a\x00\x00\x00\x00\x00",
         ),
         (
@@ -64,19 +64,19 @@ fn faults_in_bytes(rt: HostRuntime) {
             b"\x70\x00\x04\x00\x00\x00\x00\x0a\x00\x00\x00\x00\x44\x00\x00\x00\x00\x00",
         ),
         (
-            Sense::write_fault(),
+            Sense::write_error(),
             b"\x70\x00\x03\x00\x00\x00\x00\x0a\x00\x00\x00\x00\x0c\x00\x00\x00\x00\x00",
         ),
         (
-            Sense::late_fault(),
+            Sense::deferred_write_error(),
             b"\x71\x00\x03\x00\x00\x00\x00\x0a\x00\x00\x00\x00\x0c\x00\x00\x00\x00\x00",
         ),
         (
-            Sense::read_fault(),
+            Sense::read_error(),
             b"\x70\x00\x03\x00\x00\x00\x00\x0a\x00\x00\x00\x00\x11\x00\x00\x00\x00\x00",
         ),
         (
-            Sense::no_memory(),
+            Sense::insufficient_resources(),
             b"\x70\x00\x0b\x00\x00\x00\x00\x0a\x00\x00\x00\x00\x55\x03\x00\x00\x00\x00",
         ),
     ] {
@@ -92,11 +92,11 @@ fn ends_of_tape_in_bytes(rt: HostRuntime) {
             b"\xf0\x00\x40\x00\x00\x00\x00\x0a\x00\x00\x00\x00\x00\x02\x00\x00\x00\x00",
         ),
         (
-            Sense::no_room(Some(17)),
+            Sense::volume_overflow(Some(17)),
             b"\xf0\x00\x4d\x00\x00\x00\x11\x0a\x00\x00\x00\x00\x00\x02\x00\x00\x00\x00",
         ),
         (
-            Sense::no_room(None),
+            Sense::volume_overflow(None),
             b"\x70\x00\x4d\x00\x00\x00\x00\x0a\x00\x00\x00\x00\x00\x02\x00\x00\x00\x00",
         ),
         (
@@ -108,7 +108,7 @@ fn ends_of_tape_in_bytes(rt: HostRuntime) {
             b"\x70\x00\x08\x00\x00\x00\x00\x0a\x00\x00\x00\x00\x00\x05\x00\x00\x00\x00",
         ),
         (
-            Sense::at_mark(5),
+            Sense::filemark_detected(5),
             b"\xf0\x00\x80\x00\x00\x00\x05\x0a\x00\x00\x00\x00\x00\x01\x00\x00\x00\x00",
         ),
         (
@@ -116,11 +116,11 @@ fn ends_of_tape_in_bytes(rt: HostRuntime) {
             b"\xf0\x00\x40\x00\x80\x00\x00\x0a\x00\x00\x00\x00\x00\x04\x00\x00\x00\x00",
         ),
         (
-            Sense::wrong_length(1),
+            Sense::incorrect_length(1),
             b"\xf0\x00\x20\x00\x00\x00\x01\x0a\x00\x00\x00\x00\x00\x00\x00\x00\x00\x00",
         ),
         (
-            Sense::wrong_length(0xffff_fffe),
+            Sense::incorrect_length(0xffff_fffe),
             b"\xf0\x00\x20\xff\xff\xff\xfe\x0a\x00\x00\x00\x00\x00\x00\x00\x00\x00\x00",
         ),
     ] {
@@ -167,9 +167,12 @@ fn replies(rt: HostRuntime) -> Result<(), Fail> {
     assert_eq!(rt; good.status, Status::Good);
     assert_eq!(rt; good.sense, None);
     assert_eq!(rt; good.bytes.as_slice(), b"hello".as_slice());
-    let check = Reply::check(Sense::wrong_length(1), Bytes::from_slice(alloc, b"hello")?);
+    let check = Reply::check(
+        Sense::incorrect_length(1),
+        Bytes::from_slice(alloc, b"hello")?,
+    );
     assert_eq!(rt; check.status, Status::Check);
-    assert_eq!(rt; check.sense, Some(Sense::wrong_length(1)));
+    assert_eq!(rt; check.sense, Some(Sense::incorrect_length(1)));
     assert_eq!(rt; check.bytes.as_slice(), b"hello".as_slice());
     let conflict = Reply::conflict(alloc);
     assert_eq!(rt; conflict.status, Status::Conflict);
