@@ -57,9 +57,9 @@ same_set x y each =
     let released : x.reservations_released ≡ y.reservations_released = each ReservationsReleased in
     let mode : x.mode_changed ≡ y.mode_changed = each ModeChanged in
     let fields : set_of x.power_on x.medium_changed x.reservations_preempted x.registrations_preempted
-        x.reservations_released x.mode_changed
+    x.reservations_released x.mode_changed
     ≡ set_of y.power_on y.medium_changed y.reservations_preempted y.registrations_preempted
-        y.reservations_released y.mode_changed = cc in
+    y.reservations_released y.mode_changed = cc in
     fields
 
 pub contains_by_bits : (a : Attention) (bits : ℕ) → bits < 64
@@ -71,13 +71,13 @@ pub with_by_bits : (a : Attention) (bits : ℕ) → bits < 64
     → set_of_bits (bit_or bits (bit_of a)) ≡ with_attention a (set_of_bits bits)
 with_by_bits a bits fits =
     same_set _ _ (λ b. agree_at_both (λ b a k. contains b (set_of_bits (bit_or k (bit_of a))))
-        (λ b a k. contains b (with_attention a (set_of_bits k))) refl b a bits fits)
+    (λ b a k. contains b (with_attention a (set_of_bits k))) refl b a bits fits)
 
 pub without_by_bits : (a : Attention) (bits : ℕ) → bits < 64
     → set_of_bits (bit_and bits (2 ^ 8 - 1 - bit_of a)) ≡ without a (set_of_bits bits)
 without_by_bits a bits fits =
     same_set _ _ (λ b. agree_at_both (λ b a k. contains b (set_of_bits (bit_and k (2 ^ 8 - 1 - bit_of a))))
-        (λ b a k. contains b (without a (set_of_bits k))) refl b a bits fits)
+    (λ b a k. contains b (without a (set_of_bits k))) refl b a bits fits)
 
 pub or_fits : (a : Attention) (bits : ℕ) → bits < 64 → bit_or bits (bit_of a) < 64
 or_fits a bits fits =

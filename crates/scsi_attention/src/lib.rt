@@ -4,8 +4,6 @@
 pub mod attention_sets;
 pub mod attentions;
 pub mod laws;
-#[cfg(test)]
-mod tests;
 
 pub use attention_sets::{Attention, AttnSet};
 pub use attentions::Attentions;

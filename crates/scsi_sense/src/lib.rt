@@ -4,8 +4,6 @@
 pub mod replies;
 pub mod sense_data;
 pub mod senses;
-#[cfg(test)]
-mod tests;
 
 pub use replies::{Reply, Status};
 pub use sense_data::{Sense, SenseKey};

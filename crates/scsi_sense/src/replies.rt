@@ -1,6 +1,6 @@
-//! Replies.
+//! Statuses and replies.
 ghost use Rattle.std.specs.Prelude.{◌≡◌};
-ghost use Rattle.scsi_sense.specs.Replies.{check_with, conflict, good_with};
+ghost use Rattle.scsi_sense.specs.Replies.{check_with, conflict, good_with, status_code};
 
 use crate::sense_data::Sense;
 use std::alloc::Global;
@@ -20,6 +20,15 @@ pub struct Reply {
     pub status: Status,
     pub sense: Option<Sense>,
     pub bytes: Bytes,
+}
+
+impl Status {
+    /// Its byte (SAM-5, status codes).
+    pub fn code(self) -> u8
+        ensures { result ≡ status_code self }
+    {
+        self as u8
+    }
 }
 
 impl Reply {

@@ -4,8 +4,8 @@ ghost use Rattle.scsi_wire.specs.Commands.{command_of, decoded, command_by_field
 ghost use Rattle.scsi_wire.specs.Opcodes.{block_length};
 
 use crate::opcodes::Opcode;
-use scsi_sense::Sense;
 use byteorder::{BigEndian, ByteOrder};
+use scsi_sense::Sense;
 use vtl_base::limits::MAX_BLOCK;
 
 /// A command with its fields (SSC-4). Lengths are in bytes.

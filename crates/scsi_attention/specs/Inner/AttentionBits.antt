@@ -34,4 +34,4 @@ bits_of set = sum (map (λ attention. if contains attention set then bit_of atte
 pub bits_of-set_of_bits : (bits : ℕ) → bits < 64 → bits_of (set_of_bits bits) ≡ bits
 bits_of-set_of_bits bits fits =
     eqb-true (bits_of (set_of_bits bits)) bits
-        (agree_below_at (λ k. eqb (bits_of (set_of_bits k)) k) (λ _. true) 64 bits refl fits)
+    (agree_below_at (λ k. eqb (bits_of (set_of_bits k)) k) (λ _. true) 64 bits refl fits)

@@ -8,4 +8,4 @@ loop-set-preserved c =
     let written = c.insert.ensures ∙ ap (with_attention c.args.attention) (sym c.set-item.is) in
     ap (slice_set c.loop-set.sets c.loop-set.set-index) written
     ∙ map_over_more (with_attention c.args.attention) c.args.sets.now c.loop-set.sets c.loop-set.set-index
-        c.set-item.result (omega arith) c.loop-set.invariant c.set-item.is
+    c.set-item.result (omega arith) c.loop-set.invariant c.set-item.is
