@@ -1,4 +1,4 @@
--- Command blocks: the fields of each command, read from named bytes.
+-- Command descriptor blocks: the fields of each command, read from named bytes.
 use Rattle.std.specs.Prelude.{ℕ, List, length, slice_index, drop, Option, None, Some, Result, Ok, Err, Bool, nat_lt, ◌==◌, ◌||◌, if◌then◌else◌}
 use Rattle.std.specs.Int.{bit_at}
 use Rattle.byteorder.specs.Endian.{big_number}
@@ -7,9 +7,9 @@ use Rattle.scsi_wire.specs.declared.opcodes.Opcode.{Opcode}
 use Rattle.scsi_wire.specs.declared.opcodes.Opcode.TheVariants as code
 use Rattle.scsi_wire.specs.declared.commands.Command.{Command}
 use Rattle.scsi_wire.specs.declared.commands.Command.TheVariants.{TestUnitReady, Rewind, Read, Write, WriteFilemarks}
-use Rattle.scsi_wire.specs.declared.sense_data.Sense.{Sense}
+use Rattle.scsi_sense.specs.declared.sense_data.Sense.{Sense}
 use Rattle.scsi_wire.specs.Opcodes.{opcode_of, block_length}
-use Rattle.scsi_wire.specs.Senses.{invalid_operation_code, invalid_field}
+use Rattle.scsi_sense.specs.Senses.{invalid_operation_code, invalid_field}
 
 -- a bit of a byte, bit 0 the lowest (own)
 abbrev pub is_bit_set : ℕ → ℕ → Bool
@@ -31,17 +31,20 @@ is_immediate cdb = is_bit_set (slice_index cdb 1) 0
 abbrev pub transfer_length : List ℕ → ℕ
 transfer_length cdb = big_number 3 (drop 2 cdb)
 
--- the command of a block of the right length, where its fields are right; nothing else of the block counts (SSC-4; own that FIXED is refused)
-abbrev pub fields_of : Opcode → List ℕ → Option Command
-fields_of code.TestUnitReady cdb = Some TestUnitReady
-fields_of code.Rewind cdb = Some Rewind
-fields_of code.Read cdb = if is_fixed cdb then None else Some (Read (transfer_length cdb) (suppresses_length cdb))
-fields_of code.Write cdb = if is_fixed cdb || nat_lt MAX_BLOCK (transfer_length cdb) then None else Some (Write (transfer_length cdb))
-fields_of code.WriteFilemarks cdb = Some (WriteFilemarks (transfer_length cdb) (is_immediate cdb))
+-- the command of a block of the right length, where its fields are right; nothing else of the block counts
+-- (SSC-4; own that FIXED is refused)
+abbrev pub command_by_fields : Opcode → List ℕ → Option Command
+command_by_fields code.TestUnitReady cdb = Some TestUnitReady
+command_by_fields code.Rewind cdb = Some Rewind
+command_by_fields code.Read cdb =
+    if is_fixed cdb then None else Some (Read (transfer_length cdb) (suppresses_length cdb))
+command_by_fields code.Write cdb =
+    if is_fixed cdb || nat_lt MAX_BLOCK (transfer_length cdb) then None else Some (Write (transfer_length cdb))
+command_by_fields code.WriteFilemarks cdb = Some (WriteFilemarks (transfer_length cdb) (is_immediate cdb))
 
 -- the command of a block, where its length and its fields are right (own)
 abbrev pub command_of : Opcode → List ℕ → Option Command
-command_of opcode cdb = if length cdb == block_length opcode then fields_of opcode cdb else None
+command_of opcode cdb = if length cdb == block_length opcode then command_by_fields opcode cdb else None
 
 -- how many bytes a host sends with a command (SSC-4, WRITE(6))
 abbrev pub sent_length : Command → ℕ

@@ -1,9 +1,3 @@
-pub mod AttentionBits
-pub mod AttentionSets
-pub mod Attentions
 pub mod Commands
 pub mod Laws
 pub mod Opcodes
-pub mod Replies
-pub mod SenseData
-pub mod Senses

@@ -1,14 +1,20 @@
--- The command codes, in one table.
+-- The operation codes, in one table.
 use Rattle.std.specs.Prelude.{ℕ, Bool, true, false, List, [], ◌∷◌, Option, None, option_map, find, ◌==◌}
 use Rattle.scsi_wire.specs.declared.opcodes.Opcode.{Opcode}
 use Rattle.scsi_wire.specs.declared.opcodes.Opcode.TheVariants.{TestUnitReady, Rewind, Read, Write, WriteFilemarks}
 use Rattle.scsi_wire.specs.declared.opcodes.Row.{Row}
 
--- a row: code, bytes of its blocks, exempt from all checks of state, stopped by a reservation, needs a loaded tape (own)
+-- a row: code, bytes of its blocks, exempt from all checks of state, stopped by a reservation, needs a medium (own)
 abbrev pub new_row : ℕ → ℕ → Bool → Bool → Bool → Row
-new_row code bytes exempt stopped on_medium = record { code = code; bytes = bytes; exempt = exempt; stopped = stopped; on_medium = on_medium }
+new_row code bytes exempt stopped on_medium = record {
+  code = code;
+  bytes = bytes;
+  exempt = exempt;
+  stopped = stopped;
+  on_medium = on_medium;
+}
 
--- the table (SPC-4, SSC-4, command codes; the last three columns own)
+-- the table (SPC-4, SSC-4, operation codes; the last three columns own)
 abbrev pub row_of : Opcode → Row
 row_of TestUnitReady = new_row 0x00 6 false false true
 row_of Rewind = new_row 0x01 6 false true true
@@ -45,6 +51,6 @@ is_exempt opcode = (row_of opcode).exempt
 abbrev pub is_stopped_by_reservation : Opcode → Bool
 is_stopped_by_reservation opcode = (row_of opcode).stopped
 
--- needs a loaded cartridge that has not failed (own)
+-- needs a medium that is loaded and has not failed (own)
 abbrev pub needs_medium : Opcode → Bool
 needs_medium opcode = (row_of opcode).on_medium

@@ -1,11 +1,11 @@
-//! Command blocks.
+//! Command descriptor blocks.
 ghost use Rattle.std.specs.Prelude.{◌≡◌, ◌<◌, ◌≤◌, IfSome, length};
-ghost use Rattle.scsi_wire.specs.Commands.{command_of, decoded, fields_of, is_bit_set, sent_length, transfer_length};
+ghost use Rattle.scsi_wire.specs.Commands.{command_of, decoded, command_by_fields, is_bit_set, sent_length, transfer_length};
 ghost use Rattle.scsi_wire.specs.Opcodes.{block_length};
 
 use crate::opcodes::Opcode;
-use crate::sense_data::Sense;
 use byteorder::{BigEndian, ByteOrder};
+use scsi_sense::Sense;
 use vtl_base::limits::MAX_BLOCK;
 
 /// A command with its fields (SSC-4). Lengths are in bytes.
@@ -13,14 +13,14 @@ use vtl_base::limits::MAX_BLOCK;
 pub enum Command {
     TestUnitReady,
     Rewind,
-    /// `suppress_length` is SILI: a block of another length is no matter.
+    /// `suppress_length` is SILI: an incorrect length is not reported.
     Read { length: u32, suppress_length: bool },
     Write { length: u32 },
-    /// `immediate` is IMMED: the answer does not wait until all is stored.
+    /// `immediate` is IMMED: the status does not wait until all is stored.
     WriteFilemarks { count: u32, immediate: bool },
 }
 
-/// A command block (command descriptor block), as a host sends it.
+/// A command descriptor block, as a host sends it.
 pub struct Cdb;
 
 fn is_bit_set(byte: u8, bit: u32) -> bool
@@ -38,7 +38,7 @@ fn transfer_length(cdb: &[u8]) -> u32
 }
 
 impl Command {
-    /// The command of a block of this code, where its length and its fields are right.
+    /// The command of a block with this operation code, where its length and its fields are right.
     pub fn of(opcode: Opcode, cdb: &[u8]) -> Option<Self>
         ensures command { result ≡ command_of opcode cdb.now }
         ensures sent { IfSome result (λ command. sent_length command ≤ MAX_BLOCK) }
@@ -58,7 +58,7 @@ impl Command {
         }
     }
 
-    /// How many bytes come with it.
+    /// How many bytes a host sends with it.
     pub fn sent_length(self) -> u32
         ensures { result ≡ sent_length self }
     {
@@ -73,7 +73,7 @@ impl Command {
 
     fn read(cdb: &[u8]) -> Option<Self>
         requires { 5 ≤ length cdb.now }
-        ensures { result ≡ fields_of Opcode.Read cdb.now }
+        ensures { result ≡ command_by_fields Opcode.Read cdb.now }
     {
         if is_bit_set(cdb[1], 0) {
             return None;
@@ -86,7 +86,7 @@ impl Command {
 
     fn write(cdb: &[u8]) -> Option<Self>
         requires { 5 ≤ length cdb.now }
-        ensures { result ≡ fields_of Opcode.Write cdb.now }
+        ensures { result ≡ command_by_fields Opcode.Write cdb.now }
     {
         let length = transfer_length(cdb);
         if is_bit_set(cdb[1], 0) || length > MAX_BLOCK {

@@ -1,8 +1,8 @@
-//! The command codes, in one table.
+//! The operation codes, in one table.
 ghost use Rattle.std.specs.Prelude.{◌≡◌};
 ghost use Rattle.scsi_wire.specs.Opcodes.{new_row, row_of, opcode_at, opcode_of, block_length, length_at, is_exempt, is_stopped_by_reservation, needs_medium};
 
-/// The codes that are known.
+/// The operation codes that are known (SPC-4, SSC-4).
 #[derive(Clone, Copy, PartialEq, Eq, Debug)]
 pub enum Opcode {
     TestUnitReady,
@@ -45,7 +45,7 @@ impl Row {
 }
 
 impl Opcode {
-    /// The code of a command block, its first byte, where it is known.
+    /// The operation code of a command block, its first byte, where it is known.
     pub fn of(cdb: &[u8]) -> Option<Self>
         ensures { result ≡ opcode_of cdb.now }
     {
@@ -53,7 +53,7 @@ impl Opcode {
     }
 
     /// Whether its commands are carried out whatever is pending, reserved or loaded: no deferred
-    /// error, unit attention, reservation or want of a cartridge stops them (own).
+    /// error, unit attention condition, reservation or want of a medium stops them (own).
     pub fn is_exempt(self) -> bool
         ensures { result ≡ is_exempt self }
     {
@@ -67,7 +67,7 @@ impl Opcode {
         self.row().stopped
     }
 
-    /// Whether its commands need a loaded cartridge that has not failed.
+    /// Whether its commands need a medium that is loaded and has not failed (own).
     pub fn needs_medium(self) -> bool
         ensures { result ≡ needs_medium self }
     {
@@ -91,7 +91,7 @@ impl Opcode {
     }
 
     // One row a code: its byte, the bytes of its blocks, and whether it is exempt from the checks,
-    // is stopped by a reservation, needs a tape.
+    // is stopped by a reservation, needs a medium.
     fn row(self) -> Row
         ensures { result ≡ row_of self }
     {
@@ -105,7 +105,7 @@ impl Opcode {
     }
 }
 
-/// The bytes of a command block with this code, where the code is known.
+/// The bytes of a command block with this operation code, where the code is known.
 pub fn length_of(op: u8) -> Option<usize>
     ensures { result ≡ length_at op }
 {

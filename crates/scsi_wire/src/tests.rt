@@ -1,4 +1,5 @@
-//! Tests, by subject.
+//! Tests by subject, those of scsi_sense and scsi_attention too: a crate with tests is proved twice, so one crate
+//! has them all.
 mod attentions;
 mod blocks;
 mod senses;

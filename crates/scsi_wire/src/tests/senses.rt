@@ -1,182 +1,189 @@
-//! The bytes of all sense data, by hand and by worked rows, and replies.
-use crate::{Attention, Reply, Sense, Status};
-use std::alloc::Global;
-use std::test::Fail;
+//! The bytes of all sense data, written by hand, the replies and the status codes.
+use scsi_attention::Attention;
+use scsi_sense::{Reply, Sense};
 use vtl_base::Bytes;
 
-#[test]
-fn refusals_in_bytes(rt: HostRuntime) {
-    for (sense, bytes) in [
+// Each row is sense data and its bytes 0 to 15; bytes 16 and 17 are 0 in all.
+
+// What a host asked is wrong.
+fn of_requests() -> [(Sense, u128); 9] {
+    [
         (
             Sense::invalid_operation_code(),
-            b"\x70\x00\x05\x00\x00\x00\x00\x0a\x00\x00\x00\x00\x20\x00\x00\x00\x00\x00",
+            0x70000500_0000000a_00000000_20000000,
         ),
         (
             Sense::invalid_field(),
-            b"\x70\x00\x05\x00\x00\x00\x00\x0a\x00\x00\x00\x00\x24\x00\x00\x00\x00\x00",
+            0x70000500_0000000a_00000000_24000000,
         ),
         (
             Sense::parameter_list_length_error(),
-            b"\x70\x00\x05\x00\x00\x00\x00\x0a\x00\x00\x00\x00\x1a\x00\x00\x00\x00\x00",
+            0x70000500_0000000a_00000000_1a000000,
         ),
         (
             Sense::invalid_parameter(),
-            b"\x70\x00\x05\x00\x00\x00\x00\x0a\x00\x00\x00\x00\x26\x00\x00\x00\x00\x00",
+            0x70000500_0000000a_00000000_26000000,
         ),
         (
             Sense::invalid_release(),
-            b"\x70\x00\x05\x00\x00\x00\x00\x0a\x00\x00\x00\x00\x26\x04\x00\x00\x00\x00",
+            0x70000500_0000000a_00000000_26040000,
         ),
         (
             Sense::invalid_element_address(),
-            b"\x70\x00\x05\x00\x00\x00\x00\x0a\x00\x00\x00\x00\x21\x01\x00\x00\x00\x00",
+            0x70000500_0000000a_00000000_21010000,
         ),
         (
             Sense::destination_full(),
-            b"\x70\x00\x05\x00\x00\x00\x00\x0a\x00\x00\x00\x00\x3b\x0d\x00\x00\x00\x00",
+            0x70000500_0000000a_00000000_3b0d0000,
         ),
-        (
-            Sense::source_empty(),
-            b"\x70\x00\x05\x00\x00\x00\x00\x0a\x00\x00\x00\x00\x3b\x0e\x00\x00\x00\x00",
-        ),
-        (
-            Sense::store_full(),
-            b"\x70\x00\x05\x00\x00\x00\x00\x0a\x00\x00\x00\x00\x55\x04\x00\x00\x00\x00",
-        ),
-    ] {
-        assert_eq!(rt; sense.bytes().as_slice(), bytes.as_slice());
-    }
+        (Sense::source_empty(), 0x70000500_0000000a_00000000_3b0e0000),
+        (Sense::store_full(), 0x70000500_0000000a_00000000_55040000),
+    ]
 }
 
-#[test]
-fn faults_in_bytes(rt: HostRuntime) {
-    for (sense, bytes) in [
-        (
-            Sense::no_sense(),
-            b"\x70\x00\x00\x00\x00\x00\x00\x0a\x00\x00\x00\x00\x00\x00\x00\x00\x00\x00",
-        ),
+// What a medium or a device does.
+fn of_media() -> [(Sense, u128); 7] {
+    [
+        (Sense::no_sense(), 0x70000000_0000000a_00000000_00000000),
         (
             Sense::medium_not_present(),
-            b"\x70\x00\x02\x00\x00\x00\x00\x0a\x00\x00\x00\x00\x3a\x00\x00\x00\x00\x00",
+            0x70000200_0000000a_00000000_3a000000,
         ),
         (
             Sense::medium_failed(),
-            b"\x70\x00\x04\x00\x00\x00\x00\x0a\x00\x00\x00\x00\x44\x00\x00\x00\x00\x00",
+            0x70000400_0000000a_00000000_44000000,
         ),
-        (
-            Sense::write_error(),
-            b"\x70\x00\x03\x00\x00\x00\x00\x0a\x00\x00\x00\x00\x0c\x00\x00\x00\x00\x00",
-        ),
+        (Sense::write_error(), 0x70000300_0000000a_00000000_0c000000),
         (
             Sense::deferred_write_error(),
-            b"\x71\x00\x03\x00\x00\x00\x00\x0a\x00\x00\x00\x00\x0c\x00\x00\x00\x00\x00",
+            0x71000300_0000000a_00000000_0c000000,
         ),
-        (
-            Sense::read_error(),
-            b"\x70\x00\x03\x00\x00\x00\x00\x0a\x00\x00\x00\x00\x11\x00\x00\x00\x00\x00",
-        ),
+        (Sense::read_error(), 0x70000300_0000000a_00000000_11000000),
         (
             Sense::insufficient_resources(),
-            b"\x70\x00\x0b\x00\x00\x00\x00\x0a\x00\x00\x00\x00\x55\x03\x00\x00\x00\x00",
+            0x70000b00_0000000a_00000000_55030000,
         ),
-    ] {
-        assert_eq!(rt; sense.bytes().as_slice(), bytes.as_slice());
-    }
+    ]
 }
 
-#[test]
-fn ends_of_tape_in_bytes(rt: HostRuntime) {
-    for (sense, bytes) in [
+// What is met on a tape.
+fn of_positions() -> [(Sense, u128); 10] {
+    [
         (
             Sense::early_warning(),
-            b"\xf0\x00\x40\x00\x00\x00\x00\x0a\x00\x00\x00\x00\x00\x02\x00\x00\x00\x00",
+            0xf0004000_0000000a_00000000_00020000,
         ),
         (
             Sense::volume_overflow(Some(17)),
-            b"\xf0\x00\x4d\x00\x00\x00\x11\x0a\x00\x00\x00\x00\x00\x02\x00\x00\x00\x00",
+            0xf0004d00_0000110a_00000000_00020000,
         ),
         (
             Sense::volume_overflow(None),
-            b"\x70\x00\x4d\x00\x00\x00\x00\x0a\x00\x00\x00\x00\x00\x02\x00\x00\x00\x00",
+            0x70004d00_0000000a_00000000_00020000,
         ),
         (
             Sense::end_of_data(Some(5)),
-            b"\xf0\x00\x08\x00\x00\x00\x05\x0a\x00\x00\x00\x00\x00\x05\x00\x00\x00\x00",
+            0xf0000800_0000050a_00000000_00050000,
         ),
         (
             Sense::end_of_data(None),
-            b"\x70\x00\x08\x00\x00\x00\x00\x0a\x00\x00\x00\x00\x00\x05\x00\x00\x00\x00",
+            0x70000800_0000000a_00000000_00050000,
         ),
         (
             Sense::filemark_detected(5),
-            b"\xf0\x00\x80\x00\x00\x00\x05\x0a\x00\x00\x00\x00\x00\x01\x00\x00\x00\x00",
+            0xf0008000_0000050a_00000000_00010000,
         ),
         (
             Sense::beginning(0x80_0000),
-            b"\xf0\x00\x40\x00\x80\x00\x00\x0a\x00\x00\x00\x00\x00\x04\x00\x00\x00\x00",
+            0xf0004000_8000000a_00000000_00040000,
         ),
         (
             Sense::incorrect_length(1),
-            b"\xf0\x00\x20\x00\x00\x00\x01\x0a\x00\x00\x00\x00\x00\x00\x00\x00\x00\x00",
+            0xf0002000_0000010a_00000000_00000000,
         ),
         (
             Sense::incorrect_length(0xffff_fffe),
-            b"\xf0\x00\x20\xff\xff\xff\xfe\x0a\x00\x00\x00\x00\x00\x00\x00\x00\x00\x00",
+            0xf00020ff_fffffe0a_00000000_00000000,
         ),
-    ] {
-        assert_eq!(rt; sense.bytes().as_slice(), bytes.as_slice());
-    }
+        (
+            Sense::incorrect_length(0x1234_5678),
+            0xf0002012_3456780a_00000000_00000000,
+        ),
+    ]
 }
 
-#[test]
-fn attentions_in_bytes(rt: HostRuntime) {
-    for (sense, bytes) in [
+// Unit attention conditions.
+fn of_attentions() -> [(Sense, u128); 6] {
+    [
         (
             Sense::attention(Attention::PowerOn),
-            b"\x70\x00\x06\x00\x00\x00\x00\x0a\x00\x00\x00\x00\x29\x00\x00\x00\x00\x00",
+            0x70000600_0000000a_00000000_29000000,
         ),
         (
             Sense::attention(Attention::MediumChanged),
-            b"\x70\x00\x06\x00\x00\x00\x00\x0a\x00\x00\x00\x00\x28\x00\x00\x00\x00\x00",
+            0x70000600_0000000a_00000000_28000000,
         ),
         (
             Sense::attention(Attention::ReservationsPreempted),
-            b"\x70\x00\x06\x00\x00\x00\x00\x0a\x00\x00\x00\x00\x2a\x03\x00\x00\x00\x00",
+            0x70000600_0000000a_00000000_2a030000,
         ),
         (
             Sense::attention(Attention::RegistrationsPreempted),
-            b"\x70\x00\x06\x00\x00\x00\x00\x0a\x00\x00\x00\x00\x2a\x05\x00\x00\x00\x00",
+            0x70000600_0000000a_00000000_2a050000,
         ),
         (
             Sense::attention(Attention::ReservationsReleased),
-            b"\x70\x00\x06\x00\x00\x00\x00\x0a\x00\x00\x00\x00\x2a\x04\x00\x00\x00\x00",
+            0x70000600_0000000a_00000000_2a040000,
         ),
         (
             Sense::attention(Attention::ModeChanged),
-            b"\x70\x00\x06\x00\x00\x00\x00\x0a\x00\x00\x00\x00\x2a\x01\x00\x00\x00\x00",
+            0x70000600_0000000a_00000000_2a010000,
         ),
-    ] {
-        assert_eq!(rt; sense.bytes().as_slice(), bytes.as_slice());
+    ]
+}
+
+// The bytes 0 to 15, and the two behind them.
+fn spelled(sense: &Sense) -> (u128, u8, u8) {
+    let [head @ .., last_but_one, last] = sense.bytes();
+    (u128::from_be_bytes(head), last_but_one, last)
+}
+
+#[test]
+fn bytes_of_all_sense_data(rt: HostRuntime) {
+    for (sense, bytes) in of_requests() {
+        assert_eq!(rt; spelled(&sense), (bytes, 0, 0));
+    }
+    for (sense, bytes) in of_media() {
+        assert_eq!(rt; spelled(&sense), (bytes, 0, 0));
+    }
+    for (sense, bytes) in of_positions() {
+        assert_eq!(rt; spelled(&sense), (bytes, 0, 0));
+    }
+    for (sense, bytes) in of_attentions() {
+        assert_eq!(rt; spelled(&sense), (bytes, 0, 0));
     }
 }
 
 #[test]
-fn replies(rt: HostRuntime) -> Result<(), Fail> {
-    let alloc: Global = rt.alloc();
-    let good = Reply::good(Bytes::from_slice(alloc, b"hello")?);
-    assert_eq!(rt; good.status, Status::Good);
-    assert_eq!(rt; good.sense, None);
-    assert_eq!(rt; good.bytes.as_slice(), b"hello".as_slice());
-    let check = Reply::check(
-        Sense::incorrect_length(1),
-        Bytes::from_slice(alloc, b"hello")?,
-    );
-    assert_eq!(rt; check.status, Status::Check);
-    assert_eq!(rt; check.sense, Some(Sense::incorrect_length(1)));
-    assert_eq!(rt; check.bytes.as_slice(), b"hello".as_slice());
-    let conflict = Reply::conflict(alloc);
-    assert_eq!(rt; conflict.status, Status::Conflict);
-    assert_eq!(rt; conflict.sense, None);
-    assert_eq!(rt; conflict.bytes.len(), 0usize);
-    Ok(())
+fn replies(rt: HostRuntime) {
+    let alloc = rt.alloc();
+    let sense = Sense::incorrect_length(1);
+    for (make, code, sense, bytes) in [
+        (0, 0x00, None, b"hello".as_slice()),
+        (1, 0x02, Some(sense), b"hello".as_slice()),
+        (2, 0x18, None, b"".as_slice()),
+    ] {
+        let Ok(given) = Bytes::from_slice(alloc, bytes) else {
+            assert!(rt; false, "memory is there");
+            return;
+        };
+        let reply = match make {
+            0 => Reply::good(given),
+            1 => Reply::check(Sense::incorrect_length(1), given),
+            _ => Reply::conflict(alloc),
+        };
+        assert_eq!(rt; reply.status.code(), code);
+        assert_eq!(rt; reply.sense, sense);
+        assert_eq!(rt; reply.bytes.as_slice(), bytes);
+    }
 }

@@ -1,0 +1,59 @@
+-- Sets of unit attention conditions.
+use Rattle.std.specs.Prelude.{Bool, true, false, List, [], ◌∷◌, Option, find}
+use Rattle.scsi_attention.specs.declared.attention_sets.Attention.{Attention}
+use Rattle.scsi_attention.specs.declared.attention_sets.Attention.TheVariants.{PowerOn, MediumChanged, ReservationsPreempted, RegistrationsPreempted, ReservationsReleased, ModeChanged}
+
+-- which conditions are established for one nexus (SAM-5, unit attention condition)
+pub record AttentionSet : Type 0 where
+  pub power_on : Bool
+  pub medium_changed : Bool
+  pub reservations_preempted : Bool
+  pub registrations_preempted : Bool
+  pub reservations_released : Bool
+  pub mode_changed : Bool
+
+-- no condition (own)
+abbrev pub no_attentions : AttentionSet
+no_attentions = record {
+  power_on = false;
+  medium_changed = false;
+  reservations_preempted = false;
+  registrations_preempted = false;
+  reservations_released = false;
+  mode_changed = false;
+}
+
+-- whether a condition is in a set (own)
+abbrev pub contains : Attention → AttentionSet → Bool
+contains PowerOn set = set.power_on
+contains MediumChanged set = set.medium_changed
+contains ReservationsPreempted set = set.reservations_preempted
+contains RegistrationsPreempted set = set.registrations_preempted
+contains ReservationsReleased set = set.reservations_released
+contains ModeChanged set = set.mode_changed
+
+-- a set in which a condition is established or is not, the others as they were (own)
+abbrev pub set_to : Bool → Attention → AttentionSet → AttentionSet
+set_to established PowerOn set = record set { power_on = established }
+set_to established MediumChanged set = record set { medium_changed = established }
+set_to established ReservationsPreempted set = record set { reservations_preempted = established }
+set_to established RegistrationsPreempted set = record set { registrations_preempted = established }
+set_to established ReservationsReleased set = record set { reservations_released = established }
+set_to established ModeChanged set = record set { mode_changed = established }
+
+-- a set once a condition is established (SAM-5, unit attention condition)
+abbrev pub with_attention : Attention → AttentionSet → AttentionSet
+with_attention attention set = set_to true attention set
+
+-- a set once a condition is cleared (SAM-5, unit attention condition)
+abbrev pub without : Attention → AttentionSet → AttentionSet
+without attention set = set_to false attention set
+
+-- the order in which conditions are reported (own)
+abbrev pub in_order : List Attention
+in_order =
+    PowerOn ∷ MediumChanged ∷ ReservationsPreempted ∷ RegistrationsPreempted ∷ ReservationsReleased ∷ ModeChanged ∷ []
+
+-- the condition of a set that is reported first (own)
+abbrev pub first_of : AttentionSet → Option Attention
+first_of set = find (λ attention. contains attention set) in_order

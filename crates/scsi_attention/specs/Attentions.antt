@@ -1,0 +1,31 @@
+-- The unit attention conditions of all nexuses of a drive, by rising nexus.
+use Rattle.std.specs.Prelude.{ℕ, ◌-◌, List, map, slice_get, slice_set, Option, None, Some}
+use Rattle.scsi_attention.specs.declared.attention_sets.Attention.{Attention}
+use Rattle.scsi_attention.specs.AttentionSets.{AttentionSet, first_of, with_attention, without}
+
+-- the condition of a nexus's set that is reported first (own)
+abbrev pub attention_in : Option AttentionSet → Option Attention
+attention_in None = None
+attention_in (Some set) = first_of set
+
+-- the condition that a nexus is reported next (own)
+abbrev pub attention_of : List AttentionSet → ℕ → Option Attention
+attention_of sets nexus = attention_in (slice_get sets (nexus - 1))
+
+-- all sets once a condition is cleared in this set, which is a nexus's (own)
+abbrev pub cleared_in : Option AttentionSet → List AttentionSet → ℕ → Attention → List AttentionSet
+cleared_in None sets nexus attention = sets
+cleared_in (Some set) sets nexus attention = slice_set sets (nexus - 1) (without attention set)
+
+-- all sets once a condition is cleared for a nexus (SAM-5, unit attention condition)
+abbrev pub cleared : List AttentionSet → ℕ → Attention → List AttentionSet
+cleared sets nexus attention = cleared_in (slice_get sets (nexus - 1)) sets nexus attention
+
+-- all sets once a condition, if any, was reported to a nexus: it is then cleared for that nexus (SAM-5)
+abbrev pub reported : List AttentionSet → ℕ → Option Attention → List AttentionSet
+reported sets nexus None = sets
+reported sets nexus (Some attention) = cleared sets nexus attention
+
+-- all sets once a condition is established for every nexus (SAM-5, unit attention condition)
+abbrev pub established_for_all : List AttentionSet → Attention → List AttentionSet
+established_for_all sets attention = map (with_attention attention) sets

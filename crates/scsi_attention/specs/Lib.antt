@@ -1,0 +1,4 @@
+pub mod AttentionSets
+pub mod Attentions
+pub mod Inner
+pub mod Laws

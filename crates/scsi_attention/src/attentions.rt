@@ -1,0 +1,60 @@
+//! The unit attention conditions of every nexus of a drive.
+ghost use Rattle.std.specs.Prelude.{◌≡◌, replicate};
+ghost use Rattle.scsi_attention.specs.Attentions.{attention_of, established_for_all, reported};
+ghost use Rattle.vtl_base.specs.declared.limits.TheConstants.{NEXUSES};
+
+use crate::attention_sets::{Attention, AttnSet};
+use std::marker::Model;
+use vtl_base::Nexus;
+
+/// The conditions that are established for each nexus. To a contract they are the list of the sets, by
+/// rising nexus.
+#[derive(Drop)]
+pub struct Attentions {
+    sets: [AttnSet; 64],
+}
+
+impl Model for Attentions {
+    ghost use Rattle.std.specs.Prelude.{List};
+    ghost use Rattle.scsi_attention.specs.AttentionSets.{AttentionSet};
+
+    ghost Value = { List AttentionSet };
+
+    ghost view = { λ attentions. attentions.sets };
+}
+
+impl Attentions {
+    /// The same conditions for each nexus.
+    pub fn all(set: AttnSet) -> Self
+        ensures { result ≡ replicate NEXUSES set }
+    {
+        Attentions { sets: [set; 64] }
+    }
+
+    /// Reports the first condition that is established for a nexus, and clears it; nothing else changes.
+    pub fn report(&mut self, nexus: Nexus) -> Option<Attention>
+        ensures reports { result ≡ attention_of self.old nexus }
+        ensures clears { self.new ≡ reported self.old nexus result }
+    {
+        let place = nexus.place();
+        let attention = self.sets[place].first()?;
+        let set = &mut self.sets[place];
+        set.remove(attention);
+        Some(attention)
+    }
+
+    /// Establishes a condition for every nexus.
+    pub fn establish_for_all(&mut self, attention: Attention)
+        ensures { self.new ≡ established_for_all self.old attention }
+    {
+        insert_in_each(&mut self.sets, attention);
+    }
+}
+
+fn insert_in_each(sets: &mut [AttnSet], attention: Attention)
+    ensures { sets.new ≡ established_for_all sets.old attention }
+{
+    for set in sets.iter_mut() {
+        set.insert(attention);
+    }
+}

@@ -1,0 +1,3 @@
+pub mod Replies
+pub mod SenseData
+pub mod Senses

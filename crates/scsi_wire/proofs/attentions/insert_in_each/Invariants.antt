@@ -1,7 +1,0 @@
-use Rattle.std.proofs.Common.{◌≡◌, ◌++◌, take, drop, map}
-use Rattle.scsi_wire.specs.AttentionSets.{with_attention}
-use Rattle.scsi_wire.proofs.attentions.insert_in_each.Given as goal
-
-abbrev pub invariant-loop-set : goal.invariant-loop-set
-invariant-loop-set l =
-    l.sets ≡ map (with_attention l.attention) (take l.set-index l.initial.sets) ++ drop l.set-index l.initial.sets
