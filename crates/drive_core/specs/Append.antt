@@ -48,7 +48,7 @@ abbrev pub AppendFails : Bool → Change → Mounted → List Change → Mounted
 AppendFails settles change old made new =
     ((made ≡ []) × FailsToStore old new)
     ⊎ ((settles ≡ true) × (made ≡ change ∷ [])
-      × (between : MediumState) × IsAppended change old between new.position × Breaks between new.medium)
+    × (between : MediumState) × IsAppended change old between new.position × Breaks between new.medium)
 
 -- A change is made at the position, or nothing is changed. Memory runs out, the side is full and the device fails only
 -- for a change that the volume does not refuse; a side is full only where what is pending and the change exceed its

@@ -60,7 +60,7 @@ pub record Answers {M : Type 0}
   pub taken :
       Takes state below
       (λ answer made new. Step (HonestIn below (medium_in old.bay)) (machine_of state old)
-        (Execute request) (Answered answer) made new)
+      (Execute request) (Answered answer) made new)
       old answer new
 
 -- what a host sends (own)

@@ -70,4 +70,4 @@ module _ {M : Type 0} (state : M → MediumState) (below : Below M Change) where
     pub step :
         (old : Machine)
         → Step (HonestIn below given) old
-          (PowerOn (option_map state given)) (Unanswered outcome) made_nothing (machine_of state new)
+        (PowerOn (option_map state given)) (Unanswered outcome) made_nothing (machine_of state new)

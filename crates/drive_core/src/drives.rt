@@ -56,23 +56,7 @@ impl<M: Medium> Drive<M> {
         ensures switched { SwitchesOn M.state M.below medium result }
         ensures step { IfOk result (λ drive. PowerOnSteps M.state M.below medium drive) }
     {
-        let bay = match medium {
-            Some(medium) => match open(medium) {
-                Ok(bay) => bay,
-                Err(medium) => return Err((Some(medium), NoMemory)),
-            },
-            None => Bay::Empty,
-        };
-        let mut pending = AttnSet::empty();
-        pending.insert(Attention::PowerOn);
-        Ok(Drive {
-            alloc,
-            bay,
-            position: START,
-            buffered: true,
-            deferred: false,
-            attentions: Attentions::all(pending),
-        })
+        switch_on(alloc, medium)
     }
 
     /// Whether there is no cartridge in it, loaded or not.
@@ -106,17 +90,7 @@ impl<M: Medium> Drive<M> {
         ensures taken { TakesIn M.state M.below self.old medium result self.new }
         ensures step { LoadSteps M.state M.below self.old medium result self.new }
     {
-        let mut medium = medium;
-        if let Err(error) = medium.wake() {
-            return Err((medium, wake_reply(self.alloc, error)));
-        }
-        self.position = start_of(&medium);
-        match mem::replace(&mut self.bay, Bay::Loaded(medium)) {
-            Bay::Empty => {}
-            Bay::Unloaded(_other) | Bay::Loaded(_other) => unreachable!(),
-        }
-        self.attentions.establish_for_all(Attention::MediumChanged);
-        Ok(())
+        self.take_in(medium)
     }
 
     /// A flusher's turn: stores what is pending. A fault establishes a deferred error, which the
@@ -152,6 +126,24 @@ impl<M: Medium> Drive<M> {
             Ok(reply) => reply,
             Err(fault) => fault.reply(alloc),
         }
+    }
+
+    // Opens a medium, and loads it.
+    fn take_in(&mut self, medium: M) -> Result<(), (M, Reply)>
+        requires { self.old.bay ≡ Bays.Empty }
+        ensures { TakesIn M.state M.below self.old medium result self.new }
+    {
+        let mut medium = medium;
+        if let Err(error) = medium.wake() {
+            return Err((medium, wake_reply(self.alloc, error)));
+        }
+        self.position = start_of(&medium);
+        match mem::replace(&mut self.bay, Bay::Loaded(medium)) {
+            Bay::Empty => {}
+            Bay::Unloaded(_other) | Bay::Loaded(_other) => unreachable!(),
+        }
+        self.attentions.establish_for_all(Attention::MediumChanged);
+        Ok(())
     }
 
     // Code, deferred error and unit attentions, and then the rest.
@@ -212,6 +204,29 @@ impl<M: Medium> Drive<M> {
             sent,
         )
     }
+}
+
+// A drive with the medium as it opens, if any.
+fn switch_on<M: Medium>(alloc: Global, medium: Option<M>) -> Result<Drive<M>, (Option<M>, NoMemory)>
+    ensures { SwitchesOn M.state M.below medium result }
+{
+    let bay = match medium {
+        Some(medium) => match open(medium) {
+            Ok(bay) => bay,
+            Err(medium) => return Err((Some(medium), NoMemory)),
+        },
+        None => Bay::Empty,
+    };
+    let mut pending = AttnSet::empty();
+    pending.insert(Attention::PowerOn);
+    Ok(Drive {
+        alloc,
+        bay,
+        position: START,
+        buffered: true,
+        deferred: false,
+        attentions: Attentions::all(pending),
+    })
 }
 
 // A command whose answer does not wait needs the buffered mode.

@@ -1,7 +1,6 @@
 //! Opening a medium that comes into a drive.
 ghost use Rattle.std.specs.Prelude.{◌≡◌, [], true, IfOk};
 ghost use Rattle.scsi_wire.specs.Replies.{check_with};
-
 ghost use Rattle.drive_core.specs.declared.bays.Bay.TheVariants as Bays;
 ghost use Rattle.drive_core.specs.State.{start, IsPositioned, IsBayPositioned};
 ghost use Rattle.drive_core.specs.Faults.{reply_of};

@@ -38,10 +38,7 @@ pub fn write<M: Medium>(
     }
     let amount = sent.len() as u32;
     if !has_room(medium, *position, sent) {
-        return Ok(Reply::check(
-            Sense::volume_overflow(Some(amount)),
-            Bytes::new(alloc),
-        ));
+        return Ok(Reply::check(Sense::volume_overflow(Some(amount)), Bytes::new(alloc)));
     }
     let block = Bytes::from_slice(alloc, sent)?;
     let change = Change::Put {
@@ -60,7 +57,8 @@ fn has_room<C: Catalog>(medium: &C, position: Position, sent: &[u8]) -> bool
     ensures { refusal_of (volume_of (C.state medium.now)) (put_at position sent.now)
         ≡ (if result then None else Some Refusals.NoRoom) }
 {
+    let capacity = medium.capacity(position.part);
     let before = medium.used(position.part, position.object);
     let cost = sent.len() as u64 + OBJECT_COST;
-    position.object < MAX_OBJECTS && before + cost <= medium.capacity(position.part)
+    position.object < MAX_OBJECTS && before + cost <= capacity
 }
