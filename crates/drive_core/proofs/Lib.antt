@@ -1,6 +1,7 @@
-pub mod AddLemmas
+pub mod TakesLemmas
+pub mod AppendLemmas
+pub mod ReadLemmas
+pub mod CheckLemmas
+pub mod LoadLemmas
 pub mod StepLemmas
-pub mod SettledLemmas
 pub mod RunLemmas
-pub mod CommandLemmas
-pub mod DeterminedLemmas

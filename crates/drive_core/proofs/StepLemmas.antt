@@ -9,90 +9,151 @@ use Rattle.scsi_wire.specs.Attentions.{attention_of}
 use Rattle.scsi_wire.specs.Opcodes.{opcode_of, is_exempt, needs_medium}
 use Rattle.scsi_wire.specs.Commands.{command_of, sent_length}
 use Rattle.volume_core.specs.declared.changes.Change.{Change}
-use Rattle.volume_core.specs.Medium.{Tape}
+use Rattle.volume_core.specs.declared.media.MediumError.{MediumError}
+use Rattle.volume_core.specs.declared.media.MediumError.TheVariants as Errors
+use Rattle.volume_core.specs.Volume.{Part}
+use Rattle.volume_core.specs.Medium.{MediumState, IsParked, WakesFrom}
 use Rattle.drive_core.specs.declared.bays.Bay.{Bay}
 use Rattle.drive_core.specs.declared.bays.Bay.TheVariants.{Empty, Unloaded, Loaded}
 use Rattle.drive_core.specs.declared.faults.Fault.{Fault}
-use Rattle.drive_core.specs.declared.faults.Fault.TheVariants.{NoMemory, Writing, Reading, SideFull}
 use Rattle.drive_core.specs.State.{Machine, Mounted, mounted}
-use Rattle.volume_core.specs.declared.objects.Object.{Object}
-use Rattle.volume_core.specs.declared.objects.Object.TheVariants.{Block, Mark}
-use Rattle.drive_core.specs.declared.bays.Position.{Position}
-use Rattle.drive_core.specs.Read.{ReadWork, ReadAnswer, object_at}
-use Rattle.drive_core.specs.Work.{Request, TapeWork, OnTapeIn}
-use Rattle.drive_core.specs.Step.{Input, Execute, Load, Step, AtCode, AtExempt, AtDeferred, AtAttention, AtTape, AtBay, AtMedium, AtFields, AtMode, AtSent, suits_mode}
-
--- what is given by an honest medium is given by one that is honest wherever it was
-given_where : (H H' : Type 0) → (H → H') → (object : Option Object) (suppress : Bool) (asked : ℕ) (before : Position) (reply : Reply) (now : Position) → ReadAnswer H' object suppress asked before reply now → ReadAnswer H object suppress asked before reply now
-given_where H H' so None suppress asked before reply now h = h
-given_where H H' so (Some Mark) suppress asked before reply now h = h
-given_where H H' so (Some (Block block)) suppress asked before reply now h =
-    (record { given = h.0.given; bound = h.0.bound; same = λ honest. h.0.same (so honest); told = h.0.told }, h.1)
+use Rattle.drive_core.specs.Relations.{Made}
+use Rattle.drive_core.specs.Work.{Request, MediumWork, OnMediumIn}
+use Rattle.drive_core.specs.Checks.{AtCode, AtExempt, AtDeferred, AtAttention, AtNeed, AtBay, AtMedium, AtFields, AtMode, AtSent, suits}
+use Rattle.drive_core.specs.Load.{LoadsInto, PowersOn}
+use Rattle.drive_core.specs.Step.{Input, Execute, FlushTurn, Load, PowerOn, Output, Answered, Unanswered, Step}
+use Rattle.drive_core.proofs.ReadLemmas.{read_where}
 
 module _ (H H' : Type 0) (so : H → H') where
-  read_where : (suppress : Bool) (asked : ℕ) (old : Mounted) (answer : Result Reply Fault) (made : List Change) (new : Mounted) → ReadWork H' suppress asked old answer made new → ReadWork H suppress asked old answer made new
-  read_where suppress zero old answer made new h = h
-  read_where suppress (suc n) old (Ok reply) made new h = (h.0, h.1, given_where H H' so (object_at old) suppress (suc n) old.position reply new.position h.2)
-  read_where suppress (suc n) old (Err NoMemory) made new h = h
-  read_where suppress (suc n) old (Err Writing) made new h = h
-  read_where suppress (suc n) old (Err Reading) made new h = h
-  read_where suppress (suc n) old (Err (SideFull residue)) made new h = h
-
-  work_where : (command : Command) (buffered : Bool) (sent : List ℕ) (old : Mounted) (answer : Result Reply Fault) (made : List Change) (new : Mounted) → TapeWork H' command buffered sent old answer made new → TapeWork H command buffered sent old answer made new
+  work_where : (command : Command) (buffered : Bool) (sent : List ℕ) (old : Mounted) (answer : Result Reply Fault) (made : List Change) (new : Mounted)
+      → MediumWork H' command buffered sent old answer made new
+      → MediumWork H command buffered sent old answer made new
   work_where TestUnitReady buffered sent old answer made new h = h
   work_where Rewind buffered sent old answer made new h = h
-  work_where (Read asked suppress) buffered sent old answer made new h = read_where suppress asked old answer made new h
+  work_where (Read asked suppress) buffered sent old answer made new h = read_where H H' so suppress asked old answer made new h
   work_where (Write asked) buffered sent old answer made new h = h
   work_where (WriteFilemarks count immediate) buffered sent old answer made new h = h
 
-  module _ (old : Machine) (request : Request) (answer : Result Reply Fault) (made : List Change) (new : Machine) where
-    tape_where : (bay : Bay Tape) (command : Command) → OnTapeIn bay (TapeWork H' command old.buffered request.sent) old answer made new → OnTapeIn bay (TapeWork H command old.buffered request.sent) old answer made new
-    tape_where (Loaded tape) command h = (h.0, work_where command old.buffered request.sent (mounted tape old.position) answer made h.0 h.1, h.2)
-    tape_where Empty command h = h
-    tape_where (Unloaded tape) command h = h
+  module _ (old : Machine) (request : Request) (answer : Result Reply Fault) (made : Made) (new : Machine) where
+    bay_work_where : (bay : Bay MediumState) (command : Command)
+        → OnMediumIn bay (MediumWork H' command old.buffered request.sent) old answer made new
+        → OnMediumIn bay (MediumWork H command old.buffered request.sent) old answer made new
+    bay_work_where (Loaded medium) command h = (h.0, work_where command old.buffered request.sent (mounted medium old.position) answer made.changes h.0 h.1, h.2)
+    bay_work_where Empty command h = h
+    bay_work_where (Unloaded medium) command h = h
 
-    sent_where : (b : Bool) (command : Command) → AtSent H' old request answer made new b command → AtSent H old request answer made new b command
+    sent_where : (b : Bool) (command : Command)
+        → AtSent H' old request answer made new b command
+        → AtSent H old request answer made new b command
     sent_where false command h = h
-    sent_where true command h = tape_where old.bay command h
+    sent_where true command h = bay_work_where old.bay command h
 
-    mode_where : (b : Bool) (command : Command) → AtMode H' old request answer made new b command → AtMode H old request answer made new b command
+    mode_where : (b : Bool) (command : Command)
+        → AtMode H' old request answer made new b command
+        → AtMode H old request answer made new b command
     mode_where false command h = h
     mode_where true command h = sent_where (length request.sent == sent_length command) command h
 
-    fields_where : (command : Option Command) → AtFields H' old request answer made new command → AtFields H old request answer made new command
+    fields_where : (command : Option Command)
+        → AtFields H' old request answer made new command
+        → AtFields H old request answer made new command
     fields_where None h = h
-    fields_where (Some command) h = mode_where (suits_mode old.buffered command) command h
+    fields_where (Some command) h = mode_where (suits old command) command h
 
-    medium_where : (b : Bool) (opcode : Opcode) → AtMedium H' old request answer made new b opcode → AtMedium H old request answer made new b opcode
+    medium_where : (b : Bool) (opcode : Opcode)
+        → AtMedium H' old request answer made new b opcode
+        → AtMedium H old request answer made new b opcode
     medium_where true opcode h = h
     medium_where false opcode h = fields_where (command_of opcode request.cdb) h
 
-    bay_where : (bay : Bay Tape) (opcode : Opcode) → AtBay H' old request answer made new bay opcode → AtBay H old request answer made new bay opcode
-    bay_where (Loaded tape) opcode h = medium_where tape.failed opcode h
+    bay_where : (bay : Bay MediumState) (opcode : Opcode)
+        → AtBay H' old request answer made new bay opcode
+        → AtBay H old request answer made new bay opcode
+    bay_where (Loaded medium) opcode h = medium_where medium.failed opcode h
     bay_where Empty opcode h = h
-    bay_where (Unloaded tape) opcode h = h
+    bay_where (Unloaded medium) opcode h = h
 
-    needs_where : (b : Bool) (opcode : Opcode) → AtTape H' old request answer made new b opcode → AtTape H old request answer made new b opcode
+    needs_where : (b : Bool) (opcode : Opcode)
+        → AtNeed H' old request answer made new b opcode
+        → AtNeed H old request answer made new b opcode
     needs_where false opcode h = fields_where (command_of opcode request.cdb) h
     needs_where true opcode h = bay_where old.bay opcode h
 
-    attention_where : (a : Option Attention) (opcode : Opcode) → AtAttention H' old request answer made new a opcode → AtAttention H old request answer made new a opcode
+    attention_where : (a : Option Attention) (opcode : Opcode)
+        → AtAttention H' old request answer made new a opcode
+        → AtAttention H old request answer made new a opcode
     attention_where (Some attention) opcode h = h
     attention_where None opcode h = needs_where (needs_medium opcode) opcode h
 
-    deferred_where : (b : Bool) (opcode : Opcode) → AtDeferred H' old request answer made new b opcode → AtDeferred H old request answer made new b opcode
+    deferred_where : (b : Bool) (opcode : Opcode)
+        → AtDeferred H' old request answer made new b opcode
+        → AtDeferred H old request answer made new b opcode
     deferred_where true opcode h = h
     deferred_where false opcode h = attention_where (attention_of old.attentions request.nexus) opcode h
 
-    exempt_where : (b : Bool) (opcode : Opcode) → AtExempt H' old request answer made new b opcode → AtExempt H old request answer made new b opcode
+    exempt_where : (b : Bool) (opcode : Opcode)
+        → AtExempt H' old request answer made new b opcode
+        → AtExempt H old request answer made new b opcode
     exempt_where true opcode h = fields_where (command_of opcode request.cdb) h
     exempt_where false opcode h = deferred_where old.deferred opcode h
 
-    code_where : (o : Option Opcode) → AtCode H' old request answer made new o → AtCode H old request answer made new o
+    code_where : (o : Option Opcode)
+        → AtCode H' old request answer made new o
+        → AtCode H old request answer made new o
     code_where None h = h
     code_where (Some opcode) h = exempt_where (is_exempt opcode) opcode h
 
+  parked_where : (stored : Option (List Part)) (torn : List Change) (new : MediumState)
+      → IsParked H' stored torn new → IsParked H stored torn new
+  parked_where stored torn new h =
+      record {
+        parked = h.parked;
+        works = h.works;
+        nothing_pending = h.nothing_pending;
+        gives = λ honest. h.gives (so honest);
+      }
+
+  wakes_from_where : (awake : Bool) (old : MediumState) (woke : Result Unit MediumError) (new : MediumState)
+      → WakesFrom H' awake old woke new → WakesFrom H awake old woke new
+  wakes_from_where true old (Ok done) new h = h
+  wakes_from_where true old (Err Errors.Failed) new h = h
+  wakes_from_where true old (Err (Errors.Refused cause)) new h = h
+  wakes_from_where true old (Err Errors.NoMemory) new h = h
+  wakes_from_where true old (Err Errors.SideFull) new h = h
+  wakes_from_where true old (Err Errors.Device) new h = h
+  wakes_from_where true old (Err Errors.Unreadable) new h = h
+  wakes_from_where false old (Ok done) new h = (h.0, λ honest. h.1 (so honest))
+  wakes_from_where false old (Err Errors.NoMemory) new h = parked_where old.stored old.torn new h
+  wakes_from_where false old (Err Errors.Device) new h = parked_where old.stored old.torn new h
+  wakes_from_where false old (Err Errors.Unreadable) new h =
+      (parked_where old.stored old.torn new h.0, λ honest. h.1 (so honest))
+  wakes_from_where false old (Err Errors.Failed) new h = h
+  wakes_from_where false old (Err (Errors.Refused cause)) new h = h
+  wakes_from_where false old (Err Errors.SideFull) new h = h
+
+  loads_where : (bay : Bay MediumState) (medium : MediumState) (old : Machine) (answer : Result Reply Fault)
+      (made : Made) (new : Machine)
+      → LoadsInto H' bay medium old answer made new → LoadsInto H bay medium old answer made new
+  loads_where Empty medium old answer made new h =
+      (h.0, h.1, wakes_from_where medium.awake medium h.0 h.1 h.2, h.3, h.4)
+  loads_where (Unloaded other) medium old answer made new h = h
+  loads_where (Loaded other) medium old answer made new h = h
+
+  powers_where : (medium : Option MediumState) (outcome : Result Unit Fault) (made : Made) (new : Machine)
+      → PowersOn H' medium outcome made new → PowersOn H medium outcome made new
+  powers_where None outcome made new h = h
+  powers_where (Some medium) outcome made new h =
+      (h.0, h.1, h.2, wakes_from_where medium.awake medium h.0 h.1 h.3, h.4, h.5, h.6, h.7)
+
   -- a step over a medium that is honest wherever another fact holds
-  pub step_where : (old : Machine) (input : Input) (answer : Result Reply Fault) (made : List Change) (new : Machine) → Step H' old input answer made new → Step H old input answer made new
-  step_where old (Execute request) answer made new h = code_where old request answer made new (opcode_of request.cdb) h
-  step_where old (Load tape) answer made new h = h
+  pub step_where : (old : Machine) (input : Input) (output : Output) (made : Made) (new : Machine)
+      → Step H' old input output made new → Step H old input output made new
+  step_where old (Execute request) (Answered answer) made new h =
+      code_where old request answer made new (opcode_of request.cdb) h
+  step_where old FlushTurn (Unanswered outcome) made new h = h
+  step_where old (Load medium) (Answered answer) made new h = loads_where old.bay medium old answer made new h
+  step_where old (PowerOn medium) (Unanswered outcome) made new h = powers_where medium outcome made new h
+  step_where old (Execute request) (Unanswered outcome) made new h = absurd h
+  step_where old FlushTurn (Answered answer) made new h = absurd h
+  step_where old (Load medium) (Unanswered outcome) made new h = absurd h
+  step_where old (PowerOn medium) (Answered answer) made new h = absurd h

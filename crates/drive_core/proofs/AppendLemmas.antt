@@ -1,0 +1,173 @@
+-- What a change at the position makes of a medium, and how it is answered.
+use Rattle.std.proofs.Common.{◌≡◌, ◌<◌, ◌≤◌, ◌+◌, ◌&&◌, ◌++◌, if◌then◌else◌, ℕ, zero, suc, List, [], ◌∷◌, Option, Some, None, Result, Ok, Err, Bool, true, false, length, take, sum_by, nat_lt, nat_le, slice_get, slice_set, refl, arith, sym, ◌∙◌, ap, inl, inr, length-append}
+use Rattle.std.proofs.lemmas.Bool.Decides.{nat_tests}
+use Rattle.std.proofs.lemmas.List.{length-take-le}
+use Rattle.std.proofs.lemmas.List.Sums.{sum_by_push}
+use Rattle.vtl_base.specs.declared.limits.TheConstants.{MAX_BLOCK, MAX_OBJECTS, OBJECT_COST}
+use Rattle.scsi_wire.specs.declared.replies.Reply.{Reply}
+use Rattle.volume_core.specs.declared.changes.Change.{Change}
+use Rattle.volume_core.specs.declared.changes.Refusal.{Refusal}
+use Rattle.volume_core.specs.declared.changes.Refusal.TheVariants.{NoRoom}
+use Rattle.volume_core.specs.declared.media.MediumError.{MediumError}
+use Rattle.volume_core.specs.declared.media.MediumError.TheVariants as medium
+use Rattle.volume_core.specs.declared.objects.Object.{Object}
+use Rattle.volume_core.specs.declared.objects.Object.TheVariants.{Block}
+use Rattle.volume_core.specs.Volume.{Part, objects_of, capacity_of, used_up_to, used_of, cost_of, refusal_in, refusal_of, changed, part_after, added_by, part_of, kept_of, is_well_formed, has_room, objects_after}
+use Rattle.volume_core.specs.Medium.{MediumState, volume_of, Accepts, met_fault}
+use Rattle.drive_core.specs.declared.bays.Position.{Position}
+use Rattle.drive_core.specs.declared.faults.Fault.{Fault}
+use Rattle.drive_core.specs.declared.faults.Fault.TheVariants.{Writing, NoMemory, Reading, SideFull}
+use Rattle.drive_core.specs.State.{mounted}
+use Rattle.drive_core.specs.Append.{AppendWork, amount_of, behind}
+use Rattle.drive_core.specs.Write.{put_at}
+use Rattle.drive_core.specs.Execute.{is_device_fault}
+use Rattle.drive_core.specs.Inner.Carries.{IsReady}
+use Rattle.drive_core.specs.Inner.Appending.{IsAt, SettlesAfter, refused_as}
+
+-- there is a partition at a number below their count
+part_at : (volume : List Part) (p : ℕ) → p < length volume → (part : Part) × (slice_get volume p ≡ Some part)
+part_at [] p h = absurd (omega (arith, h))
+part_at (part ∷ parts) zero h = (part, refl)
+part_at (part ∷ parts) (suc p) h = part_at parts p (omega (arith, h))
+
+slice_get-set : (volume : List Part) (p : ℕ) (part : Part) → p < length volume
+    → slice_get (slice_set volume p part) p ≡ Some part
+slice_get-set [] p part h = absurd (omega (arith, h))
+slice_get-set (x ∷ xs) zero part h = refl
+slice_get-set (x ∷ xs) (suc p) part h = slice_get-set xs p part (omega (arith, h))
+
+-- behind a change stand the objects that stayed, and those that it adds
+count_changed : (volume : List Part) (change : Change) → part_of change < length volume
+    → kept_of change ≤ length (objects_of volume (part_of change))
+    → length (objects_of (changed volume change) (part_of change)) ≡ kept_of change + length (added_by change)
+count_changed volume change within at =
+    let (part, is) = part_at volume (part_of change) within in
+    let stands : changed volume change ≡ slice_set volume (part_of change) (part_after part change) = rw is refl in
+    rw (stands, slice_get-set volume (part_of change) (part_after part change) within)
+    (simp length-append (omega (arith, length-take-le (kept_of change) part.objects (rw is at at))))
+
+refused_in : (part : Part) (change : Change) (cause : Refusal) → kept_of change ≤ length part.objects
+    → is_well_formed change ≡ true → refusal_in (Some part) change ≡ Some cause → cause ≡ NoRoom
+refused_in part change cause at formed e = grind (arith, nat_tests)
+
+-- a change that is well formed, at a position on the medium, is refused for want of room alone
+refused_for_room : (volume : List Part) (change : Change) (cause : Refusal) → part_of change < length volume
+    → kept_of change ≤ length (objects_of volume (part_of change)) → is_well_formed change ≡ true
+    → refusal_of volume change ≡ Some cause → refusal_of volume change ≡ Some NoRoom
+refused_for_room volume change cause within at formed e =
+    let (part, is) = part_at volume (part_of change) within in
+    e ∙ ap Some (refused_in part change cause (rw is at at) formed (rw is at e))
+
+-- the part and the object of a change at a position on the medium
+within : (u : MediumState) (p : Position) (change : Change) → IsReady (mounted u p) → IsAt p change
+    → part_of change < length (volume_of u)
+within u p change ready at = rw at.part ready.on.part
+
+reaches : (u : MediumState) (p : Position) (change : Change) → IsReady (mounted u p) → IsAt p change
+    → kept_of change ≤ length (objects_of (volume_of u) (part_of change))
+reaches u p change ready at = rw (at.part, at.object) ready.on.object
+
+-- what a medium does not accept changes nothing
+pub append_refused : (settles : Bool) (change : Change) (u t : MediumState) (p : Position) (error : MediumError)
+    → IsReady (mounted u p) → IsAt p change → is_well_formed change ≡ true → Accepts u change (Err error) t
+    → AppendWork settles change (mounted u p) (refused_as error (amount_of change)) [] (mounted t p)
+append_refused settles change u t p (medium.Refused cause) ready at formed answer =
+    let room = refused_for_room (volume_of u) change cause (within u p change ready at) (reaches u p change ready at) formed answer.0 in
+    rw room (refl, refl, ap (λ (x : MediumState). mounted x p) answer.2)
+append_refused settles change u t p medium.NoMemory ready at formed answer =
+    (answer.0, refl, record { medium = answer.2; position = refl })
+append_refused settles change u t p medium.SideFull ready at formed answer =
+    (answer.0, refl, refl, ap (λ (x : MediumState). mounted x p) answer.2, answer.1)
+append_refused settles change u t p medium.Device ready at formed answer =
+    (answer.0, inl (refl, record { some_pending = answer.2; medium = answer.3; position = refl }))
+append_refused settles change u t p medium.Failed ready at formed answer = let works = ready.works in cc answer.0
+append_refused settles change u t p medium.Unreadable ready at formed answer = absurd answer
+
+-- the position behind a change is the end of data
+stands : (change : Change) (u mid : MediumState) (p : Position) (count : ℕ) → IsReady (mounted u p) → IsAt p change
+    → Accepts u change (Ok tt) mid → count ≡ length (objects_of (volume_of mid) p.part)
+    → record p { object = count } ≡ behind change p
+stands change u mid p count ready at accepts counted =
+    let sum : count ≡ p.object + length (added_by change) =
+    counted
+    ∙ ap (λ (v : List Part). length (objects_of v p.part)) accepts.2.volume_is
+    ∙ ap (λ (n : ℕ). length (objects_of (changed (volume_of u) change) n)) (sym at.part)
+    ∙ count_changed (volume_of u) change (within u p change ready at) (reaches u p change ready at)
+    ∙ ap (λ (n : ℕ). n + length (added_by change)) at.object in
+    ap (λ (n : ℕ). record p { object = n }) sum
+
+-- what a medium accepts stands, and the position is behind it
+pub append_accepted : (settles : Bool) (change : Change) (u mid t : MediumState) (p : Position) (count : ℕ)
+    (answer : Result Reply Fault)
+    → IsReady (mounted u p) → IsAt p change → Accepts u change (Ok tt) mid
+    → count ≡ length (objects_of (volume_of mid) p.part) → SettlesAfter settles mid answer t
+    → AppendWork settles change (mounted u p) answer (change ∷ []) (mounted t (record p { object = count }))
+append_accepted settles change u mid t p count (Ok reply) ready at accepts counted done =
+    rw accepts.0 (
+      done.0,
+      refl,
+      record {
+        medium_is = record {
+          volume_is = done.1.volume_is ∙ accepts.2.volume_is;
+          works = done.1.works;
+          awake = done.1.awake;
+        };
+        position_is = stands change u mid p count ready at accepts counted;
+      },
+      done.2,
+    )
+append_accepted settles change u mid t p count (Err Writing) ready at accepts counted done = (
+  accepts.0,
+  inr (
+    done.0,
+    refl,
+    mid,
+    record {
+      medium_is = accepts.2;
+      position_is = stands change u mid p count ready at accepts counted;
+    },
+    done.1,
+  ),
+)
+append_accepted settles change u mid t p count (Err NoMemory) ready at accepts counted done = absurd done
+append_accepted settles change u mid t p count (Err Reading) ready at accepts counted done = absurd done
+append_accepted settles change u mid t p count (Err (SideFull residue)) ready at accepts counted done = absurd done
+
+-- the device fails where it failed in the medium's call
+pub fault_refused : (error : MediumError) (amount : ℕ)
+    → met_fault (Err error) ≡ is_device_fault (refused_as error amount)
+fault_refused (medium.Refused cause) amount = refl
+fault_refused medium.NoMemory amount = refl
+fault_refused medium.SideFull amount = refl
+fault_refused medium.Device amount = refl
+fault_refused medium.Failed amount = refl
+fault_refused medium.Unreadable amount = refl
+
+-- what the objects before a block and the block take together
+used_with_block : (objects : List Object) (block : List ℕ)
+    → used_of (objects ++ Block block ∷ []) ≡ used_of objects + (length block + OBJECT_COST)
+used_with_block objects block = sum_by_push cost_of objects (Block block)
+
+-- whether a block fits behind the first objects of a partition
+block_in : (part : Part) (number at : ℕ) (block : List ℕ) → at ≤ length part.objects → at < MAX_OBJECTS
+    → 1 ≤ length block → length block ≤ MAX_BLOCK
+    → refusal_in (Some part) (put_at (record { part = number; object = at }) block)
+    ≡ (if nat_le (used_of (take at part.objects) + (length block + OBJECT_COST)) part.capacity then None
+    else Some NoRoom)
+block_in part number at block inside below some short =
+    let used = used_with_block (take at part.objects) block in
+    let count : length (take at part.objects ++ Block block ∷ []) ≡ at + 1 =
+    simp length-append (omega (arith, length-take-le at part.objects inside)) in
+    rw (used, count) (grind (arith, nat_tests))
+
+-- whether a block fits at a position
+pub room_for_block : (volume : List Part) (position : Position) (block : List ℕ) → position.part < length volume
+    → position.object ≤ length (objects_of volume position.part) → position.object < MAX_OBJECTS
+    → 1 ≤ length block → length block ≤ MAX_BLOCK
+    → refusal_of volume (put_at position block)
+    ≡ (if nat_le (used_up_to volume position.part position.object + (length block + OBJECT_COST))
+    (capacity_of volume position.part) then None
+    else Some NoRoom)
+room_for_block volume position block within at below some short =
+    let (part, is) = part_at volume position.part within in
+    rw is (block_in part position.part position.object block (rw is at at) below some short)

@@ -1,0 +1,9 @@
+use Rattle.volume_core.specs.Medium.{volume_of}
+use Rattle.drive_core.proofs.AppendLemmas.{room_for_block}
+use Rattle.drive_core.proofs.writes.has_room.Goals as goal
+
+pub returns-then-position-lt-MAX_OBJECTS : goal.returns-then-position-lt-MAX_OBJECTS
+returns-then-position-lt-MAX_OBJECTS g c =
+    rw (c.used-before.ensures.used, c.capacity-capacity.ensures.capacity)
+    (room_for_block (volume_of (g.C.Catalog.state c.args.medium.now)) c.args.position c.args.sent.now
+    c.requires.on.part c.requires.on.object c.if-position-lt-MAX_OBJECTS.true c.requires.some c.requires.short)
