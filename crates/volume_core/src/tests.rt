@@ -197,7 +197,7 @@ fn capacities_have_their_limits(rt: HostRuntime) {
 
 // Hello and two marks; one of them is erased. Hello is read into a buffer that was in use.
 fn is_taken_and_given<M: Medium>(rt: &impl Abort, alloc: Global, medium: &mut M) -> Result<(), Fail>
-    requires { (M.tape medium.old).awake ≡ true }
+    requires { (M.state medium.old).awake ≡ true }
 {
     medium.put(0, 0, Bytes::from_slice(alloc, b"hello")?)?;
     medium.marks(0, 1, 2)?;
