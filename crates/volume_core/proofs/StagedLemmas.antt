@@ -149,23 +149,21 @@ parks_stored old awake works =
 
 -- one that was parked is opened without what was given up
 pub opens_without : (old : Staged) → IsFresh (staged_state (opened old)) × Opens (staged_state old) (staged_state (opened old))
-opens_without old =
-    (
-      record { awake = refl; works = refl; nothing_pending = refl },
-      record { volume = inl refl; readable = λ none. search rules },
-    )
+opens_without old = (
+  record { awake = refl; works = refl; nothing_pending = refl },
+  record { volume = inl refl; readable = λ none. search rules },
+)
 
 -- or with the frame that was under way
 pub opens_with : (old : Staged) → old.is_torn ≡ true
     → IsFresh (staged_state (opened (all_stored old))) × Opens (staged_state old) (staged_state (opened (all_stored old)))
-opens_with old torn =
-    (
-      record { awake = refl; works = refl; nothing_pending = refl },
-      record {
-        volume = rw torn (inr (ap Some (after_append (empty_volume old.capacities) old.stored old.rest)));
-        readable = λ none. search rules;
-      },
-    )
+opens_with old torn = (
+  record { awake = refl; works = refl; nothing_pending = refl },
+  record {
+    volume = rw torn (inr (ap Some (after_append (empty_volume old.capacities) old.stored old.rest)));
+    readable = λ none. search rules;
+  },
+)
 
 -- a parked one is woken where it is opened
 pub wakes_parked : (honest : Type 0) (old new : MediumState) → old.awake ≡ false → IsFresh new × Opens old new

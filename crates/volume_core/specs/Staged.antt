@@ -44,8 +44,8 @@ pub record StagedMoves (old : Staged) (made : List Change) (new : Staged) : Type
   pub kept : (more : List Change) × (new.stored ≡ old.stored ++ more)
   pub counted : old.faults ≤ new.faults
   pub whole :
-    IsWhole old → new.faults ≡ old.faults
-    → IsWhole new × (new.stored ++ new.rest ≡ (old.stored ++ old.rest) ++ made)
+      IsWhole old → new.faults ≡ old.faults
+      → IsWhole new × (new.stored ++ new.rest ≡ (old.stored ++ old.rest) ++ made)
 
 -- its device's faults are counted, it is honest, and it accepts as it moves (own)
 abbrev pub staged_below : Below Staged Change
@@ -69,17 +69,16 @@ staged_moves_on a b c first second one two =
       kept = (
         one.kept.0 ++ two.kept.0,
         two.kept.1 ∙ ap (λ (l : List Change). l ++ two.kept.0) one.kept.1
-        ∙ append_assoc a.stored one.kept.0 two.kept.0,
+            ∙ append_assoc a.stored one.kept.0 two.kept.0,
       );
       counted = omega (arith, one.counted, two.counted);
       whole = λ whole same.
-        let middle : b.faults ≡ a.faults = omega (arith, one.counted, two.counted, same) in
-        let end : c.faults ≡ b.faults = omega (arith, one.counted, two.counted, same) in
-        let left = one.whole whole middle in
-        let right = two.whole left.0 end in
-        (
-          right.0,
-          right.1 ∙ ap (λ (l : List Change). l ++ second) left.1
-          ∙ append_assoc (a.stored ++ a.rest) first second,
-        );
+          let middle : b.faults ≡ a.faults = omega (arith, one.counted, two.counted, same) in
+          let end : c.faults ≡ b.faults = omega (arith, one.counted, two.counted, same) in
+          let left = one.whole whole middle in
+          let right = two.whole left.0 end in (
+            right.0,
+            right.1 ∙ ap (λ (l : List Change). l ++ second) left.1
+                ∙ append_assoc (a.stored ++ a.rest) first second,
+          );
     }

@@ -59,14 +59,14 @@ impl Model for StagedMedium {
     ghost Value = { Staged };
 
     ghost view = { λ m. record {
-        capacities = m.capacities.items;
-        stored = take m.stored m.log.items;
-        rest = drop m.stored m.log.items;
-        is_torn = m.is_torn;
-        awake = m.awake;
-        failed = m.failed;
-        room = m.room;
-        faults = times_blown m.store_fuse + times_blown m.fetch_fuse
+      capacities = m.capacities.items;
+      stored = take m.stored m.log.items;
+      rest = drop m.stored m.log.items;
+      is_torn = m.is_torn;
+      awake = m.awake;
+      failed = m.failed;
+      room = m.room;
+      faults = times_blown m.store_fuse + times_blown m.fetch_fuse;
     } };
 
     ghost invariant = { λ m.
@@ -101,14 +101,14 @@ impl StagedMedium {
     ) -> Result<Self, NoMemory>
         requires { IsTrue (are_capacities capacities.now) }
         ensures { IfOk result (λ medium. medium ≡ record {
-            capacities = capacities.now;
-            stored = [];
-            rest = [];
-            is_torn = false;
-            awake = true;
-            failed = false;
-            room = room;
-            faults = 0
+          capacities = capacities.now;
+          stored = [];
+          rest = [];
+          is_torn = false;
+          awake = true;
+          failed = false;
+          room = room;
+          faults = 0;
         }) }
     {
         Ok(StagedMedium {

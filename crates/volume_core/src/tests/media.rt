@@ -1,8 +1,10 @@
 //! The calls of a medium, over one in memory and one whose side has an end and whose device fails.
 ghost use Rattle.std.specs.Prelude.{◌≡◌, OnOk, true};
 
-use super::{Add, change};
-use crate::{Catalog, FaultPlan, Kind, Medium, MediumError, PlainMedium, Refusal, StagedMedium, Turn};
+use super::{Add, make_change};
+use crate::{
+    Catalog, FaultPlan, Kind, Medium, MediumError, PlainMedium, Refusal, StagedMedium, Turn,
+};
 use std::alloc::Global;
 use std::process::Abort;
 use std::test::Fail;
@@ -33,7 +35,7 @@ enum Answer {
     Turned(Turn),
 }
 
-fn answer(returned: Result<(), MediumError>) -> Answer {
+fn as_answer(returned: Result<(), MediumError>) -> Answer {
     match returned {
         Ok(()) => Answer::Done,
         Err(error) => Answer::Not(error),
@@ -45,11 +47,9 @@ fn take<M: Medium>(alloc: Global, medium: &mut M, ask: Ask) -> Result<Answer, Fa
     requires { (M.state medium.old).awake ≡ true }
     ensures { OnOk result ((M.state medium.new).awake ≡ true) }
 {
-    Ok(answer(match ask {
-        Ask::Accept(at, add) => medium.accept(change(alloc, 0, at, add)?),
-        Ask::Put(at, length) => {
-            medium.put(0, at, Bytes::from_vec(vec![in alloc; 7u8; length]?))
-        }
+    Ok(as_answer(match ask {
+        Ask::Accept(at, add) => medium.accept(make_change(alloc, 0, at, add)?),
+        Ask::Put(at, length) => { medium.put(0, at, Bytes::from_vec(vec![in alloc; 7u8; length]?)) }
         Ask::Marks(at, count) => medium.marks(0, at, count),
         Ask::Erase(at) => medium.erase(0, at),
         _ => Ok(()),
@@ -77,7 +77,7 @@ fn fetch<M: Medium>(
         let wanted = vec![in alloc; 7u8; length]?;
         assert_eq!(rt; bytes.as_slice(), wanted.as_slice(), "block {at}");
     }
-    Ok(answer(fetched))
+    Ok(as_answer(fetched))
 }
 
 #[tactic(auto, using(crate::proofs::AwakeLemmas::parks_awake, crate::proofs::AwakeLemmas::wakes_awake))]
@@ -104,10 +104,10 @@ fn answered<M: Medium>(
 {
     match ask {
         Ask::Fetch(at, length) => fetch(rt, alloc, medium, at, length),
-        Ask::Settle => Ok(answer(medium.settle())),
+        Ask::Settle => Ok(as_answer(medium.settle())),
         Ask::Turn => Ok(Answer::Turned(medium.flush_turn())),
         Ask::Reopen => reopen(medium),
-        Ask::Wake => Ok(answer(medium.wake())),
+        Ask::Wake => Ok(as_answer(medium.wake())),
         _ => take(alloc, medium, ask),
     }
 }
@@ -122,10 +122,11 @@ fn assert_rows<M: Medium>(
     rows: &[Row],
 ) -> Result<(), Fail>
     requires { (M.state medium.old).awake ≡ true }
+    ensures { OnOk result ((M.state medium.new).awake ≡ true) }
 {
     for (ask, wanted, pending, failed, count) in rows {
-        let answer = answered(rt, alloc, medium, *ask)?;
-        assert_eq!(rt; answer, *wanted, "{ask:?}");
+        let given = answered(rt, alloc, medium, *ask)?;
+        assert_eq!(rt; given, *wanted, "{ask:?}");
         assert_eq!(rt; medium.pending(), *pending, "{ask:?}");
         assert_eq!(rt; medium.has_failed(), *failed, "{ask:?}");
         assert_eq!(rt; medium.count(0), *count, "{ask:?}");
@@ -160,7 +161,10 @@ const IN_MEMORY: [Row; 12] = [
 fn a_medium_in_memory_answers(rt: HostRuntime) -> Result<(), Fail> {
     let alloc = rt.alloc();
     let mut medium = PlainMedium::new(alloc, &[4_096])?;
-    assert_eq!(rt; (medium.parts(), medium.capacity(0), medium.used(0, 1)), (1, 4_096, 0));
+    assert_eq!(rt;
+        (medium.parts(), medium.capacity(0), medium.used(0, 1)),
+        (1, 4_096, 0)
+    );
     assert_rows(&rt, alloc, &mut medium, &IN_MEMORY)
 }
 
@@ -238,15 +242,66 @@ fn a_side_fills_and_a_device_fails(rt: HostRuntime) -> Result<(), Fail> {
     let alloc = rt.alloc();
     for (store, fetch, tears, keeps_torn, rows, then) in [
         (None, None, true, true, FILLING.as_slice(), [].as_slice()),
-        (Some(1), None, false, true, SETTLE_FAILS.as_slice(), WITHOUT.as_slice()),
-        (Some(1), None, true, false, SETTLE_FAILS.as_slice(), WITHOUT.as_slice()),
-        (Some(1), None, true, true, SETTLE_FAILS.as_slice(), WITH.as_slice()),
-        (Some(1), None, true, true, TURN_FAILS.as_slice(), WITH.as_slice()),
-        (Some(1), None, true, false, PARK_FAILS.as_slice(), WITHOUT.as_slice()),
-        (None, Some(1), true, true, FETCH_FAILS.as_slice(), [].as_slice()),
+        (
+            Some(1),
+            None,
+            false,
+            true,
+            SETTLE_FAILS.as_slice(),
+            WITHOUT.as_slice(),
+        ),
+        (
+            Some(1),
+            None,
+            true,
+            false,
+            SETTLE_FAILS.as_slice(),
+            WITHOUT.as_slice(),
+        ),
+        (
+            Some(1),
+            None,
+            true,
+            true,
+            SETTLE_FAILS.as_slice(),
+            WITH.as_slice(),
+        ),
+        (
+            Some(1),
+            None,
+            true,
+            true,
+            TURN_FAILS.as_slice(),
+            WITH.as_slice(),
+        ),
+        (
+            Some(1),
+            None,
+            true,
+            false,
+            PARK_FAILS.as_slice(),
+            WITHOUT.as_slice(),
+        ),
+        (
+            None,
+            Some(1),
+            true,
+            true,
+            FETCH_FAILS.as_slice(),
+            [].as_slice(),
+        ),
     ] {
-        let plan = FaultPlan { store, fetch, tears, keeps_torn };
-        let room = if store.is_none() && fetch.is_none() { 50 } else { 1_000 };
+        let plan = FaultPlan {
+            store,
+            fetch,
+            tears,
+            keeps_torn,
+        };
+        let room = if store.is_none() && fetch.is_none() {
+            50
+        } else {
+            1_000
+        };
         let mut medium = StagedMedium::new(alloc, &[4_096], room, plan)?;
         assert_rows(&rt, alloc, &mut medium, rows)?;
         assert_rows(&rt, alloc, &mut medium, then)?;

@@ -13,7 +13,7 @@ pub invariant_of-self : goal.invariant_of-self
 invariant_of-self c =
     let inside = c.self.inside in
     let leads : c.in_ok-self-inside.field-0
-        ≡ after (empty_volume inside.capacities.items) (take inside.stored inside.log.items) =
+    ≡ after (empty_volume inside.capacities.items) (take inside.stored inside.log.items) =
     rw (← c.deref.ensures.value, ← c.deref-2.ensures.value) c.in_ok-self-inside.ensures in
     rw c.truncate.ensures.items
     (staged_without

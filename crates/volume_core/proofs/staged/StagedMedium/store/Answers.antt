@@ -10,24 +10,23 @@ returns-then-blows c =
     let inside = c.self.inside in
     let some : 1 ≤ length (drop inside.stored inside.log.items) =
     omega (arith, c.if-self-len.true, length-drop inside.stored inside.log.items, c.len.ensures) in
-    rw (← c.self.view_is)
-    (
+    rw (← c.self.view_is) (
       some,
       (
         inside.tears,
         broken_is
-        (record {
-          capacities = inside.capacities.items;
-          stored = take inside.stored inside.log.items;
-          rest = drop inside.stored inside.log.items;
-          is_torn = inside.is_torn;
-          awake = inside.awake;
-          failed = inside.failed;
-          room = inside.room;
-          faults = _;
-        })
-        inside.tears
-        _
-        (omega (arith, c.if-blows.ensures.times)),
+            (record {
+              capacities = inside.capacities.items;
+              stored = take inside.stored inside.log.items;
+              rest = drop inside.stored inside.log.items;
+              is_torn = inside.is_torn;
+              awake = inside.awake;
+              failed = inside.failed;
+              room = inside.room;
+              faults = _;
+            })
+            inside.tears
+            _
+            (omega (arith, c.if-blows.ensures.times)),
       ),
     )

@@ -8,6 +8,6 @@ returns-in-Ok-clause-answer c =
     let old = c.args.self.now in
     let parked : old.awake ≡ false = search rules in
     elim c.in-Ok.ensures [
-      inl plain ↦ rw plain (wakes_parked _ _ _ parked (opens_without old))
+      | inl plain ↦ rw plain (wakes_parked _ _ _ parked (opens_without old))
       | inr torn ↦ rw torn.1 (wakes_parked _ _ _ parked (opens_with old torn.0))
     ]
