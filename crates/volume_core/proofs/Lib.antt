@@ -1,1 +1,3 @@
 pub mod VolumeLemmas
+pub mod StagedLemmas
+pub mod AwakeLemmas

@@ -1,2 +1,4 @@
 -- What only private contracts use.
 pub mod ObjectList
+pub mod Staged
+pub mod Fuses

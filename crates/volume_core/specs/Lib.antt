@@ -2,4 +2,5 @@ pub mod Volume
 pub mod Medium
 pub mod Stores
 pub mod Plain
+pub mod Staged
 pub mod Inner

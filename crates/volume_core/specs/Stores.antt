@@ -18,7 +18,7 @@ pub record Stores (old : MediumState) (made : List Change) (new : MediumState) :
   pub stored : new.stored ≡ stored_after old.stored (take count (old.pending ++ made))
   pub pending : new.pending ≡ drop count (old.pending ++ made)
 
-after_append : (volume : List Part) (xs ys : List Change) → after volume (xs ++ ys) ≡ after (after volume xs) ys
+pub after_append : (volume : List Part) (xs ys : List Change) → after volume (xs ++ ys) ≡ after (after volume xs) ys
 after_append volume [] ys = refl
 after_append volume (x ∷ xs) ys = after_append (changed volume x) xs ys
 

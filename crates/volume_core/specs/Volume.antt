@@ -1,7 +1,8 @@
 -- Volumes: partitions of objects, what these take, and what changes make of them.
 use Rattle.std.specs.Prelude.{◌≡◌, ◌≤◌, ℕ, ◌+◌, ◌-◌, ◌/◌, List, [], ◌∷◌, ◌++◌, length, take, map, replicate, sum_by, All, Option, None, Some, Result, Ok, Err, slice_get, slice_set, nat_lt, nat_le, Bool, true, not, IsTrue, ◌&&◌, if◌then◌else◌}
 use Rattle.std.specs.List.{list_all}
-use Rattle.vtl_base.specs.declared.limits.TheConstants.{MAX_BLOCK, MAX_CAPACITY, MAX_OBJECTS, MAX_PARTITIONS, MIN_CAPACITY, OBJECT_COST}
+use Rattle.vtl_base.specs.declared.limits.TheConstants.{MAX_BLOCK, MAX_OBJECTS, MAX_PARTITIONS, OBJECT_COST}
+use Rattle.vtl_base.specs.Limits.{is_capacity}
 use Rattle.volume_core.specs.declared.objects.Object.{Object}
 use Rattle.volume_core.specs.declared.objects.Object.TheVariants.{Block, Mark}
 use Rattle.volume_core.specs.declared.objects.Kind.{Kind}
@@ -35,10 +36,6 @@ is_in_early_zone capacity used = nat_lt (capacity - capacity / 16) used
 abbrev pub IsObject : Object → Type 0
 IsObject (Block bytes) = (1 ≤ length bytes) × (length bytes ≤ MAX_BLOCK)
 IsObject Mark = Unit {0}
-
--- a capacity is 4,096 to 1,099,511,627,776 bytes (own)
-abbrev pub is_capacity : ℕ → Bool
-is_capacity bytes = nat_le MIN_CAPACITY bytes && nat_le bytes MAX_CAPACITY
 
 -- a partition keeps the limits of capacity and objects, and its objects fit (own)
 pub record IsPart (part : Part) : Type 0 where
@@ -99,7 +96,7 @@ abbrev pub kind_in : Option Object → Option Kind
 kind_in None = None
 kind_in (Some object) = Some (kind_of object)
 
--- the kind of the object at a place, None where there is no object (SSC-4, logical objects)
+-- the kind of the object of a number, None where there is none (SSC-4, logical objects)
 abbrev pub kind_at : List Part → ℕ → ℕ → Option Kind
 kind_at volume number at = kind_in (slice_get (objects_of volume number) at)
 
@@ -108,7 +105,7 @@ block_in None = None
 block_in (Some Mark) = None
 block_in (Some (Block bytes)) = Some bytes
 
--- the bytes of the block at a place, None where there is no block (SSC-4, logical objects)
+-- the bytes of the block of an object number, None where there is no block (SSC-4, logical objects)
 abbrev pub block_at : List Part → ℕ → ℕ → Option (List ℕ)
 block_at volume number at = block_in (slice_get (objects_of volume number) at)
 
@@ -130,8 +127,7 @@ added_by (Put part at block) = Block block ∷ []
 added_by (Marks part at count) = replicate count Mark
 added_by (Erase part at) = []
 
--- the objects after a change: what stood behind those that stay is gone (SSC-4, WRITE,
--- WRITE FILEMARKS, ERASE)
+-- the objects after a change: what stood behind those that stay is gone (SSC-4, WRITE, WRITE FILEMARKS, ERASE)
 abbrev pub objects_after : List Object → Change → List Object
 objects_after objects change = take (kept_of change) objects ++ added_by change
 
@@ -184,12 +180,12 @@ AllApply volume (change ∷ changes) =
     (refusal_of volume change ≡ None) × AllApply (changed volume change) changes
 
 -- The answer to a change that is refused for the first of these causes, or else leads from old to
--- changed. After a refusal nothing has changed, and want of memory comes last (own).
+-- changed. After a refusal nothing has changed; whether memory runs out is decided last (own).
 abbrev pub AppliesUnless : {V : Type 0} → Option Refusal → V → V → Result Unit ApplyError → V → Type 0
 AppliesUnless refusal old changed (Ok done) new = (refusal ≡ None) × (new ≡ changed)
 AppliesUnless refusal old changed (Err (Refused cause)) new = (refusal ≡ Some cause) × (new ≡ old)
 AppliesUnless refusal old changed (Err NoMemory) new = (refusal ≡ None) × (new ≡ old)
 
--- a volume is asked for a change, and answers so (own)
+-- a volume is asked for a change, and returns this (own)
 abbrev pub Applies : List Part → Change → Result Unit ApplyError → List Part → Type 0
 Applies old change result new = AppliesUnless (refusal_of old change) old (changed old change) result new

@@ -1,10 +1,12 @@
 //! Changes of a volume, and why one is refused.
-ghost use Rattle.std.specs.Prelude.{◌≡◌, length};
+ghost use Rattle.std.specs.Prelude.{◌≡◌, IfOk, length};
 ghost use Rattle.volume_core.specs.Volume.{part_of, kept_of, added_by, used_of, is_well_formed};
+ghost use Rattle.volume_core.specs.Medium.{frame_size};
 
+use std::alloc::Global;
 use thiserror::Error;
 use vtl_base::limits::{MAX_BLOCK, OBJECT_COST};
-use vtl_base::{Bytes, ObjNo, PartNo};
+use vtl_base::{Bytes, NoMemory, ObjNo, PartNo};
 
 /// What a command does to a partition. What stood behind its first `at` objects is gone in the same
 /// change.
@@ -48,6 +50,38 @@ pub enum Refusal {
 }
 
 impl Change {
+    /// A copy of it, with a copy of its block.
+    pub fn copy(&self, alloc: Global) -> Result<Change, NoMemory>
+        ensures { IfOk result (λ copy. copy ≡ self.now) }
+    {
+        match self {
+            Change::Put { part, at, block } => Ok(Change::Put {
+                part: *part,
+                at: *at,
+                block: Bytes::from_slice(alloc, block.as_slice())?,
+            }),
+            Change::Marks { part, at, count } => Ok(Change::Marks {
+                part: *part,
+                at: *at,
+                count: *count,
+            }),
+            Change::Erase { part, at } => Ok(Change::Erase {
+                part: *part,
+                at: *at,
+            }),
+        }
+    }
+
+    /// What it takes of a side as a frame of its own, in bytes (own).
+    pub fn frame_size(&self) -> u64
+        ensures { result ≡ frame_size self.now }
+    {
+        match self {
+            Change::Put { block, .. } => 15 + block.len() as u64,
+            Change::Marks { .. } | Change::Erase { .. } => 15,
+        }
+    }
+
     // The partition that it concerns.
     pub(crate) fn part(&self) -> PartNo
         ensures { result ≡ part_of self.now }

@@ -2,11 +2,13 @@
 #![tactic(auto)]
 
 pub mod changes;
+mod fuses;
 pub mod media;
 mod object_list;
 pub mod objects;
 mod partitions;
 pub mod plain;
+pub mod staged;
 #[cfg(test)]
 mod tests;
 pub mod volumes;
@@ -15,4 +17,5 @@ pub use changes::{Change, Refusal};
 pub use media::{Catalog, Medium, MediumError, Turn};
 pub use objects::{Kind, Object};
 pub use plain::PlainMedium;
+pub use staged::{FaultPlan, StagedMedium};
 pub use volumes::{ApplyError, Volume, are_capacities, is_in_early_zone};

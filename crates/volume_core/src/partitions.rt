@@ -2,7 +2,8 @@
 ghost use Rattle.std.specs.Prelude.{◌≡◌, ◌≤◌, IsTrue, Some, slice_get, take, length};
 ghost use Rattle.std.specs.Option.{option_copied};
 ghost use Rattle.vtl_base.specs.declared.limits.TheConstants.{MAX_CAPACITY, MAX_OBJECTS};
-ghost use Rattle.volume_core.specs.Volume.{IsPart, empty_part, is_capacity, used_of, kind_in, block_in, refusal_in, part_after, AppliesUnless};
+ghost use Rattle.vtl_base.specs.Limits.{is_capacity};
+ghost use Rattle.volume_core.specs.Volume.{IsPart, empty_part, used_of, kind_in, block_in, refusal_in, part_after, AppliesUnless};
 
 use crate::changes::{Change, Refusal};
 use crate::object_list::ObjectList;
@@ -73,25 +74,36 @@ impl Partition {
         self.stock.used(n)
     }
 
+    // Why a change that is meant for this partition is refused; None where it is not.
+    pub(crate) fn refusal(&self, change: &Change) -> Option<Refusal>
+        ensures { result ≡ refusal_in (Some self.now) change.now }
+    {
+        let at = change.kept() as usize;
+        if at > self.stock.len() {
+            return Some(Refusal::PastEnd);
+        }
+        let used = self.stock.used(at);
+        let fits = change.added() as usize <= MAX_OBJECTS as usize - at
+            && change.cost() <= self.capacity - used;
+        if !fits {
+            return Some(Refusal::NoRoom);
+        }
+        if !change.is_well_formed() {
+            return Some(Refusal::TooLong);
+        }
+        None
+    }
+
     // Carries a change out that is meant for this partition, or refuses it.
     pub(crate) fn apply(&mut self, change: Change) -> Result<(), ApplyError>
         ensures answer { AppliesUnless (refusal_in (Some self.old) change) self.old
             (part_after self.old change) result self.new }
         ensures limits { IsPart self.new }
     {
+        if let Some(cause) = self.refusal(&change) {
+            return Err(ApplyError::Refused(cause));
+        }
         let at = change.kept() as usize;
-        if at > self.stock.len() {
-            return Err(ApplyError::Refused(Refusal::PastEnd));
-        }
-        let used = self.stock.used(at);
-        let fits = change.added() as usize <= MAX_OBJECTS as usize - at
-            && change.cost() <= self.capacity - used;
-        if !fits {
-            return Err(ApplyError::Refused(Refusal::NoRoom));
-        }
-        if !change.is_well_formed() {
-            return Err(ApplyError::Refused(Refusal::TooLong));
-        }
         match change {
             Change::Put { block, .. } => self.stock.put(at, Object::Block(block))?,
             Change::Marks { count, .. } => self.stock.marks(at, count)?,

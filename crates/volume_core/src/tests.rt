@@ -1,180 +1,212 @@
 //! Refusals in their order, capacities at their borders; each public call once.
-ghost use Rattle.std.specs.Prelude.{◌≡◌, true};
+mod media;
 
-use crate::{
-    ApplyError, Catalog, Change, Kind, Medium, MediumError, Object, PlainMedium, Refusal, Volume,
-    are_capacities, is_in_early_zone,
-};
+use crate::{ApplyError, Change, Kind, Object, Refusal, Volume, are_capacities, is_in_early_zone};
 use std::alloc::Global;
 use std::process::Abort;
 use std::test::Fail;
-use vtl_base::Bytes;
+use vtl_base::{Bytes, ObjNo, PartNo};
 
 const TEBIBYTE: u64 = 1_099_511_627_776;
 
-fn block(alloc: Global, length: usize) -> Result<Bytes, Fail> {
-    Ok(Bytes::from_vec(vec![in alloc; 7u8; length]?))
+// What a change is to do: a block of so many bytes, so many marks, or nothing.
+#[derive(Clone, Copy, Debug)]
+enum Add {
+    Block(usize),
+    Marks(u32),
+    Nothing,
 }
 
-fn put(alloc: Global, part: u8, at: u32, length: usize) -> Result<Change, Fail> {
-    Ok(Change::Put {
-        part,
-        at,
-        block: block(alloc, length)?,
+fn make_change(alloc: Global, part: PartNo, at: ObjNo, add: Add) -> Result<Change, Fail> {
+    Ok(match add {
+        Add::Block(length) => Change::Put {
+            part,
+            at,
+            block: Bytes::from_vec(vec![in alloc; 7u8; length]?),
+        },
+        Add::Marks(count) => Change::Marks { part, at, count },
+        Add::Nothing => Change::Erase { part, at },
     })
 }
 
-fn marks(part: u8, at: u32, count: u32) -> Change {
-    Change::Marks { part, at, count }
-}
+// A change by its partition, object number and what it adds; why it is refused; and how many objects
+// the partition has then, what they take, and whether it is in its early zone.
+type Row = (PartNo, ObjNo, Add, Option<Refusal>, u32, u64, bool);
 
-// Two partitions, the first with two blocks of 1,000 bytes.
-fn two_blocks(alloc: Global) -> Result<Volume, Fail> {
-    let mut volume = Volume::new(alloc, &[4_096, TEBIBYTE])?;
-    volume.apply(put(alloc, 0, 0, 1_000)?)?;
-    volume.apply(put(alloc, 0, 1, 1_000)?)?;
-    Ok(volume)
-}
-
-#[test]
-fn the_first_refusal_that_holds_is_answered(rt: HostRuntime) -> Result<(), Fail> {
-    let alloc = rt.alloc();
-    let mut volume = two_blocks(alloc)?;
-    for (part, at, length, refusal) in [
-        (2, 3, 1_048_577, Refusal::NoPartition),
-        (255, 0, 1, Refusal::NoPartition),
-        (0, 3, 1_048_577, Refusal::PastEnd),
-        (0, 3, 0, Refusal::PastEnd),
-        (1, 1, 1, Refusal::PastEnd),
-        (0, 2, 1_048_577, Refusal::NoRoom),
-        (0, 2, 2_049, Refusal::NoRoom),
-        (0, 2, 0, Refusal::TooLong),
-        (1, 0, 1_048_577, Refusal::TooLong),
-    ] {
-        let answer = volume.apply(put(alloc, part, at, length)?);
-        assert_eq!(rt;
-            answer,
-            Err(ApplyError::Refused(refusal)),
-            "{length} bytes at {at}"
-        );
-    }
-    assert_eq!(rt; (volume.count(0), volume.used(0, 2)), (2, 2_032));
-    volume.apply(put(alloc, 1, 0, 1_048_576)?)?;
-    assert_eq!(rt; volume.used(1, 1), 1_048_592);
-    Ok(())
-}
-
-#[test]
-fn marks_are_refused_as_blocks_are(rt: HostRuntime) -> Result<(), Fail> {
-    let mut volume = two_blocks(rt.alloc())?;
-    for (part, at, count, refusal) in [
-        (4, 9, 0, Refusal::NoPartition),
-        (0, 9, 0, Refusal::PastEnd),
-        (0, 2, 130, Refusal::NoRoom),
-        (1, 0, 16_000_001, Refusal::NoRoom),
-        (0, 2, 0, Refusal::TooLong),
-    ] {
-        let answer = volume.apply(marks(part, at, count));
-        assert_eq!(rt;
-            answer,
-            Err(ApplyError::Refused(refusal)),
-            "{count} marks at {at}"
-        );
-    }
-    let answer = volume.apply(Change::Erase { part: 0, at: 3 });
-    assert_eq!(rt; answer, Err(ApplyError::Refused(Refusal::PastEnd)));
-    assert_eq!(rt; (volume.count(0), volume.used(0, 2)), (2, 2_032));
-    volume.apply(marks(0, 2, 129))?;
-    assert_eq!(rt; volume.used(0, u32::MAX), 4_096);
-    Ok(())
-}
-
-#[test]
-fn a_partition_of_4096_bytes_fills(rt: HostRuntime) -> Result<(), Fail> {
-    let alloc = rt.alloc();
-    let mut volume = Volume::new(alloc, &[4_096])?;
-    for (at, length, refusal, used, early) in [
-        (0, 1_000, None, 1_016, false),
-        (1, 1_000, None, 2_032, false),
-        (2, 1_000, None, 3_048, false),
-        (3, 776, None, 3_840, false),
-        (3, 777, None, 3_841, true),
-        (3, 1_000, None, 4_064, true),
-        (4, 17, Some(Refusal::NoRoom), 4_064, true),
-        (4, 16, None, 4_096, true),
-        (5, 1, Some(Refusal::NoRoom), 4_096, true),
-    ] {
-        let answer = volume.apply(put(alloc, 0, at, length)?);
+fn assert_rows(
+    rt: &impl Abort,
+    alloc: Global,
+    volume: &mut Volume,
+    rows: &[Row],
+) -> Result<(), Fail> {
+    for (part, at, add, refusal, count, used, early) in rows {
+        let change = make_change(alloc, *part, *at, *add)?;
+        assert_eq!(rt; volume.refusal(&change), *refusal, "{add:?} at {at}");
         let wanted = match refusal {
-            Some(cause) => Err(ApplyError::Refused(cause)),
+            Some(cause) => Err(ApplyError::Refused(*cause)),
             None => Ok(()),
         };
-        assert_eq!(rt; answer, wanted, "{length} bytes at {at}");
-        assert_eq!(rt; volume.used(0, u32::MAX), used, "{length} bytes at {at}");
-        assert_eq!(rt;
-            is_in_early_zone(volume.capacity(0), used),
-            early,
-            "{used} used"
-        );
+        assert_eq!(rt; volume.apply(change), wanted, "{add:?} at {at}");
+        assert_eq!(rt; volume.count(*part), *count, "{add:?} at {at}");
+        assert_eq!(rt; volume.used(*part, u32::MAX), *used, "{add:?} at {at}");
+        let is_early = is_in_early_zone(volume.capacity(*part), *used);
+        assert_eq!(rt; is_early, *early, "{add:?} at {at}");
     }
-    let answer = volume.apply(marks(0, 5, 1));
-    assert_eq!(rt; answer, Err(ApplyError::Refused(Refusal::NoRoom)));
     Ok(())
 }
 
+const REFUSALS: [Row; 19] = [
+    (0, 0, Add::Block(1_000), None, 1, 1_016, false),
+    (0, 1, Add::Block(1_000), None, 2, 2_032, false),
+    (
+        2,
+        3,
+        Add::Block(1_048_577),
+        Some(Refusal::NoPartition),
+        0,
+        0,
+        false,
+    ),
+    (
+        255,
+        0,
+        Add::Block(1),
+        Some(Refusal::NoPartition),
+        0,
+        0,
+        false,
+    ),
+    (
+        0,
+        3,
+        Add::Block(1_048_577),
+        Some(Refusal::PastEnd),
+        2,
+        2_032,
+        false,
+    ),
+    (0, 3, Add::Block(0), Some(Refusal::PastEnd), 2, 2_032, false),
+    (1, 1, Add::Block(1), Some(Refusal::PastEnd), 0, 0, false),
+    (
+        0,
+        2,
+        Add::Block(1_048_577),
+        Some(Refusal::NoRoom),
+        2,
+        2_032,
+        false,
+    ),
+    (
+        0,
+        2,
+        Add::Block(2_049),
+        Some(Refusal::NoRoom),
+        2,
+        2_032,
+        false,
+    ),
+    (0, 2, Add::Block(0), Some(Refusal::TooLong), 2, 2_032, false),
+    (
+        1,
+        0,
+        Add::Block(1_048_577),
+        Some(Refusal::TooLong),
+        0,
+        0,
+        false,
+    ),
+    (4, 9, Add::Marks(0), Some(Refusal::NoPartition), 0, 0, false),
+    (0, 9, Add::Marks(0), Some(Refusal::PastEnd), 2, 2_032, false),
+    (
+        0,
+        2,
+        Add::Marks(130),
+        Some(Refusal::NoRoom),
+        2,
+        2_032,
+        false,
+    ),
+    (
+        1,
+        0,
+        Add::Marks(16_000_001),
+        Some(Refusal::NoRoom),
+        0,
+        0,
+        false,
+    ),
+    (0, 2, Add::Marks(0), Some(Refusal::TooLong), 2, 2_032, false),
+    (0, 3, Add::Nothing, Some(Refusal::PastEnd), 2, 2_032, false),
+    (1, 0, Add::Block(1_048_576), None, 1, 1_048_592, false),
+    (0, 2, Add::Marks(129), None, 131, 4_096, true),
+];
+
+const FILLING: [Row; 10] = [
+    (0, 0, Add::Block(1_000), None, 1, 1_016, false),
+    (0, 1, Add::Block(1_000), None, 2, 2_032, false),
+    (0, 2, Add::Block(1_000), None, 3, 3_048, false),
+    (0, 3, Add::Block(776), None, 4, 3_840, false),
+    (0, 3, Add::Block(777), None, 4, 3_841, true),
+    (0, 3, Add::Block(1_000), None, 4, 4_064, true),
+    (0, 4, Add::Block(17), Some(Refusal::NoRoom), 4, 4_064, true),
+    (0, 4, Add::Block(16), None, 5, 4_096, true),
+    (0, 5, Add::Block(1), Some(Refusal::NoRoom), 5, 4_096, true),
+    (0, 5, Add::Marks(1), Some(Refusal::NoRoom), 5, 4_096, true),
+];
+
 #[test]
-fn the_early_zone_begins_behind_its_border(rt: HostRuntime) {
-    for (capacity, used, early) in [
-        (4_111, 3_855, false),
-        (4_111, 3_856, true),
-        (TEBIBYTE, 1_030_792_151_040, false),
-        (TEBIBYTE, 1_030_792_151_041, true),
+fn refusals_come_in_their_order_and_a_partition_fills(rt: HostRuntime) -> Result<(), Fail> {
+    let alloc = rt.alloc();
+    for (capacities, rows) in [
+        ([4_096, TEBIBYTE].as_slice(), REFUSALS.as_slice()),
+        ([4_096].as_slice(), FILLING.as_slice()),
     ] {
-        assert_eq!(rt;
-            is_in_early_zone(capacity, used),
-            early,
-            "{used} of {capacity}"
-        );
+        assert!(&rt; are_capacities(capacities));
+        if are_capacities(capacities) {
+            assert_rows(&rt, alloc, &mut Volume::new(alloc, capacities)?, rows)?;
+        }
     }
+    Ok(())
 }
+
+const IN_THE_MIDDLE: [Row; 6] = [
+    (2, 0, Add::Block(10), None, 1, 26, false),
+    (2, 1, Add::Block(20), None, 2, 62, false),
+    (2, 2, Add::Block(30), None, 3, 108, false),
+    (2, 1, Add::Block(5), None, 2, 47, false),
+    (2, 1, Add::Marks(3), None, 4, 74, false),
+    (2, 1, Add::Nothing, None, 1, 26, false),
+];
 
 #[test]
 fn a_write_in_the_middle_drops_what_is_behind(rt: HostRuntime) -> Result<(), Fail> {
     let alloc = rt.alloc();
     let mut volume = Volume::new(alloc, &[4_096, 5_000, 6_000, 7_000])?;
-    for (at, length) in [(0, 10), (1, 20), (2, 30)] {
-        volume.apply(put(alloc, 2, at, length)?)?;
-    }
-    volume.apply(put(alloc, 2, 1, 5)?)?;
-    assert_eq!(rt;
-        (volume.parts(), volume.count(2), volume.used(2, 2)),
-        (4, 2, 47)
-    );
+    assert_rows(&rt, alloc, &mut volume, &IN_THE_MIDDLE[..4])?;
     assert_eq!(rt; volume.block_at(2, 1), Some([7u8; 5].as_slice()));
-    volume.apply(marks(2, 1, 3))?;
-    assert_eq!(rt;
-        (volume.count(2), volume.used(2, 1), volume.used(2, 4)),
-        (4, 26, 74)
-    );
+    assert_rows(&rt, alloc, &mut volume, &IN_THE_MIDDLE[4..5])?;
+    assert_eq!(rt; volume.block_at(2, 1), None);
+    assert_eq!(rt; volume.used(2, 1), 26);
     for (at, kind) in [
         (0, Some(Kind::Block)),
         (1, Some(Kind::Mark)),
         (3, Some(Kind::Mark)),
         (4, None),
     ] {
-        assert_eq!(rt; volume.kind_at(2, at), kind, "place {at}");
+        assert_eq!(rt; volume.kind_at(2, at), kind, "object {at}");
     }
-    assert_eq!(rt; volume.block_at(2, 1), None);
-    volume.apply(Change::Erase { part: 2, at: 1 })?;
-    assert_eq!(rt; (volume.count(2), volume.used(2, 9)), (1, 26));
-    for part in [0, 1, 3, 4] {
-        assert_eq!(rt;
-            (volume.count(part), volume.used(part, 9)),
-            (0, 0),
-            "part {part}"
-        );
+    assert_rows(&rt, alloc, &mut volume, &IN_THE_MIDDLE[5..])?;
+    for (part, capacity, count) in [
+        (0, 4_096, 0),
+        (1, 5_000, 0),
+        (2, 6_000, 1),
+        (3, 7_000, 0),
+        (4, 0, 0),
+    ] {
+        assert_eq!(rt; volume.capacity(part), capacity, "part {part}");
+        assert_eq!(rt; volume.count(part), count, "part {part}");
     }
-    assert_eq!(rt; (volume.capacity(3), volume.capacity(4)), (7_000, 0));
+    assert_eq!(rt; volume.parts(), 4);
     Ok(())
 }
 
@@ -191,38 +223,20 @@ fn capacities_have_their_limits(rt: HostRuntime) {
     ] {
         assert_eq!(rt; are_capacities(capacities), taken, "{capacities:?}");
     }
-    let mark = Object::Mark;
-    assert_eq!(rt; (mark.cost(), mark.kind()), (16, Kind::Mark));
-}
-
-// Hello and two marks; one of them is erased. Hello is read into a buffer that was in use.
-fn is_taken_and_given<M: Medium>(rt: &impl Abort, alloc: Global, medium: &mut M) -> Result<(), Fail>
-    requires { (M.tape medium.old).awake ≡ true }
-{
-    medium.put(0, 0, Bytes::from_slice(alloc, b"hello")?)?;
-    medium.marks(0, 1, 2)?;
-    medium.erase(0, 2)?;
-    medium.settle()?;
-    assert_eq!(rt; (medium.pending(), medium.has_failed()), (0, false));
-    assert_eq!(rt;
-        (medium.parts(), medium.capacity(0), medium.count(0)),
-        (1, 4_096, 2)
-    );
-    assert_eq!(rt; (medium.used(0, 1), medium.used(0, 2)), (21, 37));
-    assert_eq!(rt; medium.kind_at(0, 1), Some(Kind::Mark));
-    let mut bytes = vec![in alloc; 1, 2, 3]?;
-    if medium.kind_at(0, 0) == Some(Kind::Block) {
-        medium.fetch(0, 0, &mut bytes)?;
+    for (capacity, used, early) in [
+        (4_111, 3_855, false),
+        (4_111, 3_856, true),
+        (TEBIBYTE, 1_030_792_151_040, false),
+        (TEBIBYTE, 1_030_792_151_041, true),
+    ] {
+        assert_eq!(rt;
+            is_in_early_zone(capacity, used),
+            early,
+            "{used} of {capacity}"
+        );
     }
-    assert_eq!(rt; bytes.as_slice(), b"hello".as_slice());
-    let answer = medium.marks(0, 3, 1);
-    assert_eq!(rt; answer, Err(MediumError::Refused(Refusal::PastEnd)));
-    Ok(())
-}
-
-#[test]
-fn a_medium_in_memory(rt: HostRuntime) -> Result<(), Fail> {
-    let alloc = rt.alloc();
-    let mut medium = PlainMedium::new(alloc, &[4_096])?;
-    is_taken_and_given(&rt, alloc, &mut medium)
+    assert_eq!(rt;
+        (Object::Mark.cost(), Object::Mark.kind()),
+        (16, Kind::Mark)
+    );
 }

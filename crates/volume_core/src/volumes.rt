@@ -3,7 +3,8 @@ ghost use Rattle.std.specs.Prelude.{◌≡◌, ◌≤◌, IsTrue, IfOk, IfSome, 
 ghost use Rattle.std.specs.List.{list_all};
 ghost use Rattle.std.specs.Option.{option_copied};
 ghost use Rattle.vtl_base.specs.declared.limits.TheConstants.{MAX_BLOCK, MAX_CAPACITY, MAX_OBJECTS, MAX_PARTITIONS};
-ghost use Rattle.volume_core.specs.Volume.{Applies, IsPart, are_capacities, block_at, capacity_of, count_of, empty_volume, is_capacity, is_in_early_zone, kind_at, used_up_to};
+ghost use Rattle.vtl_base.specs.Limits.{is_capacity};
+ghost use Rattle.volume_core.specs.Volume.{Applies, IsPart, are_capacities, block_at, capacity_of, count_of, empty_volume, is_in_early_zone, kind_at, refusal_of, used_up_to};
 
 use crate::changes::{Change, Refusal};
 use crate::objects::Kind;
@@ -20,7 +21,7 @@ pub enum ApplyError {
     /// The change is refused for its own sake.
     #[error("refused")]
     Refused(Refusal),
-    /// The change would not be refused, but a growth was.
+    /// The change would not be refused, but memory ran out.
     #[error("out of memory")]
     NoMemory,
 }
@@ -137,7 +138,7 @@ impl Volume {
         }
     }
 
-    /// The kind of the object at a place, None where there is none.
+    /// The kind of the object of a number, None where there is none.
     pub fn kind_at(&self, part: PartNo, at: ObjNo) -> Option<Kind>
         ensures { result ≡ kind_at self.now part at }
     {
@@ -156,7 +157,7 @@ impl Volume {
         }
     }
 
-    /// The bytes of the block at a place, None where no block is there.
+    /// The bytes of the block of an object number, None where there is no block.
     pub fn block_at(&self, part: PartNo, at: ObjNo) -> Option<&[u8]>
         ensures block { option_copied result ≡ block_at self.now part at }
         ensures bound { IfSome result (λ block. length block.now ≤ MAX_BLOCK) }
@@ -164,8 +165,18 @@ impl Volume {
         self.partition(part)?.block_at(at as usize)
     }
 
-    /// Carries a change out, or refuses it for the first cause that holds; want of memory comes
-    /// after these. Nothing has changed after an `Err`.
+    /// Why a change is refused: the first cause that holds, None where there is none.
+    pub fn refusal(&self, change: &Change) -> Option<Refusal>
+        ensures { result ≡ refusal_of self.now change.now }
+    {
+        match self.partition(change.part()) {
+            Some(partition) => partition.refusal(change),
+            None => Some(Refusal::NoPartition),
+        }
+    }
+
+    /// Carries a change out, or refuses it for the first cause that holds. That memory runs out is
+    /// returned where none holds. Nothing has changed after an `Err`.
     pub fn apply(&mut self, change: Change) -> Result<(), ApplyError>
         ensures { Applies self.old change result self.new }
     {

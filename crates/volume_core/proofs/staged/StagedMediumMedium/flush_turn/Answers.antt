@@ -1,0 +1,15 @@
+use Rattle.std.proofs.Common.{◌≡◌, Ok, false, arith, rules}
+use Rattle.volume_core.proofs.StagedLemmas.{settles_by, stores_by}
+use Rattle.volume_core.proofs.staged.StagedMediumMedium.flush_turn.Goals as goal
+
+-- all that was pending is stored
+pub returns-in-Ok-clause-answer : goal.returns-in-Ok-clause-answer
+returns-in-Ok-clause-answer c =
+    let works : c.args.self.now.failed ≡ false = search rules in
+    let settled =
+    settles_by c.args.self.now c.store.new.self (Ok c.in-Ok.field-0) c.requires works c.in-Ok.ensures in
+    (works, search rules, rw c.requires c.count_pending-count.ensures, settled.1, settled.2)
+
+pub returns-in-Ok-clause-stores : goal.returns-in-Ok-clause-stores
+returns-in-Ok-clause-stores c =
+    stores_by c.args.self.now c.store.new.self (Ok c.in-Ok.field-0) c.requires c.in-Ok.ensures

@@ -1,0 +1,356 @@
+//! A medium for tests: its side has an end, and its device fails.
+ghost use Rattle.std.specs.Prelude.{◌≡◌, ◌≤◌, ◌+◌, ◌↔◌, IsTrue, IfOk, OnOk, OnErr, None, [], length, sum_by, true, false, if◌then◌else◌};
+ghost use Rattle.vtl_base.specs.Below.{Advances};
+ghost use Rattle.volume_core.specs.Volume.{AllApply, after, are_capacities, empty_volume, refusal_of};
+ghost use Rattle.volume_core.specs.Medium.{frame_size, volume_of};
+ghost use Rattle.volume_core.specs.Stores.{Stores};
+ghost use Rattle.volume_core.specs.Staged.{staged_state, staged_below};
+ghost use Rattle.volume_core.specs.Inner.Staged.{IsOpening, IsStoring, all_stored, closed, with_pending};
+
+use crate::changes::Change;
+use crate::fuses::Fuse;
+use crate::media::{Catalog, Medium, MediumError, Turn};
+use crate::objects::Kind;
+use crate::volumes::{ApplyError, Volume};
+use std::alloc::Global;
+use std::marker::Model;
+use vtl_base::{NoMemory, ObjNo, PartNo};
+
+/// Which call of a test medium's device fails, and what that leaves.
+#[derive(Clone, Copy, Drop)]
+pub struct FaultPlan {
+    /// The storing that fails, where one is to: 0 is the first.
+    pub store: Option<u32>,
+    /// The reading of a block that fails, where one is to: 0 is the first.
+    pub fetch: Option<u32>,
+    /// The frame of all that is pending is under way as a storing fails; else none is.
+    pub tears: bool,
+    /// The side is found with the frame that was under way; else without it.
+    pub keeps_torn: bool,
+}
+
+/// A medium for tests. Its changes stay pending until they are asked to be stored, its side has an
+/// end, and its device fails in the calls that were chosen; it has then failed until it was parked
+/// and woken.
+#[derive(Drop)]
+pub struct StagedMedium {
+    alloc: Global,
+    capacities: Vec<u64>,
+    log: Vec<Change>,
+    stored: usize,
+    seen: Volume,
+    room: u64,
+    free: u64,
+    awake: bool,
+    failed: bool,
+    is_torn: bool,
+    tears: bool,
+    keeps_torn: bool,
+    store_fuse: Fuse,
+    fetch_fuse: Fuse,
+}
+
+impl Model for StagedMedium {
+    ghost use Rattle.std.specs.Prelude.{◌+◌, take, drop};
+    ghost use Rattle.volume_core.specs.Staged.{Staged};
+    ghost use Rattle.volume_core.specs.Inner.Staged.{IsStaged};
+    ghost use Rattle.volume_core.specs.Inner.Fuses.{times_blown};
+
+    ghost Value = { Staged };
+
+    ghost view = { λ m. record {
+      capacities = m.capacities.items;
+      stored = take m.stored m.log.items;
+      rest = drop m.stored m.log.items;
+      is_torn = m.is_torn;
+      awake = m.awake;
+      failed = m.failed;
+      room = m.room;
+      faults = times_blown m.store_fuse + times_blown m.fetch_fuse;
+    } };
+
+    ghost invariant = { λ m.
+        IsStaged m.capacities.items m.log.items m.stored m.room m.free m.seen m.awake m.failed };
+}
+
+// What these changes make of an empty volume.
+fn replayed(alloc: Global, capacities: &[u64], changes: &[Change]) -> Result<Volume, NoMemory>
+    requires capacities { IsTrue (are_capacities capacities.now) }
+    requires changes { AllApply (empty_volume capacities.now) changes.now }
+    ensures { IfOk result (λ volume. volume ≡ after (empty_volume capacities.now) changes.now) }
+{
+    let mut volume = Volume::new(alloc, capacities)?;
+    for change in changes {
+        match volume.apply(change.copy(alloc)?) {
+            Ok(()) => {}
+            Err(ApplyError::NoMemory) => return Err(NoMemory),
+            Err(ApplyError::Refused(_)) => unreachable!(),
+        }
+    }
+    Ok(volume)
+}
+
+impl StagedMedium {
+    /// An empty cartridge, awake, of partitions with these capacities in bytes, with a side to which
+    /// so many bytes may be added. `are_capacities` tests the condition.
+    pub fn new(
+        alloc: Global,
+        capacities: &[u64],
+        room: u64,
+        plan: FaultPlan,
+    ) -> Result<Self, NoMemory>
+        requires { IsTrue (are_capacities capacities.now) }
+        ensures { IfOk result (λ medium. medium ≡ record {
+          capacities = capacities.now;
+          stored = [];
+          rest = [];
+          is_torn = false;
+          awake = true;
+          failed = false;
+          room = room;
+          faults = 0;
+        }) }
+    {
+        Ok(StagedMedium {
+            alloc,
+            capacities: Vec::from_slice(alloc, capacities)?,
+            log: Vec::new(alloc),
+            stored: 0,
+            seen: Volume::new(alloc, capacities)?,
+            room,
+            free: room,
+            awake: true,
+            failed: false,
+            is_torn: false,
+            tears: plan.tears,
+            keeps_torn: plan.keeps_torn,
+            store_fuse: Fuse::new(plan.store),
+            fetch_fuse: Fuse::new(plan.fetch),
+        })
+    }
+
+    // The volume that it is seen as.
+    fn volume(&self) -> &Volume
+        requires { self.now.awake ≡ true }
+        ensures { result.now ≡ volume_of (staged_state self.now) }
+    {
+        &self.seen
+    }
+
+    // Whether a change more has room, with what is pending.
+    fn has_room(&self, change: &Change) -> bool
+        ensures { IsTrue result
+            ↔ sum_by frame_size self.now.rest + frame_size change.now ≤ self.now.room }
+    {
+        change.frame_size() <= self.free
+    }
+
+    // Takes a change that is not refused and has room.
+    fn add(&mut self, change: Change) -> Result<(), NoMemory>
+        requires awake { self.old.awake ≡ true }
+        requires applies { refusal_of (volume_of (staged_state self.old)) change ≡ None }
+        requires room { sum_by frame_size self.old.rest + frame_size change ≤ self.old.room }
+        ensures ok { OnOk result (self.new ≡ with_pending change self.old) }
+        ensures err { OnErr result (self.new ≡ self.old) }
+    {
+        let size = change.frame_size();
+        let copy = change.copy(self.alloc)?;
+        self.log.reserve(1)?;
+        match self.seen.apply(copy) {
+            Ok(()) => {}
+            Err(ApplyError::NoMemory) => return Err(NoMemory),
+            Err(ApplyError::Refused(_)) => unreachable!(),
+        }
+        self.log.push_reserved(change);
+        self.free -= size;
+        Ok(())
+    }
+
+    fn count_pending(&self) -> usize
+        ensures { result ≡ length self.now.rest }
+    {
+        self.log.len() - self.stored
+    }
+
+    // All that was accepted is stored.
+    fn keep_rest(&mut self)
+        ensures { self.new ≡ all_stored self.old }
+    {
+        self.stored = self.log.len();
+        self.room = self.free;
+        self.is_torn = false;
+    }
+
+    // Gives up what is not stored.
+    fn drop_rest(&mut self) -> Result<(), NoMemory>
+        ensures ok { OnOk result (self.new ≡ record self.old { rest = [] }) }
+        ensures err { OnErr result (self.new ≡ self.old) }
+    {
+        self.seen = replayed(self.alloc, &self.capacities, &self.log[..self.stored])?;
+        self.log.truncate(self.stored);
+        self.free = self.room;
+        Ok(())
+    }
+
+    // Stores what is pending, unless the device fails.
+    fn store(&mut self) -> Result<(), MediumError>
+        requires { self.old.awake ≡ true }
+        ensures { IsStoring self.old result self.new }
+    {
+        if self.stored < self.log.len() && self.store_fuse.blows() {
+            self.failed = true;
+            self.is_torn = self.tears;
+            return Err(MediumError::Device);
+        }
+        self.keep_rest();
+        Ok(())
+    }
+
+    fn close(&mut self)
+        ensures { self.new ≡ closed self.old }
+    {
+        self.awake = false;
+        self.failed = false;
+    }
+
+    // Opens it by what its side gives.
+    fn open(&mut self) -> Result<(), NoMemory>
+        ensures { IsOpening self.old result self.new }
+    {
+        if self.is_torn && self.keeps_torn {
+            self.keep_rest();
+        } else {
+            self.drop_rest()?;
+        }
+        self.awake = true;
+        self.failed = false;
+        self.is_torn = false;
+        Ok(())
+    }
+}
+
+impl Catalog for StagedMedium {
+    ghost use Rattle.volume_core.specs.Staged.{staged_state};
+
+    ghost state = { staged_state };
+
+    fn parts(&self) -> PartNo {
+        self.volume().parts()
+    }
+
+    fn capacity(&self, part: PartNo) -> u64 {
+        self.volume().capacity(part)
+    }
+
+    fn count(&self, part: PartNo) -> u32 {
+        self.volume().count(part)
+    }
+
+    fn kind_at(&self, part: PartNo, at: ObjNo) -> Option<Kind> {
+        self.volume().kind_at(part, at)
+    }
+
+    fn used(&self, part: PartNo, n: ObjNo) -> u64 {
+        self.volume().used(part, n)
+    }
+}
+
+impl Medium for StagedMedium {
+    ghost use Rattle.vtl_base.specs.Below.{advances_nowhere};
+    ghost use Rattle.volume_core.specs.Stores.{stores_nowhere};
+    ghost use Rattle.volume_core.specs.Staged.{staged_state, staged_below, staged_moves_nowhere, staged_moves_on};
+
+    ghost below = { staged_below };
+
+    fn accept(&mut self, change: Change) -> Result<(), MediumError> {
+        if self.failed {
+            return Err(MediumError::Failed);
+        }
+        if let Some(cause) = self.volume().refusal(&change) {
+            return Err(MediumError::Refused(cause));
+        }
+        if !self.has_room(&change) {
+            return Err(MediumError::SideFull);
+        }
+        match self.add(change) {
+            Ok(()) => Ok(()),
+            Err(NoMemory) => Err(MediumError::NoMemory),
+        }
+    }
+
+    fn fetch(&mut self, part: PartNo, at: ObjNo, into: &mut Vec<u8>) -> Result<(), MediumError> {
+        if self.failed {
+            return Err(MediumError::Failed);
+        }
+        if self.fetch_fuse.blows() {
+            self.failed = true;
+            self.is_torn = false;
+            return Err(MediumError::Device);
+        }
+        match self.volume().block_at(part, at) {
+            Some(block) => {
+                into.clear();
+                match into.extend_from_slice(block) {
+                    Ok(()) => Ok(()),
+                    Err(_) => Err(MediumError::NoMemory),
+                }
+            }
+            None => unreachable!(),
+        }
+    }
+
+    fn settle(&mut self) -> Result<(), MediumError> {
+        if self.failed {
+            return Err(MediumError::Failed);
+        }
+        self.store()
+    }
+
+    fn flush_turn(&mut self) -> Turn {
+        let count = self.count_pending();
+        if self.failed || count == 0 {
+            return Turn::Idle;
+        }
+        match self.store() {
+            Ok(()) => Turn::Stored(count),
+            Err(_) => Turn::Faulted,
+        }
+    }
+
+    fn park(&mut self) -> Result<(), MediumError> {
+        if self.failed {
+            self.close();
+            return Ok(());
+        }
+        self.store()?;
+        self.close();
+        Ok(())
+    }
+
+    fn wake(&mut self) -> Result<(), MediumError> {
+        if self.awake && self.failed {
+            return Err(MediumError::Failed);
+        }
+        if self.awake {
+            return Ok(());
+        }
+        match self.open() {
+            Ok(()) => Ok(()),
+            Err(NoMemory) => Err(MediumError::NoMemory),
+        }
+    }
+
+    fn pending(&self) -> usize {
+        self.count_pending()
+    }
+
+    fn has_failed(&self) -> bool {
+        self.failed
+    }
+
+    ghost advances_nowhere = { λ medium. advances_nowhere staged_below staged_moves_nowhere medium };
+
+    ghost stores_nowhere = { λ medium. stores_nowhere (staged_state medium) };
+
+    ghost moves_on = { staged_moves_on };
+}
