@@ -1,1 +1,3 @@
 pub mod TakesLemmas
+pub mod CommandLemmas
+pub mod LoadLemmas
