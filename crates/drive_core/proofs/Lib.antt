@@ -1,3 +1,5 @@
 pub mod TakesLemmas
 pub mod CommandLemmas
 pub mod LoadLemmas
+pub mod CheckLemmas
+pub mod DeterminedLemmas
