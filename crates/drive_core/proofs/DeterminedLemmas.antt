@@ -53,7 +53,7 @@ drive_unseen (Loaded medium) old turn new e calm h =
     ∙ (λ i. record (seen_of old) { bay = bay_of sight_of (sym e i) })
 
 -- a turn of which no fault came was done, made nothing, and left the drive seen as it was
-record IsUnseen (old : Machine) (output : Output) (made : Made) (new : Machine) : Type 0 where
+pub record IsUnseen (old : Machine) (output : Output) (made : Made) (new : Machine) : Type 0 where
   pub output_is : output ≡ Unanswered (Ok tt)
   pub made_is : made ≡ made_nothing
   pub drive_is : seen_of new ≡ seen_of old
@@ -63,7 +63,7 @@ calm_outcome Idle calm = refl
 calm_outcome (Stored n) calm = refl
 calm_outcome Faulted calm = absurd calm
 
-turn_unseen : (old : Machine) (output : Output) (made : Made) (new : Machine) → IsCalm output
+pub turn_unseen : (old : Machine) (output : Output) (made : Made) (new : Machine) → IsCalm output
     → Step (Unit {0}) old FlushTurn output made new → IsUnseen old output made new
 turn_unseen old (Unanswered outcome) made new calm h =
     let calm' : IsCalm (Unanswered (turn_outcome h.0)) = rw (sym h.2) calm in
