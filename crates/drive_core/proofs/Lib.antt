@@ -5,3 +5,9 @@ pub mod CheckLemmas
 pub mod LoadLemmas
 pub mod StepLemmas
 pub mod RunLemmas
+pub mod AlikeCommandLemmas
+pub mod AlikeLoadLemmas
+pub mod AlikeCheckLemmas
+pub mod DeterminedLemmas
+pub mod RunsAlikeLemmas
+pub mod SettledLemmas

@@ -15,10 +15,10 @@ abbrev pub after_turn : Turn → MediumState → Machine → Machine
 after_turn Faulted medium machine = record machine { bay = Loaded medium; deferred = true }
 after_turn _ medium machine = record machine { bay = Loaded medium }
 
--- a loaded medium takes the turn; where none is loaded nothing is done (own)
+-- a loaded medium, which is awake, takes the turn; where none is loaded nothing is done (own)
 abbrev pub TurnsIn : Bay MediumState → Machine → Turn → Machine → Type 0
 TurnsIn (Loaded medium) old turn new =
-    (left : MediumState) × Turns medium turn left × (new ≡ after_turn turn left old)
+    (medium.awake ≡ true) × (left : MediumState) × Turns medium turn left × (new ≡ after_turn turn left old)
 TurnsIn _ old turn new = (turn ≡ Idle) × (new ≡ old)
 
 -- what came of a turn: it was done, or the device failed (own)

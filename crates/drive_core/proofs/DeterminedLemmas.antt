@@ -1,0 +1,139 @@
+-- Where no fault comes, a step has one outcome, and so has a run, wherever flusher's turns stand in it.
+use Rattle.std.proofs.Common.{◌≡◌, ◌++◌, List, [], ◌∷◌, Option, None, Some, Result, Ok, Err, Bool, true, false, sym, ◌∙◌, ap, refl}
+use Rattle.std.specs.Prelude.{All}
+use Rattle.scsi_wire.specs.declared.replies.Reply.{Reply}
+use Rattle.volume_core.specs.declared.media.Turn.{Turn}
+use Rattle.volume_core.specs.declared.media.Turn.TheVariants.{Idle, Stored, Faulted}
+use Rattle.volume_core.specs.Volume.{Part}
+use Rattle.volume_core.specs.Medium.{MediumState, volume_of, Turns}
+use Rattle.drive_core.specs.declared.bays.Bay.{Bay}
+use Rattle.drive_core.specs.declared.bays.Bay.TheVariants.{Empty, Unloaded, Loaded}
+use Rattle.drive_core.specs.declared.faults.Fault.{Fault}
+use Rattle.drive_core.specs.State.{Machine, bay_of}
+use Rattle.drive_core.specs.Relations.{Made, made_nothing, made_after}
+use Rattle.drive_core.specs.Work.{Request}
+use Rattle.drive_core.specs.Turn.{TurnsIn, FlushTurns, after_turn, turn_outcome}
+use Rattle.drive_core.specs.Step.{Input, Execute, FlushTurn, Load, PowerOn, Output, Answered, Unanswered, Step, replies_of, reply_in}
+use Rattle.drive_core.specs.Run.{Run}
+use Rattle.drive_core.specs.Determined.{Sight, sight_of, side_sight, seen_of, AskAlike, AllAskAlike, without_turns, IsCalm, AreSureAlike, AreAllSureAlike, AreAlike, StepsAreDetermined, RunsAreDetermined}
+use Rattle.drive_core.proofs.AlikeCommandLemmas.{working_sight, works_sight}
+use Rattle.drive_core.proofs.AlikeLoadLemmas.{loads, powers_on}
+use Rattle.drive_core.proofs.AlikeCheckLemmas.{requests}
+
+-- a turn that meets no fault leaves the medium seen as it was
+turns_unseen : (medium : MediumState) (turn : Turn) (left : MediumState) → medium.awake ≡ true
+    → IsCalm (Unanswered (turn_outcome turn)) → Turns medium turn left → sight_of left ≡ sight_of medium
+turns_unseen medium Idle left awake calm h = ap sight_of h.1
+turns_unseen medium (Stored n) left awake calm h =
+    works_sight (volume_of medium) left h.4
+    ∙ sym (λ i. record {
+      awake = awake i;
+      volume = volume_of medium;
+      failed = h.0 i;
+      side = side_sight (awake i) medium;
+    })
+turns_unseen medium Faulted left awake calm h = absurd calm
+
+-- the drive with its medium as it became in a turn without a fault
+after_calm : (turn : Turn) (left : MediumState) (old : Machine) → IsCalm (Unanswered (turn_outcome turn))
+    → after_turn turn left old ≡ record old { bay = Loaded left }
+after_calm Idle left old calm = refl
+after_calm (Stored n) left old calm = refl
+after_calm Faulted left old calm = absurd calm
+
+-- and the drive
+drive_unseen : (bay : Bay MediumState) (old : Machine) (turn : Turn) (new : Machine) → old.bay ≡ bay
+    → IsCalm (Unanswered (turn_outcome turn)) → TurnsIn bay old turn new → seen_of new ≡ seen_of old
+drive_unseen Empty old turn new e calm h = ap seen_of h.1
+drive_unseen (Unloaded medium) old turn new e calm h = ap seen_of h.1
+drive_unseen (Loaded medium) old turn new e calm h =
+    let sights : sight_of h.1 ≡ sight_of medium = turns_unseen medium turn h.1 h.0 calm h.2 in
+    ap seen_of (h.3 ∙ after_calm turn h.1 old calm)
+    ∙ (λ i. record (seen_of old) { bay = Loaded (sights i) })
+    ∙ (λ i. record (seen_of old) { bay = bay_of sight_of (sym e i) })
+
+-- a turn of which no fault came was done, made nothing, and left the drive seen as it was
+pub record IsUnseen (old : Machine) (output : Output) (made : Made) (new : Machine) : Type 0 where
+  pub output_is : output ≡ Unanswered (Ok tt)
+  pub made_is : made ≡ made_nothing
+  pub drive_is : seen_of new ≡ seen_of old
+
+calm_outcome : (turn : Turn) → IsCalm (Unanswered (turn_outcome turn)) → turn_outcome turn ≡ Ok tt
+calm_outcome Idle calm = refl
+calm_outcome (Stored n) calm = refl
+calm_outcome Faulted calm = absurd calm
+
+pub turn_unseen : (old : Machine) (output : Output) (made : Made) (new : Machine) → IsCalm output
+    → Step (Unit {0}) old FlushTurn output made new → IsUnseen old output made new
+turn_unseen old (Unanswered outcome) made new calm h =
+    let calm' : IsCalm (Unanswered (turn_outcome h.0)) = rw (sym h.2) calm in
+    record {
+      output_is = ap Unanswered (h.2 ∙ calm_outcome h.0 calm');
+      made_is = h.3;
+      drive_is = drive_unseen old.bay old h.0 new refl calm' h.1;
+    }
+turn_unseen old (Answered answer) made new calm h = absurd h
+
+module _ (old beside : Machine) (made made' : Made) (new new' : Machine) (e : seen_of old ≡ seen_of beside) where
+  execute_determined : (request other : Request) (output output' : Output) → request ≡ other
+      → IsCalm output → IsCalm output' → Step (Unit {0}) old (Execute request) output made new
+      → Step (Unit {0}) beside (Execute other) output' made' new' → AreAlike output output' made made' new new'
+  execute_determined request other (Answered (Ok reply)) (Answered (Ok reply')) asks calm calm' h k =
+      let k' : Step (Unit {0}) beside (Execute request) (Answered (Ok reply')) made' new' = rw (sym asks) at k in
+      requests old beside request reply reply' made made' new new' e h k'
+  execute_determined request other (Answered (Ok reply)) (Answered (Err fault)) asks calm calm' h k = absurd calm'
+  execute_determined request other (Answered (Ok reply)) (Unanswered outcome) asks calm calm' h k = absurd k
+  execute_determined request other (Answered (Err fault)) output' asks calm calm' h k = absurd calm
+  execute_determined request other (Unanswered outcome) output' asks calm calm' h k = absurd h
+
+  load_determined : (medium other : MediumState) (output output' : Output) → AreSureAlike medium other
+      → IsCalm output → IsCalm output' → Step (Unit {0}) old (Load medium) output made new
+      → Step (Unit {0}) beside (Load other) output' made' new' → AreAlike output output' made made' new new'
+  load_determined medium other (Answered (Ok reply)) (Answered (Ok reply')) asks calm calm' h k =
+      loads made made' new new' old.bay beside.bay old beside medium other reply reply' e asks h k
+  load_determined medium other (Answered (Ok reply)) (Answered (Err fault)) asks calm calm' h k = absurd calm'
+  load_determined medium other (Answered (Ok reply)) (Unanswered outcome) asks calm calm' h k = absurd k
+  load_determined medium other (Answered (Err fault)) output' asks calm calm' h k = absurd calm
+  load_determined medium other (Unanswered outcome) output' asks calm calm' h k = absurd h
+
+  power_on_determined : (medium other : Option MediumState) (output output' : Output) → AreAllSureAlike medium other
+      → IsCalm output → IsCalm output' → Step (Unit {0}) old (PowerOn medium) output made new
+      → Step (Unit {0}) beside (PowerOn other) output' made' new' → AreAlike output output' made made' new new'
+  power_on_determined medium other (Unanswered outcome) (Unanswered outcome') asks calm calm' h k =
+      powers_on made made' new new' medium other outcome outcome' asks calm calm' h k
+  power_on_determined medium other (Unanswered outcome) (Answered answer) asks calm calm' h k = absurd k
+  power_on_determined medium other (Answered answer) output' asks calm calm' h k = absurd h
+
+  turn_determined : (output output' : Output) → IsCalm output → IsCalm output'
+      → Step (Unit {0}) old FlushTurn output made new → Step (Unit {0}) beside FlushTurn output' made' new'
+      → AreAlike output output' made made' new new'
+  turn_determined output output' calm calm' h k =
+      let one = turn_unseen old output made new calm h in
+      let two = turn_unseen beside output' made' new' calm' k in
+      record {
+        outputs = one.output_is ∙ sym two.output_is;
+        changes = one.made_is ∙ sym two.made_is;
+        drives = one.drive_is ∙ e ∙ sym two.drive_is;
+      }
+
+pub steps_determined : StepsAreDetermined
+steps_determined old beside (Execute request) (Execute other) output output' made made' new new' e asks calm calm' h k =
+    execute_determined old beside made made' new new' e request other output output' asks calm calm' h k
+steps_determined old beside (Load medium) (Load other) output output' made made' new new' e asks calm calm' h k =
+    load_determined old beside made made' new new' e medium other output output' asks calm calm' h k
+steps_determined old beside (PowerOn medium) (PowerOn other) output output' made made' new new' e asks calm calm' h k =
+    power_on_determined old beside made made' new new' e medium other output output' asks calm calm' h k
+steps_determined old beside FlushTurn FlushTurn output output' made made' new new' e asks calm calm' h k =
+    turn_determined old beside made made' new new' e output output' calm calm' h k
+steps_determined old beside (Execute request) (Load other) output output' made made' new new' e asks calm calm' h k = absurd asks
+steps_determined old beside (Execute request) (PowerOn other) output output' made made' new new' e asks calm calm' h k = absurd asks
+steps_determined old beside (Execute request) FlushTurn output output' made made' new new' e asks calm calm' h k = absurd asks
+steps_determined old beside (Load medium) (Execute other) output output' made made' new new' e asks calm calm' h k = absurd asks
+steps_determined old beside (Load medium) (PowerOn other) output output' made made' new new' e asks calm calm' h k = absurd asks
+steps_determined old beside (Load medium) FlushTurn output output' made made' new new' e asks calm calm' h k = absurd asks
+steps_determined old beside (PowerOn medium) (Execute other) output output' made made' new new' e asks calm calm' h k = absurd asks
+steps_determined old beside (PowerOn medium) (Load other) output output' made made' new new' e asks calm calm' h k = absurd asks
+steps_determined old beside (PowerOn medium) FlushTurn output output' made made' new new' e asks calm calm' h k = absurd asks
+steps_determined old beside FlushTurn (Execute other) output output' made made' new new' e asks calm calm' h k = absurd asks
+steps_determined old beside FlushTurn (Load other) output output' made made' new new' e asks calm calm' h k = absurd asks
+steps_determined old beside FlushTurn (PowerOn other) output output' made made' new new' e asks calm calm' h k = absurd asks
