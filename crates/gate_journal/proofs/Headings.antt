@@ -10,7 +10,7 @@ use Rattle.vtl_base.specs.Barcode.{IsBarcode, is_symbol}
 use Rattle.gate_journal.specs.declared.header.SideKind.{SideKind}
 use Rattle.gate_journal.specs.declared.header.SideKind.TheVariants.{Cartridge, Store}
 use Rattle.gate_journal.specs.Side.{OPEN, Heading, padded, digits, drive_name, IsName, IsCount, IsCapacity, IsHeading, mark, spell_heading}
-use Rattle.gate_journal.specs.Reading.{words_of, heading_within}
+use Rattle.gate_journal.specs.Reading.{numbers_of, heading_within}
 use Rattle.std.specs.Prelude.{slice_index}
 use Rattle.byteorder.specs.Numbers.{big_number-reads_back}
 use Rattle.gate_journal.proofs.Deciding.{Told, both, told_as, below, is_true, all, some_below, same}
@@ -25,58 +25,58 @@ pub length_name : (kind : SideKind) (name : List ℕ) → IsName kind name → l
 length_name Cartridge name (text, ok, is) = ap length is ∙ length_padded text ok.short
 length_name Store name (n, low, high, is) = ap length is ∙ length_padded (codes "DRIVE" ++ digits n) (short_digits n)
 
-pub length_words : (words : List ℕ) → length (flat_map (to_be_bytes w64) words) ≡ 8 * length words
-length_words [] = refl
-length_words (w ∷ ws) = omega (arith, length_words ws, length-append (to_be_bytes w64 w) (flat_map (to_be_bytes w64) ws))
+pub length_capacities : (capacities : List ℕ) → length (flat_map (to_be_bytes w64) capacities) ≡ 8 * length capacities
+length_capacities [] = refl
+length_capacities (w ∷ ws) = omega (arith, length_capacities ws, length-append (to_be_bytes w64 w) (flat_map (to_be_bytes w64) ws))
 
 -- the heading of that kind that the bytes may begin with
 abbrev pub heading_at : SideKind → List ℕ → Heading
 heading_at kind bytes = record {
   kind = kind;
   name = take 16 (drop 11 bytes);
-  words = words_of (take (8 * slice_index bytes 10) (drop 27 bytes));
+  capacities = numbers_of (take (8 * slice_index bytes 10) (drop 27 bytes));
 }
 
-pub words_again : (words : List ℕ) → All IsCapacity words → words_of (flat_map (to_be_bytes w64) words) ≡ words
-words_again [] ok = refl
-words_again (w ∷ ws) ok =
+pub numbers_again : (capacities : List ℕ) → All IsCapacity capacities → numbers_of (flat_map (to_be_bytes w64) capacities) ≡ capacities
+numbers_again [] ok = refl
+numbers_again (w ∷ ws) ok =
     let fits : w < 2 ^ 64 = omega (arith, (All-head IsCapacity w ws ok).1) in
-    λ i. big_number-reads_back 8 w [] fits i ∷ words_again ws (All-tail IsCapacity w ws ok) i
+    λ i. big_number-reads_back 8 w [] fits i ∷ numbers_again ws (All-tail IsCapacity w ws ok) i
 
-module _ (name words rest : List ℕ) (named : length name ≡ 16) (ok : All IsCapacity words) where
+module _ (name capacities rest : List ℕ) (named : length name ≡ 16) (ok : All IsCapacity capacities) where
   abbrev tail : List ℕ
-  tail = name ++ flat_map (to_be_bytes w64) words ++ rest
+  tail = name ++ flat_map (to_be_bytes w64) capacities ++ rest
 
   tail_name : take 16 tail ≡ name
-  tail_name = ap (λ (l : List ℕ). take 16 l) (append_assoc name (flat_map (to_be_bytes w64) words) rest) ∙ take_at name (flat_map (to_be_bytes w64) words ++ rest) 16 named
+  tail_name = ap (λ (l : List ℕ). take 16 l) (append_assoc name (flat_map (to_be_bytes w64) capacities) rest) ∙ take_at name (flat_map (to_be_bytes w64) capacities ++ rest) 16 named
 
-  tail_words : words_of (take (8 * length words) (drop 16 tail)) ≡ words
-  tail_words =
-      ap (λ (l : List ℕ). words_of (take (8 * length words) l))
-      (ap (λ (l : List ℕ). drop 16 l) (append_assoc name (flat_map (to_be_bytes w64) words) rest) ∙ drop_at name (flat_map (to_be_bytes w64) words ++ rest) 16 named)
-      ∙ ap words_of (take_at (flat_map (to_be_bytes w64) words) rest (8 * length words) (length_words words))
-      ∙ words_again words ok
+  tail_capacities : numbers_of (take (8 * length capacities) (drop 16 tail)) ≡ capacities
+  tail_capacities =
+      ap (λ (l : List ℕ). numbers_of (take (8 * length capacities) l))
+      (ap (λ (l : List ℕ). drop 16 l) (append_assoc name (flat_map (to_be_bytes w64) capacities) rest) ∙ drop_at name (flat_map (to_be_bytes w64) capacities ++ rest) 16 named)
+      ∙ ap numbers_of (take_at (flat_map (to_be_bytes w64) capacities) rest (8 * length capacities) (length_capacities capacities))
+      ∙ numbers_again capacities ok
 
-  pub heading_again : (kind : SideKind) → heading_at kind (spell_heading (record { kind = kind; name = name; words = words }) ++ rest) ≡ record { kind = kind; name = name; words = words }
-  heading_again Cartridge = λ i. record { kind = Cartridge; name = tail_name i; words = tail_words i }
-  heading_again Store = λ i. record { kind = Store; name = tail_name i; words = tail_words i }
+  pub heading_again : (kind : SideKind) → heading_at kind (spell_heading (record { kind = kind; name = name; capacities = capacities }) ++ rest) ≡ record { kind = kind; name = name; capacities = capacities }
+  heading_again Cartridge = λ i. record { kind = Cartridge; name = tail_name i; capacities = tail_capacities i }
+  heading_again Store = λ i. record { kind = Store; name = tail_name i; capacities = tail_capacities i }
 
-within_again : (kind : SideKind) (name words : List ℕ) → length name ≡ 16 → All IsCapacity words → heading_within (spell_heading (record { kind = kind; name = name; words = words })) ≡ record { kind = kind; name = name; words = words }
-within_again Cartridge name words named ok =
-    let bytes = flat_map (to_be_bytes w64) words in
-    λ i. record { kind = Cartridge; name = take_at name bytes 16 named i; words = (ap words_of (drop_at name bytes 16 named) ∙ words_again words ok) i }
-within_again Store name words named ok =
-    let bytes = flat_map (to_be_bytes w64) words in
-    λ i. record { kind = Store; name = take_at name bytes 16 named i; words = (ap words_of (drop_at name bytes 16 named) ∙ words_again words ok) i }
+within_again : (kind : SideKind) (name capacities : List ℕ) → length name ≡ 16 → All IsCapacity capacities → heading_within (spell_heading (record { kind = kind; name = name; capacities = capacities })) ≡ record { kind = kind; name = name; capacities = capacities }
+within_again Cartridge name capacities named ok =
+    let bytes = flat_map (to_be_bytes w64) capacities in
+    λ i. record { kind = Cartridge; name = take_at name bytes 16 named i; capacities = (ap numbers_of (drop_at name bytes 16 named) ∙ numbers_again capacities ok) i }
+within_again Store name capacities named ok =
+    let bytes = flat_map (to_be_bytes w64) capacities in
+    λ i. record { kind = Store; name = take_at name bytes 16 named i; capacities = (ap numbers_of (drop_at name bytes 16 named) ∙ numbers_again capacities ok) i }
 
 pub within_is : (h : Heading) → IsHeading h → heading_within (spell_heading h) ≡ h
-within_is h ok = within_again h.kind h.name h.words (length_name h.kind h.name ok.name) ok.words
+within_is h ok = within_again h.kind h.name h.capacities (length_name h.kind h.name ok.name) ok.capacities
 
 pub heading_is : (h : Heading) (rest : List ℕ) → IsHeading h → heading_at h.kind (spell_heading h ++ rest) ≡ h
-heading_is h rest ok = heading_again h.name h.words rest (length_name h.kind h.name ok.name) ok.words h.kind
+heading_is h rest ok = heading_again h.name h.capacities rest (length_name h.kind h.name ok.name) ok.capacities h.kind
 
 -- the mark tells the kind
-fourth : (k : SideKind) (n m r : List ℕ) → get_or (spell_heading (record { kind = k; name = n; words = m }) ++ r) 4 0 ≡ get_or (mark k) 3 0
+fourth : (k : SideKind) (n m r : List ℕ) → get_or (spell_heading (record { kind = k; name = n; capacities = m }) ++ r) 4 0 ≡ get_or (mark k) 3 0
 fourth Cartridge n m r = refl
 fourth Store n m r = refl
 
@@ -88,7 +88,7 @@ told_kind Store Cartridge e = absurd (omega (arith, e))
 
 pub same_heading : (h k : Heading) (r s : List ℕ) → IsHeading h → IsHeading k → spell_heading h ++ r ≡ spell_heading k ++ s → h ≡ k
 same_heading h k r s okh okk e =
-    let kinds = told_kind h.kind k.kind (sym (fourth h.kind h.name h.words r) ∙ ap (λ (l : List ℕ). get_or l 4 0) e ∙ fourth k.kind k.name k.words s) in
+    let kinds = told_kind h.kind k.kind (sym (fourth h.kind h.name h.capacities r) ∙ ap (λ (l : List ℕ). get_or l 4 0) e ∙ fourth k.kind k.name k.capacities s) in
     sym (heading_is h r okh) ∙ (λ i. heading_at (kinds i) (e i)) ∙ heading_is k s okk
 
 -- whether bytes begin with a heading
@@ -120,42 +120,42 @@ told_count Store n = cases_eq n 0
 
 pub told_heading : (h : Heading) → Told (IsHeading h)
 told_heading h =
-    told_as (λ w. record { name = w.0.0; count = w.0.1; words = w.1 }) (λ b. ((b.name, b.count), b.words))
-    (both (both (told_name h.kind h.name) (told_count h.kind (length h.words))) (all IsCapacity (λ n. both (below 4096 n) (below n 1099511627776)) h.words))
+    told_as (λ w. record { name = w.0.0; count = w.0.1; capacities = w.1 }) (λ b. ((b.name, b.count), b.capacities))
+    (both (both (told_name h.kind h.name) (told_count h.kind (length h.capacities))) (all IsCapacity (λ n. both (below 4096 n) (below n 1099511627776)) h.capacities))
 
 few : (kind : SideKind) (n : ℕ) → IsCount kind n → n ≤ 4
 few Cartridge n count = count.1
 few Store n count = omega (arith, count)
 
-pub few_words : (h : Heading) → IsHeading h → length h.words ≤ 4
-few_words h ok = few h.kind (length h.words) ok.count
+pub few_capacities : (h : Heading) → IsHeading h → length h.capacities ≤ 4
+few_capacities h ok = few h.kind (length h.capacities) ok.count
 
 length_mark : (kind : SideKind) → length (mark kind) ≡ 8
 length_mark Cartridge = refl
 length_mark Store = refl
 
-pub length_heading : (h : Heading) → IsHeading h → length (spell_heading h) ≡ 27 + 8 * length h.words
+pub length_heading : (h : Heading) → IsHeading h → length (spell_heading h) ≡ 27 + 8 * length h.capacities
 length_heading h ok =
     omega (
       arith,
       length_name h.kind h.name ok.name,
-      length_words h.words,
+      length_capacities h.capacities,
       length_mark h.kind,
-      length-append (OPEN ∷ mark h.kind ++ 0 ∷ length h.words ∷ h.name) (flat_map (to_be_bytes w64) h.words),
-      length-append (OPEN ∷ mark h.kind) (0 ∷ length h.words ∷ h.name),
+      length-append (OPEN ∷ mark h.kind ++ 0 ∷ length h.capacities ∷ h.name) (flat_map (to_be_bytes w64) h.capacities),
+      length-append (OPEN ∷ mark h.kind) (0 ∷ length h.capacities ∷ h.name),
     )
 
-told_count_at : (kind : SideKind) (name words rest : List ℕ) → get_or (spell_heading (record { kind = kind; name = name; words = words }) ++ rest) 10 0 ≡ length words
-told_count_at Cartridge name words rest = refl
-told_count_at Store name words rest = refl
+told_count_at : (kind : SideKind) (name capacities rest : List ℕ) → get_or (spell_heading (record { kind = kind; name = name; capacities = capacities }) ++ rest) 10 0 ≡ length capacities
+told_count_at Cartridge name capacities rest = refl
+told_count_at Store name capacities rest = refl
 
 -- what an image that begins with a heading has in front
 module _ (h : Heading) (rest image : List ℕ) (ok : IsHeading h) (is : image ≡ spell_heading h ++ rest) where
-  pub count_there : get_or image 10 0 ≡ length h.words
-  count_there = ap (λ (l : List ℕ). get_or l 10 0) is ∙ told_count_at h.kind h.name h.words rest
+  pub count_there : get_or image 10 0 ≡ length h.capacities
+  count_there = ap (λ (l : List ℕ). get_or l 10 0) is ∙ told_count_at h.kind h.name h.capacities rest
 
-  pub heading_there : take (27 + 8 * length h.words) image ≡ spell_heading h
-  heading_there = ap (λ (l : List ℕ). take (27 + 8 * length h.words) l) is ∙ take_at (spell_heading h) rest (27 + 8 * length h.words) (length_heading h ok)
+  pub heading_there : take (27 + 8 * length h.capacities) image ≡ spell_heading h
+  heading_there = ap (λ (l : List ℕ). take (27 + 8 * length h.capacities) l) is ∙ take_at (spell_heading h) rest (27 + 8 * length h.capacities) (length_heading h ok)
 
-  pub long_enough : 27 + 8 * length h.words ≤ length image
+  pub long_enough : 27 + 8 * length h.capacities ≤ length image
   long_enough = omega (arith, ap length is, length_heading h ok, length-append (spell_heading h) rest)

@@ -13,11 +13,11 @@ use Rattle.gate_journal.specs.Answers.{IsFault, NotOpened}
 use Rattle.gate_journal.specs.Crash.{Unwritten}
 use Rattle.gate_journal.specs.Found.{NotRead, Walked}
 use Rattle.gate_journal.specs.Side.{OPEN, Heading, IsHeading, IsBody, IsSide, IsBroken, BeginsWithFrame, IsNotOurs, IsDamagedAt, StandsFor, frame, spell_heading, spell}
-use Rattle.gate_journal.specs.State.{IsOn, bodies_at, places_from}
+use Rattle.gate_journal.specs.State.{StoresSide, bodies_at, extents_from}
 use Rattle.std.proofs.lemmas.List.{get_or_read, get_or-take}
 use Rattle.gate_journal.proofs.Headings.{count_there, heading_there, long_enough}
 use Rattle.gate_journal.proofs.Frames.{length-frame}
-use Rattle.gate_journal.proofs.Bodies.{frames_push, places_push, as_view}
+use Rattle.gate_journal.proofs.Bodies.{frames_push, extents_push, as_view}
 
 module _ (d0 d1 d2 : DiskState) where
   pub unwritten_then : Unwritten d0 d1 → Unwritten d1 d2 → Unwritten d0 d2
@@ -58,23 +58,23 @@ one_call d0 d1 disk same time = record {
 
 module _ (seen : List ℕ) (start : ℕ) where
   -- nothing was walked yet, and nothing is there
-  pub nothing_there : length seen ≤ start → (bodies : List (List ℕ)) × (places : List (ℕ × ℕ)) × Walked seen start bodies places start × IsBroken bodies (drop start seen)
-  nothing_there short = ([], [], record { holds = All-nil IsBody; split = refl; places_are = refl; at_is = omega arith }, inl (refl, drop_all start seen short))
+  pub nothing_there : length seen ≤ start → (bodies : List (List ℕ)) × (extents : List (ℕ × ℕ)) × Walked seen start bodies extents start × IsBroken bodies (drop start seen)
+  nothing_there short = ([], [], record { holds = All-nil IsBody; split = refl; extents_are = refl; at_is = omega arith }, inl (refl, drop_all start seen short))
 
-  pub started : (places : List (ℕ × ℕ)) → places ≡ [] → (bodies : List (List ℕ)) × Walked seen start bodies places start
-  started places none = ([], record { holds = All-nil IsBody; split = refl; places_are = none; at_is = omega arith })
+  pub started : (extents : List (ℕ × ℕ)) → extents ≡ [] → (bodies : List (List ℕ)) × Walked seen start bodies extents start
+  started extents none = ([], record { holds = All-nil IsBody; split = refl; extents_are = none; at_is = omega arith })
 
-  module _ (bodies : List (List ℕ)) (places : List (ℕ × ℕ)) (at : ℕ) (walked : Walked seen start bodies places at) where
-    pub walked_more : (size : ℕ) (body rest : List ℕ) (places' : List (ℕ × ℕ)) (at' : ℕ) → length body ≡ size → 1 ≤ size → size ≤ 8388608 → drop at seen ≡ frame body ++ rest → rest ≡ drop (at + 5 + size) seen
-        → places' ≡ places ++ (at + 5, size) ∷ [] → at' ≡ at + 5 + size → Walked seen start (bodies ++ body ∷ []) places' at'
-    walked_more size body rest places' at' sized some short there behind is far = record {
+  module _ (bodies : List (List ℕ)) (extents : List (ℕ × ℕ)) (at : ℕ) (walked : Walked seen start bodies extents at) where
+    pub walked_more : (size : ℕ) (body rest : List ℕ) (extents' : List (ℕ × ℕ)) (at' : ℕ) → length body ≡ size → 1 ≤ size → size ≤ 8388608 → drop at seen ≡ frame body ++ rest → rest ≡ drop (at + 5 + size) seen
+        → extents' ≡ extents ++ (at + 5, size) ∷ [] → at' ≡ at + 5 + size → Walked seen start (bodies ++ body ∷ []) extents' at'
+    walked_more size body rest extents' at' sized some short there behind is far = record {
       holds = All-push IsBody bodies body walked.holds (omega (arith, sized, some), omega (arith, sized, short));
       split =
           walked.split ∙ ap (λ (l : List ℕ). flat_map frame bodies ++ l) (there ∙ ap (λ (l : List ℕ). frame body ++ l) behind)
           ∙ sym (append_assoc (flat_map frame bodies) (frame body) (drop (at + 5 + size) seen))
           ∙ (λ i. sym (frames_push bodies body) i ++ drop (sym far i) seen);
-      places_are = is ∙ (let here : at + 5 ≡ start + length (flat_map frame bodies) + 5 = omega (arith, walked.at_is) in λ i. walked.places_are i ++ (here i, sym sized i) ∷ [])
-          ∙ sym (places_push start bodies body);
+      extents_are = is ∙ (let here : at + 5 ≡ start + length (flat_map frame bodies) + 5 = omega (arith, walked.at_is) in λ i. walked.extents_are i ++ (here i, sym sized i) ∷ [])
+          ∙ sym (extents_push start bodies body);
       at_is = omega (arith, far, walked.at_is, sized, ap length (frames_push bodies body), length-append (flat_map frame bodies) (frame body), length-frame body);
     }
 
@@ -98,17 +98,17 @@ module _ (seen : List ℕ) (start : ℕ) where
       stands_for gate more shut there = (side_is, (gate, more, shut, begins ∙ ap (λ (l : List ℕ). spell h bodies ++ l) there))
 
       -- the disk that was read, where all of it is sure
-      pub on_disk : (d : DiskState) → d.seen ≡ seen → Only seen d.may_leave → StandsFor h bodies seen → IsOn d h (bodies_at d.seen places) places at false × StandsFor h (bodies_at d.seen places) seen
+      pub on_disk : (d : DiskState) → d.seen ≡ seen → Only seen d.may_leave → StandsFor h bodies seen → StoresSide d h (bodies_at d.seen extents) extents at false × StandsFor h (bodies_at d.seen extents) seen
       on_disk d same only stands =
-          let on : IsOn d h bodies places at false = record {
+          let on : StoresSide d h bodies extents at false = record {
             side = side_is;
             begins = (drop at seen, same ∙ begins);
-            places_are = walked.places_are ∙ ap (λ (n : ℕ). places_from n bodies) here;
+            extents_are = walked.extents_are ∙ ap (λ (n : ℕ). extents_from n bodies) here;
             end_is = sym far_is;
             at_rest = λ e. (subst (λ (l : List ℕ). StandsFor h bodies l) (sym same) stands, λ image left. only image left ∙ sym same);
           } in
-          let viewed = as_view d h bodies places at false on in
-          (viewed, subst (λ (l : List ℕ). StandsFor h (bodies_at d.seen places) l) same (viewed.at_rest refl).0)
+          let viewed = as_view d h bodies extents at false on in
+          (viewed, subst (λ (l : List ℕ). StandsFor h (bodies_at d.seen extents) l) same (viewed.at_rest refl).0)
 
 -- a disk was made sure, and then read
 module _ (d0 d1 d2 d3 : DiskState) (sure : Only d0.seen d1.may_leave) (disk1 : IsDisk d1) (first : Unwritten d1 d2) (second : Unwritten d2 d3) where
@@ -125,19 +125,19 @@ module _ (d0 d1 d2 d3 : DiskState) (sure : Only d0.seen d1.may_leave) (disk1 : I
   only_3 image left = sure image (first.images image (second.images image left))
 
 -- an open gate without a whole frame stands where the walk has come
-pub broken_there : (seen seen1 : List ℕ) → seen1 ≡ seen → (start : ℕ) (bodies : List (List ℕ)) (places : List (ℕ × ℕ)) (at place : ℕ) → Walked seen start bodies places at → place ≡ at
+pub broken_there : (seen seen1 : List ℕ) → seen1 ≡ seen → (start : ℕ) (bodies : List (List ℕ)) (extents : List (ℕ × ℕ)) (at place : ℕ) → Walked seen start bodies extents at → place ≡ at
     → ((tail : List ℕ) × (drop at seen1 ≡ OPEN ∷ tail)) × (BeginsWithFrame (drop at seen1) → ⊥)
-    → (bodies : List (List ℕ)) × (places : List (ℕ × ℕ)) × Walked seen start bodies places place × IsBroken bodies (drop place seen)
-broken_there seen seen1 same start bodies places at place walked here broken = (
+    → (bodies : List (List ℕ)) × (extents : List (ℕ × ℕ)) × Walked seen start bodies extents place × IsBroken bodies (drop place seen)
+broken_there seen seen1 same start bodies extents at place walked here broken = (
   bodies,
-  places,
-  subst (λ (n : ℕ). Walked seen start bodies places n) (sym here) walked,
+  extents,
+  subst (λ (n : ℕ). Walked seen start bodies extents n) (sym here) walked,
   subst (λ (n : ℕ). IsBroken bodies (drop n seen)) (sym here) (subst (λ (l : List ℕ). IsBroken bodies (drop at l)) same (inr broken)),
 )
 
 -- two reads in a row have the front of what is there
-pub front_two : (image start words : List ℕ) (n : ℕ) → start ≡ slice_range image 0 27 → words ≡ slice_range image 27 (27 + n) → start ++ words ≡ take (27 + n) image
-front_two image start words n first second =
+pub front_two : (image start capacities : List ℕ) (n : ℕ) → start ≡ slice_range image 0 27 → capacities ≡ slice_range image 27 (27 + n) → start ++ capacities ≡ take (27 + n) image
+front_two image start capacities n first second =
     (λ i. first i ++ second i)
     ∙ (let span : 27 + n - 27 ≡ n = omega arith in ap (λ (k : ℕ). take 27 image ++ take k (drop 27 image)) span)
     ∙ (λ i. sym (take-take 27 (27 + n) image (omega arith)) i ++ sym (drop-take 27 n image) i)
@@ -149,9 +149,9 @@ too_short image count told short h rest ok is =
     let begins = is ∙ ap (λ (l : List ℕ). l ++ rest) (append-nil (spell_heading h)) in
     omega (arith, told, short, count_there h rest image ok begins, long_enough h rest image ok begins)
 
-module _ (image bytes words all : List ℕ) (count : ℕ) (first : bytes ≡ slice_range image 0 27) (second : words ≡ slice_range image 27 (27 + 8 * count)) (whole : all ≡ bytes ++ words) where
+module _ (image bytes capacities all : List ℕ) (count : ℕ) (first : bytes ≡ slice_range image 0 27) (second : capacities ≡ slice_range image 27 (27 + 8 * count)) (whole : all ≡ bytes ++ capacities) where
   all_is : all ≡ take (27 + 8 * count) image
-  all_is = whole ∙ front_two image bytes words (8 * count) first second
+  all_is = whole ∙ front_two image bytes capacities (8 * count) first second
 
   pub header_there : (h : Heading) → all ≡ spell_heading h → (rest : List ℕ) × (image ≡ spell_heading h ++ rest)
   header_there h is = (

@@ -29,7 +29,7 @@ pub record Appended {D : Type 0} (old new : OpenSide D) (count : ℕ) : Type 0 w
   pub fitted : count + 5 ≤ room_behind old.end
   pub is_fine : new.failed ≡ false
   pub end : new.end ≡ old.end + 5 + count
-  pub places : new.places ≡ old.places ++ (old.end + 5, count) ∷ []
+  pub extents : new.extents ≡ old.extents ++ (old.end + 5, count) ∷ []
   pub reserved : old.reserved ≤ new.reserved + 1
 
 -- the disk failed in an append of that many bytes (own)
@@ -38,7 +38,7 @@ pub record Broke {D : Type 0} (old new : OpenSide D) (count : ℕ) : Type 0 wher
   pub fitted : count + 5 ≤ room_behind old.end
   pub failed : new.failed ≡ true
   pub end : new.end ≡ old.end
-  pub places : new.places ≡ old.places
+  pub extents : new.extents ≡ old.extents
   pub reserved : old.reserved ≤ new.reserved
 
 -- the disk that a call gives back, in an open side or beside its refusal (own)

@@ -11,7 +11,7 @@ use Rattle.gate_journal.specs.declared.error.JournalError.TheVariants.{NotOurs, 
 use Rattle.gate_journal.specs.Side.{OPEN, IsBody, IsHeading, StandsFor, IsNotOurs, IsBroken, BeginsWithFrame, frame, spell_heading}
 use Rattle.gate_journal.specs.Headers.{heading_of}
 use Rattle.gate_journal.specs.Answers.{IsFault, NotOpened}
-use Rattle.gate_journal.specs.State.{IsOn, IsPlace, bodies_at, places_from}
+use Rattle.gate_journal.specs.State.{StoresSide, IsExtent, bodies_at, extents_from}
 
 -- a reader is refused by the disk or by memory, or for one of these causes (own)
 abbrev pub NotRead : JournalError → Type 0 → (ℕ → Type 0) → DiskState → DiskState → Type 0
@@ -43,25 +43,25 @@ FindsMark (Err error) at len old new =
     NotRead error ⊥ (λ place. (place ≡ at) × (old.honest → ((tail : List ℕ) × (drop at old.seen ≡ OPEN ∷ tail)) × (BeginsWithFrame (drop at old.seen) → ⊥))) old new
 
 -- bodies lie one after another from the start up to that place (own)
-pub record Walked (seen : List ℕ) (start : ℕ) (bodies : List (List ℕ)) (places : List (ℕ × ℕ)) (at : ℕ) : Type 0 where
+pub record Walked (seen : List ℕ) (start : ℕ) (bodies : List (List ℕ)) (extents : List (ℕ × ℕ)) (at : ℕ) : Type 0 where
   pub holds : All IsBody bodies
   pub split : drop start seen ≡ flat_map frame bodies ++ drop at seen
-  pub places_are : places ≡ places_from start bodies
+  pub extents_are : extents ≡ extents_from start bodies
   pub at_is : at ≡ start + length (flat_map frame bodies)
 
 -- the frames up to a closed gate, or the place where they break off (own)
 abbrev pub FindsFrames : Result Frames JournalError → ℕ → DiskState → DiskState → Type 0
 FindsFrames (Ok frames) start old new =
-    (frames.end + 1 < 2 ^ 64) × (start ≤ frames.end) × All (IsPlace frames.end) frames.places.items
-    × (old.honest → ((bodies : List (List ℕ)) × Walked old.seen start bodies frames.places.items frames.end)
+    (frames.end + 1 < 2 ^ 64) × (start ≤ frames.end) × All (IsExtent frames.end) frames.extents.items
+    × (old.honest → ((bodies : List (List ℕ)) × Walked old.seen start bodies frames.extents.items frames.end)
     × ((gate : ℕ) × (rest : List ℕ) × (gate ≢ OPEN) × (drop frames.end old.seen ≡ gate ∷ rest)))
 FindsFrames (Err error) start old new =
-    NotRead error ⊥ (λ at. old.honest → (bodies : List (List ℕ)) × (places : List (ℕ × ℕ)) × Walked old.seen start bodies places at × IsBroken bodies (drop at old.seen)) old new
+    NotRead error ⊥ (λ at. old.honest → (bodies : List (List ℕ)) × (extents : List (ℕ × ℕ)) × Walked old.seen start bodies extents at × IsBroken bodies (drop at old.seen)) old new
 
 -- an open side and why it is one, or why it is none (own)
 abbrev pub FindsSide : Result (Header × Frames) JournalError → DiskState → DiskState → Type 0
 FindsSide (Ok side) old new =
-    IsHeading (heading_of side.0) × (side.1.end + 1 < 2 ^ 64) × All (IsPlace side.1.end) side.1.places.items
-    × (old.honest → IsOn new (heading_of side.0) (bodies_at new.seen side.1.places.items) side.1.places.items side.1.end false
-    × StandsFor (heading_of side.0) (bodies_at new.seen side.1.places.items) old.seen × Only old.seen new.may_leave)
+    IsHeading (heading_of side.0) × (side.1.end + 1 < 2 ^ 64) × All (IsExtent side.1.end) side.1.extents.items
+    × (old.honest → StoresSide new (heading_of side.0) (bodies_at new.seen side.1.extents.items) side.1.extents.items side.1.end false
+    × StandsFor (heading_of side.0) (bodies_at new.seen side.1.extents.items) old.seen × Only old.seen new.may_leave)
 FindsSide (Err error) old new = NotOpened error old new

@@ -16,7 +16,7 @@ OPEN = 165
 pub record Heading : Type 0 where
   pub kind : SideKind
   pub name : List ℕ
-  pub words : List ℕ
+  pub capacities : List ℕ
 
 -- a text, and spaces behind it up to the length of a name (own)
 abbrev pub padded : List ℕ → List ℕ
@@ -47,8 +47,8 @@ IsCapacity n = (MIN_CAPACITY ≤ n) × (n ≤ MAX_CAPACITY)
 -- a heading that can be spelled (own)
 pub record IsHeading (heading : Heading) : Type 0 where
   pub name : IsName heading.kind heading.name
-  pub count : IsCount heading.kind (length heading.words)
-  pub words : All IsCapacity heading.words
+  pub count : IsCount heading.kind (length heading.capacities)
+  pub capacities : All IsCapacity heading.capacities
 
 -- the bytes by which the kind is told (own)
 abbrev pub mark : SideKind → List ℕ
@@ -57,7 +57,7 @@ mark Store = codes "VTLRESV1"
 
 -- a heading in bytes: the open gate of the side, the mark of its kind, the closed pair gate, the count, the name, the capacities (own)
 abbrev pub spell_heading : Heading → List ℕ
-spell_heading h = OPEN ∷ mark h.kind ++ 0 ∷ length h.words ∷ h.name ++ flat_map (to_be_bytes w64) h.words
+spell_heading h = OPEN ∷ mark h.kind ++ 0 ∷ length h.capacities ∷ h.name ++ flat_map (to_be_bytes w64) h.capacities
 
 -- what a frame may hold (own)
 abbrev pub IsBody : List ℕ → Type 0

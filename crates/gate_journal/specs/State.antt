@@ -14,7 +14,7 @@ pub record OpenSide (D : Type 0) : Type 0 where
   -- the bodies of its frames, in order; over a dishonest disk these are nobody's promise
   pub bodies : List (List ℕ)
   -- where each body lies: its place and its length
-  pub places : List (ℕ × ℕ)
+  pub extents : List (ℕ × ℕ)
   -- the place of the gate behind the last frame
   pub end : ℕ
   -- the disk failed, and nothing more is written
@@ -36,15 +36,15 @@ kind_code = code_by Bool coded_bool is_cartridge kind_of (elim [ Cartridge ↦ r
 abbrev heading_code : Coded Heading
 heading_code =
     code_by (SideKind × (List ℕ × List ℕ)) (coded× kind_code (coded× (coded_list coded_ℕ) (coded_list coded_ℕ)))
-    (λ h. (h.kind, (h.name, h.words))) (λ p. record { kind = p.0; name = p.1.0; words = p.1.1 }) (λ _. refl)
+    (λ h. (h.kind, (h.name, h.capacities))) (λ p. record { kind = p.0; name = p.1.0; capacities = p.1.1 }) (λ _. refl)
 
 module _ {D : Type 0} where
   abbrev pub side_code : Coded D → Coded (OpenSide D)
   side_code disk =
       code_by (D × (Heading × (List (List ℕ) × (List (ℕ × ℕ) × (ℕ × (Bool × ℕ))))))
       (coded× disk (coded× heading_code (coded× (coded_list (coded_list coded_ℕ)) (coded× (coded_list (coded× coded_ℕ coded_ℕ)) (coded× coded_ℕ (coded× coded_bool coded_ℕ))))))
-      (λ s. (s.disk, (s.heading, (s.bodies, (s.places, (s.end, (s.failed, s.reserved)))))))
-      (λ p. record { disk = p.0; heading = p.1.0; bodies = p.1.1.0; places = p.1.1.1.0; end = p.1.1.1.1.0; failed = p.1.1.1.1.1.0; reserved = p.1.1.1.1.1.1 })
+      (λ s. (s.disk, (s.heading, (s.bodies, (s.extents, (s.end, (s.failed, s.reserved)))))))
+      (λ p. record { disk = p.0; heading = p.1.0; bodies = p.1.1.0; extents = p.1.1.1.0; end = p.1.1.1.1.0; failed = p.1.1.1.1.1.0; reserved = p.1.1.1.1.1.1 })
       (λ _. refl)
 
 -- the bytes that may still be added to a side whose end gate has that place (own)
@@ -52,25 +52,25 @@ abbrev pub room_behind : ℕ → ℕ
 room_behind end = MAX_SIDE - (end + 1)
 
 abbrev pub bodies_at : List ℕ → List (ℕ × ℕ) → List (List ℕ)
-bodies_at bytes places = map (λ place. slice_range bytes place.0 (place.0 + place.1)) places
+bodies_at bytes extents = map (λ place. slice_range bytes place.0 (place.0 + place.1)) extents
 
 -- where the bodies lie whose first gate is at that place (own)
-abbrev pub places_from : ℕ → List (List ℕ) → List (ℕ × ℕ)
-places_from at [] = []
-places_from at (body ∷ bodies) = (at + 5, length body) ∷ places_from (at + 5 + length body) bodies
+abbrev pub extents_from : ℕ → List (List ℕ) → List (ℕ × ℕ)
+extents_from at [] = []
+extents_from at (body ∷ bodies) = (at + 5, length body) ∷ extents_from (at + 5 + length body) bodies
 
 -- a body that lies before the end, behind a gate and a length (own)
-pub record IsPlace (end : ℕ) (place : ℕ × ℕ) : Type 0 where
+pub record IsExtent (end : ℕ) (place : ℕ × ℕ) : Type 0 where
   pub gate : 5 ≤ place.0
   pub some : 1 ≤ place.1
   pub short : place.1 ≤ MAX_BODY
   pub within : place.0 + place.1 ≤ end
 
 -- the disk of an open side begins with its spelling; where nothing has failed it stands for the side, and that is sure (own)
-pub record IsOn (disk : DiskState) (heading : Heading) (bodies : List (List ℕ)) (places : List (ℕ × ℕ)) (end : ℕ) (failed : Bool) : Type 0 where
+pub record StoresSide (disk : DiskState) (heading : Heading) (bodies : List (List ℕ)) (extents : List (ℕ × ℕ)) (end : ℕ) (failed : Bool) : Type 0 where
   pub side : IsSide heading bodies
   pub begins : (rest : List ℕ) × (disk.seen ≡ spell heading bodies ++ rest)
-  pub places_are : places ≡ places_from (length (spell_heading heading)) bodies
+  pub extents_are : extents ≡ extents_from (length (spell_heading heading)) bodies
   pub end_is : end ≡ length (spell heading bodies)
   pub at_rest : failed ≡ false → StandsFor heading bodies disk.seen × Only disk.seen disk.may_leave
 
@@ -81,12 +81,12 @@ pub record IsBodyAt (seen : List ℕ) (heading : Heading) (bodies : List (List �
   pub there : slice_index_or bodies frame [] ≡ slice_range seen place.0 (place.0 + place.1)
 
 -- that many bytes from that place on lie inside one body (own)
-abbrev pub IsWithin : List (ℕ × ℕ) → ℕ → ℕ → Type 0
-IsWithin places at count =
-    (i : ℕ) × (i < length places) × ((slice_index_or places i (0, 0)).0 ≤ at) × (at + count ≤ (slice_index_or places i (0, 0)).0 + (slice_index_or places i (0, 0)).1)
+abbrev pub LiesInBody : List (ℕ × ℕ) → ℕ → ℕ → Type 0
+LiesInBody extents at count =
+    (i : ℕ) × (i < length extents) × ((slice_index_or extents i (0, 0)).0 ≤ at) × (at + count ≤ (slice_index_or extents i (0, 0)).0 + (slice_index_or extents i (0, 0)).1)
 
 -- the bytes at that place are those of the body that lies there, so far into it (own)
-abbrev pub IsPart : List (List ℕ) → List (ℕ × ℕ) → ℕ → List ℕ → Type 0
-IsPart bodies places at bytes =
-    (i into : ℕ) → i < length places → at ≡ (slice_index_or places i (0, 0)).0 + into → into + length bytes ≤ (slice_index_or places i (0, 0)).1
+abbrev pub IsBodyPart : List (List ℕ) → List (ℕ × ℕ) → ℕ → List ℕ → Type 0
+IsBodyPart bodies extents at bytes =
+    (i into : ℕ) → i < length extents → at ≡ (slice_index_or extents i (0, 0)).0 + into → into + length bytes ≤ (slice_index_or extents i (0, 0)).1
     → bytes ≡ slice_range (slice_index_or bodies i []) into (into + length bytes)

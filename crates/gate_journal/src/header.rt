@@ -39,7 +39,7 @@ pub struct Header {
     /// A cartridge's barcode, or `DRIVE` and the drive's number, with spaces behind it.
     pub name: [u8; NAME_BYTES],
     /// The capacity of each partition of a cartridge, in bytes. A store has none.
-    pub words: Vec<u64>,
+    pub capacities: Vec<u64>,
 }
 
 impl Header {
@@ -49,8 +49,8 @@ impl Header {
         ensures { IsTrue result ↔ IsHeading (heading_of self.now) }
     {
         is_name(self.kind, &self.name)
-            && is_count(self.kind, self.words.len())
-            && are_capacities(&self.words)
+            && is_count(self.kind, self.capacities.len())
+            && are_capacities(&self.capacities)
     }
 }
 
@@ -72,12 +72,12 @@ fn is_count(kind: SideKind, count: usize) -> bool
     }
 }
 
-fn are_capacities(words: &[u64]) -> bool
-    ensures { IsTrue result ↔ All IsCapacity words.now }
+fn are_capacities(capacities: &[u64]) -> bool
+    ensures { IsTrue result ↔ All IsCapacity capacities.now }
 {
-    words
+    capacities
         .iter()
-        .all(|&word| word >= MIN_CAPACITY && word <= MAX_CAPACITY)
+        .all(|&capacity| capacity >= MIN_CAPACITY && capacity <= MAX_CAPACITY)
 }
 
 fn is_barcode_name(name: &[u8; NAME_BYTES]) -> bool

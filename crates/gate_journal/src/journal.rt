@@ -5,7 +5,7 @@ ghost use Rattle.tape_disk.specs.Moments.{LeavesOnly};
 ghost use Rattle.gate_journal.specs.Side.{IsBody, IsHeading, StandsFor, WithOrWithout};
 ghost use Rattle.gate_journal.specs.Answers.{Appended, Broke, IsFault, MatchWrite, NotMade, NotOpened, disk_after};
 ghost use Rattle.gate_journal.specs.Crash.{Unwritten};
-ghost use Rattle.gate_journal.specs.State.{room_behind, IsPlace, IsWithin, IsBodyAt, IsPart};
+ghost use Rattle.gate_journal.specs.State.{room_behind, IsExtent, LiesInBody, IsBodyAt, IsBodyPart};
 ghost use Rattle.gate_journal.specs.Headers.{heading_of};
 
 use crate::device::{write_frame, write_new};
@@ -24,7 +24,7 @@ use vtl_base::limits::MAX_SIDE;
 pub struct Journal<D: Disk> {
     disk: D,
     header: Header,
-    places: Vec<(u64, u32)>,
+    extents: Vec<(u64, u32)>,
     buffer: Vec<u8>,
     end: u64,
     failed: bool,
@@ -33,7 +33,7 @@ pub struct Journal<D: Disk> {
 impl<D: Disk> Model for Journal<D> {
     ghost use Rattle.std.specs.Prelude.{◌≡◌, ◌+◌, ◌^◌, ◌<◌};
     ghost use Rattle.std.specs.List.{All};
-    ghost use Rattle.gate_journal.specs.State.{OpenSide, side_code, bodies_at, IsPlace, IsOn};
+    ghost use Rattle.gate_journal.specs.State.{OpenSide, side_code, bodies_at, IsExtent, StoresSide};
     ghost use Rattle.gate_journal.specs.Side.{IsHeading};
     ghost use Rattle.gate_journal.specs.Headers.{heading_of};
     ghost use Rattle.gate_journal.specs.Spare.{spare};
@@ -45,17 +45,17 @@ impl<D: Disk> Model for Journal<D> {
     ghost view = { λ a. record {
       disk = a.disk;
       heading = heading_of a.header;
-      bodies = bodies_at (D.state a.disk).seen a.places.items;
-      places = a.places.items;
+      bodies = bodies_at (D.state a.disk).seen a.extents.items;
+      extents = a.extents.items;
       end = a.end;
       failed = a.failed;
-      reserved = spare a.places a.buffer;
+      reserved = spare a.extents a.buffer;
     } };
 
     ghost invariant = { λ a. IsHeading (heading_of a.header) × (a.end + 1 < 2 ^ 64)
-        × All (IsPlace a.end) a.places.items
-        × ((D.state a.disk).honest → IsOn (D.state a.disk) (heading_of a.header)
-        (bodies_at (D.state a.disk).seen a.places.items) a.places.items a.end a.failed) };
+        × All (IsExtent a.end) a.extents.items
+        × ((D.state a.disk).honest → StoresSide (D.state a.disk) (heading_of a.header)
+        (bodies_at (D.state a.disk).seen a.extents.items) a.extents.items a.end a.failed) };
 }
 
 impl<D: Disk> Journal<D> {
@@ -66,8 +66,8 @@ impl<D: Disk> Journal<D> {
         requires { IsHeading (heading_of header) }
         ensures disk { Keeps (D.state disk) (D.state (disk_after result)) }
         ensures ok { IfOk result (λ journal. (journal.heading ≡ heading_of header)
-            × (journal.bodies ≡ []) × (journal.places ≡ []) × (journal.failed ≡ false)
-            × (journal.end ≡ 27 + 8 * length journal.heading.words)) }
+            × (journal.bodies ≡ []) × (journal.extents ≡ []) × (journal.failed ≡ false)
+            × (journal.end ≡ 27 + 8 * length journal.heading.capacities)) }
         ensures sure { IfOk result (λ journal. (D.state disk).honest →
             Each (D.state journal.disk) (StandsFor journal.heading [])) }
         ensures refused { IfErr result (λ refused. NotMade refused.error
@@ -82,11 +82,11 @@ impl<D: Disk> Journal<D> {
         };
         match write_new(&mut disk, &bytes) {
             Ok(()) => {
-                let end = START_BYTES as u64 + 8 * header.words.len() as u64;
+                let end = START_BYTES as u64 + 8 * header.capacities.len() as u64;
                 Ok(Journal {
                     disk,
                     header,
-                    places: Vec::new(alloc),
+                    extents: Vec::new(alloc),
                     buffer: Vec::new(alloc),
                     end,
                     failed: false,
@@ -115,11 +115,11 @@ impl<D: Disk> Journal<D> {
         let mut disk = disk;
         match read_side(alloc, &mut disk) {
             Ok((header, frames)) => {
-                let Frames { places, end } = frames;
+                let Frames { extents, end } = frames;
                 Ok(Journal {
                     disk,
                     header,
-                    places,
+                    extents,
                     buffer: Vec::new(alloc),
                     end,
                     failed: false,
@@ -148,28 +148,28 @@ impl<D: Disk> Journal<D> {
     /// How many frames there are.
     pub fn frames(&self) -> usize
         ensures value { result ≡ length self.now.bodies }
-        ensures places { result ≡ length self.now.places }
+        ensures extents { result ≡ length self.now.extents }
     {
-        self.places.len()
+        self.extents.len()
     }
 
     /// Where the body of that frame lies: its place and its length. The frame's gate stands 5 bytes
     /// before it.
     pub fn body_at(&self, frame: usize) -> (u64, u32)
-        requires { frame < length self.now.places }
-        ensures value { result ≡ slice_index_or self.now.places frame result }
-        ensures inside { IsPlace self.now.end result }
-        ensures whole { IsWithin self.now.places result.0 result.1 }
+        requires { frame < length self.now.extents }
+        ensures value { result ≡ slice_index_or self.now.extents frame result }
+        ensures inside { IsExtent self.now.end result }
+        ensures whole { LiesInBody self.now.extents result.0 result.1 }
         ensures body { (D.state self.now.disk).honest →
             IsBodyAt (D.state self.now.disk).seen self.now.heading self.now.bodies frame result }
     {
-        self.places[frame]
+        self.extents[frame]
     }
 
     /// Fills the buffer with bytes of a body, from that place of the disk on. After a device fault
     /// the side has failed.
     pub fn read_body(&mut self, at: u64, buffer: &mut [u8]) -> Result<(), JournalError>
-        requires { IsWithin self.old.places at (length buffer.old) }
+        requires { LiesInBody self.old.extents at (length buffer.old) }
         ensures disk { Keeps (D.state self.old.disk) (D.state self.new.disk) }
         ensures same { self.new ≡ record self.old {
           disk = self.new.disk;
@@ -182,7 +182,7 @@ impl<D: Disk> Journal<D> {
             × IsFault fault (D.state self.old.disk) (D.state self.new.disk))
             ((self.old.failed ≡ true) × (self.new ≡ self.old)) }
         ensures bytes { (D.state self.old.disk).honest →
-            OnOk result (IsPart self.old.bodies self.old.places at buffer.new) }
+            OnOk result (IsBodyPart self.old.bodies self.old.extents at buffer.new) }
         ensures bodies { (D.state self.old.disk).honest → self.new.bodies ≡ self.old.bodies }
         ensures unwritten { (D.state self.old.disk).honest →
             Unwritten (D.state self.old.disk) (D.state self.new.disk) }
@@ -226,7 +226,7 @@ impl<D: Disk> Journal<D> {
         if frames == 0 {
             return Ok(());
         }
-        make_room(&mut self.places, &mut self.buffer, frames)?;
+        make_room(&mut self.extents, &mut self.buffer, frames)?;
         Ok(())
     }
 
@@ -261,11 +261,11 @@ impl<D: Disk> Journal<D> {
         if u64::from(size) + 5 > MAX_SIDE.saturating_sub(self.end + 1) {
             return Err(JournalError::SideFull);
         }
-        make_room(&mut self.places, &mut self.buffer, 1)?;
+        make_room(&mut self.extents, &mut self.buffer, 1)?;
         fill_frame(&mut self.buffer, body);
         match write_frame(&mut self.disk, self.end, &self.buffer) {
             Ok(()) => {
-                self.places.push_reserved((self.end + 5, size));
+                self.extents.push_reserved((self.end + 5, size));
                 self.end += 5 + u64::from(size);
                 Ok(())
             }

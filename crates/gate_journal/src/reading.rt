@@ -3,7 +3,7 @@ ghost use Rattle.std.specs.Prelude.{◌≡◌, ◌≢◌, ◌+◌, ◌*◌, ◌<
 ghost use Rattle.tape_disk.specs.Disk.{Elapses, Keeps, Passes, Syncs};
 ghost use Rattle.gate_journal.specs.Side.{Heading, IsHeading, spell_heading, OPEN};
 ghost use Rattle.gate_journal.specs.Headers.{heading_of};
-ghost use Rattle.gate_journal.specs.Reading.{words_of, heading_within, kind_told};
+ghost use Rattle.gate_journal.specs.Reading.{numbers_of, heading_within, kind_told};
 ghost use Rattle.std.specs.Int.{to_be_bytes, w32};
 ghost use Rattle.gate_journal.specs.Crash.{Unwritten};
 ghost use Rattle.gate_journal.specs.Found.{FindsRow, FindsHeader, FindsMark, FindsFrames, FindsSide};
@@ -21,7 +21,7 @@ use vtl_base::limits::{MAX_BODY, MAX_PARTITIONS};
 /// Where the bodies of a side lie, and its end gate.
 #[derive(Drop)]
 pub(crate) struct Frames {
-    pub places: Vec<(u64, u32)>,
+    pub extents: Vec<(u64, u32)>,
     pub end: u64,
 }
 
@@ -37,7 +37,7 @@ pub(crate) fn read_side<D: Disk>(
 {
     make_sure(disk)?;
     let header = read_header(alloc, disk)?;
-    let start = START_BYTES as u64 + 8 * header.words.len() as u64;
+    let start = START_BYTES as u64 + 8 * header.capacities.len() as u64;
     let frames = read_frames(alloc, disk, start)?;
     Ok((header, frames))
 }
@@ -70,8 +70,8 @@ fn read_header<D: Disk>(alloc: Global, disk: &mut D) -> Result<Header, JournalEr
     if len - (START_BYTES as u64) < 8 * u64::from(count) {
         return Err(JournalError::NotOurs);
     }
-    let words = read_row(alloc, disk, START_BYTES as u64, 8 * count as usize)?;
-    bytes.extend_from_slice(&words)?;
+    let capacities = read_row(alloc, disk, START_BYTES as u64, 8 * count as usize)?;
+    bytes.extend_from_slice(&capacities)?;
     match header_of(alloc, &bytes)? {
         Some(header) => Ok(header),
         None => Err(JournalError::NotOurs),
@@ -127,7 +127,7 @@ fn header_within(alloc: Global, bytes: &[u8]) -> Result<Header, AllocError>
     Ok(Header {
         kind: kind_told(bytes[4]),
         name,
-        words: numbers(alloc, &bytes[START_BYTES..])?,
+        capacities: numbers(alloc, &bytes[START_BYTES..])?,
     })
 }
 
@@ -144,7 +144,7 @@ fn kind_told(byte: u8) -> SideKind
 
 // Eight bytes at a time as numbers.
 fn numbers(alloc: Global, bytes: &[u8]) -> Result<Vec<u64>, AllocError>
-    ensures { IfOk result (λ numbers. numbers.items ≡ words_of bytes.now) }
+    ensures { IfOk result (λ numbers. numbers.items ≡ numbers_of bytes.now) }
 {
     let mut numbers = Vec::new(alloc);
     let mut rest = bytes;
@@ -206,12 +206,12 @@ fn read_frames<D: Disk>(alloc: Global, disk: &mut D, start: u64) -> Result<Frame
     if start >= len {
         return Err(JournalError::Damaged { at: start });
     }
-    let mut places = Vec::new(alloc);
+    let mut extents = Vec::new(alloc);
     let mut at = start;
     while let Some(size) = read_mark(disk, at, len)? {
-        places.reserve(1)?;
-        places.push_reserved((at + 5, size));
+        extents.reserve(1)?;
+        extents.push_reserved((at + 5, size));
         at += 5 + u64::from(size);
     }
-    Ok(Frames { places, end: at })
+    Ok(Frames { extents, end: at })
 }

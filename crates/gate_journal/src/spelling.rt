@@ -44,27 +44,27 @@ pub(crate) const FRAME_BYTES: usize = 8_388_613;
 
 // A header in bytes.
 pub(crate) fn spell_header(alloc: Global, header: &Header) -> Result<Vec<u8>, AllocError>
-    requires { length header.now.words.items ≤ 4 }
+    requires { length header.now.capacities.items ≤ 4 }
     ensures { IfOk result (λ bytes. bytes.items ≡ spell_heading (heading_of header.now)) }
 {
     let mut bytes = Vec::new(alloc);
     bytes.push(OPEN)?;
     bytes.extend_from_slice(header.kind.mark())?;
     bytes.push(CLOSED)?;
-    bytes.push(header.words.len() as u8)?;
+    bytes.push(header.capacities.len() as u8)?;
     bytes.extend_from_slice(&header.name)?;
-    spell_words(&mut bytes, &header.words)?;
+    spell_capacities(&mut bytes, &header.capacities)?;
     Ok(bytes)
 }
 
 // Eight bytes for each number, behind what is there.
-fn spell_words(bytes: &mut Vec<u8>, words: &[u64]) -> Result<(), AllocError>
+fn spell_capacities(bytes: &mut Vec<u8>, capacities: &[u64]) -> Result<(), AllocError>
     ensures { IfOk result (λ _.
-        bytes.new.items ≡ bytes.old.items ++ flat_map (to_be_bytes w64) words.now) }
+        bytes.new.items ≡ bytes.old.items ++ flat_map (to_be_bytes w64) capacities.now) }
 {
-    for word in words {
+    for capacity in capacities {
         let mut number = [0; 8];
-        BigEndian::write_u64(&mut number, *word);
+        BigEndian::write_u64(&mut number, *capacity);
         bytes.extend_from_slice(&number)?;
     }
     Ok(())
@@ -72,7 +72,7 @@ fn spell_words(bytes: &mut Vec<u8>, words: &[u64]) -> Result<(), AllocError>
 
 // A header with its gate closed, and a closed gate behind it.
 pub(crate) fn spell_closed(alloc: Global, header: &Header) -> Result<Vec<u8>, AllocError>
-    requires { length header.now.words.items ≤ 4 }
+    requires { length header.now.capacities.items ≤ 4 }
     ensures { IfOk result (λ bytes.
         bytes.items ≡ 0 ∷ drop 1 (spell_heading (heading_of header.now)) ++ 0 ∷ []) }
 {

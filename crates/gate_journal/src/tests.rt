@@ -23,7 +23,7 @@ fn cartridge(alloc: Global) -> Result<Header, AllocError> {
     Ok(Header {
         kind: SideKind::Cartridge,
         name: *b"T00001L6        ",
-        words: vec![in alloc; 4096]?,
+        capacities: vec![in alloc; 4096]?,
     })
 }
 
@@ -78,7 +78,7 @@ fn a_side_byte_by_byte(rt: HostRuntime) -> Result<(), Fail> {
     assert_eq!(rt; journal.read_body(at, &mut body), Ok(()));
     assert_eq!(rt; body.as_slice(), FIRST.as_slice());
     assert_eq!(rt; journal.header().name, *b"T00001L6        ");
-    assert_eq!(rt; journal.header().words.as_slice(), [4096].as_slice());
+    assert_eq!(rt; journal.header().capacities.as_slice(), [4096].as_slice());
     Ok(())
 }
 

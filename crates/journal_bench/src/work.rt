@@ -14,7 +14,7 @@ fn new_side(alloc: Global) -> Option<Journal<MemDisk>> {
     let header = Header {
         kind: SideKind::Cartridge,
         name: *b"T00001L6        ",
-        words: vec![in alloc; 16_777_216].ok()?,
+        capacities: vec![in alloc; 16_777_216].ok()?,
     };
     if !header.can_be_spelled() {
         return None;

@@ -4,7 +4,7 @@ use Rattle.gate_journal.specs.Side.{Heading, IsHeading, spell_heading}
 use Rattle.gate_journal.specs.Headers.{heading_of}
 use Rattle.gate_journal.specs.Reading.{heading_within}
 use Rattle.gate_journal.proofs.Headings.{within_is}
-use Rattle.gate_journal.proofs.Words.{equal_bytes}
+use Rattle.gate_journal.proofs.Numbers.{equal_bytes}
 use Rattle.gate_journal.proofs.reading.header_of.Goals as goal
 
 pub returns-then-not-can_be_spelled-clause-none : goal.returns-then-not-can_be_spelled-clause-none

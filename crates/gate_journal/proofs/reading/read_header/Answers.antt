@@ -18,13 +18,13 @@ returns-in-Some-clause-answer g c =
     let seen = (g.D.Disk.state c.args.disk.now).seen in
     let count = c.index-count.result.now in
     let bytes = c.in_ok-bytes.bytes.items in
-    let words = c.in_ok-words.words.items in
+    let capacities = c.in_ok-capacities.capacities.items in
     let whole = c.deref-2.ensures.value ∙ c.in_ok-extend_from_slice.ensures.items ∙ ap (λ (l : List ℕ). bytes ++ l) c.deref.ensures.value in (
       found.0,
       λ honest.
           let honest1 = c.read_row.ensures.disk.stays_honest honest in
-          let second = c.in_ok-words.ensures.answer.1 honest1 ∙ ap (λ (l : List ℕ). slice_range l 27 (27 + 8 * count)) (c.read_row.ensures.unwritten honest).seen in
-          header_there seen bytes words c.deref-2.result.now count (c.in_ok-bytes.ensures.answer.1 honest) second whole (heading_of c.in-Some.header) found.1,
+          let second = c.in_ok-capacities.ensures.answer.1 honest1 ∙ ap (λ (l : List ℕ). slice_range l 27 (27 + 8 * count)) (c.read_row.ensures.unwritten honest).seen in
+          header_there seen bytes capacities c.deref-2.result.now count (c.in_ok-bytes.ensures.answer.1 honest) second whole (heading_of c.in-Some.header) found.1,
     )
 
 pub returns-clause-answer : goal.returns-clause-answer
@@ -34,8 +34,8 @@ returns-clause-answer g c = λ honest.
     let count = c.index-count.result.now in
     let row = c.in_ok-bytes.ensures.answer in
     let bytes = c.in_ok-bytes.bytes.items in
-    let words = c.in_ok-words.words.items in
+    let capacities = c.in_ok-capacities.capacities.items in
     let whole = c.deref-2.ensures.value ∙ c.in_ok-extend_from_slice.ensures.items ∙ ap (λ (l : List ℕ). bytes ++ l) c.deref.ensures.value in
     let honest1 = c.read_row.ensures.disk.stays_honest honest in
-    let second = c.in_ok-words.ensures.answer.1 honest1 ∙ ap (λ (l : List ℕ). slice_range l 27 (27 + 8 * count)) (c.read_row.ensures.unwritten honest).seen in
-    no_header seen bytes words c.deref-2.result.now count (row.1 honest) second whole (count_read seen bytes count row.0 (row.1 honest) c.index-count.ensures) never
+    let second = c.in_ok-capacities.ensures.answer.1 honest1 ∙ ap (λ (l : List ℕ). slice_range l 27 (27 + 8 * count)) (c.read_row.ensures.unwritten honest).seen in
+    no_header seen bytes capacities c.deref-2.result.now count (row.1 honest) second whole (count_read seen bytes count row.0 (row.1 honest) c.index-count.ensures) never

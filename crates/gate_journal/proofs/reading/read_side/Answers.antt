@@ -17,7 +17,7 @@ returns-in_err-frames-clause-answer g c =
     let h = heading_of c.in_ok-header.header in
     let kept1 = keeps_of d0 d1 c.make_sure.result c.make_sure.ensures.passes in
     let found = c.in_ok-header.ensures.answer in
-    let count : c.len.result ≡ length c.in_ok-header.header.words.items = search rules in
+    let count : c.len.result ≡ length c.in_ok-header.header.capacities.items = search rules in
     let here : 27 + 8 * c.len.result ≡ length (spell_heading h) = omega (arith, count, length_heading h found.0) in
     let p = err_from_is_err_and c.from_residual-in_err-frames.result c.from_residual-in_err-frames.ensures.1 in
     rw (p.1, p.2)
@@ -46,10 +46,10 @@ returns-clause-answer g c =
     let h = heading_of c.in_ok-header.header in
     let kept1 = keeps_of d0 d1 c.make_sure.result c.make_sure.ensures.passes in
     let found = c.in_ok-header.ensures.answer in
-    let count : c.len.result ≡ length c.in_ok-header.header.words.items = search rules in
+    let count : c.len.result ≡ length c.in_ok-header.header.capacities.items = search rules in
     let here : 27 + 8 * c.len.result ≡ length (spell_heading h) = omega (arith, count, length_heading h found.0) in
     let frames = c.in_ok-frames.ensures.answer in
-    let places = c.in_ok-frames.frames.places.items in
+    let extents = c.in_ok-frames.frames.extents.items in
     let end = c.in_ok-frames.frames.end in (
       found.0,
       frames.0,
@@ -65,10 +65,10 @@ returns-clause-answer g c =
           let walk = frames.3 honest2 in
           let same2 = seen_2 d0 d1 d2 d3 sure disk1 first second in
           let only = only_3 d0 d1 d2 d3 sure disk1 first second in
-          let stands = stands_for d2.seen (27 + 8 * c.len.result) walk.0.0 places end walk.0.1 h found.0 rest.0 (first.seen ∙ rest.1) here walk.1.0 walk.1.1 walk.1.2 walk.1.3 in
-          let both = on_disk d2.seen (27 + 8 * c.len.result) walk.0.0 places end walk.0.1 h found.0 rest.0 (first.seen ∙ rest.1) here d3 second.seen (λ image left. only image left ∙ sym same2) stands in (
+          let stands = stands_for d2.seen (27 + 8 * c.len.result) walk.0.0 extents end walk.0.1 h found.0 rest.0 (first.seen ∙ rest.1) here walk.1.0 walk.1.1 walk.1.2 walk.1.3 in
+          let both = on_disk d2.seen (27 + 8 * c.len.result) walk.0.0 extents end walk.0.1 h found.0 rest.0 (first.seen ∙ rest.1) here d3 second.seen (λ image left. only image left ∙ sym same2) stands in (
             both.0,
-            subst (λ (l : List ℕ). StandsFor h (bodies_at d3.seen places) l) same2 both.1,
+            subst (λ (l : List ℕ). StandsFor h (bodies_at d3.seen extents) l) same2 both.1,
             only,
           ),
     )

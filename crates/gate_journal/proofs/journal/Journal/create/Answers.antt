@@ -2,16 +2,16 @@ use Rattle.std.proofs.Common.{◌≡◌, List, ◌∷◌, length, drop, ◌+◌,
 use Rattle.gate_journal.specs.Headers.{heading_of}
 use Rattle.gate_journal.specs.Side.{spell_heading}
 use Rattle.gate_journal.proofs.Bodies.{fresh}
-use Rattle.gate_journal.proofs.Headings.{length_heading, few_words}
-use Rattle.gate_journal.proofs.Places.{none_yet}
+use Rattle.gate_journal.proofs.Headings.{length_heading, few_capacities}
+use Rattle.gate_journal.proofs.Extents.{none_yet}
 use Rattle.gate_journal.proofs.journal.Journal.create.Goals as goal
 
 pub invariant_of-result : goal.invariant_of-result
 invariant_of-result g c =
     let h = heading_of c.args.header in
-    let few : length c.args.header.words.items ≤ 4 = few_words h c.requires in
-    let count : c.len.result ≡ length c.args.header.words.items = search rules in
-    let long : length (spell_heading h) ≡ 27 + 8 * length c.args.header.words.items = length_heading h c.requires in (
+    let few : length c.args.header.capacities.items ≤ 4 = few_capacities h c.requires in
+    let count : c.len.result ≡ length c.args.header.capacities.items = search rules in
+    let long : length (spell_heading h) ≡ 27 + 8 * length c.args.header.capacities.items = length_heading h c.requires in (
       c.requires,
       omega (arith, few, count),
       none_yet (27 + 8 * c.len.result) c.new.result.items c.new.ensures.items,

@@ -5,4 +5,4 @@ use Rattle.gate_journal.proofs.journal.Journal.known.Goals as goal
 pub returns : goal.returns
 returns g c = rw (← c.self.view_is) (λ h fine.
     let i = c.self.inside in
-    sure_now (g.D.Disk.state i.disk) (heading_of i.header) i.places.items i.end i.failed (c.self.invariant.3 h) fine)
+    sure_now (g.D.Disk.state i.disk) (heading_of i.header) i.extents.items i.end i.failed (c.self.invariant.3 h) fine)
