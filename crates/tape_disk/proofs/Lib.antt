@@ -1,4 +1,3 @@
-pub mod Passing
 pub mod Replays
 pub mod Sent
 pub mod Smears

@@ -1,7 +1,8 @@
 -- How far a replay of a past has come, the oldest call first: the calls so far have left an image, those to come remain.
 use Rattle.std.proofs.Common.{◌≡◌, ℕ, ◌+◌, ◌-◌, ◌<◌, List, [], ◌∷◌, ◌++◌, length, take, cond, ap, ◌∙◌, arith, append_assoc}
 use Rattle.std.proofs.lemmas.List.Sums.{fold_push}
-use Rattle.tape_disk.specs.Past.{Event, Wrote, CutTo, Synced, overwritten, landed, is_sync, syncs_of, unsynced, seen_of, torn}
+use Rattle.tape_disk.specs.Disk.{overwritten}
+use Rattle.tape_disk.specs.Past.{Event, Wrote, CutTo, Synced, landed, is_sync, syncs_of, unsynced, seen_of, torn}
 
 pub record Replays (base : List ℕ) (keep fill : ℕ) (all remaining older : List Event) (syncs left : ℕ) (image : List ℕ) : Type 0 where
   pub whole : all ≡ remaining ++ older

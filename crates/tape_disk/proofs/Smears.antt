@@ -1,7 +1,7 @@
 -- What a write leaves of a row of bytes that is split at its place.
 use Rattle.std.proofs.Common.{◌≡◌, ℕ, ◌+◌, ◌<◌, List, [], ◌∷◌, ◌++◌, length, get_or, take, drop, sym, ◌∙◌, ap, arith, append_assoc, length-append, take-append-drop}
 use Rattle.std.proofs.lemmas.List.{take_at, drop_at, drop_more}
-use Rattle.tape_disk.specs.Disk.{Holds, Smeared}
+use Rattle.tape_disk.specs.Disk.{Smeared, overwritten}
 
 -- the bytes before a place, the one there, and those behind it
 pub split_at : (xs : List ℕ) (at : ℕ) → at < length xs → xs ≡ take at xs ++ get_or xs at 0 ∷ drop (at + 1) xs
@@ -18,7 +18,7 @@ module _ (front rest : List ℕ) (at : ℕ) (here : length front ≡ at) where
       begins ∙ ap (λ (l : List ℕ). front ++ l) (sym behind)
 
   -- what a write that answered Ok leaves
-  pub written : (bytes new : List ℕ) → Holds at bytes (front ++ rest) new → new ≡ front ++ bytes ++ drop (at + length bytes) (front ++ rest)
+  pub written : (bytes new : List ℕ) → new ≡ overwritten at bytes (front ++ rest) → new ≡ front ++ bytes ++ drop (at + length bytes) (front ++ rest)
   written bytes new holds = holds ∙ ap (λ (l : List ℕ). l ++ bytes ++ drop (at + length bytes) (front ++ rest)) (take_at front rest at here)
 
 module _ (front : List ℕ) (byte : ℕ) (tail : List ℕ) (at : ℕ) (here : length front ≡ at) where
@@ -38,7 +38,7 @@ module _ (front : List ℕ) (byte : ℕ) (tail : List ℕ) (at : ℕ) (here : le
       (other, more, keeps_front front (byte ∷ tail) at here 1 new torn ∙ ap (λ (l : List ℕ). front ++ l) rest)
 
   -- one byte is another, and all others stay
-  pub written_byte : (other : ℕ) (new : List ℕ) → Holds at (other ∷ []) (front ++ byte ∷ tail) new → new ≡ front ++ other ∷ tail
+  pub written_byte : (other : ℕ) (new : List ℕ) → new ≡ overwritten at (other ∷ []) (front ++ byte ∷ tail) → new ≡ front ++ other ∷ tail
   written_byte other new holds =
       written front (byte ∷ tail) at here (other ∷ []) new holds
       ∙ ap (λ (l : List ℕ). front ++ (other ∷ []) ++ l) behind

@@ -1,8 +1,8 @@
 -- What a crash of a disk in memory leaves is an image that its past allows.
 use Rattle.std.proofs.Common.{◌≡◌, ℕ, ◌-◌, List, [], ◌∷◌, length, take, replicate, refl, sym, subst, arith, length-append}
 use Rattle.std.proofs.lemmas.List.{append-nil, length-take, length-replicate}
-use Rattle.tape_disk.specs.Disk.{Smeared}
-use Rattle.tape_disk.specs.Past.{Event, Wrote, CutTo, Synced, Image, overwritten, landed, unsynced, torn, smears}
+use Rattle.tape_disk.specs.Disk.{Smeared, overwritten}
+use Rattle.tape_disk.specs.Past.{Event, Wrote, CutTo, Synced, Image, landed, unsynced, torn, smears}
 
 length-landed : (n fill : ℕ) (bytes : List ℕ) → length (landed n fill bytes) ≡ length bytes
 length-landed n fill bytes = omega (arith, length-append (take n bytes) (replicate (length bytes - n) fill), length-take n bytes, length-replicate (length bytes - n) fill)

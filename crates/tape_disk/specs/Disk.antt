@@ -21,9 +21,9 @@ pub record DiskState : Type 1 where
 abbrev pub IsPrefixOf : List ℕ → List ℕ → Type 0
 IsPrefixOf xs ys = (rest : List ℕ) × (ys ≡ xs ++ rest)
 
--- new is old with these bytes at this place, and longer where they pass its end (own)
-abbrev pub Holds : ℕ → List ℕ → List ℕ → List ℕ → Type 0
-Holds at bytes old new = new ≡ take at old ++ bytes ++ drop (at + length bytes) old
+-- the old bytes with these ones written at a place, or at the end where that comes first (own)
+abbrev pub overwritten : ℕ → List ℕ → List ℕ → List ℕ
+overwritten at bytes old = take at old ++ bytes ++ drop (at + length bytes) old
 
 -- A write of n bytes that did not become safe: any bytes in its range, and from the old end on; the
 -- others stay (own).
@@ -62,12 +62,12 @@ pub record Keeps (old new : DiskState) : Type 0 where
   pub was_honest : new.honest → old.honest
   pub counted : old.failures ≤ new.failures
 
--- The same of one call, or of calls in a row that end at the first fault: a fault has a failure as its
--- cause, and tells how many there were (own).
+-- The same of one call, or of calls in a row that end at the first fault: Ok says that no call failed,
+-- and a fault that one did, and it tells how many there were (own).
 pub record Passes {T : Type 0} (old new : DiskState) (result : Result T DevFault) : Type 0 where
   pub stays_honest : old.honest → new.honest
   pub was_honest : new.honest → old.honest
-  pub counted : old.failures ≤ new.failures
+  pub none_failed : OnOk result (new.failures ≡ old.failures)
   pub cause : OnErr result (old.failures < new.failures)
   pub told : IfErr result (λ fault. fault.failures ≡ min new.failures (2 ^ 64 - 1))
 
@@ -79,7 +79,7 @@ pub record Same (old new : DiskState) : Type 0 where
 -- A write: a read gives the bytes, or after a fault any bytes in their place and from the old end on;
 -- until a sync a crash may leave any bytes there (own).
 pub record Writes (at : ℕ) (bytes : List ℕ) (result : Result Unit DevFault) (old new : DiskState) : Type 0 where
-  pub written : OnOk result (Holds at bytes old.seen new.seen)
+  pub written : OnOk result (new.seen ≡ overwritten at bytes old.seen)
   pub smeared : OnErr result (Smeared at (length bytes) old.seen new.seen)
   pub crash : Follows (Smeared at (length bytes)) old.may_leave new.may_leave
 

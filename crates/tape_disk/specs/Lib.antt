@@ -7,3 +7,4 @@ pub mod Memory
 pub mod Moments
 pub mod OnceDisk
 pub mod Past
+pub mod Sequences

@@ -11,16 +11,16 @@ pub record LeavesOnly (old new : DiskState) (P : List ℕ → Type 0) : Type 0 w
   pub before : (t : ℕ) (image : List ℕ) → t ≤ old.moment → new.left_since t image → old.left_since t image ⊎ P image
 
 -- nothing was called
-pub stays : (disk : DiskState) (P : List ℕ → Type 0) → IsDisk disk → Each disk P → LeavesOnly disk disk P
-stays disk P is_disk here = record {
+pub no_call : (disk : DiskState) (P : List ℕ → Type 0) → IsDisk disk → Each disk P → LeavesOnly disk disk P
+no_call disk P is_disk here = record {
   later = omega arith;
   each = λ image left. here image (is_disk.only_now image left);
   before = λ t image le left. inl left;
 }
 
 -- one call more
-pub goes_on : (old mid new : DiskState) (P : List ℕ → Type 0) → LeavesOnly old mid P → Elapses mid new → Each new P → LeavesOnly old new P
-goes_on old mid new P so_far time here = record {
+pub one_more_call : (old mid new : DiskState) (P : List ℕ → Type 0) → LeavesOnly old mid P → Elapses mid new → Each new P → LeavesOnly old new P
+one_more_call old mid new P so_far time here = record {
   later = omega (arith, so_far.later, time.later);
   each = λ image left. ⊎_elim (so_far.each image) (here image) (time.nothing_else old.moment image so_far.later left);
   before = λ t image le left.
@@ -28,8 +28,8 @@ goes_on old mid new P so_far time here = record {
 }
 
 -- two runs in a row
-pub then_ : (old mid new : DiskState) (P : List ℕ → Type 0) → LeavesOnly old mid P → LeavesOnly mid new P → LeavesOnly old new P
-then_ old mid new P first second = record {
+pub in_sequence : (old mid new : DiskState) (P : List ℕ → Type 0) → LeavesOnly old mid P → LeavesOnly mid new P → LeavesOnly old new P
+in_sequence old mid new P first second = record {
   later = omega (arith, first.later, second.later);
   each = λ image left. ⊎_elim (first.each image) (λ has. has) (second.before old.moment image first.later left);
   before = λ t image le left.
@@ -37,13 +37,13 @@ then_ old mid new P first second = record {
 }
 
 -- a layer above says the same in its own words
-pub says : (old new : DiskState) (P Q : List ℕ → Type 0) → LeavesOnly old new P → ((image : List ℕ) → P image → Q image) → LeavesOnly old new Q
-says old new P Q run means = record {
+pub weakened : (old new : DiskState) (P Q : List ℕ → Type 0) → LeavesOnly old new P → ((image : List ℕ) → P image → Q image) → LeavesOnly old new Q
+weakened old new P Q run means = record {
   later = run.later;
   each = λ image left. means image (run.each image left);
   before = λ t image le left. ⊎_elim inl (λ has. inr (means image has)) (run.before t image le left);
 }
 
 -- what holds of each moment since holds now
-pub now : (old new : DiskState) (P : List ℕ → Type 0) → IsDisk new → LeavesOnly old new P → Each new P
-now old new P is_disk run image left = run.each image (is_disk.counts_now old.moment image run.later left)
+pub holds_now : (old new : DiskState) (P : List ℕ → Type 0) → IsDisk new → LeavesOnly old new P → Each new P
+holds_now old new P is_disk run image left = run.each image (is_disk.counts_now old.moment image run.later left)

@@ -3,7 +3,7 @@ use Rattle.std.specs.Prelude.{◌≡◌, ◌⊎◌, ℕ, ◌+◌, ◌-◌, ◌�
 use Rattle.std.proofs.Common.{inl, inr, ◌<◌, ◌∙◌, sym, ap, arith, append_assoc, length-append}
 use Rattle.std.proofs.lemmas.Bool.{cases_lt}
 use Rattle.std.proofs.lemmas.List.{append-nil, drop_at, drop_all, length-take, length-take-le, length-drop}
-use Rattle.tape_disk.specs.Disk.{DiskState, IsDisk, IsPrefixOf, Smeared, Cut}
+use Rattle.tape_disk.specs.Disk.{DiskState, IsDisk, IsPrefixOf, Smeared, Cut, overwritten}
 
 -- A call that changed the disk or made it safe, and how many calls came before it, since the last such
 -- one, that did neither: reads, and calls that failed (own).
@@ -19,10 +19,6 @@ pub record Past : Type 0 where
   pub events : List Event
   -- the calls since then that changed nothing
   pub idle : ℕ
-
--- the bytes with these ones written at a place, or at the end where that comes first (own)
-abbrev pub overwritten : ℕ → List ℕ → List ℕ → List ℕ
-overwritten at bytes old = take at old ++ bytes ++ drop (at + length bytes) old
 
 -- the calls up to now (own)
 abbrev pub clock_of : List Event → ℕ

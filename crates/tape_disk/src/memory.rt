@@ -1,7 +1,7 @@
 //! A disk in memory, which keeps a log of its calls, and so knows what a crash may leave.
 ghost use Rattle.std.specs.Prelude.{◌≡◌, ◌+◌, ◌-◌, ◌^◌, min, [], OnOk, OnErr, IfOk};
-ghost use Rattle.tape_disk.specs.Disk.{Only};
-ghost use Rattle.tape_disk.specs.Past.{Past, Image, seen_of, syncs_of, torn, overwritten, begun, rested, kept, state_of, is_disk, Wrote};
+ghost use Rattle.tape_disk.specs.Disk.{Only, overwritten};
+ghost use Rattle.tape_disk.specs.Past.{Past, Image, seen_of, syncs_of, torn, begun, rested, kept, state_of, is_disk, Wrote};
 ghost use Rattle.tape_disk.specs.Memory.{past_of};
 
 use crate::disk::Disk;

@@ -1,6 +1,6 @@
 //! Bytes written over others, in place.
 ghost use Rattle.std.specs.Prelude.{◌≡◌, ◌+◌, ◌-◌, ◌≤◌, ℕ, length, vec_len, vec_capacity, OnOk, OnErr, IsOk};
-ghost use Rattle.tape_disk.specs.Past.{overwritten};
+ghost use Rattle.tape_disk.specs.Disk.{overwritten};
 
 use std::alloc::AllocError;
 
