@@ -1,19 +1,25 @@
 -- What holds after each answer of a call.
-use Rattle.std.specs.Prelude.{◌≡◌, ◌<◌, ◌≤◌, ◌^◌, ◌+◌, ◌-◌, [], ◌∷◌, ◌++◌, ℕ, true, false, min, Result, Ok, Err}
+use Rattle.std.specs.Prelude.{◌≡◌, ◌<◌, ◌≤◌, ◌^◌, ◌+◌, ◌-◌, [], ◌∷◌, ◌++◌, ℕ, length, true, false, min, Result, Ok, Err}
 use Rattle.vtl_base.specs.declared.faults.DevFault.{DevFault}
 use Rattle.tape_disk.specs.Disk.{DiskState, Only}
 use Rattle.gate_journal.specs.declared.error.JournalError.{JournalError}
 use Rattle.gate_journal.specs.declared.error.JournalError.TheVariants.{NotOurs, Damaged, SideFull, Device, Failed, NoMemory}
 use Rattle.gate_journal.specs.declared.error.Refused.{Refused}
+use Rattle.gate_journal.specs.declared.spelling.TheConstants.{START_BYTES}
 use Rattle.gate_journal.specs.State.{OpenSide, room_behind}
 use Rattle.gate_journal.specs.Side.{IsNotOurs, IsDamagedAt}
 
--- the disk failed since the old moment, and the fault tells how often so far (own)
+-- no call of the disk failed since the old moment (own)
+abbrev pub NoneFailed : DiskState → DiskState → Type 0
+NoneFailed old new = new.failures ≡ old.failures
+
+-- a call of the disk failed since the old moment, and the fault says how many have so far (own)
 pub record IsFault (fault : DevFault) (old new : DiskState) : Type 0 where
   pub cause : old.failures < new.failures
   pub told : fault.failures ≡ min new.failures (2 ^ 64 - 1)
 
--- a fact for each answer of a call that writes: done, want of memory, a full side, a fault, a fault before (own)
+-- A fact for each answer of a call on an open side: done, out of memory, a full side, a fault, a fault in an earlier
+-- call (own).
 abbrev pub MatchWrite : Result Unit JournalError → Type 0 → Type 0 → Type 0 → (DevFault → Type 0) → Type 0 → Type 0
 MatchWrite (Ok done) ok memory full device failed = ok
 MatchWrite (Err NoMemory) ok memory full device failed = memory
@@ -46,16 +52,18 @@ abbrev pub disk_after : {D : Type 0} → Result (OpenSide D) (Refused D) → D
 disk_after (Ok side) = side.disk
 disk_after (Err refused) = refused.disk
 
--- why a side is not opened: what the old bytes are, which are then sure; or the disk, or memory (own)
+-- Why a side is not opened: what the old bytes are, which are then sure, and no call failed; or a fault; or memory ran
+-- out, where there are the bytes of a header's start, and no call failed (own).
 abbrev pub NotOpened : JournalError → DiskState → DiskState → Type 0
-NotOpened NotOurs old new = old.honest → IsNotOurs old.seen × Only old.seen new.may_leave
-NotOpened (Damaged at) old new = old.honest → IsDamagedAt old.seen at × Only old.seen new.may_leave
+NotOpened NotOurs old new = NoneFailed old new × (old.honest → IsNotOurs old.seen × Only old.seen new.may_leave)
+NotOpened (Damaged at) old new =
+    NoneFailed old new × (old.honest → IsDamagedAt old.seen at × Only old.seen new.may_leave)
 NotOpened (Device fault) old new = IsFault fault old new
-NotOpened NoMemory old new = Unit {0}
+NotOpened NoMemory old new = NoneFailed old new × (old.honest → START_BYTES ≤ length old.seen)
 NotOpened SideFull old new = ⊥
 NotOpened Failed old new = ⊥
 
--- why a side is not made: memory, and the disk was not touched; or the disk (own)
+-- why a side is not made: memory ran out, and the disk was not touched; or a fault (own)
 abbrev pub NotMade : JournalError → Type 0 → (DevFault → Type 0) → Type 0
 NotMade NoMemory memory device = memory
 NotMade (Device fault) memory device = device fault

@@ -7,7 +7,8 @@ use Rattle.gate_journal.specs.Side.{Heading}
 
 -- eight bytes at a time as numbers (own)
 abbrev pub numbers_of : List ℕ → List ℕ
-numbers_of (a ∷ b ∷ c ∷ d ∷ e ∷ f ∷ g ∷ h ∷ rest) = big_number 8 (a ∷ b ∷ c ∷ d ∷ e ∷ f ∷ g ∷ h ∷ []) ∷ numbers_of rest
+numbers_of (a ∷ b ∷ c ∷ d ∷ e ∷ f ∷ g ∷ h ∷ rest) =
+    big_number 8 (a ∷ b ∷ c ∷ d ∷ e ∷ f ∷ g ∷ h ∷ []) ∷ numbers_of rest
 numbers_of rest = []
 
 -- the kind by the one letter in which the marks differ first (own)
@@ -16,4 +17,8 @@ kind_told byte = if byte == 67 then Cartridge else Store
 
 -- the heading that bytes spell, if they spell one (own)
 abbrev pub heading_within : List ℕ → Heading
-heading_within bytes = record { kind = kind_told (slice_index bytes 4); name = take 16 (drop 11 bytes); capacities = numbers_of (drop 27 bytes) }
+heading_within bytes = record {
+  kind = kind_told (slice_index bytes 4);
+  name = take 16 (drop 11 bytes);
+  capacities = numbers_of (drop 27 bytes);
+}
