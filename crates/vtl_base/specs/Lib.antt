@@ -1,2 +1,3 @@
 pub mod Barcode
 pub mod Below
+pub mod Limits

@@ -23,12 +23,13 @@ pub struct Barcode {
 impl Model for Barcode {
     ghost use Rattle.std.specs.Prelude.{ℕ, List, take, ◌≤◌};
     ghost use Rattle.vtl_base.specs.Barcode.{IsBarcode};
+    ghost use Rattle.vtl_base.specs.declared.limits.TheConstants.{MAX_BARCODE};
 
     ghost Value = { List ℕ };
 
     ghost view = { λ b. take b.count b.symbols };
 
-    ghost invariant = { λ b. (b.count ≤ 16) × IsBarcode (take b.count b.symbols) };
+    ghost invariant = { λ b. (b.count ≤ MAX_BARCODE) × IsBarcode (take b.count b.symbols) };
 }
 
 fn is_symbol(byte: u8) -> bool

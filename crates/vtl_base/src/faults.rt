@@ -1,8 +1,8 @@
-//! What may fail under any call: memory, and a device.
+//! What may fail under any call: memory runs out, or a device fails.
 use std::alloc::AllocError;
 use thiserror::Error;
 
-/// A growth was refused.
+/// Memory ran out: an allocation was refused.
 #[derive(Clone, Copy, PartialEq, Eq, Debug, Error)]
 #[error("out of memory")]
 pub struct NoMemory;

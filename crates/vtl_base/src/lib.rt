@@ -4,6 +4,7 @@
 pub mod barcode;
 pub mod bytes;
 pub mod faults;
+pub mod laws;
 pub mod limits;
 pub mod numbers;
 #[cfg(test)]

@@ -25,6 +25,12 @@ pub const MAX_SIDE: u64 = 1_099_511_627_776;
 /// The bytes of the longest frame body. The shortest has one.
 pub const MAX_BODY: u32 = 8_388_608;
 
+/// The records that a buffer holds at most.
+pub const BUFFER_RECORDS: usize = 64;
+
+/// The bytes of blocks that a buffer holds at most.
+pub const BUFFER_BYTES: usize = 4_194_304;
+
 /// The drives of a library.
 pub const DRIVES: u8 = 16;
 

@@ -21,12 +21,13 @@ pub struct Nexus {
 
 impl Model for Nexus {
     ghost use Rattle.std.specs.Prelude.{ℕ, ◌≤◌};
+    ghost use Rattle.vtl_base.specs.declared.limits.TheConstants.{NEXUSES};
 
     ghost Value = { ℕ };
 
     ghost view = { λ n. n.number };
 
-    ghost invariant = { λ n. (1 ≤ n.number) × (n.number ≤ 64) };
+    ghost invariant = { λ n. (1 ≤ n.number) × (n.number ≤ NEXUSES) };
 
     ghost inverse = { λ n. record { number = n } };
 }
@@ -69,12 +70,13 @@ pub struct DriveNo {
 
 impl Model for DriveNo {
     ghost use Rattle.std.specs.Prelude.{ℕ, ◌≤◌};
+    ghost use Rattle.vtl_base.specs.declared.limits.TheConstants.{DRIVES};
 
     ghost Value = { ℕ };
 
     ghost view = { λ n. n.number };
 
-    ghost invariant = { λ n. (1 ≤ n.number) × (n.number ≤ 16) };
+    ghost invariant = { λ n. (1 ≤ n.number) × (n.number ≤ DRIVES) };
 
     ghost inverse = { λ n. record { number = n } };
 }
@@ -115,13 +117,14 @@ pub struct SlotNo {
 }
 
 impl Model for SlotNo {
-    ghost use Rattle.std.specs.Prelude.{ℕ, ◌≤◌};
+    ghost use Rattle.std.specs.Prelude.{ℕ, ◌≤◌, ◌<◌, ◌-◌};
+    ghost use Rattle.vtl_base.specs.declared.limits.TheConstants.{FIRST_SLOT, SLOTS};
 
     ghost Value = { ℕ };
 
     ghost view = { λ n. n.address };
 
-    ghost invariant = { λ n. (1001 ≤ n.address) × (n.address ≤ 1256) };
+    ghost invariant = { λ n. (FIRST_SLOT ≤ n.address) × (n.address - FIRST_SLOT < SLOTS) };
 
     ghost inverse = { λ n. record { address = n } };
 }
