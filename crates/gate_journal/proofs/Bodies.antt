@@ -8,11 +8,12 @@ use Rattle.std.proofs.lemmas.List.Concat.{flat_map-append}
 use Rattle.std.proofs.lemmas.List.Elements.{All-nil, All-push}
 use Rattle.std.proofs.lemmas.Bool.{cases_eq}
 use Rattle.tape_disk.specs.Disk.{DiskState, IsDisk, Only, Each}
-use Rattle.tape_disk.specs.Moments.{LeavesOnly, stays, says, now}
-use Rattle.gate_journal.specs.Side.{OPEN, Heading, IsHeading, IsBody, IsSide, frame, spell_heading, spell, StandsFor, WithOrWithout}
+use Rattle.tape_disk.specs.Moments.{LeavesOnly, no_call, weakened, holds_now}
+use Rattle.gate_journal.specs.Side.{OPEN, Heading, IsHeading, IsBody, IsSide, frame, spell_heading, spell, StandsFor}
+use Rattle.gate_journal.specs.Crash.{WithOrWithout}
 use Rattle.gate_journal.specs.State.{StoresSide, bodies_at, extents_from}
-use Rattle.gate_journal.specs.Crash.{BehindOrGated, Opened}
-use Rattle.gate_journal.proofs.Frames.{length-frame}
+use Rattle.gate_journal.specs.Inner.Writing.{BehindOrGated, Opened}
+use Rattle.gate_journal.specs.Inner.Frames.{length-frame}
 
 -- what is written behind the gate: a length, a body, and the next gate, closed
 abbrev pub tail_of : List ℕ → List ℕ
@@ -109,7 +110,7 @@ module _ (d : DiskState) (heading : Heading) (bodies : List (List ℕ)) (extents
         }
 
     pub torn : (d' : DiskState) → IsDisk d' → LeavesOnly d d' (BehindOrGated (take end d.seen) (get_or d.seen end 0) (tail_of body)) → StoresSide d' heading bodies extents end true
-    torn d' disk run = elim (now d d' _ disk run d'.seen disk.reads) [
+    torn d' disk run = elim (holds_now d d' _ disk run d'.seen disk.reads) [
       | inl b ↦ keeps (get_or d.seen end 0 ∷ b.0) b.1
       | inr f ↦ keeps (f.0 ∷ tail_of body ++ f.1) (f.2 ∙ append_assoc (take end d.seen) (f.0 ∷ tail_of body) f.1)
     ]
@@ -137,7 +138,7 @@ module _ (d : DiskState) (heading : Heading) (extents : List (ℕ × ℕ)) (end 
       (on.side, (at_rest.0.1.0, at_rest.0.1.1, at_rest.0.1.2, at_rest.1 image left ∙ at_rest.0.1.3))
 
   pub still : (body : List ℕ) → IsDisk d → LeavesOnly d d (WithOrWithout heading bodies body)
-  still body disk = stays d (WithOrWithout heading bodies body) disk (λ image left. inl (sure_now image left))
+  still body disk = no_call d (WithOrWithout heading bodies body) disk (λ image left. inl (sure_now image left))
 
   pub inside : end < length d.seen
   inside = gate_stands d heading bodies extents end open_on
@@ -153,7 +154,7 @@ module _ (d : DiskState) (heading : Heading) (extents : List (ℕ × ℕ)) (end 
     plain run = subst (λ (l : List ℕ). LeavesOnly d d' (BehindOrGated (take end d.seen) (get_or d.seen end 0) l)) bytes_are run
 
     pub moments : Run → LeavesOnly d d' (WithOrWithout heading bodies body)
-    moments run = says d d' _ _ (plain run) (in_bodies d heading bodies extents end open_on body ok)
+    moments run = weakened d d' _ _ (plain run) (in_bodies d heading bodies extents end open_on body ok)
 
     module _ (run : Run) (disk' : IsDisk d') where
       failed_on_old : StoresSide d' heading bodies extents end true

@@ -7,7 +7,7 @@ use Rattle.std.proofs.lemmas.Nat.{be_bytes_4}
 use Rattle.byteorder.specs.Endian.{big_from}
 use Rattle.byteorder.specs.Numbers.{big_number-reads_back}
 use Rattle.gate_journal.specs.Side.{OPEN, frame, BeginsWithFrame}
-use Rattle.gate_journal.proofs.Frames.{is_length, length-frame}
+use Rattle.gate_journal.specs.Inner.Frames.{is_length, length-frame}
 
 -- five bytes that begin with an open gate
 pub open_mark : (mark : List ℕ) → length mark ≡ 5 → ((i : ℕ) → get_or mark i 0 < 256) → get_or mark 0 0 ≡ OPEN → (size : ℕ) → size ≡ big_from 0 4 (take 4 (drop 1 mark)) → mark ≡ OPEN ∷ to_be_bytes w32 size

@@ -5,7 +5,7 @@ use Rattle.std.specs.Cmp.Lexicographic.{pointwise}
 use Rattle.std.proofs.Common.{eqb, true, eq-eqb}
 use Rattle.std.proofs.lemmas.Bool.{and_from}
 use Rattle.byteorder.specs.Endian.{big_number}
-use Rattle.gate_journal.specs.Reading.{numbers_of}
+use Rattle.gate_journal.specs.Inner.Reading.{numbers_of}
 
 pub numbers_more : (bytes : List ℕ) → 8 ≤ length bytes → numbers_of bytes ≡ big_number 8 bytes ∷ numbers_of (drop 8 bytes)
 numbers_more (a ∷ b ∷ c ∷ d ∷ e ∷ f ∷ g ∷ h ∷ rest) long = refl

@@ -5,18 +5,18 @@ use Rattle.std.specs.List.{flat_map}
 use Rattle.std.proofs.lemmas.List.{append-nil, drop_at, drop_all, drop-take, take-take}
 use Rattle.std.proofs.lemmas.List.Elements.{All-nil, All-push}
 use Rattle.vtl_base.specs.declared.faults.DevFault.{DevFault}
-use Rattle.tape_disk.specs.Disk.{DiskState, IsDisk, Keeps, Only, Same, Elapses}
-use Rattle.tape_disk.specs.Moments.{stays, goes_on, then_, says}
+use Rattle.tape_disk.specs.Disk.{DiskState, IsDisk, Only, Same, Elapses}
+use Rattle.tape_disk.specs.Moments.{no_call, one_more_call, in_sequence, weakened}
 use Rattle.gate_journal.specs.declared.error.JournalError.{JournalError}
 use Rattle.gate_journal.specs.declared.error.JournalError.TheVariants.{NotOurs, Damaged, SideFull, Device, Failed, NoMemory}
-use Rattle.gate_journal.specs.Answers.{IsFault, NotOpened}
+use Rattle.gate_journal.specs.Answers.{IsFault, NoneFailed, NotOpened}
 use Rattle.gate_journal.specs.Crash.{Unwritten}
-use Rattle.gate_journal.specs.Found.{NotRead, Walked}
+use Rattle.gate_journal.specs.Inner.Found.{NotRead, Walked}
 use Rattle.gate_journal.specs.Side.{OPEN, Heading, IsHeading, IsBody, IsSide, IsBroken, BeginsWithFrame, IsNotOurs, IsDamagedAt, StandsFor, frame, spell_heading, spell}
 use Rattle.gate_journal.specs.State.{StoresSide, bodies_at, extents_from}
 use Rattle.std.proofs.lemmas.List.{get_or_read, get_or-take}
-use Rattle.gate_journal.proofs.Headings.{count_there, heading_there, long_enough}
-use Rattle.gate_journal.proofs.Frames.{length-frame}
+use Rattle.gate_journal.specs.Inner.Headings.{count_there, heading_there, long_enough}
+use Rattle.gate_journal.specs.Inner.Frames.{length-frame}
 use Rattle.gate_journal.proofs.Bodies.{frames_push, extents_push, as_view}
 
 module _ (d0 d1 d2 : DiskState) where
@@ -24,36 +24,42 @@ module _ (d0 d1 d2 : DiskState) where
   unwritten_then first second = record {
     seen = second.seen ∙ first.seen;
     images = λ image left. first.images image (second.images image left);
-    moments = then_ d0 d1 d2 d0.may_leave first.moments (says d1 d2 d1.may_leave d0.may_leave second.moments first.images);
+    moments =
+        in_sequence d0 d1 d2 d0.may_leave first.moments
+        (weakened d1 d2 d1.may_leave d0.may_leave second.moments first.images);
   }
 
   -- a fault of a later call is one since the start
-  pub fault_since : (fault : DevFault) → Keeps d0 d1 → IsFault fault d1 d2 → IsFault fault d0 d2
-  fault_since fault kept is = record { cause = omega (arith, kept.counted, is.cause); told = is.told }
+  pub fault_since : (fault : DevFault) → NoneFailed d0 d1 → IsFault fault d1 d2 → IsFault fault d0 d2
+  fault_since fault none is = record { cause = omega (arith, none, is.cause); told = is.told }
 
-  pub not_read_since : (e : JournalError) (P Q : ℕ → Type 0) → Keeps d0 d1 → ((at : ℕ) → P at → Q at) → NotRead e ⊥ P d1 d2 → NotRead e ⊥ Q d0 d2
-  not_read_since NotOurs P Q kept means is = is
-  not_read_since (Damaged at) P Q kept means is = means at is
-  not_read_since (Device fault) P Q kept means is = fault_since fault kept is
-  not_read_since NoMemory P Q kept means is = is
-  not_read_since SideFull P Q kept means is = is
-  not_read_since Failed P Q kept means is = is
+  module _ (none : NoneFailed d0 d1) where
+    pub not_read_since : (e : JournalError) (P Q : ℕ → Type 0) (M N : Type 0) → ((at : ℕ) → P at → Q at) → (M → N) →
+        NotRead e ⊥ P M d1 d2 → NotRead e ⊥ Q N d0 d2
+    not_read_since NotOurs P Q M N means memory is = (is.0 ∙ none, is.1)
+    not_read_since (Damaged at) P Q M N means memory is = (is.0 ∙ none, means at is.1)
+    not_read_since (Device fault) P Q M N means memory is = fault_since fault none is
+    not_read_since NoMemory P Q M N means memory is = (is.0 ∙ none, memory is.1)
+    not_read_since SideFull P Q M N means memory is = is
+    not_read_since Failed P Q M N means memory is = is
 
-  pub not_opened_since : (e : JournalError) (R : Type 0) (P : ℕ → Type 0) → Keeps d0 d1 → (R → d0.honest → IsNotOurs d0.seen × Only d0.seen d2.may_leave)
-      → ((at : ℕ) → P at → d0.honest → IsDamagedAt d0.seen at × Only d0.seen d2.may_leave) → NotRead e R P d1 d2 → NotOpened e d0 d2
-  not_opened_since NotOurs R P kept ours means is = ours is
-  not_opened_since (Damaged at) R P kept ours means is = means at is
-  not_opened_since (Device fault) R P kept ours means is = fault_since fault kept is
-  not_opened_since NoMemory R P kept ours means is = is
-  not_opened_since SideFull R P kept ours means is = is
-  not_opened_since Failed R P kept ours means is = is
+    pub not_opened_since : (e : JournalError) (O : Type 0) (P : ℕ → Type 0) (M : Type 0) →
+        (O → d0.honest → IsNotOurs d0.seen × Only d0.seen d2.may_leave) →
+        ((at : ℕ) → P at → d0.honest → IsDamagedAt d0.seen at × Only d0.seen d2.may_leave) →
+        (M → d0.honest → 27 ≤ length d0.seen) → NotRead e O P M d1 d2 → NotOpened e d0 d2
+    not_opened_since NotOurs O P M ours means memory is = (is.0 ∙ none, ours is.1)
+    not_opened_since (Damaged at) O P M ours means memory is = (is.0 ∙ none, means at is.1)
+    not_opened_since (Device fault) O P M ours means memory is = fault_since fault none is
+    not_opened_since NoMemory O P M ours means memory is = (is.0 ∙ none, memory is.1)
+    not_opened_since SideFull O P M ours means memory is = is
+    not_opened_since Failed O P M ours means memory is = is
 
 -- a call that writes nothing
 pub one_call : (d0 d1 : DiskState) → IsDisk d0 → Same d0 d1 → Elapses d0 d1 → Unwritten d0 d1
 one_call d0 d1 disk same time = record {
   seen = same.seen;
   images = same.crash;
-  moments = goes_on d0 d0 d1 d0.may_leave (stays d0 d0.may_leave disk (λ image left. left)) time same.crash;
+  moments = one_more_call d0 d0 d1 d0.may_leave (no_call d0 d0.may_leave disk (λ image left. left)) time same.crash;
 }
 
 module _ (seen : List ℕ) (start : ℕ) where

@@ -111,3 +111,9 @@ abbrev pub IsDamagedAt : List ℕ → ℕ → Type 0
 IsDamagedAt image at =
     (heading : Heading) × (bodies : List (List ℕ)) × (rest : List ℕ) × IsSide heading bodies
     × (image ≡ spell heading bodies ++ rest) × (length (spell heading bodies) ≡ at) × IsBroken bodies rest
+
+-- the image stands for a side, is not ours, or is damaged at a place (own)
+abbrev pub IsDecided : List ℕ → Type 0
+IsDecided image =
+    ((heading : Heading) × (bodies : List (List ℕ)) × StandsFor heading bodies image)
+    ⊎ (IsNotOurs image ⊎ ((at : ℕ) × IsDamagedAt image at))

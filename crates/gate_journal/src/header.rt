@@ -1,8 +1,8 @@
 //! What a side says of itself, and when that can be spelled.
 ghost use Rattle.std.specs.Prelude.{◌≡◌, ◌↔◌, ◌<◌, ◌≤◌, ◌≢◌, ℕ, IsTrue, length, take, slice_index};
 ghost use Rattle.std.specs.List.{All};
-ghost use Rattle.gate_journal.specs.Side.{IsCapacity, IsCount, IsHeading, IsName, drive_name, mark};
-ghost use Rattle.gate_journal.specs.Headers.{heading_of};
+ghost use Rattle.gate_journal.specs.Side.{IsCount, IsHeading, IsName, drive_name, heading_of, mark};
+ghost use Rattle.vtl_base.specs.Limits.{is_capacity};
 
 use vtl_base::Barcode;
 use vtl_base::limits::{DRIVES, MAX_CAPACITY, MAX_PARTITIONS, MIN_CAPACITY};
@@ -73,7 +73,7 @@ fn is_count(kind: SideKind, count: usize) -> bool
 }
 
 fn are_capacities(capacities: &[u64]) -> bool
-    ensures { IsTrue result ↔ All IsCapacity capacities.now }
+    ensures { IsTrue result ↔ All (λ bytes. IsTrue (is_capacity bytes)) capacities.now }
 {
     capacities
         .iter()

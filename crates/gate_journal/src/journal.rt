@@ -2,11 +2,10 @@
 ghost use Rattle.std.specs.Prelude.{◌≡◌, ◌⊎◌, ◌+◌, ◌*◌, ◌<◌, ◌≤◌, ◌++◌, [], ◌∷◌, ℕ, List, length, true, false, OnOk, OnErr, IfOk, IfErr, slice_range, slice_index_or, if◌then◌else◌, is_ok};
 ghost use Rattle.tape_disk.specs.Disk.{Each, Keeps, Only};
 ghost use Rattle.tape_disk.specs.Moments.{LeavesOnly};
-ghost use Rattle.gate_journal.specs.Side.{IsBody, IsHeading, StandsFor, WithOrWithout};
-ghost use Rattle.gate_journal.specs.Answers.{Appended, Broke, IsFault, MatchWrite, NotMade, NotOpened, disk_after};
-ghost use Rattle.gate_journal.specs.Crash.{Unwritten};
-ghost use Rattle.gate_journal.specs.State.{room_behind, IsExtent, LiesInBody, IsBodyAt, IsBodyPart};
-ghost use Rattle.gate_journal.specs.Headers.{heading_of};
+ghost use Rattle.gate_journal.specs.Side.{CLOSED, IsBody, IsHeading, StandsFor, heading_of, spell};
+ghost use Rattle.gate_journal.specs.Answers.{Appended, Broke, IsFault, MatchWrite, NoneFailed, NotMade, NotOpened, disk_after};
+ghost use Rattle.gate_journal.specs.Crash.{Unwritten, WithOrWithout};
+ghost use Rattle.gate_journal.specs.State.{room_behind, IsBodyAt, IsBodyPart, IsExtent, LiesInBody};
 
 use crate::device::{write_frame, write_new};
 use crate::error::{JournalError, Refused};
@@ -34,9 +33,8 @@ impl<D: Disk> Model for Journal<D> {
     ghost use Rattle.std.specs.Prelude.{◌≡◌, ◌+◌, ◌^◌, ◌<◌};
     ghost use Rattle.std.specs.List.{All};
     ghost use Rattle.gate_journal.specs.State.{OpenSide, side_code, bodies_at, IsExtent, StoresSide};
-    ghost use Rattle.gate_journal.specs.Side.{IsHeading};
-    ghost use Rattle.gate_journal.specs.Headers.{heading_of};
-    ghost use Rattle.gate_journal.specs.Spare.{spare};
+    ghost use Rattle.gate_journal.specs.Side.{IsHeading, heading_of};
+    ghost use Rattle.gate_journal.specs.Inner.Spare.{spare};
 
     ghost Value = { OpenSide D };
 
@@ -60,14 +58,17 @@ impl<D: Disk> Model for Journal<D> {
 
 impl<D: Disk> Journal<D> {
     /// Makes a side with no frames, whatever the disk held. The header is one that can be spelled.
-    /// After a device fault anything may stand there, and after `NoMemory` the disk was not
-    /// touched.
+    /// At Ok the disk holds its spelling, one closed gate and nothing behind. After a device fault
+    /// anything may stand there, and after `NoMemory` the disk was not touched.
     pub fn create(alloc: Global, disk: D, header: Header) -> Result<Journal<D>, Refused<D>>
         requires { IsHeading (heading_of header) }
         ensures disk { Keeps (D.state disk) (D.state (disk_after result)) }
         ensures ok { IfOk result (λ journal. (journal.heading ≡ heading_of header)
             × (journal.bodies ≡ []) × (journal.extents ≡ []) × (journal.failed ≡ false)
-            × (journal.end ≡ 27 + 8 * length journal.heading.capacities)) }
+            × (journal.end ≡ 27 + 8 * length journal.heading.capacities)
+            × NoneFailed (D.state disk) (D.state journal.disk)) }
+        ensures bytes { IfOk result (λ journal. (D.state disk).honest →
+            (D.state journal.disk).seen ≡ spell journal.heading [] ++ CLOSED ∷ []) }
         ensures sure { IfOk result (λ journal. (D.state disk).honest →
             Each (D.state journal.disk) (StandsFor journal.heading [])) }
         ensures refused { IfErr result (λ refused. NotMade refused.error
@@ -104,8 +105,9 @@ impl<D: Disk> Journal<D> {
     /// `NotOurs` and `Damaged` that is sure too.
     pub fn open(alloc: Global, disk: D) -> Result<Journal<D>, Refused<D>>
         ensures disk { Keeps (D.state disk) (D.state (disk_after result)) }
-        ensures ok { IfOk result (λ journal. (journal.failed ≡ false) × ((D.state disk).honest →
-            StandsFor journal.heading journal.bodies (D.state disk).seen
+        ensures ok { IfOk result (λ journal. (journal.failed ≡ false)
+            × NoneFailed (D.state disk) (D.state journal.disk)
+            × ((D.state disk).honest → StandsFor journal.heading journal.bodies (D.state disk).seen
             × Only (D.state disk).seen (D.state journal.disk).may_leave)) }
         ensures refused { IfErr result (λ refused.
             NotOpened refused.error (D.state disk) (D.state refused.disk)) }
@@ -129,9 +131,13 @@ impl<D: Disk> Journal<D> {
         }
     }
 
-    /// Where nothing has failed, each image that a crash may leave stands for the side.
+    /// The end is where the spelling ends, of a side that has failed too. Where nothing has failed,
+    /// each image that a crash may leave stands for the side. (The field is looked at for the
+    /// proof's sake: the facts are the type's.)
     pub fn known(&self)
-        ensures { (D.state self.now.disk).honest → self.now.failed ≡ false →
+        ensures end { (D.state self.now.disk).honest →
+            self.now.end ≡ length (spell self.now.heading self.now.bodies) }
+        ensures sure { (D.state self.now.disk).honest → self.now.failed ≡ false →
             Each (D.state self.now.disk) (StandsFor self.now.heading self.now.bodies) }
     {
         let _ = &self.end;
@@ -177,7 +183,8 @@ impl<D: Disk> Journal<D> {
           failed = self.new.failed;
         } }
         ensures answer { MatchWrite result
-            ((self.old.failed ≡ false) × (self.new.failed ≡ false)) ⊥ ⊥
+            ((self.old.failed ≡ false) × (self.new.failed ≡ false)
+            × NoneFailed (D.state self.old.disk) (D.state self.new.disk)) ⊥ ⊥
             (λ fault. (self.old.failed ≡ false) × (self.new.failed ≡ true)
             × IsFault fault (D.state self.old.disk) (D.state self.new.disk))
             ((self.old.failed ≡ true) × (self.new ≡ self.old)) }
@@ -206,8 +213,8 @@ impl<D: Disk> Journal<D> {
         self.failed
     }
 
-    /// The bytes that may still be added, up to 1,099,511,627,776 in all. A frame takes 5 and its
-    /// body's.
+    /// The bytes that may still be added, up to 1,099,511,627,776 in all with the end gate. A frame
+    /// takes 5 and its body's.
     pub fn room(&self) -> u64
         ensures { result ≡ room_behind self.now.end }
     {
@@ -238,7 +245,8 @@ impl<D: Disk> Journal<D> {
         ensures disk { Keeps (D.state self.old.disk) (D.state self.new.disk) }
         ensures heading { self.new.heading ≡ self.old.heading }
         ensures answer { MatchWrite result
-            (Appended self.old self.new (length body.now))
+            (Appended self.old self.new (length body.now)
+            × NoneFailed (D.state self.old.disk) (D.state self.new.disk))
             ((self.old.failed ≡ false) × (length body.now + 5 ≤ room_behind self.old.end)
             × (self.old.reserved ≡ 0) × (self.new ≡ self.old))
             ((self.old.failed ≡ false) × (room_behind self.old.end < length body.now + 5)

@@ -1,12 +1,11 @@
 //! A side is read: its header, then gate and length of each frame. No byte is read twice, no body.
 ghost use Rattle.std.specs.Prelude.{◌≡◌, ◌≢◌, ◌+◌, ◌*◌, ◌<◌, ◌≤◌, ◌^◌, ◌++◌, [], ◌∷◌, ℕ, List, length, drop, true, false, take, ◌==◌, if◌then◌else◌, OnOk, IfOk, IfSome, IfNone, MatchResult, slice_index};
 ghost use Rattle.tape_disk.specs.Disk.{Elapses, Keeps, Passes, Syncs};
-ghost use Rattle.gate_journal.specs.Side.{Heading, IsHeading, spell_heading, OPEN};
-ghost use Rattle.gate_journal.specs.Headers.{heading_of};
-ghost use Rattle.gate_journal.specs.Reading.{numbers_of, heading_within, kind_told};
+ghost use Rattle.gate_journal.specs.Side.{Heading, IsHeading, OPEN, heading_of, spell_heading};
+ghost use Rattle.gate_journal.specs.Inner.Reading.{numbers_of, heading_within, kind_told};
 ghost use Rattle.std.specs.Int.{to_be_bytes, w32};
 ghost use Rattle.gate_journal.specs.Crash.{Unwritten};
-ghost use Rattle.gate_journal.specs.Found.{FindsRow, FindsHeader, FindsMark, FindsFrames, FindsSide};
+ghost use Rattle.gate_journal.specs.Inner.Found.{FindsRow, FindsHeader, FindsMark, FindsFrames, FindsSide};
 ghost use Rattle.tape_disk.specs.Moments.{LeavesOnly};
 
 use crate::error::JournalError;

@@ -1,7 +1,7 @@
 //! The memory of later appends: a place for each frame, and one buffer for the longest.
 ghost use Rattle.std.specs.Prelude.{◌≡◌, ◌≤◌, ◌<◌, ◌+◌, OnOk, OnErr, vec_len, vec_capacity};
 ghost use Rattle.gate_journal.specs.declared.spelling.TheConstants.{FRAME_BYTES};
-ghost use Rattle.gate_journal.specs.Spare.{spare};
+ghost use Rattle.gate_journal.specs.Inner.Spare.{spare};
 
 use crate::spelling::FRAME_BYTES;
 use std::alloc::AllocError;

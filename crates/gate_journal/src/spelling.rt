@@ -21,8 +21,7 @@
 ghost use Rattle.std.specs.Prelude.{◌≡◌, ◌≤◌, ◌<◌, ◌+◌, [], ◌∷◌, ◌++◌, length, drop, IfOk, vec_capacity};
 ghost use Rattle.std.specs.List.{flat_map};
 ghost use Rattle.std.specs.Int.{to_be_bytes, w32, w64};
-ghost use Rattle.gate_journal.specs.Side.{IsBody, IsHeading, spell_heading};
-ghost use Rattle.gate_journal.specs.Headers.{heading_of};
+ghost use Rattle.gate_journal.specs.Side.{CLOSED, IsBody, IsHeading, heading_of, spell_heading};
 ghost use Rattle.gate_journal.specs.declared.spelling.TheConstants.{FRAME_BYTES};
 
 use crate::header::{Header, NAME_BYTES};
@@ -74,7 +73,7 @@ fn spell_capacities(bytes: &mut Vec<u8>, capacities: &[u64]) -> Result<(), Alloc
 pub(crate) fn spell_closed(alloc: Global, header: &Header) -> Result<Vec<u8>, AllocError>
     requires { length header.now.capacities.items ≤ 4 }
     ensures { IfOk result (λ bytes.
-        bytes.items ≡ 0 ∷ drop 1 (spell_heading (heading_of header.now)) ++ 0 ∷ []) }
+        bytes.items ≡ CLOSED ∷ drop 1 (spell_heading (heading_of header.now)) ++ CLOSED ∷ []) }
 {
     let mut bytes = spell_header(alloc, header)?;
     bytes[0] = CLOSED;
@@ -86,7 +85,8 @@ pub(crate) fn spell_closed(alloc: Global, header: &Header) -> Result<Vec<u8>, Al
 pub(crate) fn fill_frame(buffer: &mut Vec<u8>, body: &[u8])
     requires body { IsBody body.now }
     requires room { FRAME_BYTES ≤ vec_capacity buffer.old }
-    ensures frame { buffer.new.items ≡ to_be_bytes w32 (length body.now) ++ body.now ++ 0 ∷ [] }
+    ensures frame {
+        buffer.new.items ≡ to_be_bytes w32 (length body.now) ++ body.now ++ CLOSED ∷ [] }
     ensures room { FRAME_BYTES ≤ vec_capacity buffer.new }
 {
     let mut size = [0; 4];

@@ -1,6 +1,6 @@
 use Rattle.std.proofs.Common.{ap, ◌∙◌}
 use Rattle.std.proofs.lemmas.List.{take_rest}
-use Rattle.gate_journal.specs.Reading.{numbers_of}
+use Rattle.gate_journal.specs.Inner.Reading.{numbers_of}
 use Rattle.gate_journal.proofs.reading.header_within.Goals as goal
 
 pub returns : goal.returns

@@ -1,6 +1,6 @@
 use Rattle.std.proofs.Common.{ℕ, List, length, take, drop, ◌-◌, refl, ap, sym, ◌∙◌, ◌++◌}
 use Rattle.std.proofs.lemmas.List.{append-nil}
-use Rattle.gate_journal.specs.Reading.{numbers_of}
+use Rattle.gate_journal.specs.Inner.Reading.{numbers_of}
 use Rattle.gate_journal.proofs.Numbers.{numbers_none, one_more}
 use Rattle.gate_journal.proofs.reading.numbers.Goals as goal
 

@@ -1,5 +1,5 @@
 use Rattle.std.proofs.Common.{◌≡◌, ◌++◌, length}
-use Rattle.gate_journal.specs.Reading.{numbers_of}
+use Rattle.gate_journal.specs.Inner.Reading.{numbers_of}
 use Rattle.gate_journal.proofs.reading.numbers.Given as goal
 
 abbrev pub invariant-loop-rest : goal.invariant-loop-rest

@@ -1,8 +1,9 @@
 use Rattle.std.proofs.Common.{◌≡◌, ℕ, List, ◌<◌, ◌≤◌, ◌-◌, length}
 use Rattle.std.specs.List.{All}
 use Rattle.tape_disk.specs.Disk.{Keeps}
+use Rattle.gate_journal.specs.Answers.{NoneFailed}
 use Rattle.gate_journal.specs.Crash.{Unwritten}
-use Rattle.gate_journal.specs.Found.{Walked}
+use Rattle.gate_journal.specs.Inner.Found.{Walked}
 use Rattle.gate_journal.specs.State.{IsExtent}
 use Rattle.gate_journal.proofs.reading.read_frames.Given as goal
 
@@ -15,7 +16,10 @@ invariant-loop-extents g l =
       inside : l.at < l.len;
       extents : All (IsExtent l.at) l.extents.items;
       keeps : Keeps old new;
-      honest : old.honest → Unwritten old new × (l.len ≡ length old.seen) × ((bodies : List (List ℕ)) × Walked old.seen l.start bodies l.extents.items l.at);
+      none_failed : NoneFailed old new;
+      honest :
+          old.honest → Unwritten old new × (l.len ≡ length old.seen)
+          × ((bodies : List (List ℕ)) × Walked old.seen l.start bodies l.extents.items l.at);
     }
 
 abbrev pub decreases-loop-extents : goal.decreases-loop-extents

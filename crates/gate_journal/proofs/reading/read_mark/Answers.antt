@@ -7,6 +7,7 @@ returns-clause-answer g c =
     let seen = (g.D.Disk.state c.args.disk.now).seen in
     let size = c.length_behind-size.result in
     let far : c.args.at + 5 + size < c.args.len = omega (arith, c.from.ensures) in (
+      c.in_ok-read_at-2.ensures.passes.none_failed,
       omega arith,
       omega arith,
       far,

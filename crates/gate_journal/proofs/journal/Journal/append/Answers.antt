@@ -1,5 +1,5 @@
 use Rattle.std.proofs.Common.{ℕ, length, ◌+◌, List, ◌++◌, ◌∷◌, [], ◌∙◌, ap, arith}
-use Rattle.gate_journal.specs.Headers.{heading_of}
+use Rattle.gate_journal.specs.Side.{heading_of}
 use Rattle.gate_journal.proofs.Bodies.{moments, failed_on, failed_bodies, added_on, added_bodies, added_each}
 use Rattle.gate_journal.proofs.Extents.{one_more}
 use Rattle.gate_journal.proofs.journal.Journal.append.Goals as goal

@@ -1,4 +1,4 @@
-use Rattle.gate_journal.specs.Headers.{heading_of}
+use Rattle.gate_journal.specs.Side.{heading_of}
 use Rattle.gate_journal.proofs.Parts.{body_there}
 use Rattle.gate_journal.proofs.Extents.{whole_body}
 use Rattle.gate_journal.proofs.journal.Journal.body_at.Goals as goal

@@ -1,8 +1,10 @@
 use Rattle.std.proofs.Common.{◌≡◌, List, ◌∷◌, length, drop, ◌+◌, ◌*◌, ◌≤◌, ℕ, ◌∙◌, ap, arith, rules}
-use Rattle.gate_journal.specs.Headers.{heading_of}
+use Rattle.gate_journal.specs.Side.{heading_of}
 use Rattle.gate_journal.specs.Side.{spell_heading}
+use Rattle.std.proofs.Common.{sym, ◌++◌, []}
+use Rattle.std.proofs.lemmas.List.{append-nil}
 use Rattle.gate_journal.proofs.Bodies.{fresh}
-use Rattle.gate_journal.proofs.Headings.{length_heading, few_capacities}
+use Rattle.gate_journal.specs.Inner.Headings.{length_heading, few_capacities}
 use Rattle.gate_journal.proofs.Extents.{none_yet}
 use Rattle.gate_journal.proofs.journal.Journal.create.Goals as goal
 
@@ -22,3 +24,10 @@ invariant_of-result g c =
           fresh (g.D.Disk.state c.write_new.new.disk) h c.new.result.items (27 + 8 * c.len.result) c.requires
           (there.0 ∙ ap (λ (l : List ℕ). 165 ∷ drop 1 l) bytes) there.1 c.new.ensures.items (omega (arith, long, count)),
     )
+
+pub returns-in-Ok-write_new-clause-bytes : goal.returns-in-Ok-write_new-clause-bytes
+returns-in-Ok-write_new-clause-bytes g c = λ honest.
+    let h = heading_of c.args.header in
+    let there = c.in-Ok-write_new.ensures.written honest in
+    there.0 ∙ ap (λ (l : List ℕ). 165 ∷ drop 1 l) (c.deref.ensures.value ∙ c.in-Ok.ensures)
+    ∙ ap (λ (l : List ℕ). l ++ 0 ∷ []) (sym (append-nil (spell_heading h)))

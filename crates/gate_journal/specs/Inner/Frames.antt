@@ -7,7 +7,7 @@ use Rattle.std.proofs.lemmas.List.Elements.{All-nil, All-cons, All-head, All-tai
 use Rattle.byteorder.specs.Endian.{big_from}
 use Rattle.byteorder.specs.Numbers.{big_number-reads_back}
 use Rattle.gate_journal.specs.Side.{OPEN, IsBody, frame, BeginsWithFrame}
-use Rattle.gate_journal.proofs.Deciding.{Told, below, both, same}
+use Rattle.gate_journal.specs.Inner.Deciding.{Decidable, below, both, same}
 
 pub length-frame : (body : List ℕ) → length (frame body) ≡ 5 + length body
 length-frame body = omega (arith, length-append (to_be_bytes w32 (length body)) body)
@@ -95,11 +95,11 @@ module _ (bytes : List ℕ) (w : BeginsWithFrame bytes) where
   is_whole : frame (told_body bytes) ++ told_rest bytes ≡ bytes
   is_whole = (λ i. frame (is_body i) ++ is_rest i) ∙ sym w.4
 
-found : (bytes body rest : List ℕ) → IsBody body → frame body ++ rest ≡ bytes → ((w : BeginsWithFrame bytes) → rest ≡ w.1 ∷ w.2) → Told (BeginsWithFrame bytes)
+found : (bytes body rest : List ℕ) → IsBody body → frame body ++ rest ≡ bytes → ((w : BeginsWithFrame bytes) → rest ≡ w.1 ∷ w.2) → Decidable (BeginsWithFrame bytes)
 found bytes body [] ok is unless = inr (λ w. let e : [] ≡ w.1 ∷ w.2 = unless w in cc)
 found bytes body (x ∷ xs) ok is unless = inl (body, x, xs, ok, sym is)
 
-pub begins : (bytes : List ℕ) → Told (BeginsWithFrame bytes)
+pub begins : (bytes : List ℕ) → Decidable (BeginsWithFrame bytes)
 begins bytes = elim (both (both (below 1 (length (told_body bytes))) (below (length (told_body bytes)) 8388608)) (same (frame (told_body bytes) ++ told_rest bytes) bytes)) [
   | inl w ↦ found bytes (told_body bytes) (told_rest bytes) w.0 w.1 (is_rest bytes)
   | inr never ↦ inr (λ w. never (subst (λ (l : List ℕ). IsBody l) (sym (is_body bytes w)) w.3, is_whole bytes w))

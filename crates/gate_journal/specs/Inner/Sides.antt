@@ -5,10 +5,10 @@ use Rattle.std.proofs.lemmas.Bool.{cases_eq}
 use Rattle.std.proofs.lemmas.List.{append-nil, append_cancel_left, drop_at}
 use Rattle.gate_journal.specs.declared.header.SideKind.{SideKind}
 use Rattle.gate_journal.specs.declared.header.SideKind.TheVariants.{Cartridge, Store}
-use Rattle.gate_journal.specs.Side.{OPEN, Heading, IsHeading, IsSide, frame, spell_heading, spell, StandsFor, IsNotOurs, IsBroken, IsDamagedAt}
-use Rattle.gate_journal.proofs.Deciding.{Told, both, told_as, same}
-use Rattle.gate_journal.proofs.Frames.{Ends, read, one_end}
-use Rattle.gate_journal.proofs.Headings.{heading_at, told_heading, same_heading, heading_is}
+use Rattle.gate_journal.specs.Side.{OPEN, Heading, IsHeading, IsSide, frame, spell_heading, spell, StandsFor, IsNotOurs, IsBroken, IsDamagedAt, IsDecided}
+use Rattle.gate_journal.specs.Inner.Deciding.{Decidable, both, decided_as, same}
+use Rattle.gate_journal.specs.Inner.Frames.{Ends, read, one_end}
+use Rattle.gate_journal.specs.Inner.Headings.{heading_at, decided_heading, same_heading, heading_is}
 
 -- the image begins with a heading
 abbrev pub IsOurs : List ℕ → Type 0
@@ -34,12 +34,12 @@ module _ (kind : SideKind) (image : List ℕ) where
       ∙ ap (λ (l : List ℕ). spell_heading w.0 ++ l) (drop_at (spell_heading w.0) w.1 (length (spell_heading w.0)) refl)
       ∙ sym w.3
 
-  told_of_kind : Told (OfKind kind image)
-  told_of_kind =
-      told_as
+  decided_of_kind : Decidable (OfKind kind image)
+  decided_of_kind =
+      decided_as
       (λ (w : IsHeading guess × (spell_heading guess ++ behind ≡ image)). (guess, behind, w.0, sym w.1, refl))
       (λ (w : OfKind kind image). (subst IsHeading (sym (guessed w)) w.2, spelled w))
-      (both (told_heading guess) (same (spell_heading guess ++ behind) image))
+      (both (decided_heading guess) (same (spell_heading guess ++ behind) image))
 
 one_of_two : (image : List ℕ) (w : IsOurs image) → OfKind Cartridge image ⊎ OfKind Store image
 one_of_two image (h, rest, ok, is) = go h.kind refl
@@ -48,19 +48,16 @@ one_of_two image (h, rest, ok, is) = go h.kind refl
     go Cartridge e = inl (h, rest, ok, is, e)
     go Store e = inr (h, rest, ok, is, e)
 
-pub ours : (image : List ℕ) → Told (IsOurs image)
-ours image = elim (told_of_kind Cartridge image) [
+pub ours : (image : List ℕ) → Decidable (IsOurs image)
+ours image = elim (decided_of_kind Cartridge image) [
   | inl w ↦ inl (w.0, w.1, w.2, w.3)
-  | inr never ↦ elim (told_of_kind Store image) [
+  | inr never ↦ elim (decided_of_kind Store image) [
     | inl w ↦ inl (w.0, w.1, w.2, w.3)
     | inr nor ↦ inr (λ w. ⊎_elim never nor (one_of_two image w))
   ]
 ]
 
-abbrev pub Told3 : List ℕ → Type 0
-Told3 image = ((heading : Heading) × (bodies : List (List ℕ)) × StandsFor heading bodies image) ⊎ (IsNotOurs image ⊎ ((at : ℕ) × IsDamagedAt image at))
-
-classified : (image : List ℕ) (h : Heading) (bodies : List (List ℕ)) (rest : List ℕ) → IsSide h bodies → image ≡ spell h bodies ++ rest → Ends bodies rest → Told3 image
+classified : (image : List ℕ) (h : Heading) (bodies : List (List ℕ)) (rest : List ℕ) → IsSide h bodies → image ≡ spell h bodies ++ rest → Ends bodies rest → IsDecided image
 classified image h bodies [] side is (never, inl none) = inr (inr (length (spell h bodies), (h, bodies, [], side, is, refl, inl (none, refl))))
 classified image h bodies [] side is (never, inr w) = let e : [] ≡ w.0 ∷ w.1 = w.2 in absurd (cc)
 classified image h bodies (gate ∷ rest) side is ends = elim (cases_eq gate OPEN) [
@@ -68,8 +65,8 @@ classified image h bodies (gate ∷ rest) side is ends = elim (cases_eq gate OPE
   | inr shut ↦ inl (h, bodies, (side, (gate, rest, shut, is)))
 ]
 
-pub told : (image : List ℕ) → Told3 image
-told image = elim (ours image) [
+pub decided : (image : List ℕ) → IsDecided image
+decided image = elim (ours image) [
   | inl w ↦ let r = read w.1 in classified image w.0 r.0 r.1 (record { begins = w.2; holds = r.2 }) (w.3 ∙ ap (λ (l : List ℕ). spell_heading w.0 ++ l) r.3 ∙ sym (append_assoc (spell_heading w.0) (flat_map frame r.0) r.1)) r.4
   | inr never ↦ inr (inl (λ h rest ok is. never (h, rest, ok, is ∙ ap (λ (l : List ℕ). l ++ rest) (append-nil (spell_heading h)))))
 ]

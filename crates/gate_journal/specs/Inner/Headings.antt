@@ -1,19 +1,20 @@
 -- A heading is spelled in one way, and one can find out whether bytes begin with one.
 use Rattle.std.proofs.Common.{◌≡◌, ℕ, ◌<◌, ◌≤◌, ◌+◌, ◌-◌, ◌*◌, ◌^◌, List, [], ◌∷◌, ◌++◌, length, take, drop, get_or, replicate, refl, sym, ◌∙◌, ap, subst, arith, append_assoc, length-append, true, false, cond, nat_lt}
-use Rattle.std.specs.Prelude.{codes}
+use Rattle.std.specs.Prelude.{codes, Bool, IsTrue, nat_le, ◌&&◌}
 use Rattle.std.specs.List.{All, flat_map}
 use Rattle.std.specs.Int.{to_be_bytes, w64}
 use Rattle.std.proofs.lemmas.List.{take_at, drop_at, length-replicate}
 use Rattle.std.proofs.lemmas.List.Elements.{All-head, All-tail}
-use Rattle.std.proofs.lemmas.Bool.{cases_eq}
+use Rattle.std.proofs.lemmas.Bool.{cases_eq, leb-true, false≢true}
 use Rattle.vtl_base.specs.Barcode.{IsBarcode, is_symbol}
+use Rattle.vtl_base.specs.Limits.{is_capacity}
 use Rattle.gate_journal.specs.declared.header.SideKind.{SideKind}
 use Rattle.gate_journal.specs.declared.header.SideKind.TheVariants.{Cartridge, Store}
-use Rattle.gate_journal.specs.Side.{OPEN, Heading, padded, digits, drive_name, IsName, IsCount, IsCapacity, IsHeading, mark, spell_heading}
-use Rattle.gate_journal.specs.Reading.{numbers_of, heading_within}
+use Rattle.gate_journal.specs.Side.{OPEN, Heading, padded, digits, drive_name, IsName, IsCount, IsHeading, mark, spell_heading}
+use Rattle.gate_journal.specs.Inner.Reading.{numbers_of, heading_within}
 use Rattle.std.specs.Prelude.{slice_index}
 use Rattle.byteorder.specs.Numbers.{big_number-reads_back}
-use Rattle.gate_journal.proofs.Deciding.{Told, both, told_as, below, is_true, all, some_below, same}
+use Rattle.gate_journal.specs.Inner.Deciding.{Decidable, both, decided_as, below, is_true, all, some_below, same}
 
 length_padded : (text : List ℕ) → length text ≤ 16 → length (padded text) ≡ 16
 length_padded text short = omega (arith, short, length-append text (replicate (16 - length text) 32), length-replicate {A = ℕ} (16 - length text) 32)
@@ -37,13 +38,22 @@ heading_at kind bytes = record {
   capacities = numbers_of (take (8 * slice_index bytes 10) (drop 27 bytes));
 }
 
-pub numbers_again : (capacities : List ℕ) → All IsCapacity capacities → numbers_of (flat_map (to_be_bytes w64) capacities) ≡ capacities
+second_true : (x y : Bool) → (x && y) ≡ true → y ≡ true
+second_true true y e = e
+second_true false y e = absurd (false≢true e)
+
+abbrev Allowed : ℕ → Type 0
+Allowed bytes = IsTrue (is_capacity bytes)
+
+pub numbers_again : (capacities : List ℕ) → All Allowed capacities →
+    numbers_of (flat_map (to_be_bytes w64) capacities) ≡ capacities
 numbers_again [] ok = refl
 numbers_again (w ∷ ws) ok =
-    let fits : w < 2 ^ 64 = omega (arith, (All-head IsCapacity w ws ok).1) in
-    λ i. big_number-reads_back 8 w [] fits i ∷ numbers_again ws (All-tail IsCapacity w ws ok) i
+    let below : w ≤ 1099511627776 = leb-true w 1099511627776 (second_true (nat_le 4096 w) _ (All-head Allowed w ws ok)) in
+    let fits : w < 2 ^ 64 = omega (arith, below) in
+    λ i. big_number-reads_back 8 w [] fits i ∷ numbers_again ws (All-tail Allowed w ws ok) i
 
-module _ (name capacities rest : List ℕ) (named : length name ≡ 16) (ok : All IsCapacity capacities) where
+module _ (name capacities rest : List ℕ) (named : length name ≡ 16) (ok : All Allowed capacities) where
   abbrev tail : List ℕ
   tail = name ++ flat_map (to_be_bytes w64) capacities ++ rest
 
@@ -61,7 +71,8 @@ module _ (name capacities rest : List ℕ) (named : length name ≡ 16) (ok : Al
   heading_again Cartridge = λ i. record { kind = Cartridge; name = tail_name i; capacities = tail_capacities i }
   heading_again Store = λ i. record { kind = Store; name = tail_name i; capacities = tail_capacities i }
 
-within_again : (kind : SideKind) (name capacities : List ℕ) → length name ≡ 16 → All IsCapacity capacities → heading_within (spell_heading (record { kind = kind; name = name; capacities = capacities })) ≡ record { kind = kind; name = name; capacities = capacities }
+within_again : (kind : SideKind) (name capacities : List ℕ) → length name ≡ 16 → All Allowed capacities →
+    heading_within (spell_heading (record { kind = kind; name = name; capacities = capacities })) ≡ record { kind = kind; name = name; capacities = capacities }
 within_again Cartridge name capacities named ok =
     let bytes = flat_map (to_be_bytes w64) capacities in
     λ i. record { kind = Cartridge; name = take_at name bytes 16 named i; capacities = (ap numbers_of (drop_at name bytes 16 named) ∙ numbers_again capacities ok) i }
@@ -92,14 +103,14 @@ same_heading h k r s okh okk e =
     sym (heading_is h r okh) ∙ (λ i. heading_at (kinds i) (e i)) ∙ heading_is k s okk
 
 -- whether bytes begin with a heading
-told_barcode : (bytes : List ℕ) → Told (IsBarcode bytes)
-told_barcode bytes =
-    told_as (λ w. record { some = w.0.0; short = w.0.1; symbols = w.1 }) (λ b. ((b.some, b.short), b.symbols))
+decided_barcode : (bytes : List ℕ) → Decidable (IsBarcode bytes)
+decided_barcode bytes =
+    decided_as (λ w. record { some = w.0.0; short = w.0.1; symbols = w.1 }) (λ b. ((b.some, b.short), b.symbols))
     (both (both (below 1 (length bytes)) (below (length bytes) 16)) (all (λ byte. is_symbol byte ≡ true) (λ byte. is_true (is_symbol byte)) bytes))
 
-told_name : (kind : SideKind) (name : List ℕ) → Told (IsName kind name)
-told_name Cartridge name =
-    told_as
+decided_name : (kind : SideKind) (name : List ℕ) → Decidable (IsName kind name)
+decided_name Cartridge name =
+    decided_as
     (λ (w : (n : ℕ) × (n < 17) × (IsBarcode (take n name) × (name ≡ padded (take n name)))). (take w.0 name, w.2.0, w.2.1))
     (λ (t : (text : List ℕ) × IsBarcode text × (name ≡ padded text)).
     let front : take (length t.0) name ≡ t.0 = ap (λ (l : List ℕ). take (length t.0) l) t.2 ∙ take_at t.0 (replicate (16 - length t.0) 32) (length t.0) refl in (
@@ -107,21 +118,21 @@ told_name Cartridge name =
       omega (arith, t.1.short),
       (subst (λ (l : List ℕ). IsBarcode l) (sym front) t.1, t.2 ∙ ap padded (sym front)),
     ))
-    (some_below (λ n. IsBarcode (take n name) × (name ≡ padded (take n name))) (λ n. both (told_barcode (take n name)) (same name (padded (take n name)))) 17)
-told_name Store name =
-    told_as
+    (some_below (λ n. IsBarcode (take n name) × (name ≡ padded (take n name))) (λ n. both (decided_barcode (take n name)) (same name (padded (take n name)))) 17)
+decided_name Store name =
+    decided_as
     (λ (w : (n : ℕ) × (n < 17) × ((1 ≤ n) × (name ≡ drive_name n))). (w.0, w.2.0, (let l : w.0 ≤ 16 = omega (arith, w.1) in l), w.2.1))
     (λ (w : (n : ℕ) × (1 ≤ n) × (n ≤ 16) × (name ≡ drive_name n)). (w.0, omega (arith, w.2), (w.1, w.3)))
     (some_below (λ n. (1 ≤ n) × (name ≡ drive_name n)) (λ n. both (below 1 n) (same name (drive_name n))) 17)
 
-told_count : (kind : SideKind) (n : ℕ) → Told (IsCount kind n)
-told_count Cartridge n = both (below 1 n) (below n 4)
-told_count Store n = cases_eq n 0
+decided_count : (kind : SideKind) (n : ℕ) → Decidable (IsCount kind n)
+decided_count Cartridge n = both (below 1 n) (below n 4)
+decided_count Store n = cases_eq n 0
 
-pub told_heading : (h : Heading) → Told (IsHeading h)
-told_heading h =
-    told_as (λ w. record { name = w.0.0; count = w.0.1; capacities = w.1 }) (λ b. ((b.name, b.count), b.capacities))
-    (both (both (told_name h.kind h.name) (told_count h.kind (length h.capacities))) (all IsCapacity (λ n. both (below 4096 n) (below n 1099511627776)) h.capacities))
+pub decided_heading : (h : Heading) → Decidable (IsHeading h)
+decided_heading h =
+    decided_as (λ w. record { name = w.0.0; count = w.0.1; capacities = w.1 }) (λ b. ((b.name, b.count), b.capacities))
+    (both (both (decided_name h.kind h.name) (decided_count h.kind (length h.capacities))) (all Allowed (λ n. is_true (is_capacity n)) h.capacities))
 
 few : (kind : SideKind) (n : ℕ) → IsCount kind n → n ≤ 4
 few Cartridge n count = count.1
