@@ -18,12 +18,15 @@ module _ (front rest : List ℕ) (at : ℕ) (here : length front ≡ at) where
       begins ∙ ap (λ (l : List ℕ). front ++ l) (sym behind)
 
   -- what a write that answered Ok leaves
-  pub written : (bytes new : List ℕ) → new ≡ overwritten at bytes (front ++ rest) → new ≡ front ++ bytes ++ drop (at + length bytes) (front ++ rest)
-  written bytes new holds = holds ∙ ap (λ (l : List ℕ). l ++ bytes ++ drop (at + length bytes) (front ++ rest)) (take_at front rest at here)
+  pub written : (bytes new : List ℕ) → new ≡ overwritten at bytes (front ++ rest) →
+      new ≡ front ++ bytes ++ drop (at + length bytes) (front ++ rest)
+  written bytes new holds = holds
+      ∙ ap (λ (l : List ℕ). l ++ bytes ++ drop (at + length bytes) (front ++ rest)) (take_at front rest at here)
 
 module _ (front : List ℕ) (byte : ℕ) (tail : List ℕ) (at : ℕ) (here : length front ≡ at) where
   behind : drop (at + 1) (front ++ byte ∷ tail) ≡ tail
-  behind = ap (λ (l : List ℕ). drop (at + 1) l) (sym (append_assoc front (byte ∷ []) tail)) ∙ drop_at (front ++ byte ∷ []) tail (at + 1) (omega (arith, here, length-append front (byte ∷ [])))
+  behind = ap (λ (l : List ℕ). drop (at + 1) l) (sym (append_assoc front (byte ∷ []) tail))
+      ∙ drop_at (front ++ byte ∷ []) tail (at + 1) (omega (arith, here, length-append front (byte ∷ [])))
 
   -- one byte is torn, and all others stay
   pub smeared_byte : (new : List ℕ) → Smeared at 1 (front ++ byte ∷ tail) new
@@ -38,7 +41,8 @@ module _ (front : List ℕ) (byte : ℕ) (tail : List ℕ) (at : ℕ) (here : le
       (other, more, keeps_front front (byte ∷ tail) at here 1 new torn ∙ ap (λ (l : List ℕ). front ++ l) rest)
 
   -- one byte is another, and all others stay
-  pub written_byte : (other : ℕ) (new : List ℕ) → new ≡ overwritten at (other ∷ []) (front ++ byte ∷ tail) → new ≡ front ++ other ∷ tail
+  pub written_byte : (other : ℕ) (new : List ℕ) → new ≡ overwritten at (other ∷ []) (front ++ byte ∷ tail) →
+      new ≡ front ++ other ∷ tail
   written_byte other new holds =
       written front (byte ∷ tail) at here (other ∷ []) new holds
       ∙ ap (λ (l : List ℕ). front ++ (other ∷ []) ++ l) behind

@@ -15,20 +15,22 @@ untouched at n bytes = record {
   no_shorter = omega arith;
 }
 
-module _ (at : ℕ) (bytes : List ℕ) (d0 d1 : DiskState) (disk : IsDisk d0) (r : Result Unit DevFault) (w : Writes at bytes r d0 d1) (time : Elapses d0 d1) where
+module _ (at : ℕ) (bytes : List ℕ) (d0 d1 : DiskState) (disk : IsDisk d0) (r : Result Unit DevFault)
+    (w : Writes at bytes r d0 d1) (time : Elapses d0 d1) where
   abbrev T : List ℕ → Type 0
   T = Touched at (length bytes) d0.may_leave
 
   pub after_write : LeavesOnly d0 d1 T
-  after_write = 
+  after_write =
       one_more_call d0 d0 d1 T (no_call d0 T disk (λ image left. (image, left, untouched at (length bytes) image)))
       time w.crash
 
   pub after_sync : (d2 : DiskState) (q : Result Unit DevFault) → Syncs q d1 d2 → Elapses d1 d2 → LeavesOnly d0 d2 T
-  after_sync d2 q s time2 = 
+  after_sync d2 q s time2 =
       one_more_call d0 d1 d2 T after_write time2 (λ image left. w.crash image (s.crash image left))
 
-module _ (bytes : List ℕ) (end : ℕ) (d0 : DiskState) (inside : end < length d0.seen) (sure : Only d0.seen d0.may_leave) where
+module _ (bytes : List ℕ) (end : ℕ) (d0 : DiskState) (inside : end < length d0.seen)
+    (sure : Only d0.seen d0.may_leave) where
   abbrev front : List ℕ
   front = take end d0.seen
 
@@ -53,14 +55,16 @@ module _ (bytes : List ℕ) (end : ℕ) (d0 : DiskState) (inside : end < length 
   behind : (image : List ℕ) → Smeared (end + 1) (length bytes) d0.seen image → Behind front gate image
   behind image s = (
     drop (end + 1) image,
-    keeps_front (front ++ gate ∷ []) rest (end + 1) edge (length bytes) image (subst (λ (l : List ℕ). Smeared (end + 1) (length bytes) l image) split s)
+    keeps_front (front ++ gate ∷ []) rest (end + 1) edge (length bytes) image
+        (subst (λ (l : List ℕ). Smeared (end + 1) (length bytes) l image) split s)
         ∙ append_assoc front (gate ∷ []) (drop (end + 1) image),
   )
 
   module _ (d1 : DiskState) (run : LeavesOnly d0 d1 (Touched (end + 1) (length bytes) d0.may_leave)) where
     pub first : LeavesOnly d0 d1 P
     first = weakened d0 d1 (Touched (end + 1) (length bytes) d0.may_leave) P run
-        (λ image t. inl (behind image (subst (λ (l : List ℕ). Smeared (end + 1) (length bytes) l image) (sure t.0 t.1) t.2)))
+        (λ image t. inl (behind image (subst (λ (l : List ℕ). Smeared (end + 1) (length bytes) l image) (sure t.0 t.1)
+        t.2)))
 
     module _ (holds : d1.seen ≡ overwritten (end + 1) bytes d0.seen) where
       abbrev more : List ℕ
@@ -78,10 +82,12 @@ module _ (bytes : List ℕ) (end : ℕ) (d0 : DiskState) (inside : end < length 
 
       gated : (image : List ℕ) → Smeared end 1 d1.seen image → Gated front bytes image
       gated image s =
-          let one = smeared_byte front gate (bytes ++ more) end here image (subst (λ (l : List ℕ). Smeared end 1 l image) staged s) in (
+          let one = smeared_byte front gate (bytes ++ more) end here image
+          (subst (λ (l : List ℕ). Smeared end 1 l image) staged s) in (
             one.0,
             more ++ one.1,
-            one.2 ∙ ap (λ (l : List ℕ). front ++ one.0 ∷ l) (append_assoc bytes more one.1) ∙ sym (append_assoc front (one.0 ∷ bytes) (more ++ one.1)),
+            one.2 ∙ ap (λ (l : List ℕ). front ++ one.0 ∷ l) (append_assoc bytes more one.1)
+                ∙ sym (append_assoc front (one.0 ∷ bytes) (more ++ one.1)),
           )
 
       module _ (d2 : DiskState) where

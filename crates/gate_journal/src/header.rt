@@ -75,9 +75,7 @@ fn is_count(kind: SideKind, count: usize) -> bool
 fn are_capacities(capacities: &[u64]) -> bool
     ensures { IsTrue result ↔ All (λ bytes. IsTrue (is_capacity bytes)) capacities.now }
 {
-    capacities
-        .iter()
-        .all(|&capacity| capacity >= MIN_CAPACITY && capacity <= MAX_CAPACITY)
+    capacities.iter().all(|&capacity| capacity >= MIN_CAPACITY && capacity <= MAX_CAPACITY)
 }
 
 fn is_barcode_name(name: &[u8; NAME_BYTES]) -> bool

@@ -85,8 +85,7 @@ pub(crate) fn spell_closed(alloc: Global, header: &Header) -> Result<Vec<u8>, Al
 pub(crate) fn fill_frame(buffer: &mut Vec<u8>, body: &[u8])
     requires body { IsBody body.now }
     requires room { FRAME_BYTES ≤ vec_capacity buffer.old }
-    ensures frame {
-        buffer.new.items ≡ to_be_bytes w32 (length body.now) ++ body.now ++ CLOSED ∷ [] }
+    ensures frame { buffer.new.items ≡ to_be_bytes w32 (length body.now) ++ body.now ++ CLOSED ∷ [] }
     ensures room { FRAME_BYTES ≤ vec_capacity buffer.new }
 {
     let mut size = [0; 4];

@@ -26,7 +26,8 @@ is_true b = ⊎_elim inl (λ no. inr (λ yes. false≢true (cc))) (cases_Bool b)
 
 pub all : {X : Type 0} (P : X → Type 0) → ((x : X) → Decidable (P x)) → (xs : List X) → Decidable (All P xs)
 all P each [] = inl (All-nil P)
-all P each (x ∷ xs) = decided_as (λ w. All-cons P x xs w.0 w.1) (λ a. (All-head P x xs a, All-tail P x xs a)) (both (each x) (all P each xs))
+all P each (x ∷ xs) = decided_as (λ w. All-cons P x xs w.0 w.1) (λ a. (All-head P x xs a, All-tail P x xs a))
+    (both (each x) (all P each xs))
 
 -- some number below n
 pub some_below : (P : ℕ → Type 0) → ((k : ℕ) → Decidable (P k)) → (n : ℕ) → Decidable ((k : ℕ) × (k < n) × P k)

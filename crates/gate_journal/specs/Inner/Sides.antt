@@ -57,18 +57,26 @@ ours image = elim (decided_of_kind Cartridge image) [
   ]
 ]
 
-classified : (image : List ℕ) (h : Heading) (bodies : List (List ℕ)) (rest : List ℕ) → IsSide h bodies → image ≡ spell h bodies ++ rest → Ends bodies rest → IsDecided image
-classified image h bodies [] side is (never, inl none) = inr (inr (length (spell h bodies), (h, bodies, [], side, is, refl, inl (none, refl))))
+classified : (image : List ℕ) (h : Heading) (bodies : List (List ℕ)) (rest : List ℕ) → IsSide h bodies →
+    image ≡ spell h bodies ++ rest → Ends bodies rest → IsDecided image
+classified image h bodies [] side is (never, inl none) =
+    inr (inr (length (spell h bodies), (h, bodies, [], side, is, refl, inl (none, refl))))
 classified image h bodies [] side is (never, inr w) = let e : [] ≡ w.0 ∷ w.1 = w.2 in absurd (cc)
 classified image h bodies (gate ∷ rest) side is ends = elim (cases_eq gate OPEN) [
-  | inl e ↦ inr (inr (length (spell h bodies), (h, bodies, gate ∷ rest, side, is, refl, inr ((rest, ap (λ (n : ℕ). n ∷ rest) e), ends.0))))
+  | inl e ↦ inr (inr (
+    length (spell h bodies),
+    (h, bodies, gate ∷ rest, side, is, refl, inr ((rest, ap (λ (n : ℕ). n ∷ rest) e), ends.0)),
+  ))
   | inr shut ↦ inl (h, bodies, (side, (gate, rest, shut, is)))
 ]
 
 pub decided : (image : List ℕ) → IsDecided image
 decided image = elim (ours image) [
-  | inl w ↦ let r = read w.1 in classified image w.0 r.0 r.1 (record { begins = w.2; holds = r.2 }) (w.3 ∙ ap (λ (l : List ℕ). spell_heading w.0 ++ l) r.3 ∙ sym (append_assoc (spell_heading w.0) (flat_map frame r.0) r.1)) r.4
-  | inr never ↦ inr (inl (λ h rest ok is. never (h, rest, ok, is ∙ ap (λ (l : List ℕ). l ++ rest) (append-nil (spell_heading h)))))
+  | inl w ↦ let r = read w.1 in classified image w.0 r.0 r.1 (record { begins = w.2; holds = r.2 })
+      (w.3 ∙ ap (λ (l : List ℕ). spell_heading w.0 ++ l) r.3
+      ∙ sym (append_assoc (spell_heading w.0) (flat_map frame r.0) r.1)) r.4
+  | inr never ↦ inr (inl (λ h rest ok is. never
+      (h, rest, ok, is ∙ ap (λ (l : List ℕ). l ++ rest) (append-nil (spell_heading h)))))
 ]
 
 -- the reading of an image
@@ -77,19 +85,23 @@ pub record Reads (image : List ℕ) (h : Heading) (bodies : List (List ℕ)) (re
   pub is : image ≡ spell h bodies ++ rest
   pub ends : Ends bodies rest
 
-pub one_reading : (image : List ℕ) (h k : Heading) (bs cs : List (List ℕ)) (r s : List ℕ) → Reads image h bs r → Reads image k cs s → (h ≡ k) × (bs ≡ cs) × (r ≡ s)
+pub one_reading : (image : List ℕ) (h k : Heading) (bs cs : List (List ℕ)) (r s : List ℕ) → Reads image h bs r →
+    Reads image k cs s → (h ≡ k) × (bs ≡ cs) × (r ≡ s)
 one_reading image h k bs cs r s a b =
     let whole : spell_heading h ++ (flat_map frame bs ++ r) ≡ spell_heading k ++ (flat_map frame cs ++ s) =
-    sym (append_assoc (spell_heading h) (flat_map frame bs) r) ∙ sym a.is ∙ b.is ∙ append_assoc (spell_heading k) (flat_map frame cs) s in
+    sym (append_assoc (spell_heading h) (flat_map frame bs) r) ∙ sym a.is ∙ b.is
+    ∙ append_assoc (spell_heading k) (flat_map frame cs) s in
     let one = same_heading h k (flat_map frame bs ++ r) (flat_map frame cs ++ s) a.side.begins b.side.begins whole in
-    let rest = append_cancel_left (spell_heading k) (flat_map frame bs ++ r) (flat_map frame cs ++ s) (ap (λ (g : Heading). spell_heading g ++ (flat_map frame bs ++ r)) (sym one) ∙ whole) in
+    let rest = append_cancel_left (spell_heading k) (flat_map frame bs ++ r) (flat_map frame cs ++ s)
+    (ap (λ (g : Heading). spell_heading g ++ (flat_map frame bs ++ r)) (sym one) ∙ whole) in
     let frames = one_end bs cs r s a.side.holds b.side.holds rest a.ends b.ends in
     (one, frames.0, frames.1)
 
 first_is : (x : ℕ) (xs ys : List ℕ) → x ∷ xs ≡ OPEN ∷ ys → x ≡ OPEN
 first_is x xs ys e = cc
 
-pub stands : (image : List ℕ) (h : Heading) (bodies : List (List ℕ)) (s : StandsFor h bodies image) → Reads image h bodies (s.1.0 ∷ s.1.1)
+pub stands : (image : List ℕ) (h : Heading) (bodies : List (List ℕ)) (s : StandsFor h bodies image) →
+    Reads image h bodies (s.1.0 ∷ s.1.1)
 stands image h bodies s = record {
   side = s.0;
   is = s.1.3;
@@ -97,31 +109,39 @@ stands image h bodies s = record {
 }
 
 broken_ends : (bodies : List (List ℕ)) (rest : List ℕ) → IsBroken bodies rest → Ends bodies rest
-broken_ends bodies rest (inl (none, is)) = (λ w. let e : [] ≡ OPEN ∷ drop 1 (frame w.0 ++ w.1 ∷ w.2) = sym is ∙ w.4 in cc, inl none)
+broken_ends bodies rest (inl (none, is)) =
+    (λ w. let e : [] ≡ OPEN ∷ drop 1 (frame w.0 ++ w.1 ∷ w.2) = sym is ∙ w.4 in cc, inl none)
 broken_ends bodies rest (inr ((tail, is), never)) = (never, inr (OPEN, tail, is))
 
 pub damaged : (image : List ℕ) (at : ℕ) (d : IsDamagedAt image at) → Reads image d.0 d.1 d.2
 damaged image at d = record { side = d.3; is = d.4; ends = broken_ends d.1 d.2 d.6 }
 
-pub one_side : (image : List ℕ) (h k : Heading) (bs cs : List (List ℕ)) → StandsFor h bs image → StandsFor k cs image → (h ≡ k) × (bs ≡ cs)
+pub one_side : (image : List ℕ) (h k : Heading) (bs cs : List (List ℕ)) → StandsFor h bs image →
+    StandsFor k cs image → (h ≡ k) × (bs ≡ cs)
 one_side image h k bs cs a b =
-    let one = one_reading image h k bs cs (a.1.0 ∷ a.1.1) (b.1.0 ∷ b.1.1) (stands image h bs a) (stands image k cs b) in (one.0, one.1)
+    let one = one_reading image h k bs cs (a.1.0 ∷ a.1.1) (b.1.0 ∷ b.1.1) (stands image h bs a)
+    (stands image k cs b) in (one.0, one.1)
 
 pub one_place : (image : List ℕ) (a b : ℕ) → IsDamagedAt image a → IsDamagedAt image b → a ≡ b
 one_place image a b d e =
     let one = one_reading image d.0 e.0 d.1 e.1 d.2 e.2 (damaged image a d) (damaged image b e) in
     sym d.5 ∙ (λ i. length (spell (one.0 i) (one.1 i))) ∙ e.5
 
-not_broken : (bodies : List (List ℕ)) (rest : List ℕ) (gate : ℕ) (more : List ℕ) → gate ≢ OPEN → gate ∷ more ≡ rest → IsBroken bodies rest → ⊥
+not_broken : (bodies : List (List ℕ)) (rest : List ℕ) (gate : ℕ) (more : List ℕ) → gate ≢ OPEN → gate ∷ more ≡ rest →
+    IsBroken bodies rest → ⊥
 not_broken bodies rest gate more shut is (inl (none, empty)) = let e : gate ∷ more ≡ [] = is ∙ empty in cc
-not_broken bodies rest gate more shut is (inr ((tail, open_gate), never)) = shut (first_is gate more tail (is ∙ open_gate))
+not_broken bodies rest gate more shut is (inr ((tail, open_gate), never)) =
+    shut (first_is gate more tail (is ∙ open_gate))
 
-pub sound : (image : List ℕ) (h : Heading) (bs : List (List ℕ)) (at : ℕ) → StandsFor h bs image → IsDamagedAt image at → ⊥
+pub sound : (image : List ℕ) (h : Heading) (bs : List (List ℕ)) (at : ℕ) → StandsFor h bs image →
+    IsDamagedAt image at → ⊥
 sound image h bs at s d =
     let one = one_reading image h d.0 bs d.1 (s.1.0 ∷ s.1.1) d.2 (stands image h bs s) (damaged image at d) in
     not_broken d.1 d.2 s.1.0 s.1.1 s.1.2 one.2 d.6
 
-pub never_ours : (image : List ℕ) (h : Heading) (bodies : List (List ℕ)) (rest : List ℕ) → Reads image h bodies rest → IsNotOurs image → ⊥
+pub never_ours : (image : List ℕ) (h : Heading) (bodies : List (List ℕ)) (rest : List ℕ) → Reads image h bodies rest →
+    IsNotOurs image → ⊥
 never_ours image h bodies rest r never =
     never h (flat_map frame bodies ++ rest) r.side.begins
-    (r.is ∙ append_assoc (spell_heading h) (flat_map frame bodies) rest ∙ ap (λ (l : List ℕ). l ++ (flat_map frame bodies ++ rest)) (sym (append-nil (spell_heading h))))
+    (r.is ∙ append_assoc (spell_heading h) (flat_map frame bodies) rest
+    ∙ ap (λ (l : List ℕ). l ++ (flat_map frame bodies ++ rest)) (sym (append-nil (spell_heading h))))

@@ -24,7 +24,8 @@ returns-in_err-size-clause-answer g c =
     (not_read_since d0 d1 d2 i.none_failed c.in_err-size.field-0.0 _ _ _ _
     (λ place found honest.
     let so_far = i.honest honest in
-    broken_there d0.seen d1.seen so_far.0.seen c.args.start so_far.2.0 c.loop-extents.extents.items c.loop-extents.at place so_far.2.1 found.0 (found.1 (i.keeps.stays_honest honest)))
+    broken_there d0.seen d1.seen so_far.0.seen c.args.start so_far.2.0 c.loop-extents.extents.items c.loop-extents.at
+    place so_far.2.1 found.0 (found.1 (i.keeps.stays_honest honest)))
     (λ never. absurd never)
     c.in_err-size.ensures.answer)
 
@@ -37,12 +38,14 @@ loop-extents-preserved g c =
     let size = c.in-Some.size in
     let i = c.loop-extents.invariant in
     let found = rw c.in-Some.is at c.in_ok-size.ensures.answer in
-    let extents_are = c.push_reserved.ensures.items ∙ ap (λ (l : List (ℕ × ℕ)). l ++ (at + 5, size) ∷ []) c.in_ok-reserve.ensures.items in
+    let extents_are = c.push_reserved.ensures.items
+    ∙ ap (λ (l : List (ℕ × ℕ)). l ++ (at + 5, size) ∷ []) c.in_ok-reserve.ensures.items in
     let far : at + (5 + c.from.result) ≡ at + 5 + size = omega (arith, c.from.ensures) in
     record {
       started = omega (arith, i.started);
       inside = omega (arith, far, found.3);
-      extents = one_more at size (at + (5 + c.from.result)) c.loop-extents.extents.items c.push_reserved.new.self.items i.extents extents_are found.1 found.2 far;
+      extents = one_more at size (at + (5 + c.from.result))
+          c.loop-extents.extents.items c.push_reserved.new.self.items i.extents extents_are found.1 found.2 far;
       keeps = keeps_in_sequence d0 d1 d2 i.keeps c.read_mark.ensures.disk;
       none_failed = found.0 ∙ i.none_failed;
       honest = λ honest.
@@ -54,8 +57,10 @@ loop-extents-preserved g c =
             so_far.1,
             (
               _,
-              walked_more d0.seen c.args.start so_far.2.0 c.loop-extents.extents.items at so_far.2.1 size frame.0 frame.1 c.push_reserved.new.self.items (at + (5 + c.from.result))
-                  frame.2 found.1 found.2 (ap (λ (l : List ℕ). drop at l) (sym same) ∙ frame.3) (frame.4 ∙ ap (λ (l : List ℕ). drop (at + 5 + size) l) same) extents_are far,
+              walked_more d0.seen c.args.start so_far.2.0 c.loop-extents.extents.items at so_far.2.1 size frame.0
+                  frame.1 c.push_reserved.new.self.items (at + (5 + c.from.result))
+                  frame.2 found.1 found.2 (ap (λ (l : List ℕ). drop at l) (sym same) ∙ frame.3)
+                  (frame.4 ∙ ap (λ (l : List ℕ). drop (at + 5 + size) l) same) extents_are far,
             ),
           );
     }

@@ -13,5 +13,7 @@ returns-clause-answer g c =
       far,
       λ honest.
           let sized = c.requires.len honest in
-          whole seen c.args.at (omega (arith, sized)) c.read_at-2.new.buffer (omega (arith, sized, far)) (c.in_ok-read_at-2.ensures.bytes honest) size (omega arith) c.length_behind-size.ensures (omega (arith, sized, far)),
+          whole seen c.args.at (omega (arith, sized)) c.read_at-2.new.buffer (omega (arith, sized, far))
+          (c.in_ok-read_at-2.ensures.bytes honest) size (omega arith) c.length_behind-size.ensures
+          (omega (arith, sized, far)),
     )

@@ -33,13 +33,15 @@ returns-in_err-frames-clause-answer g c =
     let rest = found.2 honest1 in
     let b = broken honest2 in (
       subst (λ (l : List ℕ). IsDamagedAt l at) (seen_2 d0 d1 d2 d3 sure disk1 first second)
-          (damaged_there d2.seen (27 + 8 * c.len.result) b.0 b.1 at b.2 h found.1 rest.0 (first.seen ∙ rest.1) here b.3),
+          (damaged_there d2.seen (27 + 8 * c.len.result) b.0 b.1 at b.2 h found.1 rest.0 (first.seen ∙ rest.1)
+          here b.3),
       only_3 d0 d1 d2 d3 sure disk1 first second,
     ))
     (λ _ honest.
     let honest1 = kept1.stays_honest honest in
     let rest = found.2 honest1 in
-    let same = (c.in_ok-make_sure.ensures.syncs honest).durable (g.D.Disk.state c.make_sure.new.disk).seen (g.met.D.Disk.is_disk c.make_sure.new.disk honest1).reads in
+    let same = (c.in_ok-make_sure.ensures.syncs honest).durable (g.D.Disk.state c.make_sure.new.disk).seen
+    (g.met.D.Disk.is_disk c.make_sure.new.disk honest1).reads in
     omega (arith, ap length same, ap length rest.1, length-append (spell_heading h) rest.0, here))
     c.in_err-frames.ensures.answer)
 
@@ -73,8 +75,10 @@ returns-clause-answer g c =
           let walk = frames.4 honest2 in
           let same2 = seen_2 d0 d1 d2 d3 sure disk1 first second in
           let only = only_3 d0 d1 d2 d3 sure disk1 first second in
-          let stands = stands_for d2.seen (27 + 8 * c.len.result) walk.0.0 extents end walk.0.1 h found.1 rest.0 (first.seen ∙ rest.1) here walk.1.0 walk.1.1 walk.1.2 walk.1.3 in
-          let both = on_disk d2.seen (27 + 8 * c.len.result) walk.0.0 extents end walk.0.1 h found.1 rest.0 (first.seen ∙ rest.1) here d3 second.seen (λ image left. only image left ∙ sym same2) stands in (
+          let stands = stands_for d2.seen (27 + 8 * c.len.result) walk.0.0 extents end walk.0.1 h found.1 rest.0
+          (first.seen ∙ rest.1) here walk.1.0 walk.1.1 walk.1.2 walk.1.3 in
+          let both = on_disk d2.seen (27 + 8 * c.len.result) walk.0.0 extents end walk.0.1 h found.1 rest.0
+          (first.seen ∙ rest.1) here d3 second.seen (λ image left. only image left ∙ sym same2) stands in (
             both.0,
             subst (λ (l : List ℕ). StandsFor h (bodies_at d3.seen extents) l) same2 both.1,
             only,

@@ -13,7 +13,8 @@ invariant_of-result g c =
     let h = heading_of c.args.header in
     let few : length c.args.header.capacities.items ≤ 4 = few_capacities h c.requires in
     let count : c.len.result ≡ length c.args.header.capacities.items = search rules in
-    let long : length (spell_heading h) ≡ 27 + 8 * length c.args.header.capacities.items = length_heading h c.requires in (
+    let long : length (spell_heading h) ≡ 27 + 8 * length c.args.header.capacities.items =
+    length_heading h c.requires in (
       c.requires,
       omega (arith, few, count),
       none_yet (27 + 8 * c.len.result) c.new.result.items c.new.ensures.items,
@@ -22,7 +23,8 @@ invariant_of-result g c =
           let there = c.in-Ok-write_new.ensures.written honest in
           let bytes = c.deref.ensures.value ∙ c.in-Ok.ensures in
           fresh (g.D.Disk.state c.write_new.new.disk) h c.new.result.items (27 + 8 * c.len.result) c.requires
-          (there.0 ∙ ap (λ (l : List ℕ). 165 ∷ drop 1 l) bytes) there.1 c.new.ensures.items (omega (arith, long, count)),
+          (there.0 ∙ ap (λ (l : List ℕ). 165 ∷ drop 1 l) bytes) there.1 c.new.ensures.items
+          (omega (arith, long, count)),
     )
 
 pub returns-in-Ok-write_new-clause-bytes : goal.returns-in-Ok-write_new-clause-bytes

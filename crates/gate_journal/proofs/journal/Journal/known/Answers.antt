@@ -8,5 +8,6 @@ returns g c = rw (← c.self.view_is)
     record {
       end = λ h. (c.self.invariant.3 h).end_is;
       sure = λ h fine.
-          sure_now (g.D.Disk.state i.disk) (heading_of i.header) i.extents.items i.end i.failed (c.self.invariant.3 h) fine;
+          sure_now (g.D.Disk.state i.disk) (heading_of i.header) i.extents.items i.end i.failed (c.self.invariant.3 h)
+          fine;
     })
