@@ -2,19 +2,19 @@
 use Rattle.std.proofs.Common.{◌≡◌, ℕ, ◌+◌, ◌-◌, ◌<◌, List, [], ◌∷◌, ◌++◌, length, take, cond, ap, ◌∙◌, arith, append_assoc}
 use Rattle.std.proofs.lemmas.List.Sums.{fold_push}
 use Rattle.tape_disk.specs.Disk.{overwritten}
-use Rattle.tape_disk.specs.Past.{Event, Wrote, CutTo, Synced, landed, is_sync, syncs_of, unsynced, seen_of, torn}
+use Rattle.tape_disk.specs.CallLog.{LoggedCall, Wrote, CutTo, Synced, landed, is_sync, syncs_of, unsynced_bytes, contents_of, torn}
 
-pub record Replays (base : List ℕ) (keep fill : ℕ) (all remaining older : List Event) (syncs left : ℕ) (image : List ℕ) : Type 0 where
+pub record Replays (base : List ℕ) (keep fill : ℕ) (all remaining older : List LoggedCall) (syncs left : ℕ) (image : List ℕ) : Type 0 where
   pub whole : all ≡ remaining ++ older
   pub to_come : syncs ≡ syncs_of remaining
-  pub safe : 0 < syncs → (image ≡ seen_of base older) × (left ≡ keep)
-  pub since : syncs ≡ 0 → (image ≡ torn base keep fill older) × (left ≡ keep - unsynced older)
+  pub safe : 0 < syncs → (image ≡ contents_of base older) × (left ≡ keep)
+  pub since : syncs ≡ 0 → (image ≡ torn base keep fill older) × (left ≡ keep - unsynced_bytes older)
 
-pub syncs_of-push : (xs : List Event) (x : Event) → syncs_of (xs ++ x ∷ []) ≡ syncs_of xs + cond (is_sync x) 1 0
-syncs_of-push xs x = fold_push (λ (n : ℕ) (y : Event). n + cond (is_sync y) 1 0) 0 xs x
+pub syncs_of-push : (xs : List LoggedCall) (x : LoggedCall) → syncs_of (xs ++ x ∷ []) ≡ syncs_of xs + cond (is_sync x) 1 0
+syncs_of-push xs x = fold_push (λ (n : ℕ) (y : LoggedCall). n + cond (is_sync y) 1 0) 0 xs x
 
-module _ (base : List ℕ) (keep fill : ℕ) (all remaining older : List Event) (syncs left : ℕ) (image : List ℕ) where
-  next : (event : Event) → all ≡ (remaining ++ event ∷ []) ++ older → all ≡ remaining ++ event ∷ older
+module _ (base : List ℕ) (keep fill : ℕ) (all remaining older : List LoggedCall) (syncs left : ℕ) (image : List ℕ) where
+  next : (event : LoggedCall) → all ≡ (remaining ++ event ∷ []) ++ older → all ≡ remaining ++ event ∷ older
   next event whole = whole ∙ append_assoc remaining (event ∷ []) older
 
   pub cuts : (idle len : ℕ) → Replays base keep fill all (remaining ++ CutTo idle len ∷ []) older syncs left image → Replays base keep fill all remaining (CutTo idle len ∷ older) syncs left (take len image)
@@ -58,7 +58,7 @@ module _ (base : List ℕ) (keep fill : ℕ) (all remaining older : List Event) 
       since = λ _. (
         here
             ∙ ap (λ (l : List ℕ). overwritten at l image) (part ∙ ap (λ (n : ℕ). landed n fill bytes) before.1)
-            ∙ ap (λ (l : List ℕ). overwritten at (landed (keep - unsynced older) fill bytes) l) before.0,
+            ∙ ap (λ (l : List ℕ). overwritten at (landed (keep - unsynced_bytes older) fill bytes) l) before.0,
         omega (arith, before.1, fewer),
       );
     }

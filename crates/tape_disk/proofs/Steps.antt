@@ -3,7 +3,7 @@ use Rattle.std.proofs.Common.{◌≡◌, ℕ, ◌+◌, List, [], length, drop, r
 use Rattle.std.proofs.lemmas.List.{append-nil}
 use Rattle.vtl_base.specs.declared.faults.DevFault.{DevFault}
 use Rattle.tape_disk.specs.Disk.{DiskState, Same, Smeared, Cut, Writes, Cuts, Syncs}
-use Rattle.tape_disk.specs.Past.{Synced, Past, Image, rested, kept, state_of, reads}
+use Rattle.tape_disk.specs.CallLog.{Synced, CallLog, IsImage, idled, kept, state_of, reads}
 
 all_stays : (at n : ℕ) (xs : List ℕ) → Smeared at n xs xs
 all_stays at n xs = record { before = (drop at xs, sym (take-append-drop at xs)); after = ([], sym (append-nil (drop (at + n) xs))); no_shorter = omega arith }
@@ -26,13 +26,13 @@ module _ (old new : DiskState) (same : Same old new) (fault : DevFault) where
     crash = λ image left. (image, same.crash image left, all_there len image);
   }
 
-module _ (past mid new : Past) (f f' : ℕ) where
-  pub same_past : mid ≡ past → new ≡ rested mid → Same (state_of past f) (state_of new f')
-  same_past same rests = subst (λ (p : Past). Same (state_of past f) (state_of p f')) (sym (rests ∙ ap rested same)) (record { seen = refl; crash = λ image left. left })
+module _ (log mid new : CallLog) (f f' : ℕ) where
+  pub same_log : mid ≡ log → new ≡ idled mid → Same (state_of log f) (state_of new f')
+  same_log same rests = subst (λ (p : CallLog). Same (state_of log f) (state_of p f')) (sym (rests ∙ ap idled same)) (record { seen = refl; crash = λ image left. left })
 
-module _ (past new : Past) (f f' : ℕ) where
-  pub is_synced : new ≡ kept (Synced past.idle) past → Syncs (Ok tt) (state_of past f) (state_of new f')
-  is_synced is = subst (λ (p : Past). Syncs (Ok tt) (state_of past f) (state_of p f')) (sym is) (record {
+module _ (log new : CallLog) (f f' : ℕ) where
+  pub is_synced : new ≡ kept (Synced log.idle) log → Syncs (Ok tt) (state_of log f) (state_of new f')
+  is_synced is = subst (λ (p : CallLog). Syncs (Ok tt) (state_of log f) (state_of p f')) (sym is) (record {
     durable = λ image left. left;
-    crash = λ image left. subst (Image past.base past.events) (sym left) (reads past.base past.events);
+    crash = λ image left. subst (IsImage log.base log.calls) (sym left) (reads log.base log.calls);
   })

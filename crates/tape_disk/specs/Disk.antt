@@ -17,6 +17,13 @@ pub record DiskState : Type 1 where
   -- how many calls have failed; it has no bound
   pub failures : ℕ
 
+-- a call of a disk, and what it is asked (own)
+pub data DiskCall : Type 0 where
+  ReadAt : (at count : ℕ) → DiskCall
+  WriteAt : (at : ℕ) (bytes : List ℕ) → DiskCall
+  CutAt : (len : ℕ) → DiskCall
+  SyncAll : DiskCall
+
 -- the second begins with the first (own)
 abbrev pub IsPrefixOf : List ℕ → List ℕ → Type 0
 IsPrefixOf xs ys = (rest : List ℕ) × (ys ≡ xs ++ rest)

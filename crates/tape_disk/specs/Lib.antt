@@ -1,10 +1,10 @@
+pub mod CallLog
 pub mod Disk
-pub mod FailingDisk
 pub mod Faults
 pub mod FuseDisk
+pub mod Inner
+pub mod Log
 pub mod MemDisk
-pub mod Memory
 pub mod Moments
 pub mod OnceDisk
-pub mod Past
 pub mod Sequences

@@ -1,13 +1,21 @@
 -- A disk in memory, as its contracts see it.
-use Rattle.std.specs.Prelude.{ℕ}
-use Rattle.tape_disk.specs.Past.{Past}
-use Rattle.tape_disk.specs.Memory.{past_of}
+use Rattle.std.specs.Prelude.{◌≡◌, ℕ, ◌+◌, Result, Ok, Err}
+use Rattle.vtl_base.specs.declared.faults.DevFault.{DevFault}
+use Rattle.tape_disk.specs.CallLog.{CallLog, idled, logged}
+use Rattle.tape_disk.specs.Disk.{DiskCall}
+use Rattle.tape_disk.specs.Log.{log_of}
 use Rattle.tape_disk.specs.declared.memory.MemDisk.{MemDisk}
 
 -- its calls, and what it began with (own)
-abbrev pub past : MemDisk → Past
-past disk = past_of disk.log
+abbrev pub mem_log : MemDisk → CallLog
+mem_log disk = log_of disk.log
 
 -- how many of its calls have failed (own)
-abbrev pub failures : MemDisk → ℕ
-failures disk = disk.failures.count.value
+abbrev pub mem_failures : MemDisk → ℕ
+mem_failures disk = disk.failures.count.value
+
+-- What a call adds to the log: at Ok itself, and after a growth that was refused nothing but that there
+-- was a call, which is one failure more (own).
+abbrev pub MemEffect : DiskCall → Result Unit DevFault → MemDisk → MemDisk → Type 0
+MemEffect call (Ok done) old new = (mem_log new ≡ logged call (mem_log old)) × (mem_failures new ≡ mem_failures old)
+MemEffect call (Err fault) old new = (mem_log new ≡ idled (mem_log old)) × (mem_failures new ≡ mem_failures old + 1)

@@ -1,6 +1,7 @@
 //! The calls of a disk, by what they do to its state.
-ghost use Rattle.std.specs.Prelude.{◌≡◌, ◌≤◌, ◌+◌, ℕ, length, OnOk, slice_range};
-ghost use Rattle.tape_disk.specs.Disk.{DiskState, IsDisk, Elapses, Passes, Same, Writes, Cuts, Syncs};
+ghost use Rattle.std.specs.Prelude.{◌≡◌, ◌≤◌, ◌+◌, ℕ, length, OnOk, Result, slice_range};
+ghost use Rattle.tape_disk.specs.Disk.{DiskCall, ReadAt, WriteAt, CutAt, SyncAll, DiskState, IsDisk, Elapses, Passes, Same, Writes, Cuts, Syncs};
+ghost use Rattle.vtl_base.specs.declared.faults.DevFault.{DevFault};
 
 use vtl_base::DevFault;
 
@@ -10,6 +11,9 @@ use vtl_base::DevFault;
 /// nothing of its bytes.
 pub trait Disk {
     ghost state: { Self → DiskState };
+
+    // What a disk says of its own calls besides, whatever its honesty. A disk for tests does.
+    ghost effect: { DiskCall → Result Unit DevFault → Self → Self → Type 0 } = { λ call result old new. Unit {0} };
 
     /// The bytes of the disk. It asks nothing of the device.
     fn len(&self) -> u64
@@ -22,7 +26,8 @@ pub trait Disk {
         ensures time { (state self.old).honest → Elapses (state self.old) (state self.new) }
         ensures same { (state self.old).honest → Same (state self.old) (state self.new) }
         ensures bytes { (state self.old).honest → OnOk result
-            (buffer.new ≡ slice_range (state self.old).seen at (at + length buffer.old)) };
+            (buffer.new ≡ slice_range (state self.old).seen at (at + length buffer.old)) }
+        ensures effect { effect (ReadAt at (length buffer.old)) result self.old self.new };
 
     /// Writes over what stands from a place on, and past the end. The place is the end at most.
     /// After a fault a read too may give any bytes in the range, and from the old end on.
@@ -31,7 +36,8 @@ pub trait Disk {
         ensures passes { Passes (state self.old) (state self.new) result }
         ensures time { (state self.old).honest → Elapses (state self.old) (state self.new) }
         ensures writes { (state self.old).honest →
-            Writes at bytes.now result (state self.old) (state self.new) };
+            Writes at bytes.now result (state self.old) (state self.new) }
+        ensures effect { effect (WriteAt at bytes.now) result self.old self.new };
 
     /// Takes away the bytes from a place on. The place is the end at most. After a fault a read too
     /// may give any bytes from there on.
@@ -40,14 +46,16 @@ pub trait Disk {
         ensures passes { Passes (state self.old) (state self.new) result }
         ensures time { (state self.old).honest → Elapses (state self.old) (state self.new) }
         ensures cuts { (state self.old).honest →
-            Cuts len result (state self.old) (state self.new) };
+            Cuts len result (state self.old) (state self.new) }
+        ensures effect { effect (CutAt len) result self.old self.new };
 
     /// At Ok a crash leaves what a read gives, until the next write or cut. After a fault nothing
     /// that was not safe before is sure, for a read either.
     fn sync(&mut self) -> Result<(), DevFault>
         ensures passes { Passes (state self.old) (state self.new) result }
         ensures time { (state self.old).honest → Elapses (state self.old) (state self.new) }
-        ensures syncs { (state self.old).honest → Syncs result (state self.old) (state self.new) };
+        ensures syncs { (state self.old).honest → Syncs result (state self.old) (state self.new) }
+        ensures effect { effect SyncAll result self.old self.new };
 
     ghost is_disk: { (disk : Self) → (state disk).honest → IsDisk (state disk) };
 }

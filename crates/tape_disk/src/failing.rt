@@ -1,7 +1,8 @@
 //! A disk over another one, whose calls fail when they are told to.
-ghost use Rattle.std.specs.Prelude.{◌≡◌, ◌+◌, ◌-◌, ◌≤◌, ◌^◌, min, length, OnOk, slice_range};
-ghost use Rattle.tape_disk.specs.Disk.{Elapses, Keeps, Passes, Same, Writes, Cuts, Syncs};
-ghost use Rattle.tape_disk.specs.Faults.{Passed};
+ghost use Rattle.std.specs.Prelude.{◌≡◌, ◌+◌, ◌-◌, ◌≤◌, ◌^◌, min, length, OnOk, Result, slice_range};
+ghost use Rattle.tape_disk.specs.Disk.{Elapses, Passes, Same, Writes, Cuts, Syncs, ReadAt, WriteAt, CutAt, SyncAll};
+ghost use Rattle.vtl_base.specs.declared.faults.DevFault.{DevFault};
+ghost use Rattle.tape_disk.specs.Faults.{CalledBelow, CalledOnce};
 
 use crate::disk::Disk;
 use crate::failures::Failures;
@@ -15,7 +16,7 @@ pub(crate) struct Failing<D> {
 }
 
 impl<D: Disk> Failing<D> {
-    ghost use Rattle.tape_disk.specs.FailingDisk.{state_over};
+    ghost use Rattle.tape_disk.specs.Inner.Failing.{failing_state};
 
     pub(crate) fn new(disk: D) -> Failing<D>
         ensures disk { result.disk ≡ disk }
@@ -29,7 +30,8 @@ impl<D: Disk> Failing<D> {
 
     // The disk below is asked for no bytes, which moves its clock on.
     fn refuse(&mut self) -> DevFault
-        ensures keeps { Keeps (D.state self.old.disk) (D.state self.new.disk) }
+        ensures below { (answer : Result Unit DevFault) ×
+            CalledOnce D.state D.effect (ReadAt 0 0) answer self.old.disk self.new.disk }
         ensures time { (D.state self.old.disk).honest →
             Elapses (D.state self.old.disk) (D.state self.new.disk) }
         ensures same { (D.state self.old.disk).honest →
@@ -49,14 +51,15 @@ impl<D: Disk> Failing<D> {
     ) -> Result<(), DevFault>
         requires { (D.state self.old.disk).honest →
             at + length buffer.old ≤ length (D.state self.old.disk).seen }
-        ensures passes { Passes (state_over D.state self.old) (state_over D.state self.new) result }
+        ensures passes { Passes (failing_state D.state self.old) (failing_state D.state self.new) result }
         ensures time { (D.state self.old.disk).honest →
-            Elapses (state_over D.state self.old) (state_over D.state self.new) }
+            Elapses (failing_state D.state self.old) (failing_state D.state self.new) }
         ensures same { (D.state self.old.disk).honest →
-            Same (state_over D.state self.old) (state_over D.state self.new) }
+            Same (failing_state D.state self.old) (failing_state D.state self.new) }
         ensures bytes { (D.state self.old.disk).honest → OnOk result
             (buffer.new ≡ slice_range (D.state self.old.disk).seen at (at + length buffer.old)) }
-        ensures fails { Passed passes result (D.state self.old.disk) (D.state self.new.disk) }
+        ensures below { CalledBelow D.state D.effect passes (ReadAt at (length buffer.old)) result
+            self.old.disk self.new.disk }
     {
         if !passes {
             return Err(self.refuse());
@@ -69,12 +72,13 @@ impl<D: Disk> Failing<D> {
 
     pub(crate) fn write_at(&mut self, passes: bool, at: u64, bytes: &[u8]) -> Result<(), DevFault>
         requires { (D.state self.old.disk).honest → at ≤ length (D.state self.old.disk).seen }
-        ensures passes { Passes (state_over D.state self.old) (state_over D.state self.new) result }
+        ensures passes { Passes (failing_state D.state self.old) (failing_state D.state self.new) result }
         ensures time { (D.state self.old.disk).honest →
-            Elapses (state_over D.state self.old) (state_over D.state self.new) }
+            Elapses (failing_state D.state self.old) (failing_state D.state self.new) }
         ensures writes { (D.state self.old.disk).honest →
-            Writes at bytes.now result (state_over D.state self.old) (state_over D.state self.new) }
-        ensures fails { Passed passes result (D.state self.old.disk) (D.state self.new.disk) }
+            Writes at bytes.now result (failing_state D.state self.old) (failing_state D.state self.new) }
+        ensures below { CalledBelow D.state D.effect passes (WriteAt at bytes.now) result
+            self.old.disk self.new.disk }
     {
         if !passes {
             return Err(self.refuse());
@@ -87,12 +91,13 @@ impl<D: Disk> Failing<D> {
 
     pub(crate) fn cut(&mut self, passes: bool, len: u64) -> Result<(), DevFault>
         requires { (D.state self.old.disk).honest → len ≤ length (D.state self.old.disk).seen }
-        ensures passes { Passes (state_over D.state self.old) (state_over D.state self.new) result }
+        ensures passes { Passes (failing_state D.state self.old) (failing_state D.state self.new) result }
         ensures time { (D.state self.old.disk).honest →
-            Elapses (state_over D.state self.old) (state_over D.state self.new) }
+            Elapses (failing_state D.state self.old) (failing_state D.state self.new) }
         ensures cuts { (D.state self.old.disk).honest →
-            Cuts len result (state_over D.state self.old) (state_over D.state self.new) }
-        ensures fails { Passed passes result (D.state self.old.disk) (D.state self.new.disk) }
+            Cuts len result (failing_state D.state self.old) (failing_state D.state self.new) }
+        ensures below { CalledBelow D.state D.effect passes (CutAt len) result
+            self.old.disk self.new.disk }
     {
         if !passes {
             return Err(self.refuse());
@@ -104,12 +109,13 @@ impl<D: Disk> Failing<D> {
     }
 
     pub(crate) fn sync(&mut self, passes: bool) -> Result<(), DevFault>
-        ensures passes { Passes (state_over D.state self.old) (state_over D.state self.new) result }
+        ensures passes { Passes (failing_state D.state self.old) (failing_state D.state self.new) result }
         ensures time { (D.state self.old.disk).honest →
-            Elapses (state_over D.state self.old) (state_over D.state self.new) }
+            Elapses (failing_state D.state self.old) (failing_state D.state self.new) }
         ensures syncs { (D.state self.old.disk).honest →
-            Syncs result (state_over D.state self.old) (state_over D.state self.new) }
-        ensures fails { Passed passes result (D.state self.old.disk) (D.state self.new.disk) }
+            Syncs result (failing_state D.state self.old) (failing_state D.state self.new) }
+        ensures below { CalledBelow D.state D.effect passes SyncAll result
+            self.old.disk self.new.disk }
     {
         if !passes {
             return Err(self.refuse());

@@ -1,6 +1,7 @@
 //! The log that a disk in memory keeps of its calls.
 ghost use Rattle.std.specs.Prelude.{◌≡◌, ◌-◌, length, OnOk, OnErr, IfOk};
-ghost use Rattle.tape_disk.specs.Past.{begun, rested, kept, syncs_of, landed, torn, Wrote, CutTo, Synced};
+ghost use Rattle.tape_disk.specs.Disk.{WriteAt, CutAt, SyncAll};
+ghost use Rattle.tape_disk.specs.CallLog.{new_log, idled, kept, logged, syncs_of, landed, torn};
 
 use crate::count::Count;
 use crate::overwrite::overwrite;
@@ -35,10 +36,10 @@ pub(crate) struct Log {
 }
 
 impl Call {
-    ghost use Rattle.tape_disk.specs.Memory.{event_of};
+    ghost use Rattle.tape_disk.specs.Log.{logged_call};
 
     fn copy(&self, alloc: Global) -> Result<Call, AllocError>
-        ensures { IfOk result (λ copy. event_of copy ≡ event_of self.now) }
+        ensures { IfOk result (λ copy. logged_call copy ≡ logged_call self.now) }
     {
         Ok(match self {
             Call::Wrote { idle, at, bytes } => Call::Wrote {
@@ -56,10 +57,10 @@ impl Call {
 }
 
 impl Log {
-    ghost use Rattle.tape_disk.specs.Memory.{event_of, past_of};
+    ghost use Rattle.tape_disk.specs.Log.{logged_call, log_of};
 
     pub(crate) fn new(alloc: Global, base: Vec<u8>) -> Log
-        ensures { past_of result ≡ begun base.items }
+        ensures { log_of result ≡ new_log base.items }
     {
         Log {
             alloc,
@@ -71,16 +72,16 @@ impl Log {
 
     /// Counts a call that changed nothing.
     pub(crate) fn rest(&mut self)
-        ensures { past_of self.new ≡ rested (past_of self.old) }
+        ensures { log_of self.new ≡ idled (log_of self.old) }
     {
         self.idle = self.idle.after();
     }
 
     /// Keeps a write.
     pub(crate) fn wrote(&mut self, at: u64, bytes: &[u8]) -> Result<(), AllocError>
-        ensures ok { OnOk result (past_of self.new ≡
-            kept (Wrote self.old.idle.value at bytes.now) (past_of self.old)) }
-        ensures err { OnErr result (past_of self.new ≡ past_of self.old) }
+        ensures ok { OnOk result (log_of self.new ≡
+            logged (WriteAt at bytes.now) (log_of self.old)) }
+        ensures err { OnErr result (log_of self.new ≡ log_of self.old) }
     {
         let bytes = bytes.to_vec(self.alloc)?;
         let idle = self.idle.copy();
@@ -89,9 +90,9 @@ impl Log {
 
     /// Keeps a cut.
     pub(crate) fn cut_to(&mut self, len: u64) -> Result<(), AllocError>
-        ensures ok { OnOk result (past_of self.new ≡
-            kept (CutTo self.old.idle.value len) (past_of self.old)) }
-        ensures err { OnErr result (past_of self.new ≡ past_of self.old) }
+        ensures ok { OnOk result (log_of self.new ≡
+            logged (CutAt len) (log_of self.old)) }
+        ensures err { OnErr result (log_of self.new ≡ log_of self.old) }
     {
         let idle = self.idle.copy();
         self.keep(Call::CutTo { idle, len })
@@ -99,17 +100,17 @@ impl Log {
 
     /// Keeps a sync.
     pub(crate) fn synced(&mut self) -> Result<(), AllocError>
-        ensures ok { OnOk result (past_of self.new ≡
-            kept (Synced self.old.idle.value) (past_of self.old)) }
-        ensures err { OnErr result (past_of self.new ≡ past_of self.old) }
+        ensures ok { OnOk result (log_of self.new ≡
+            logged SyncAll (log_of self.old)) }
+        ensures err { OnErr result (log_of self.new ≡ log_of self.old) }
     {
         let idle = self.idle.copy();
         self.keep(Call::Synced { idle })
     }
 
     fn keep(&mut self, call: Call) -> Result<(), AllocError>
-        ensures ok { OnOk result (past_of self.new ≡ kept (event_of call) (past_of self.old)) }
-        ensures err { OnErr result (past_of self.new ≡ past_of self.old) }
+        ensures ok { OnOk result (log_of self.new ≡ kept (logged_call call) (log_of self.old)) }
+        ensures err { OnErr result (log_of self.new ≡ log_of self.old) }
     {
         self.calls.push_front(call)?;
         self.idle = Count::new();
@@ -117,7 +118,7 @@ impl Log {
     }
 
     pub(crate) fn copy(&self) -> Result<Log, AllocError>
-        ensures { IfOk result (λ copy. past_of copy ≡ past_of self.now) }
+        ensures { IfOk result (λ copy. log_of copy ≡ log_of self.now) }
     {
         let base = self.base.to_vec(self.alloc)?;
         let mut calls = LinkedList::new(self.alloc);
@@ -133,7 +134,7 @@ impl Log {
     }
 
     pub(crate) fn syncs(&self) -> u64
-        ensures { result ≡ syncs_of (past_of self.now).events }
+        ensures { result ≡ syncs_of (log_of self.now).calls }
     {
         self.calls
             .iter()
@@ -145,7 +146,7 @@ impl Log {
     /// others hold the fill.
     pub(crate) fn torn(self, keep: u64, fill: u8) -> Result<Vec<u8>, AllocError>
         ensures { IfOk result (λ image.
-            image.items ≡ torn self.base.items keep fill (past_of self).events) }
+            image.items ≡ torn self.base.items keep fill (log_of self).calls) }
     {
         let mut syncs = self.syncs();
         let mut left = keep;

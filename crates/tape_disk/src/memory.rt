@@ -1,8 +1,8 @@
 //! A disk in memory, which keeps a log of its calls, and so knows what a crash may leave.
 ghost use Rattle.std.specs.Prelude.{◌≡◌, ◌+◌, ◌-◌, ◌^◌, min, [], OnOk, OnErr, IfOk};
-ghost use Rattle.tape_disk.specs.Disk.{Only, overwritten};
-ghost use Rattle.tape_disk.specs.Past.{Past, Image, seen_of, syncs_of, torn, begun, rested, kept, state_of, is_disk, Wrote};
-ghost use Rattle.tape_disk.specs.Memory.{past_of};
+ghost use Rattle.tape_disk.specs.CallLog.{CallLog, IsImage, contents_of, syncs_of, torn, new_log, idled, logged, state_of, is_disk};
+ghost use Rattle.tape_disk.specs.Disk.{Only, WriteAt, overwritten};
+ghost use Rattle.tape_disk.specs.Log.{log_of};
 
 use crate::disk::Disk;
 use crate::failures::Failures;
@@ -21,15 +21,15 @@ pub struct MemDisk {
     bytes: Vec<u8>,
     log: Log,
     failures: Failures,
-    ghost replays: { bytes.items ≡ seen_of (past_of log).base (past_of log).events },
+    ghost replays: { bytes.items ≡ contents_of (log_of log).base (log_of log).calls },
 }
 
 impl MemDisk {
-    ghost use Rattle.tape_disk.specs.MemDisk.{past, failures};
+    ghost use Rattle.tape_disk.specs.MemDisk.{mem_log, mem_failures};
 
     /// A disk of no bytes.
     pub fn new(alloc: Global) -> MemDisk
-        ensures { (past result ≡ begun []) × (failures result ≡ 0) }
+        ensures { (mem_log result ≡ new_log []) × (mem_failures result ≡ 0) }
     {
         MemDisk {
             alloc,
@@ -41,13 +41,13 @@ impl MemDisk {
 
     /// A disk that holds these bytes, all of them safe.
     pub fn from_bytes(alloc: Global, bytes: &[u8]) -> Result<MemDisk, NoMemory>
-        ensures { IfOk result (λ disk. (past disk ≡ begun bytes.now) × (failures disk ≡ 0)) }
+        ensures { IfOk result (λ disk. (mem_log disk ≡ new_log bytes.now) × (mem_failures disk ≡ 0)) }
     {
         MemDisk::holding(alloc, bytes.to_vec(alloc)?)
     }
 
     fn holding(alloc: Global, bytes: Vec<u8>) -> Result<MemDisk, NoMemory>
-        ensures { IfOk result (λ disk. (past disk ≡ begun bytes.items) × (failures disk ≡ 0)) }
+        ensures { IfOk result (λ disk. (mem_log disk ≡ new_log bytes.items) × (mem_failures disk ≡ 0)) }
     {
         let base = bytes.to_vec(alloc)?;
         Ok(MemDisk {
@@ -61,7 +61,7 @@ impl MemDisk {
     /// Another disk with the same past.
     pub fn copy(&self) -> Result<MemDisk, NoMemory>
         ensures { IfOk result (λ copy.
-            (past copy ≡ past self.now) × (failures copy ≡ failures self.now)) }
+            (mem_log copy ≡ mem_log self.now) × (mem_failures copy ≡ mem_failures self.now)) }
     {
         Ok(MemDisk {
             alloc: self.alloc,
@@ -73,14 +73,14 @@ impl MemDisk {
 
     /// What a read gives.
     pub fn bytes(&self) -> &[u8]
-        ensures { result.now ≡ seen_of (past self.now).base (past self.now).events }
+        ensures { result.now ≡ contents_of (mem_log self.now).base (mem_log self.now).calls }
     {
         &self.bytes
     }
 
     /// How many syncs have answered Ok since the disk was made.
     pub fn syncs(&self) -> u64
-        ensures { result ≡ syncs_of (past self.now).events }
+        ensures { result ≡ syncs_of (mem_log self.now).calls }
     {
         self.log.syncs()
     }
@@ -90,15 +90,15 @@ impl MemDisk {
     /// carried out.
     pub fn crash(self, keep: u64, fill: u8) -> Result<MemDisk, NoMemory>
         ensures image { IfOk result (λ disk.
-            (past disk ≡ begun (torn (past self).base keep fill (past self).events))
-            × (failures disk ≡ 0)) }
+            (mem_log disk ≡ new_log (torn (mem_log self).base keep fill (mem_log self).calls))
+            × (mem_failures disk ≡ 0)) }
 
         // It is one of the images that a crash may leave, and from then on the only one.
-        ensures allowed { Image (past self).base (past self).events
-            (torn (past self).base keep fill (past self).events) }
+        ensures allowed { IsImage (mem_log self).base (mem_log self).calls
+            (torn (mem_log self).base keep fill (mem_log self).calls) }
         ensures only { IfOk result (λ disk.
-            Only (torn (past self).base keep fill (past self).events)
-            (Image (past disk).base (past disk).events)) }
+            Only (torn (mem_log self).base keep fill (mem_log self).calls)
+            (IsImage (mem_log disk).base (mem_log disk).calls)) }
     {
         let alloc = self.alloc;
         let image = self.log.torn(keep, fill)?;
@@ -107,9 +107,9 @@ impl MemDisk {
 
     // A call that was refused memory.
     fn fail(&mut self) -> DevFault
-        ensures past { past self.new ≡ rested (past self.old) }
-        ensures count { failures self.new ≡ failures self.old + 1 }
-        ensures told { result.failures ≡ min (failures self.new) (2 ^ 64 - 1) }
+        ensures log { mem_log self.new ≡ idled (mem_log self.old) }
+        ensures count { mem_failures self.new ≡ mem_failures self.old + 1 }
+        ensures told { result.failures ≡ min (mem_failures self.new) (2 ^ 64 - 1) }
     {
         self.log.rest();
         self.failures.rise()
@@ -119,10 +119,10 @@ impl MemDisk {
 // Keeps the write, and then does it.
 fn write(bytes: &mut Vec<u8>, log: &mut Log, at: u64, new: &[u8]) -> Result<(), AllocError>
     ensures ok { OnOk result (
-        (past_of log.new ≡ kept (Wrote log.old.idle.value at new.now) (past_of log.old))
+        (log_of log.new ≡ logged (WriteAt at new.now) (log_of log.old))
         × (bytes.new.items ≡ overwritten at new.now bytes.old.items)) }
     ensures err { OnErr result (
-        (past_of log.new ≡ past_of log.old) × (bytes.new.items ≡ bytes.old.items)) }
+        (log_of log.new ≡ log_of log.old) × (bytes.new.items ≡ bytes.old.items)) }
 {
     let place = at as usize;
     bytes.reserve(new.len().saturating_sub(bytes.len().saturating_sub(place)))?;
@@ -134,11 +134,13 @@ fn write(bytes: &mut Vec<u8>, log: &mut Log, at: u64, new: &[u8]) -> Result<(), 
 }
 
 impl Disk for MemDisk {
-    ghost use Rattle.tape_disk.specs.MemDisk.{past, failures};
+    ghost use Rattle.tape_disk.specs.MemDisk.{MemEffect, mem_log, mem_failures};
 
-    ghost state = { λ disk. state_of (past disk) (failures disk) };
+    ghost state = { λ disk. state_of (mem_log disk) (mem_failures disk) };
 
-    ghost is_disk = { λ disk honest. is_disk (past disk) (failures disk) };
+    ghost effect = { MemEffect };
+
+    ghost is_disk = { λ disk honest. is_disk (mem_log disk) (mem_failures disk) };
 
     fn len(&self) -> u64 {
         self.bytes.len() as u64

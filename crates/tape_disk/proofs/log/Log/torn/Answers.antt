@@ -1,7 +1,7 @@
 use Rattle.std.proofs.Common.{◌≡◌, ◌<◌, ap, ◌∙◌, map, ◌++◌, ◌∷◌, [], arith}
 use Rattle.std.proofs.lemmas.List.{map_push}
-use Rattle.tape_disk.specs.Past.{Event, Wrote}
-use Rattle.tape_disk.specs.Memory.{event_of}
+use Rattle.tape_disk.specs.CallLog.{LoggedCall, Wrote}
+use Rattle.tape_disk.specs.Log.{logged_call}
 use Rattle.tape_disk.proofs.Replays.{writes_safe, writes_torn}
 use Rattle.tape_disk.proofs.log.Log.torn.Goals.{then-syncs-eq0, else-syncs-eq0}
 use Rattle.tape_disk.proofs.log.Log.torn.Goals as goal
@@ -10,8 +10,8 @@ pub loop-call-preserved-in-Wrote : goal.loop-call-preserved-in-Wrote
 loop-call-preserved-in-Wrote c =
     let rest = c.pop_back.new.self in
     let write = Wrote c.in-Wrote.idle.value c.in-Wrote.at c.in-Wrote.bytes.items in
-    let split : map event_of c.loop-call.calls ≡ map event_of rest ++ write ∷ []
-    = ap (map event_of) c.in-Some.ensures.items ∙ map_push event_of rest c.in-Some.call ∙ ap (λ (e : Event). map event_of rest ++ e ∷ []) (ap event_of c.in-Wrote.is) in
+    let split : map logged_call c.loop-call.calls ≡ map logged_call rest ++ write ∷ []
+    = ap (map logged_call) c.in-Some.ensures.items ∙ map_push logged_call rest c.in-Some.call ∙ ap (λ (e : LoggedCall). map logged_call rest ++ e ∷ []) (ap logged_call c.in-Wrote.is) in
     let run = rw split at c.loop-call.invariant.1 in
     let here = c.in_ok-overwrite-in-Wrote.ensures.ok in
     elim c.if-syncs-eq0.branch [

@@ -1,6 +1,6 @@
-use Rattle.tape_disk.proofs.Steps.{not_written, same_past}
+use Rattle.tape_disk.proofs.Steps.{not_written, same_log}
 use Rattle.tape_disk.proofs.memory.MemDiskDisk.write_at.Goals as goal
 
 pub returns-in-Err-clause-writes : goal.returns-in-Err-clause-writes
 returns-in-Err-clause-writes c = λ honest.
-    not_written _ _ (same_past _ _ _ _ _ c.in-Err.ensures.err.0 c.fail.ensures.past) c.fail.result c.args.at c.args.bytes.now
+    not_written _ _ (same_log _ _ _ _ _ c.in-Err.ensures.err.0 c.fail.ensures.log) c.fail.result c.args.at c.args.bytes.now
