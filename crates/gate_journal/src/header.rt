@@ -20,7 +20,7 @@ pub enum SideKind {
 }
 
 impl SideKind {
-    // The bytes by which the kind is told.
+    // The bytes by which the kind is recognized.
     pub(crate) fn mark(self) -> &'static [u8; 8]
         ensures { result.now ≡ mark self }
     {

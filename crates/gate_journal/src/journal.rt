@@ -101,8 +101,8 @@ impl<D: Disk> Journal<D> {
     }
 
     /// Opens the side that the disk holds. It begins with a sync, and writes nothing: at every
-    /// moment of it, and after every refusal, the disk stands for what it stood for. After
-    /// `NotOurs` and `Damaged` that is sure too.
+    /// moment of it, and after every error, the disk stands for what it stood for. After `NotOurs`
+    /// and `Damaged` that is sure too.
     pub fn open(alloc: Global, disk: D) -> Result<Journal<D>, Refused<D>>
         ensures disk { Keeps (D.state disk) (D.state (disk_after result)) }
         ensures ok { IfOk result (λ journal. (journal.failed ≡ false)
@@ -159,7 +159,7 @@ impl<D: Disk> Journal<D> {
         self.extents.len()
     }
 
-    /// Where the body of that frame lies: its place and its length. The frame's gate stands 5 bytes
+    /// The extent of that frame's body: its place and its length. The frame's gate stands 5 bytes
     /// before it.
     pub fn body_at(&self, frame: usize) -> (u64, u32)
         requires { frame < length self.now.extents }
@@ -221,8 +221,8 @@ impl<D: Disk> Journal<D> {
         MAX_SIDE.saturating_sub(self.end + 1)
     }
 
-    /// Makes room in memory for that many appends, which then take none: 16 bytes each, and once
-    /// 8,388,613 for the longest frame.
+    /// Makes room in memory for that many appends, which then take none: 16 bytes for the extent of
+    /// each, and once 8,388,613 for the longest frame.
     pub fn reserve(&mut self, frames: usize) -> Result<(), JournalError>
         ensures ok { OnOk result ((frames ≤ self.new.reserved)
             × (self.old.reserved ≤ self.new.reserved)
@@ -239,7 +239,7 @@ impl<D: Disk> Journal<D> {
 
     /// Adds a frame with this body of 1 to 8,388,608 bytes. At Ok it is sure, and the room is less
     /// by 5 and the body's bytes. After `Device` it may be there or not, and nothing more is
-    /// written; after every other refusal nothing changed.
+    /// written; after every other error nothing changed.
     pub fn append(&mut self, body: &[u8]) -> Result<(), JournalError>
         requires { IsBody body.now }
         ensures disk { Keeps (D.state self.old.disk) (D.state self.new.disk) }

@@ -4,12 +4,12 @@ ghost use Rattle.gate_journal.specs.Side.{Heading, StandsFor, IsNotOurs, IsDamag
 ghost use Rattle.gate_journal.specs.SideOn.{side_on};
 
 /// Each image stands for some side, is no side of this library, or is damaged at some place.
-pub fn each_image_is_told()
+pub fn each_image_is_decided()
     ensures { (image : List ℕ) → IsDecided image }
 {}
 
 /// No image is two of the three, stands for two sides, or is damaged at two places.
-pub fn no_image_is_told_twice()
+pub fn no_image_is_decided_twice()
     ensures one_side { (image : List ℕ) (h k : Heading) (bs cs : List (List ℕ)) →
         StandsFor h bs image → StandsFor k cs image → (h ≡ k) × (bs ≡ cs) }
     ensures one_place { (image : List ℕ) (a b : ℕ) →

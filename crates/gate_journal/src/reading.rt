@@ -2,7 +2,7 @@
 ghost use Rattle.std.specs.Prelude.{◌≡◌, ◌≢◌, ◌+◌, ◌*◌, ◌<◌, ◌≤◌, ◌^◌, ◌++◌, [], ◌∷◌, ℕ, List, length, drop, true, false, take, ◌==◌, if◌then◌else◌, OnOk, IfOk, IfSome, IfNone, MatchResult, slice_index};
 ghost use Rattle.tape_disk.specs.Disk.{Elapses, Keeps, Passes, Syncs};
 ghost use Rattle.gate_journal.specs.Side.{Heading, IsHeading, OPEN, heading_of, spell_heading};
-ghost use Rattle.gate_journal.specs.Inner.Reading.{numbers_of, heading_within, kind_told};
+ghost use Rattle.gate_journal.specs.Inner.Reading.{numbers_of, heading_within, kind_by_letter};
 ghost use Rattle.std.specs.Int.{to_be_bytes, w32};
 ghost use Rattle.gate_journal.specs.Crash.{Unwritten};
 ghost use Rattle.gate_journal.specs.Inner.Found.{FindsRow, FindsHeader, FindsMark, FindsFrames, FindsSide};
@@ -124,15 +124,15 @@ fn header_within(alloc: Global, bytes: &[u8]) -> Result<Header, AllocError>
     let mut name = [0; NAME_BYTES];
     name.copy_from_slice(&bytes[11..START_BYTES]);
     Ok(Header {
-        kind: kind_told(bytes[4]),
+        kind: kind_by_letter(bytes[4]),
         name,
         capacities: numbers(alloc, &bytes[START_BYTES..])?,
     })
 }
 
 // The kind that this byte of a mark tells.
-fn kind_told(byte: u8) -> SideKind
-    ensures { result ≡ kind_told byte }
+fn kind_by_letter(byte: u8) -> SideKind
+    ensures { result ≡ kind_by_letter byte }
 {
     if byte == b'C' {
         SideKind::Cartridge

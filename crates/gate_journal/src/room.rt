@@ -1,4 +1,4 @@
-//! The memory of later appends: a place for each frame, and one buffer for the longest.
+//! The memory of later appends: an extent for each frame, and one buffer for the longest.
 ghost use Rattle.std.specs.Prelude.{◌≡◌, ◌≤◌, ◌<◌, ◌+◌, OnOk, OnErr, vec_len, vec_capacity};
 ghost use Rattle.gate_journal.specs.declared.spelling.TheConstants.{FRAME_BYTES};
 ghost use Rattle.gate_journal.specs.Inner.Spare.{spare};
@@ -6,7 +6,7 @@ ghost use Rattle.gate_journal.specs.Inner.Spare.{spare};
 use crate::spelling::FRAME_BYTES;
 use std::alloc::AllocError;
 
-// Makes room for that many frames. Want of memory leaves the room as it was.
+// Makes room for that many frames. Where memory runs out the room stays as it was.
 pub(crate) fn make_room(
     extents: &mut Vec<(u64, u32)>,
     buffer: &mut Vec<u8>,

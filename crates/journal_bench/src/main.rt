@@ -1,6 +1,8 @@
 //! Work for a clock: frames are added to a side, as many bytes are copied, and a side is opened.
 #![tactic(auto)]
 
+#[cfg(test)]
+mod tests;
 mod work;
 
 use std::alloc::Global;

@@ -22,8 +22,8 @@ fn new_side(alloc: Global) -> Option<Journal<MemDisk>> {
     Journal::create(alloc, MemDisk::new(alloc), header).ok()
 }
 
-// Adds a frame. Where a growth was refused it is tried once more: want of memory changed nothing,
-// and after a fault of the disk the side is opened again, and has the frame or not.
+// Adds a frame. Where memory ran out it is tried once more, since nothing changed; after a fault of
+// the disk the side is opened again, and has the frame or not.
 fn add(alloc: Global, side: Journal<MemDisk>, body: &[u8]) -> Option<Journal<MemDisk>>
     requires { IsBody body.now }
 {
