@@ -5,7 +5,6 @@ use Rattle.tape_disk.specs.Disk.{DiskState, Only}
 use Rattle.gate_journal.specs.declared.error.JournalError.{JournalError}
 use Rattle.gate_journal.specs.declared.error.JournalError.TheVariants.{NotOurs, Damaged, SideFull, Device, Failed, NoMemory}
 use Rattle.gate_journal.specs.declared.error.Refused.{Refused}
-use Rattle.gate_journal.specs.declared.spelling.TheConstants.{START_BYTES}
 use Rattle.gate_journal.specs.State.{OpenSide, room_behind}
 use Rattle.gate_journal.specs.Side.{IsNotOurs, IsDamagedAt}
 
@@ -53,13 +52,13 @@ disk_after (Ok side) = side.disk
 disk_after (Err refused) = refused.disk
 
 -- Why a side is not opened: what the old bytes are, which are then sure, and no call failed; or a fault; or memory ran
--- out, where there are the bytes of a header's start, and no call failed (own).
+-- out, where there are the 27 bytes that each heading has, and no call failed (own).
 abbrev pub NotOpened : JournalError → DiskState → DiskState → Type 0
 NotOpened NotOurs old new = NoneFailed old new × (old.honest → IsNotOurs old.seen × Only old.seen new.may_leave)
 NotOpened (Damaged at) old new =
     NoneFailed old new × (old.honest → IsDamagedAt old.seen at × Only old.seen new.may_leave)
 NotOpened (Device fault) old new = IsFault fault old new
-NotOpened NoMemory old new = NoneFailed old new × (old.honest → START_BYTES ≤ length old.seen)
+NotOpened NoMemory old new = NoneFailed old new × (old.honest → 27 ≤ length old.seen)
 NotOpened SideFull old new = ⊥
 NotOpened Failed old new = ⊥
 

@@ -6,7 +6,6 @@ use Rattle.vtl_base.specs.declared.limits.TheConstants.{MAX_BODY}
 use Rattle.tape_disk.specs.Disk.{DiskState, Only}
 use Rattle.gate_journal.specs.declared.header.Header.{Header}
 use Rattle.gate_journal.specs.declared.reading.Frames.{Frames}
-use Rattle.gate_journal.specs.declared.spelling.TheConstants.{START_BYTES}
 use Rattle.gate_journal.specs.declared.error.JournalError.{JournalError}
 use Rattle.gate_journal.specs.declared.error.JournalError.TheVariants.{NotOurs, Damaged, SideFull, Device, Failed, NoMemory}
 use Rattle.gate_journal.specs.Side.{OPEN, IsBody, IsHeading, StandsFor, IsNotOurs, IsBroken, BeginsWithFrame, frame, heading_of, spell_heading}
@@ -35,7 +34,7 @@ FindsHeader (Ok header) old new =
     NoneFailed old new × IsHeading (heading_of header)
     × (old.honest → (rest : List ℕ) × (old.seen ≡ spell_heading (heading_of header) ++ rest))
 FindsHeader (Err error) old new =
-    NotRead error (old.honest → IsNotOurs old.seen) (λ at. ⊥) (old.honest → START_BYTES ≤ length old.seen) old new
+    NotRead error (old.honest → IsNotOurs old.seen) (λ at. ⊥) (old.honest → 27 ≤ length old.seen) old new
 
 -- a closed gate at that place; a whole frame and a further byte, with the length of its body; or an open gate and no
 -- such frame (own)

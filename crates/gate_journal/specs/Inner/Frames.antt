@@ -13,8 +13,8 @@ pub length-frame : (body : List ℕ) → length (frame body) ≡ 5 + length body
 length-frame body = omega (arith, length-append (to_be_bytes w32 (length body)) body)
 
 -- nothing more can be read there: no frame with a further byte, and something at all unless nothing was read before
-abbrev pub Ends : List (List ℕ) → List ℕ → Type 0
-Ends bodies rest = (BeginsWithFrame rest → ⊥) × ((bodies ≡ []) ⊎ ((x : ℕ) × (xs : List ℕ) × (rest ≡ x ∷ xs)))
+abbrev pub NoMoreFrames : List (List ℕ) → List ℕ → Type 0
+NoMoreFrames bodies rest = (BeginsWithFrame rest → ⊥) × ((bodies ≡ []) ⊎ ((x : ℕ) × (xs : List ℕ) × (rest ≡ x ∷ xs)))
 
 module _ (body : List ℕ) (ok : IsBody body) (rest : List ℕ) where
   regrouped : frame body ++ rest ≡ OPEN ∷ (to_be_bytes w32 (length body) ++ (body ++ rest))
@@ -50,7 +50,7 @@ some_front [] y ys = (y, ys, refl)
 some_front (x ∷ xs) y ys = (x, xs ++ y ∷ ys, refl)
 
 -- where something stands at the end, a frame is no end
-frame_goes_on : (x : List ℕ) (bs : List (List ℕ)) (r s : List ℕ) → IsBody x → Ends (x ∷ bs) r →
+frame_goes_on : (x : List ℕ) (bs : List (List ℕ)) (r s : List ℕ) → IsBody x → NoMoreFrames (x ∷ bs) r →
     flat_map frame (x ∷ bs) ++ r ≡ s → BeginsWithFrame s
 frame_goes_on x bs r s ok (none, inl e) is = absurd (cc)
 frame_goes_on x bs r s ok (none, inr (y, ys, e)) is =
@@ -63,12 +63,12 @@ frame_goes_on x bs r s ok (none, inr (y, ys, e)) is =
           ∙ ap (λ (l : List ℕ). frame x ++ l) (ap (λ (l : List ℕ). flat_map frame bs ++ l) e ∙ more.2),
     )
 
-ends_tail : (x : List ℕ) (bs : List (List ℕ)) (r : List ℕ) → Ends (x ∷ bs) r → Ends bs r
+ends_tail : (x : List ℕ) (bs : List (List ℕ)) (r : List ℕ) → NoMoreFrames (x ∷ bs) r → NoMoreFrames bs r
 ends_tail x bs r (none, inl e) = absurd (cc)
 ends_tail x bs r (none, inr w) = (none, inr w)
 
 pub one_end : (bs cs : List (List ℕ)) (r s : List ℕ) → All IsBody bs → All IsBody cs →
-    flat_map frame bs ++ r ≡ flat_map frame cs ++ s → Ends bs r → Ends cs s → (bs ≡ cs) × (r ≡ s)
+    flat_map frame bs ++ r ≡ flat_map frame cs ++ s → NoMoreFrames bs r → NoMoreFrames cs s → (bs ≡ cs) × (r ≡ s)
 one_end [] [] r s okb okc e endb endc = (refl, e)
 one_end (x ∷ bs) [] r s okb okc e endb endc = absurd (endc.0 (frame_goes_on x bs r s (All-head IsBody x bs okb) endb e))
 one_end [] (y ∷ cs) r s okb okc e endb endc =
@@ -121,7 +121,7 @@ begins bytes = elim (both (both (below 1 (length (told_body bytes))) (below (len
 abbrev pub Read : List ℕ → Type 0
 Read bytes =
     (bodies : List (List ℕ)) × (rest : List ℕ) × All IsBody bodies × (bytes ≡ flat_map frame bodies ++ rest)
-    × Ends bodies rest
+    × NoMoreFrames bodies rest
 
 one_more : (bytes : List ℕ) (w : BeginsWithFrame bytes) → Read (w.1 ∷ w.2) → Read bytes
 one_more bytes w r = (

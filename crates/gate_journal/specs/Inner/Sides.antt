@@ -7,7 +7,7 @@ use Rattle.gate_journal.specs.declared.header.SideKind.{SideKind}
 use Rattle.gate_journal.specs.declared.header.SideKind.TheVariants.{Cartridge, Store}
 use Rattle.gate_journal.specs.Side.{OPEN, Heading, IsHeading, IsSide, frame, spell_heading, spell, StandsFor, IsNotOurs, IsBroken, IsDamagedAt, IsDecided}
 use Rattle.gate_journal.specs.Inner.Deciding.{Decidable, both, decided_as, same}
-use Rattle.gate_journal.specs.Inner.Frames.{Ends, read, one_end}
+use Rattle.gate_journal.specs.Inner.Frames.{NoMoreFrames, read, one_end}
 use Rattle.gate_journal.specs.Inner.Headings.{heading_at, decided_heading, same_heading, heading_is}
 
 -- the image begins with a heading
@@ -58,7 +58,7 @@ ours image = elim (decided_of_kind Cartridge image) [
 ]
 
 classified : (image : List ℕ) (h : Heading) (bodies : List (List ℕ)) (rest : List ℕ) → IsSide h bodies →
-    image ≡ spell h bodies ++ rest → Ends bodies rest → IsDecided image
+    image ≡ spell h bodies ++ rest → NoMoreFrames bodies rest → IsDecided image
 classified image h bodies [] side is (never, inl none) =
     inr (inr (length (spell h bodies), (h, bodies, [], side, is, refl, inl (none, refl))))
 classified image h bodies [] side is (never, inr w) = let e : [] ≡ w.0 ∷ w.1 = w.2 in absurd (cc)
@@ -83,7 +83,7 @@ decided image = elim (ours image) [
 pub record Reads (image : List ℕ) (h : Heading) (bodies : List (List ℕ)) (rest : List ℕ) : Type 0 where
   pub side : IsSide h bodies
   pub is : image ≡ spell h bodies ++ rest
-  pub ends : Ends bodies rest
+  pub ends : NoMoreFrames bodies rest
 
 pub one_reading : (image : List ℕ) (h k : Heading) (bs cs : List (List ℕ)) (r s : List ℕ) → Reads image h bs r →
     Reads image k cs s → (h ≡ k) × (bs ≡ cs) × (r ≡ s)
@@ -108,7 +108,7 @@ stands image h bodies s = record {
   ends = (λ w. s.1.2 (first_is s.1.0 s.1.1 (drop 1 (frame w.0 ++ w.1 ∷ w.2)) w.4), inr (s.1.0, s.1.1, refl));
 }
 
-broken_ends : (bodies : List (List ℕ)) (rest : List ℕ) → IsBroken bodies rest → Ends bodies rest
+broken_ends : (bodies : List (List ℕ)) (rest : List ℕ) → IsBroken bodies rest → NoMoreFrames bodies rest
 broken_ends bodies rest (inl (none, is)) =
     (λ w. let e : [] ≡ OPEN ∷ drop 1 (frame w.0 ++ w.1 ∷ w.2) = sym is ∙ w.4 in cc, inl none)
 broken_ends bodies rest (inr ((tail, is), never)) = (never, inr (OPEN, tail, is))
