@@ -1,4 +1,3 @@
 pub mod Replays
-pub mod Smears
 pub mod Steps
 pub mod Torn

@@ -6,7 +6,11 @@ use Rattle.tape_disk.specs.Disk.{DiskState, Same, Smeared, Cut, Writes, Cuts, Sy
 use Rattle.tape_disk.specs.CallLog.{Synced, CallLog, IsImage, idled, kept, state_of, reads}
 
 all_stays : (at n : ℕ) (xs : List ℕ) → Smeared at n xs xs
-all_stays at n xs = record { before = (drop at xs, sym (take-append-drop at xs)); after = ([], sym (append-nil (drop (at + n) xs))); no_shorter = omega arith }
+all_stays at n xs = record {
+  before = (drop at xs, sym (take-append-drop at xs));
+  after = ([], sym (append-nil (drop (at + n) xs)));
+  no_shorter = omega arith;
+}
 
 all_there : (len : ℕ) (xs : List ℕ) → Cut len xs xs
 all_there len xs = (drop len xs, sym (take-append-drop len xs))
@@ -28,7 +32,8 @@ module _ (old new : DiskState) (same : Same old new) (fault : DevFault) where
 
 module _ (log mid new : CallLog) (f f' : ℕ) where
   pub same_log : mid ≡ log → new ≡ idled mid → Same (state_of log f) (state_of new f')
-  same_log same rests = subst (λ (p : CallLog). Same (state_of log f) (state_of p f')) (sym (rests ∙ ap idled same)) (record { seen = refl; crash = λ image left. left })
+  same_log same rests = subst (λ (l : CallLog). Same (state_of log f) (state_of l f')) (sym (rests ∙ ap idled same))
+      (record { seen = refl; crash = λ image left. left })
 
 module _ (log new : CallLog) (f f' : ℕ) where
   pub is_synced : new ≡ kept (Synced log.idle) log → Syncs (Ok tt) (state_of log f) (state_of new f')

@@ -19,16 +19,19 @@ no_call disk P is_disk here = record {
 }
 
 -- one call more
-pub one_more_call : (old mid new : DiskState) (P : List ℕ → Type 0) → LeavesOnly old mid P → Elapses mid new → Each new P → LeavesOnly old new P
+pub one_more_call : (old mid new : DiskState) (P : List ℕ → Type 0) →
+    LeavesOnly old mid P → Elapses mid new → Each new P → LeavesOnly old new P
 one_more_call old mid new P so_far time here = record {
   later = omega (arith, so_far.later, time.later);
   each = λ image left. ⊎_elim (so_far.each image) (here image) (time.nothing_else old.moment image so_far.later left);
   before = λ t image le left.
-      ⊎_elim (so_far.before t image le) (λ leaves. inr (here image leaves)) (time.nothing_else t image (omega (arith, le, so_far.later)) left);
+      ⊎_elim (so_far.before t image le) (λ leaves. inr (here image leaves))
+      (time.nothing_else t image (omega (arith, le, so_far.later)) left);
 }
 
 -- two runs in a row
-pub in_sequence : (old mid new : DiskState) (P : List ℕ → Type 0) → LeavesOnly old mid P → LeavesOnly mid new P → LeavesOnly old new P
+pub in_sequence : (old mid new : DiskState) (P : List ℕ → Type 0) →
+    LeavesOnly old mid P → LeavesOnly mid new P → LeavesOnly old new P
 in_sequence old mid new P first second = record {
   later = omega (arith, first.later, second.later);
   each = λ image left. ⊎_elim (first.each image) (λ has. has) (second.before old.moment image first.later left);
@@ -37,7 +40,8 @@ in_sequence old mid new P first second = record {
 }
 
 -- a layer above says the same in its own words
-pub weakened : (old new : DiskState) (P Q : List ℕ → Type 0) → LeavesOnly old new P → ((image : List ℕ) → P image → Q image) → LeavesOnly old new Q
+pub weakened : (old new : DiskState) (P Q : List ℕ → Type 0) →
+    LeavesOnly old new P → ((image : List ℕ) → P image → Q image) → LeavesOnly old new Q
 weakened old new P Q run means = record {
   later = run.later;
   each = λ image left. means image (run.each image left);

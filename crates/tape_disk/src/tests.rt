@@ -1,4 +1,9 @@
-//! Each call once, what a crash leaves, and a disk in another thread.
+//! What each call leaves, what a crash leaves, and a disk in another thread.
+ghost use Rattle.std.specs.Prelude.{◌≡◌, ◌+◌, OnErr, OnOk};
+ghost use Rattle.tape_disk.specs.CallLog.{syncs_of};
+ghost use Rattle.tape_disk.specs.FuseDisk.{fuse_calls_left, fuse_disk_below};
+ghost use Rattle.tape_disk.specs.MemDisk.{mem_log};
+
 use crate::{Disk, FuseDisk, MemDisk, OnceDisk};
 use std::alloc::Global;
 use std::test::Fail;
@@ -6,33 +11,61 @@ use std::thread;
 use std::thread::Threads;
 use vtl_base::DevFault;
 
+// A call, and what it is asked.
+#[derive(Clone, Copy)]
+enum Ask {
+    Write(u64, &'static [u8]),
+    Cut(u64),
+    Sync,
+    Read(u64),
+}
+
+// The answer of one call. A place behind the end is the end.
+fn answer<D: Disk>(disk: &mut D, ask: Ask) -> Result<(), DevFault> {
+    let end = disk.len();
+    match ask {
+        Ask::Write(at, bytes) => disk.write_at(end.min(at), bytes),
+        Ask::Cut(len) => disk.cut(end.min(len)),
+        Ask::Sync => disk.sync(),
+        Ask::Read(at) => disk.read_at(end.min(at), &mut []),
+    }
+}
+
 #[test]
 fn a_disk_in_memory(rt: HostRuntime) -> Result<(), Fail> {
     let mut disk = MemDisk::new(rt.alloc());
-    assert_eq!(rt; (disk.len(), disk.syncs()), (0, 0));
-    assert_eq!(rt; disk.write_at(0, b"abcdef"), Ok(()));
-    assert_eq!(rt; disk.sync(), Ok(()));
-    assert_eq!(rt; disk.len(), 6);
-    assert_eq!(rt; disk.write_at(4, b"XYZ"), Ok(()));
-    assert_eq!(rt; disk.bytes(), b"abcdXYZ".as_slice());
-    assert_eq!(rt; disk.len(), 7);
+    for (ask, bytes, syncs) in [
+        (Ask::Write(0, b"abcdef"), b"abcdef".as_slice(), 0),
+        (Ask::Sync, b"abcdef", 1),
+        (Ask::Write(4, b"XYZ"), b"abcdXYZ", 1),
+        (Ask::Read(3), b"abcdXYZ", 1),
+        (Ask::Cut(2), b"ab", 1),
+        (Ask::Sync, b"ab", 2),
+    ] {
+        assert_eq!(rt; answer(&mut disk, ask), Ok(()));
+        let copy = disk.copy()?;
+        assert_eq!(rt;
+            (copy.bytes(), copy.len(), copy.syncs()),
+            (bytes, bytes.len() as u64, syncs)
+        );
+    }
+    Ok(())
+}
+
+#[test]
+fn a_read(rt: HostRuntime) -> Result<(), Fail> {
+    let mut disk = MemDisk::from_bytes(rt.alloc(), b"abcdXYZ")?;
     let mut buffer = [0; 3];
     assert_eq!(rt; disk.read_at(3, &mut buffer), Ok(()));
     assert_eq!(rt; buffer, *b"dXY");
-    assert_eq!(rt; disk.cut(2), Ok(()));
-    assert_eq!(rt; disk.sync(), Ok(()));
-    let copy = disk.copy()?;
-    assert_eq!(rt; (copy.bytes(), copy.syncs()), (b"ab".as_slice(), 2));
     Ok(())
 }
 
 // "abcdef" is safe; "XY" at 2 and "Z12" at 6 are not.
 fn half_written(alloc: Global) -> Result<MemDisk, Fail> {
     let mut disk = MemDisk::from_bytes(alloc, b"abcdef")?;
-    if disk.len() == 6 {
-        disk.write_at(2, b"XY")?;
-        let end = disk.len();
-        disk.write_at(end, b"Z12")?;
+    for ask in [Ask::Write(2, b"XY"), Ask::Write(6, b"Z12")] {
+        answer(&mut disk, ask)?;
     }
     Ok(disk)
 }
@@ -40,35 +73,41 @@ fn half_written(alloc: Global) -> Result<MemDisk, Fail> {
 #[test]
 fn what_a_crash_leaves(rt: HostRuntime) -> Result<(), Fail> {
     let mut disk = half_written(rt.alloc())?;
-    for (keep, fill, left) in [
-        (0, b'.', b"ab..ef...".as_slice()),
-        (1, b'.', b"abX.ef...".as_slice()),
-        (2, b'-', b"abXYef---".as_slice()),
-        (4, b'.', b"abXYefZ1.".as_slice()),
-        (5, b'.', b"abXYefZ12".as_slice()),
-        (6, b'.', b"abXYefZ12".as_slice()),
+    for (ask, keep, fill, left) in [
+        (Ask::Read(0), 0, b'.', b"ab..ef...".as_slice()),
+        (Ask::Read(0), 1, b'.', b"abX.ef..."),
+        (Ask::Read(0), 2, b'-', b"abXYef---"),
+        (Ask::Read(0), 4, b'.', b"abXYefZ1."),
+        (Ask::Read(0), 5, b'.', b"abXYefZ12"),
+        (Ask::Read(0), 6, b'.', b"abXYefZ12"),
+        (Ask::Cut(7), 1, b'.', b"abX.ef."),
+        (Ask::Sync, 0, b'.', b"abXYefZ"),
     ] {
+        answer(&mut disk, ask)?;
         let crashed = disk.copy()?.crash(keep, fill)?;
-        assert_eq!(rt; crashed.bytes(), left, "{keep} bytes landed");
-        assert_eq!(rt; crashed.syncs(), 0);
+        assert_eq!(rt;
+            (crashed.bytes(), crashed.syncs()),
+            (left, 0),
+            "{keep} bytes landed"
+        );
     }
-    assert_eq!(rt; disk.len(), 9);
-    disk.cut(7)?;
-    assert_eq!(rt; disk.copy()?.crash(1, b'.')?.bytes(), b"abX.ef.".as_slice());
-    disk.sync()?;
-    assert_eq!(rt; disk.crash(0, b'.')?.bytes(), b"abXYefZ".as_slice());
     Ok(())
 }
 
 #[test]
 fn a_fuse(rt: HostRuntime) -> Result<(), Fail> {
     let mut disk = FuseDisk::new(MemDisk::from_bytes(rt.alloc(), b"abc")?, 2);
-    assert_eq!(rt; disk.write_at(0, b"x"), Ok(()));
-    assert_eq!(rt; disk.sync(), Ok(()));
-    assert_eq!(rt; disk.sync(), Err(DevFault { failures: 1 }));
-    assert_eq!(rt; disk.cut(0), Err(DevFault { failures: 2 }));
-    assert_eq!(rt; disk.read_at(0, &mut []), Err(DevFault { failures: 3 }));
-    assert_eq!(rt; disk.write_at(0, b"y"), Err(DevFault { failures: 4 }));
+    for (ask, failures) in [
+        (Ask::Write(0, b"x"), 0),
+        (Ask::Sync, 0),
+        (Ask::Sync, 1),
+        (Ask::Cut(0), 2),
+        (Ask::Read(0), 3),
+        (Ask::Write(0, b"y"), 4),
+    ] {
+        let fault = answer(&mut disk, ask).err();
+        assert_eq!(rt; fault.map_or(0, |fault| fault.failures), failures);
+    }
     assert_eq!(rt; (disk.len(), disk.inner().syncs()), (3, 1));
     assert_eq!(rt; disk.into_inner().bytes(), b"xbc".as_slice());
     Ok(())
@@ -77,13 +116,47 @@ fn a_fuse(rt: HostRuntime) -> Result<(), Fail> {
 #[test]
 fn one_call_fails(rt: HostRuntime) -> Result<(), Fail> {
     let mut disk = OnceDisk::new(MemDisk::from_bytes(rt.alloc(), b"abc")?, 1);
-    assert_eq!(rt; disk.write_at(0, b"x"), Ok(()));
-    assert_eq!(rt; disk.sync(), Err(DevFault { failures: 1 }));
-    assert_eq!(rt; disk.sync(), Ok(()));
-    assert_eq!(rt; disk.cut(0), Ok(()));
-    assert_eq!(rt; disk.read_at(0, &mut []), Ok(()));
+    for (ask, failures) in [
+        (Ask::Write(0, b"x"), 0),
+        (Ask::Sync, 1),
+        (Ask::Sync, 0),
+        (Ask::Cut(0), 0),
+        (Ask::Read(0), 0),
+    ] {
+        let fault = answer(&mut disk, ask).err();
+        assert_eq!(rt; fault.map_or(0, |fault| fault.failures), failures);
+    }
     assert_eq!(rt; (disk.len(), disk.inner().syncs()), (0, 1));
     assert_eq!(rt; disk.into_inner().bytes(), b"".as_slice());
+    Ok(())
+}
+
+// What a caller knows of a disk in memory, and of one below a fuse.
+fn synced(disk: &mut MemDisk) -> Result<(), DevFault>
+    ensures ok { OnOk result
+        (syncs_of (mem_log disk.new).calls ≡ syncs_of (mem_log disk.old).calls + 1) }
+    ensures err { OnErr result
+        (syncs_of (mem_log disk.new).calls ≡ syncs_of (mem_log disk.old).calls) }
+{
+    disk.read_at(0, &mut [])?;
+    disk.sync()
+}
+
+fn blown(disk: &mut FuseDisk<MemDisk>) -> Result<(), DevFault>
+    requires { fuse_calls_left disk.old ≡ 0 }
+    ensures { syncs_of (mem_log (fuse_disk_below disk.new)).calls
+        ≡ syncs_of (mem_log (fuse_disk_below disk.old)).calls }
+{
+    disk.sync()
+}
+
+#[test]
+fn what_the_log_has(rt: HostRuntime) -> Result<(), Fail> {
+    let mut disk = MemDisk::new(rt.alloc());
+    assert_eq!(rt; synced(&mut disk), Ok(()));
+    let mut fuse = FuseDisk::new(disk, 0);
+    assert_eq!(rt; blown(&mut fuse), Err(DevFault { failures: 1 }));
+    assert_eq!(rt; fuse.inner().syncs(), 1);
     Ok(())
 }
 

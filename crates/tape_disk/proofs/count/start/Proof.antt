@@ -55,7 +55,9 @@ module _ {M : Type 1} {𝓤 : Ura M} (𝓛 : Logic 𝓤) (𝓜 : Model 𝓤 𝓛
     At us = ((z.0.0, z.0.1, z.0.2, z.0.3, (us, tt)), z.1)
 
     abbrev Goes : List Val → Type 1
-    Goes us = ent 𝓤 ((walk_of 𝓛 ended stayed held).pre (At us)) (WpFn 𝓤 H 𝓣.C 𝓣.Λ function (us ++ []) ((walk_of 𝓛 ended stayed held).post (At us)))
+    Goes us =
+        let walk = walk_of 𝓛 ended stayed held in
+        ent 𝓤 (walk.pre (At us)) (WpFn 𝓤 H 𝓣.C 𝓣.Λ function (us ++ []) (walk.post (At us)))
 
     abbrev b : ℕ
     b = z.0.3.0.ref_ptr.0
@@ -71,24 +73,36 @@ module _ {M : Type 1} {𝓤 : Ura M} (𝓛 : Logic 𝓤) (𝓜 : Model 𝓤 𝓛
 
     walks : Goes (vptr b o ∷ [])
     walks =
-        let v : Val = vstruct (vcons (vstruct vnil) vnil) in let r : denote.Triple.Entry.Res ended.signature z.0.0 = record { marker = record {}; value = 0 } in
+        let v : Val = vstruct (vcons (vstruct vnil) vnil) in
+        let r : denote.Triple.Entry.Res ended.signature z.0.0 = record { marker = record {}; value = 0 } in
         let O : Fml = (type_at ended.signature.result z.0.0).own_val r (v ∷ []) in
-        qed 𝓛 ((raw toks ⊛ ‵ passed) ∷ raw ((held z.0.0 z.0.3).requires z.1) ∷ []) ∵ split ! $ keep ! (0 ∷ []) $
+        qed 𝓛 ((raw toks ⊛ ‵ passed) ∷ raw ((held z.0.0 z.0.3).requires z.1) ∷ []) ∵
+        split ! $ keep ! (0 ∷ []) $
         enter ! 𝓣.C 𝓣.Λ function (vptr b o ∷ []) _ $ alloc_all ! (λ l. pass_all ! refl ((tt, tt), tt) $
-        sets ! (agg ! (no_more !)) refl (tt, tt) $ sets ! (agg ! (and_then ! (get ! refl) (no_more !))) refl (tt, (tt, tt)) $
+        sets ! (agg ! (no_more !)) refl (tt, tt) $
+        sets ! (agg ! (and_then ! (get ! refl) (no_more !))) refl (tt, (tt, tt)) $
         returns ! (look_at ! 0 refl) $ free_all ! refl $
-        use0 𝓛 (‵ O) (makes_shadow 𝓛 O ((λ vss. (tt, ((λ uss. (tt, tt)), tt))), tt) (((vstruct vnil ∷ [], tt), (refl, ((tt, (refl, tt)), tt))), tt)) $
+        use0 𝓛 (‵ O)
+        (makes_shadow 𝓛 O ((λ vss. (tt, ((λ uss. (tt, tt)), tt))), tt)
+        (((vstruct vnil ∷ [], tt), (refl, ((tt, (refl, tt)), tt))), tt)) $
         suffices ! _ (ends_at 𝓛 ended stayed held (At (vptr b o ∷ [])) v r (tt, tt) (tt, tt)) $ says ! refl $
         nothing ! $ nothing ! $ fjoin ! $ join ! $ move ! (1 ∷ 0 ∷ []) $ join ! $ done !)
 
   meets : Meets 𝓛 ended.signature (WpFn 𝓤 H 𝓣.C 𝓣.Λ function) (closing 𝓛 ended held)
   unfolding tables_of contract.CodeStep.c_Tables
   meets =
-      walk_Meets 𝓛 ended stayed (Goes-dropped 𝓛 1 (RefOf (0 ∷ []) tt (plain (λ _. u64)) (λ _. tt)) yes (λ κs x f. refl), tt) held
+      walk_Meets 𝓛 ended stayed
+      (Goes-dropped 𝓛 1 (RefOf (0 ∷ []) tt (plain (λ _. u64)) (λ _. tt)) yes (λ κs x f. refl), tt) held
       (WpFn 𝓤 H 𝓣.C 𝓣.Λ function) (WpFn-mono 𝓤 H 𝓛.laws (tables_of 𝓤 H 𝓜 𝓣) function)
-      (λ z. let a = z.0.3 in let vss = z.0.4 in let Rs : List RattleType = types_at ended.signature.params z.0.0 in let On : SProp 𝓤 = on_entry 𝓛 ended.signature z.0.0 z.0.1 a vss in
-      fact_use 𝓤 (Are Rs (Ises Rs) a vss) (via 𝓤 (sem 𝓛 (owns Rs a vss)) (via 𝓤 On (fst∗ 𝓤 On ((held z.0.0 a).requires z.1)) (snd∗ 𝓤 (alive 𝓛 ended.signature z.0.0 z.0.1) (sem 𝓛 (owns Rs a vss)))) (owns_show 𝓛 Rs (Ises Rs) (showss 𝓛 Rs) a vss)) (λ are.
-      subst (Goes z) (sym are.0.0) (walks z)))
+      (λ z. let a = z.0.3 in let vss = z.0.4 in
+      let Rs : List RattleType = types_at ended.signature.params z.0.0 in
+      let On : SProp 𝓤 = on_entry 𝓛 ended.signature z.0.0 z.0.1 a vss in
+      let Owned : SProp 𝓤 = sem 𝓛 (owns Rs a vss) in
+      fact_use 𝓤 (Are Rs (Ises Rs) a vss)
+      (via 𝓤 Owned
+      (via 𝓤 On (fst∗ 𝓤 On ((held z.0.0 a).requires z.1)) (snd∗ 𝓤 (alive 𝓛 ended.signature z.0.0 z.0.1) Owned))
+      (owns_show 𝓛 Rs (Ises Rs) (showss 𝓛 Rs) a vss))
+      (λ are. subst (Goes z) (sym are.0.0) (walks z)))
 
 pub start_spec : {M : Type 1} → stated.statement M
 start_spec 𝓤 𝓛 𝓜 𝓡 wired = let 𝓣' = tables 𝓤 𝓛.H 𝓜 𝓡 𝓡.env in

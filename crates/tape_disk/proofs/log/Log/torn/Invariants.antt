@@ -6,7 +6,8 @@ use Rattle.tape_disk.proofs.log.Log.torn.Given as goal
 
 abbrev pub invariant-loop-call : goal.invariant-loop-call
 invariant-loop-call l = (older : List LoggedCall)
-    × Replays l.fn.self.base.items l.keep l.fill (map logged_call l.fn.self.calls) (map logged_call l.calls) older l.syncs l.left l.image.items
+    × Replays l.fn.self.base.items l.keep l.fill (map logged_call l.fn.self.calls) (map logged_call l.calls) older
+    l.syncs l.left l.image.items
 
 abbrev pub decreases-loop-call : goal.decreases-loop-call
 decreases-loop-call l = length l.calls
