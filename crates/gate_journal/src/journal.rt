@@ -57,9 +57,9 @@ impl<D: Disk> Model for Journal<D> {
 }
 
 impl<D: Disk> Journal<D> {
-    /// Makes a side with no frames, whatever the disk held. The header is one that can be spelled.
-    /// At Ok the disk holds its spelling, one closed gate and nothing behind. After a device fault
-    /// anything may stand there, and after `NoMemory` the disk was not touched.
+    /// Makes a side with no frames, whatever the disk held, of a header that can be spelled. At Ok
+    /// the disk holds its spelling, one closed gate and nothing behind; after a device fault
+    /// anything may stand there; after `NoMemory` the disk was not touched.
     pub fn create(alloc: Global, disk: D, header: Header) -> Result<Journal<D>, Refused<D>>
         requires { IsHeading (heading_of header) }
         ensures disk { Keeps (D.state disk) (D.state (disk_after result)) }
@@ -76,10 +76,8 @@ impl<D: Disk> Journal<D> {
     {
         let mut disk = disk;
         let Ok(bytes) = spell_closed(alloc, &header) else {
-            return Err(Refused {
-                error: JournalError::NoMemory,
-                disk,
-            });
+            let error = JournalError::NoMemory;
+            return Err(Refused { error, disk });
         };
         match write_new(&mut disk, &bytes) {
             Ok(()) => {
@@ -132,14 +130,14 @@ impl<D: Disk> Journal<D> {
     }
 
     /// The end is where the spelling ends, of a side that has failed too. Where nothing has failed,
-    /// each image that a crash may leave stands for the side. (The field is looked at for the
-    /// proof's sake: the facts are the type's.)
+    /// each image that a crash may leave stands for the side.
     pub fn known(&self)
         ensures end { (D.state self.now.disk).honest →
             self.now.end ≡ length (spell self.now.heading self.now.bodies) }
         ensures sure { (D.state self.now.disk).honest → self.now.failed ≡ false →
             Each (D.state self.now.disk) (StandsFor self.now.heading self.now.bodies) }
     {
+        // Looked at for the proof's sake: the facts are the type's.
         let _ = &self.end;
     }
 

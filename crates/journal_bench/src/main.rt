@@ -2,7 +2,11 @@
 #![tactic(auto)]
 
 #[cfg(test)]
-mod tests;
+mod layout_tests;
+#[cfg(test)]
+mod samples;
+#[cfg(test)]
+mod stop_tests;
 mod work;
 
 use std::alloc::Global;

@@ -74,6 +74,7 @@ pub fn written(alloc: Global, count: u32) -> Option<usize> {
     }
     for i in 0..count {
         let place = u64::from(i) * 1_000;
+        // True of each piece: it is asked for the proof's sake.
         if place <= disk.len() {
             disk.write_at(place, &piece[..10]).ok()?;
         }
