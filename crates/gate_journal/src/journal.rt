@@ -8,11 +8,10 @@ ghost use Rattle.gate_journal.specs.Crash.{Unwritten, WithOrWithout};
 ghost use Rattle.gate_journal.specs.State.{room_behind, IsBodyAt, IsBodyPart, IsExtent, LiesInBody};
 
 use crate::device::{write_frame, write_new};
-use crate::error::{JournalError, Refused};
-use crate::header::Header;
 use crate::reading::{Frames, read_side};
 use crate::room::make_room;
 use crate::spelling::{START_BYTES, fill_frame, spell_closed};
+use crate::{Header, JournalError, Refused};
 use std::alloc::Global;
 use std::marker::Model;
 use tape_disk::Disk;
