@@ -13,7 +13,7 @@ side_decided (inr other) = None
 abbrev pub side_on : List ℕ → Option (Heading × List (List ℕ))
 side_on image = side_decided (decided image)
 
--- what an image stands for is the side on it
+-- what an image stands for is the side on it (own)
 pub side_on_is : (image : List ℕ) (heading : Heading) (bodies : List (List ℕ)) →
     StandsFor heading bodies image → side_on image ≡ Some (heading, bodies)
 side_on_is image heading bodies is = by (decided image)
@@ -24,7 +24,7 @@ side_on_is image heading bodies is = by (decided image)
         absurd (never_ours image heading bodies (is.1.0 ∷ is.1.1) (stands image heading bodies is) never)
     by (inr (inr broken)) = absurd (sound image heading bodies broken.0 is broken.1)
 
--- an image stands for the side on it
+-- an image stands for the side on it (own)
 pub side_on_stands : (image : List ℕ) (heading : Heading) (bodies : List (List ℕ)) →
     side_on image ≡ Some (heading, bodies) → StandsFor heading bodies image
 side_on_stands image heading bodies = by (decided image)

@@ -65,13 +65,14 @@ LiesInBody extents at count =
     (i : ℕ) × (i < length extents) × ((slice_index_or extents i (0, 0)).0 ≤ at)
     × (at + count ≤ (slice_index_or extents i (0, 0)).0 + (slice_index_or extents i (0, 0)).1)
 
--- the bytes are those of the body that lies at that place, from there on (own)
+-- where the place lies so far into a body that has that many bytes more, they are the body's from there on (own)
 abbrev pub IsBodyPart : List (List ℕ) → List (ℕ × ℕ) → ℕ → List ℕ → Type 0
 IsBodyPart bodies extents at bytes =
     (i into : ℕ) → i < length extents → at ≡ (slice_index_or extents i (0, 0)).0 + into
     → into + length bytes ≤ (slice_index_or extents i (0, 0)).1
     → bytes ≡ slice_range (slice_index_or bodies i []) into (into + length bytes)
 
+-- a kind as a bit, and back (own)
 abbrev is_cartridge : SideKind → Bool
 is_cartridge Cartridge = true
 is_cartridge Store = false
@@ -80,6 +81,7 @@ abbrev side_kind_of : Bool → SideKind
 side_kind_of true = Cartridge
 side_kind_of false = Store
 
+-- a kind as plain data (own)
 abbrev kind_code : Coded SideKind
 kind_code = code_by Bool coded_bool is_cartridge side_kind_of (elim [ Cartridge ↦ refl | Store ↦ refl ])
 
