@@ -1,12 +1,9 @@
 pub mod Bodies
-pub mod Deciding
-pub mod Frames
-pub mod Headings
+pub mod Extents
 pub mod Marks
 pub mod Names
+pub mod Numbers
 pub mod Parts
-pub mod Places
-pub mod Sides
+pub mod Smears
 pub mod Walks
-pub mod Words
 pub mod Writing

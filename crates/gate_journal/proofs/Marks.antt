@@ -7,10 +7,11 @@ use Rattle.std.proofs.lemmas.Nat.{be_bytes_4}
 use Rattle.byteorder.specs.Endian.{big_from}
 use Rattle.byteorder.specs.Numbers.{big_number-reads_back}
 use Rattle.gate_journal.specs.Side.{OPEN, frame, BeginsWithFrame}
-use Rattle.gate_journal.proofs.Frames.{is_length, length-frame}
+use Rattle.gate_journal.specs.Inner.Frames.{is_length, length-frame}
 
 -- five bytes that begin with an open gate
-pub open_mark : (mark : List ℕ) → length mark ≡ 5 → ((i : ℕ) → get_or mark i 0 < 256) → get_or mark 0 0 ≡ OPEN → (size : ℕ) → size ≡ big_from 0 4 (take 4 (drop 1 mark)) → mark ≡ OPEN ∷ to_be_bytes w32 size
+pub open_mark : (mark : List ℕ) → length mark ≡ 5 → ((i : ℕ) → get_or mark i 0 < 256) → get_or mark 0 0 ≡ OPEN →
+    (size : ℕ) → size ≡ big_from 0 4 (take 4 (drop 1 mark)) → mark ≡ OPEN ∷ to_be_bytes w32 size
 open_mark (a ∷ b ∷ c ∷ d ∷ e ∷ []) sized fits is size read =
     let number = be_bytes_4 (b ∷ c ∷ d ∷ e ∷ []) size refl (λ i. fits (suc i)) (omega (arith, read)) in
     λ i. is i ∷ sym number i
@@ -40,7 +41,8 @@ module _ (seen : List ℕ) (at : ℕ) (inside : at < length seen) where
 
     pub first_byte : 5 ≡ length mark → drop at seen ≡ get_or mark 0 0 ∷ drop (at + 1) seen
     first_byte sized = one_byte ∙ ap (λ (n : ℕ). n ∷ drop (at + 1) seen) (
-        ap (λ (l : List ℕ). get_or l 0 0) (sym one_byte) ∙ ap (λ (l : List ℕ). get_or l 0 0) split ∙ get_or_append_left mark (drop (at + 5) seen) 0 0 (omega (arith, sized)))
+        ap (λ (l : List ℕ). get_or l 0 0) (sym one_byte) ∙ ap (λ (l : List ℕ). get_or l 0 0) split
+        ∙ get_or_append_left mark (drop (at + 5) seen) 0 0 (omega (arith, sized)))
 
     module _ (size : ℕ) (fits : size < 2 ^ 32) (is : mark ≡ OPEN ∷ to_be_bytes w32 size) where
       pub told : drop at seen ≡ OPEN ∷ (to_be_bytes w32 size ++ drop (at + 5) seen)
@@ -49,17 +51,22 @@ module _ (seen : List ℕ) (at : ℕ) (inside : at < length seen) where
       -- the length that a frame there would have
       pub would_have : (w : BeginsWithFrame (drop at seen)) → length w.0 ≡ size
       would_have w =
-          sym (is_length (drop at seen) w) ∙ ap (λ (l : List ℕ). big_from 0 4 (drop 1 l)) told ∙ big_number-reads_back 4 size (drop (at + 5) seen) (omega (arith, fits))
+          sym (is_length (drop at seen) w) ∙ ap (λ (l : List ℕ). big_from 0 4 (drop 1 l)) told
+          ∙ big_number-reads_back 4 size (drop (at + 5) seen) (omega (arith, fits))
 
-      pub whole : at + 5 + size < length seen → (body : List ℕ) × (rest : List ℕ) × (length body ≡ size) × (drop at seen ≡ frame body ++ rest) × (rest ≡ drop (at + 5 + size) seen)
+      pub whole : at + 5 + size < length seen →
+          (body : List ℕ) × (rest : List ℕ) × (length body ≡ size) × (drop at seen ≡ frame body ++ rest)
+          × (rest ≡ drop (at + 5 + size) seen)
       whole enough =
           let body = take size (drop (at + 5) seen) in
-          let sized : length body ≡ size = length-take-le size (drop (at + 5) seen) (omega (arith, enough, length-drop (at + 5) seen)) in (
+          let sized : length body ≡ size =
+          length-take-le size (drop (at + 5) seen) (omega (arith, enough, length-drop (at + 5) seen)) in (
             body,
             drop size (drop (at + 5) seen),
             sized,
             told
-                ∙ ap (λ (l : List ℕ). OPEN ∷ (to_be_bytes w32 size ++ l)) (sym (take-append-drop size (drop (at + 5) seen)))
+                ∙ ap (λ (l : List ℕ). OPEN ∷ (to_be_bytes w32 size ++ l))
+                (sym (take-append-drop size (drop (at + 5) seen)))
                 ∙ ap (λ (n : ℕ). OPEN ∷ (to_be_bytes w32 n ++ (body ++ drop size (drop (at + 5) seen)))) (sym sized)
                 ∙ sym (append_assoc (OPEN ∷ to_be_bytes w32 (length body)) body (drop size (drop (at + 5) seen))),
             drop-drop size (at + 5) seen,

@@ -6,48 +6,65 @@ use Rattle.std.proofs.lemmas.List.{get_or-map, length-map, drop-take, drop-drop,
 use Rattle.std.proofs.lemmas.List.Elements.{All-get_or}
 use Rattle.tape_disk.specs.Disk.{DiskState, Same}
 use Rattle.gate_journal.specs.Side.{Heading, frame, spell, spell_heading, StandsFor}
-use Rattle.gate_journal.specs.State.{IsOn, IsPlace, IsBodyAt, IsWithin, IsPart, bodies_at, places_from}
-use Rattle.gate_journal.proofs.Frames.{length-frame}
+use Rattle.gate_journal.specs.State.{StoresSide, IsExtent, IsBodyAt, LiesInBody, IsBodyPart, bodies_at, extents_from}
+use Rattle.gate_journal.specs.Inner.Frames.{length-frame}
 
-place_of : (at : ℕ) (bodies : List (List ℕ)) (i : ℕ) (d : ℕ × ℕ) → i < length bodies → get_or (places_from at bodies) i d ≡ (at + length (flat_map frame (take i bodies)) + 5, length (get_or bodies i []))
+place_of : (at : ℕ) (bodies : List (List ℕ)) (i : ℕ) (d : ℕ × ℕ) → i < length bodies →
+    get_or (extents_from at bodies)
+    i d ≡ (at + length (flat_map frame (take i bodies)) + 5, length (get_or bodies i []))
 place_of at [] i d inside = absurd (omega (arith, inside))
 place_of at (b ∷ bs) zero d inside = let far : at + 5 ≡ at + 0 + 5 = omega arith in ap (λ (n : ℕ). (n, length b)) far
 place_of at (b ∷ bs) (suc i) d inside =
-    let far : at + 5 + length b + length (flat_map frame (take i bs)) + 5 ≡ at + length (frame b ++ flat_map frame (take i bs)) + 5 =
+    let far : at + 5 + length b + length (flat_map frame (take i bs)) + 5 ≡ at + length
+    (frame b ++ flat_map frame (take i bs)) + 5 =
     omega (arith, length-append (frame b) (flat_map frame (take i bs)), length-frame b) in
     place_of (at + 5 + length b) bs i d (omega (arith, inside)) ∙ ap (λ (n : ℕ). (n, length (get_or bs i []))) far
 
-module _ (disk : DiskState) (heading : Heading) (places : List (ℕ × ℕ)) (end : ℕ) (failed : Bool) (on : IsOn disk heading (bodies_at disk.seen places) places end failed) where
+module _ (disk : DiskState) (heading : Heading) (extents : List (ℕ × ℕ)) (end : ℕ) (failed : Bool)
+    (on : StoresSide disk heading (bodies_at disk.seen extents) extents end failed) where
   abbrev bodies : List (List ℕ)
-  bodies = bodies_at disk.seen places
+  bodies = bodies_at disk.seen extents
 
-  pub body_there : (i : ℕ) (place : ℕ × ℕ) → i < length places → place ≡ get_or places i place → IsBodyAt disk.seen heading bodies i place
+  pub body_there : (i : ℕ) (place : ℕ × ℕ) → i < length extents → place ≡ get_or extents i place →
+      IsBodyAt disk.seen heading bodies i place
   body_there i place inside is =
-      let sized : length bodies ≡ length places = length-map places (λ (p : ℕ × ℕ). slice_range disk.seen p.0 (p.0 + p.1)) in
-      let known = is ∙ ap (λ (l : List (ℕ × ℕ)). get_or l i place) on.places_are ∙ place_of (length (spell_heading heading)) bodies i place (omega (arith, inside, sized)) in
+      let sized : length bodies ≡ length extents =
+      length-map extents (λ (p : ℕ × ℕ). slice_range disk.seen p.0 (p.0 + p.1)) in
+      let known = is ∙ ap (λ (l : List (ℕ × ℕ)). get_or l i place) on.extents_are
+      ∙ place_of (length (spell_heading heading)) bodies i place (omega (arith, inside, sized)) in
       record {
-        gate = ap (λ (p : ℕ × ℕ). p.0) known ∙ ap (λ (n : ℕ). n + 5) (sym (length-append (spell_heading heading) (flat_map frame (take i bodies))));
+        gate = ap (λ (p : ℕ × ℕ). p.0) known
+            ∙ ap (λ (n : ℕ). n + 5) (sym (length-append (spell_heading heading) (flat_map frame (take i bodies))));
         sized = ap (λ (p : ℕ × ℕ). p.1) known;
-        there = get_or-map (λ (p : ℕ × ℕ). slice_range disk.seen p.0 (p.0 + p.1)) places i place [] inside ∙ ap (λ (p : ℕ × ℕ). slice_range disk.seen p.0 (p.0 + p.1)) (sym is);
+        there = get_or-map (λ (p : ℕ × ℕ). slice_range disk.seen p.0 (p.0 + p.1)) extents i place [] inside
+            ∙ ap (λ (p : ℕ × ℕ). slice_range disk.seen p.0 (p.0 + p.1)) (sym is);
       }
 
-  pub within_seen : (at count : ℕ) → All (IsPlace end) places → IsWithin places at count → at + count ≤ length disk.seen
+  pub within_seen : (at count : ℕ) → All (IsExtent end) extents → LiesInBody extents at count →
+      at + count ≤ length disk.seen
   within_seen at count all (i, inside, low, high) =
-      let place = All-get_or (IsPlace end) places i (0, 0) inside all in
-      omega (arith, high, place.within, on.end_is, ap length on.begins.1, length-append (spell heading bodies) on.begins.0)
+      let place = All-get_or (IsExtent end) extents i (0, 0) inside all in
+      omega (
+        arith,
+        high,
+        place.within,
+        on.end_is,
+        ap length on.begins.1,
+        length-append (spell heading bodies) on.begins.0,
+      )
 
   module _ (later : DiskState) (same : Same disk later) where
-    same_bodies : bodies_at later.seen places ≡ bodies
-    same_bodies = ap (λ (l : List ℕ). bodies_at l places) same.seen
+    same_bodies : bodies_at later.seen extents ≡ bodies
+    same_bodies = ap (λ (l : List ℕ). bodies_at l extents) same.seen
 
-    pub bodies_stay : bodies_at later.seen places ≡ bodies
+    pub bodies_stay : bodies_at later.seen extents ≡ bodies
     bodies_stay = same_bodies
 
-    pub stays_on : IsOn later heading (bodies_at later.seen places) places end failed
-    stays_on = subst (λ (l : List (List ℕ)). IsOn later heading l places end failed) (sym same_bodies) (record {
+    pub stays_on : StoresSide later heading (bodies_at later.seen extents) extents end failed
+    stays_on = subst (λ (l : List (List ℕ)). StoresSide later heading l extents end failed) (sym same_bodies) (record {
       side = on.side;
       begins = (on.begins.0, same.seen ∙ on.begins.1);
-      places_are = on.places_are;
+      extents_are = on.extents_are;
       end_is = on.end_is;
       at_rest = λ fine.
           let rest = on.at_rest fine in (
@@ -56,16 +73,18 @@ module _ (disk : DiskState) (heading : Heading) (places : List (ℕ × ℕ)) (en
           );
     })
 
-    pub fails_on : IsOn later heading (bodies_at later.seen places) places end true
-    fails_on = subst (λ (l : List (List ℕ)). IsOn later heading l places end true) (sym same_bodies) (record {
+    pub fails_on : StoresSide later heading (bodies_at later.seen extents) extents end true
+    fails_on = subst (λ (l : List (List ℕ)). StoresSide later heading l extents end true) (sym same_bodies) (record {
       side = on.side;
       begins = (on.begins.0, same.seen ∙ on.begins.1);
-      places_are = on.places_are;
+      extents_are = on.extents_are;
       end_is = on.end_is;
       at_rest = λ fine. absurd (cc);
     })
 
-part_of : (seen : List ℕ) (from size into count : ℕ) → into + count ≤ size → slice_range seen (from + into) (from + into + count) ≡ slice_range (slice_range seen from (from + size)) into (into + count)
+part_of : (seen : List ℕ) (from size into count : ℕ) → into + count ≤ size →
+    slice_range seen (from + into) (from + into + count) ≡ slice_range (slice_range seen from (from + size)) into
+    (into + count)
 part_of seen from size into count fits =
     let span1 : from + into + count - (from + into) ≡ count = omega arith in
     let span2 : into + count - into ≡ count = omega arith in
@@ -77,10 +96,12 @@ part_of seen from size into count fits =
     ∙ ap (λ (n : ℕ). take count (drop into (take n (drop from seen)))) (sym span3)
     ∙ ap (λ (n : ℕ). take n (drop into (take (from + size - from) (drop from seen)))) (sym span2)
 
-pub part_read : (seen : List ℕ) (places : List (ℕ × ℕ)) (at count : ℕ) (bytes : List ℕ) → count ≡ length bytes → bytes ≡ slice_range seen at (at + count) → IsPart (bodies_at seen places) places at bytes
-part_read seen places at count bytes counted read i into inside here fits =
-    let place = get_or places i (0, 0) in
+pub part_read : (seen : List ℕ) (extents : List (ℕ × ℕ)) (at count : ℕ) (bytes : List ℕ) → count ≡ length bytes →
+    bytes ≡ slice_range seen at (at + count) → IsBodyPart (bodies_at seen extents) extents at bytes
+part_read seen extents at count bytes counted read i into inside here fits =
+    let place = get_or extents i (0, 0) in
     read
     ∙ (λ j. slice_range seen (here j) (here j + counted j))
     ∙ part_of seen place.0 place.1 into (length bytes) fits
-    ∙ ap (λ (l : List ℕ). slice_range l into (into + length bytes)) (sym (get_or-map (λ (p : ℕ × ℕ). slice_range seen p.0 (p.0 + p.1)) places i (0, 0) [] inside))
+    ∙ ap (λ (l : List ℕ). slice_range l into (into + length bytes))
+    (sym (get_or-map (λ (p : ℕ × ℕ). slice_range seen p.0 (p.0 + p.1)) extents i (0, 0) [] inside))

@@ -5,87 +5,116 @@ use Rattle.std.specs.List.{flat_map}
 use Rattle.std.proofs.lemmas.List.{append-nil, drop_at, drop_all, drop-take, take-take}
 use Rattle.std.proofs.lemmas.List.Elements.{All-nil, All-push}
 use Rattle.vtl_base.specs.declared.faults.DevFault.{DevFault}
-use Rattle.tape_disk.specs.Disk.{DiskState, IsDisk, Keeps, Only, Same, Elapses}
-use Rattle.tape_disk.specs.Moments.{stays, goes_on, then_, says}
+use Rattle.tape_disk.specs.Disk.{DiskState, IsDisk, Only, Same, Elapses}
+use Rattle.tape_disk.specs.Moments.{no_call, one_more_call, in_sequence, weakened}
 use Rattle.gate_journal.specs.declared.error.JournalError.{JournalError}
 use Rattle.gate_journal.specs.declared.error.JournalError.TheVariants.{NotOurs, Damaged, SideFull, Device, Failed, NoMemory}
-use Rattle.gate_journal.specs.Answers.{IsFault, NotOpened}
+use Rattle.gate_journal.specs.Answers.{IsFault, NoneFailed, NotOpened}
 use Rattle.gate_journal.specs.Crash.{Unwritten}
-use Rattle.gate_journal.specs.Found.{NotRead, Walked}
+use Rattle.gate_journal.specs.Inner.Found.{NotRead, Walked}
 use Rattle.gate_journal.specs.Side.{OPEN, Heading, IsHeading, IsBody, IsSide, IsBroken, BeginsWithFrame, IsNotOurs, IsDamagedAt, StandsFor, frame, spell_heading, spell}
-use Rattle.gate_journal.specs.State.{IsOn, bodies_at, places_from}
+use Rattle.gate_journal.specs.State.{StoresSide, bodies_at, extents_from}
 use Rattle.std.proofs.lemmas.List.{get_or_read, get_or-take}
-use Rattle.gate_journal.proofs.Headings.{count_there, heading_there, long_enough}
-use Rattle.gate_journal.proofs.Frames.{length-frame}
-use Rattle.gate_journal.proofs.Bodies.{frames_push, places_push, as_view}
+use Rattle.gate_journal.specs.Inner.Headings.{count_there, heading_there, long_enough}
+use Rattle.gate_journal.specs.Inner.Frames.{length-frame}
+use Rattle.gate_journal.proofs.Bodies.{frames_push, extents_push, as_view}
 
 module _ (d0 d1 d2 : DiskState) where
   pub unwritten_then : Unwritten d0 d1 → Unwritten d1 d2 → Unwritten d0 d2
   unwritten_then first second = record {
     seen = second.seen ∙ first.seen;
     images = λ image left. first.images image (second.images image left);
-    moments = then_ d0 d1 d2 d0.may_leave first.moments (says d1 d2 d1.may_leave d0.may_leave second.moments first.images);
+    moments =
+        in_sequence d0 d1 d2 d0.may_leave first.moments
+        (weakened d1 d2 d1.may_leave d0.may_leave second.moments first.images);
   }
 
   -- a fault of a later call is one since the start
-  pub fault_since : (fault : DevFault) → Keeps d0 d1 → IsFault fault d1 d2 → IsFault fault d0 d2
-  fault_since fault kept is = record { cause = omega (arith, kept.counted, is.cause); told = is.told }
+  pub fault_since : (fault : DevFault) → NoneFailed d0 d1 → IsFault fault d1 d2 → IsFault fault d0 d2
+  fault_since fault none is = record { cause = omega (arith, none, is.cause); told = is.told }
 
-  pub not_read_since : (e : JournalError) (P Q : ℕ → Type 0) → Keeps d0 d1 → ((at : ℕ) → P at → Q at) → NotRead e ⊥ P d1 d2 → NotRead e ⊥ Q d0 d2
-  not_read_since NotOurs P Q kept means is = is
-  not_read_since (Damaged at) P Q kept means is = means at is
-  not_read_since (Device fault) P Q kept means is = fault_since fault kept is
-  not_read_since NoMemory P Q kept means is = is
-  not_read_since SideFull P Q kept means is = is
-  not_read_since Failed P Q kept means is = is
+  module _ (none : NoneFailed d0 d1) where
+    pub not_read_since : (e : JournalError) (P Q : ℕ → Type 0) (M N : Type 0) → ((at : ℕ) → P at → Q at) → (M → N) →
+        NotRead e ⊥ P M d1 d2 → NotRead e ⊥ Q N d0 d2
+    not_read_since NotOurs P Q M N means memory is = (is.0 ∙ none, is.1)
+    not_read_since (Damaged at) P Q M N means memory is = (is.0 ∙ none, means at is.1)
+    not_read_since (Device fault) P Q M N means memory is = fault_since fault none is
+    not_read_since NoMemory P Q M N means memory is = (is.0 ∙ none, memory is.1)
+    not_read_since SideFull P Q M N means memory is = is
+    not_read_since Failed P Q M N means memory is = is
 
-  pub not_opened_since : (e : JournalError) (R : Type 0) (P : ℕ → Type 0) → Keeps d0 d1 → (R → d0.honest → IsNotOurs d0.seen × Only d0.seen d2.may_leave)
-      → ((at : ℕ) → P at → d0.honest → IsDamagedAt d0.seen at × Only d0.seen d2.may_leave) → NotRead e R P d1 d2 → NotOpened e d0 d2
-  not_opened_since NotOurs R P kept ours means is = ours is
-  not_opened_since (Damaged at) R P kept ours means is = means at is
-  not_opened_since (Device fault) R P kept ours means is = fault_since fault kept is
-  not_opened_since NoMemory R P kept ours means is = is
-  not_opened_since SideFull R P kept ours means is = is
-  not_opened_since Failed R P kept ours means is = is
+    pub not_opened_since : (e : JournalError) (O : Type 0) (P : ℕ → Type 0) (M : Type 0) →
+        (O → d0.honest → IsNotOurs d0.seen × Only d0.seen d2.may_leave) →
+        ((at : ℕ) → P at → d0.honest → IsDamagedAt d0.seen at × Only d0.seen d2.may_leave) →
+        (M → d0.honest → 27 ≤ length d0.seen) → NotRead e O P M d1 d2 → NotOpened e d0 d2
+    not_opened_since NotOurs O P M ours means memory is = (is.0 ∙ none, ours is.1)
+    not_opened_since (Damaged at) O P M ours means memory is = (is.0 ∙ none, means at is.1)
+    not_opened_since (Device fault) O P M ours means memory is = fault_since fault none is
+    not_opened_since NoMemory O P M ours means memory is = (is.0 ∙ none, memory is.1)
+    not_opened_since SideFull O P M ours means memory is = is
+    not_opened_since Failed O P M ours means memory is = is
 
 -- a call that writes nothing
 pub one_call : (d0 d1 : DiskState) → IsDisk d0 → Same d0 d1 → Elapses d0 d1 → Unwritten d0 d1
 one_call d0 d1 disk same time = record {
   seen = same.seen;
   images = same.crash;
-  moments = goes_on d0 d0 d1 d0.may_leave (stays d0 d0.may_leave disk (λ image left. left)) time same.crash;
+  moments = one_more_call d0 d0 d1 d0.may_leave (no_call d0 d0.may_leave disk (λ image left. left)) time same.crash;
 }
 
 module _ (seen : List ℕ) (start : ℕ) where
   -- nothing was walked yet, and nothing is there
-  pub nothing_there : length seen ≤ start → (bodies : List (List ℕ)) × (places : List (ℕ × ℕ)) × Walked seen start bodies places start × IsBroken bodies (drop start seen)
-  nothing_there short = ([], [], record { holds = All-nil IsBody; split = refl; places_are = refl; at_is = omega arith }, inl (refl, drop_all start seen short))
+  pub nothing_there : length seen ≤ start →
+      (bodies : List (List ℕ)) × (extents : List (ℕ × ℕ)) × Walked seen start bodies extents start
+      × IsBroken bodies (drop start seen)
+  nothing_there short = (
+    [],
+    [],
+    record { holds = All-nil IsBody; split = refl; extents_are = refl; at_is = omega arith },
+    inl (refl, drop_all start seen short),
+  )
 
-  pub started : (places : List (ℕ × ℕ)) → places ≡ [] → (bodies : List (List ℕ)) × Walked seen start bodies places start
-  started places none = ([], record { holds = All-nil IsBody; split = refl; places_are = none; at_is = omega arith })
+  pub started : (extents : List (ℕ × ℕ)) → extents ≡ [] →
+      (bodies : List (List ℕ)) × Walked seen start bodies extents start
+  started extents none = ([], record { holds = All-nil IsBody; split = refl; extents_are = none; at_is = omega arith })
 
-  module _ (bodies : List (List ℕ)) (places : List (ℕ × ℕ)) (at : ℕ) (walked : Walked seen start bodies places at) where
-    pub walked_more : (size : ℕ) (body rest : List ℕ) (places' : List (ℕ × ℕ)) (at' : ℕ) → length body ≡ size → 1 ≤ size → size ≤ 8388608 → drop at seen ≡ frame body ++ rest → rest ≡ drop (at + 5 + size) seen
-        → places' ≡ places ++ (at + 5, size) ∷ [] → at' ≡ at + 5 + size → Walked seen start (bodies ++ body ∷ []) places' at'
-    walked_more size body rest places' at' sized some short there behind is far = record {
+  module _ (bodies : List (List ℕ)) (extents : List (ℕ × ℕ)) (at : ℕ)
+      (walked : Walked seen start bodies extents at) where
+    pub walked_more : (size : ℕ) (body rest : List ℕ) (extents' : List (ℕ × ℕ)) (at' : ℕ) → length body ≡ size →
+        1 ≤ size → size ≤ 8388608 → drop at seen ≡ frame body ++ rest → rest ≡ drop (at + 5 + size) seen
+        → extents' ≡ extents ++ (at + 5, size) ∷ [] → at' ≡ at + 5 + size →
+        Walked seen start (bodies ++ body ∷ []) extents' at'
+    walked_more size body rest extents' at' sized some short there behind is far = record {
       holds = All-push IsBody bodies body walked.holds (omega (arith, sized, some), omega (arith, sized, short));
       split =
-          walked.split ∙ ap (λ (l : List ℕ). flat_map frame bodies ++ l) (there ∙ ap (λ (l : List ℕ). frame body ++ l) behind)
+          walked.split ∙ ap (λ (l : List ℕ). flat_map frame bodies ++ l)
+          (there ∙ ap (λ (l : List ℕ). frame body ++ l) behind)
           ∙ sym (append_assoc (flat_map frame bodies) (frame body) (drop (at + 5 + size) seen))
           ∙ (λ i. sym (frames_push bodies body) i ++ drop (sym far i) seen);
-      places_are = is ∙ (let here : at + 5 ≡ start + length (flat_map frame bodies) + 5 = omega (arith, walked.at_is) in λ i. walked.places_are i ++ (here i, sym sized i) ∷ [])
-          ∙ sym (places_push start bodies body);
-      at_is = omega (arith, far, walked.at_is, sized, ap length (frames_push bodies body), length-append (flat_map frame bodies) (frame body), length-frame body);
+      extents_are = is ∙ (let here : at + 5 ≡ start + length (flat_map frame bodies) + 5 =
+          omega (arith, walked.at_is) in λ i. walked.extents_are i ++ (here i, sym sized i) ∷ [])
+          ∙ sym (extents_push start bodies body);
+      at_is = omega (
+        arith,
+        far,
+        walked.at_is,
+        sized,
+        ap length (frames_push bodies body),
+        length-append (flat_map frame bodies) (frame body),
+        length-frame body,
+      );
     }
 
-    module _ (h : Heading) (ok : IsHeading h) (rest : List ℕ) (is : seen ≡ spell_heading h ++ rest) (here : start ≡ length (spell_heading h)) where
+    module _ (h : Heading) (ok : IsHeading h) (rest : List ℕ) (is : seen ≡ spell_heading h ++ rest)
+        (here : start ≡ length (spell_heading h)) where
       pub side_is : IsSide h bodies
       side_is = record { begins = ok; holds = walked.holds }
 
       pub begins : seen ≡ spell h bodies ++ drop at seen
       begins =
           is
-          ∙ ap (λ (l : List ℕ). spell_heading h ++ l) (sym (ap (λ (l : List ℕ). drop start l) is ∙ drop_at (spell_heading h) rest start (sym here)) ∙ walked.split)
+          ∙ ap (λ (l : List ℕ). spell_heading h ++ l)
+          (sym (ap (λ (l : List ℕ). drop start l) is ∙ drop_at (spell_heading h) rest start (sym here)) ∙ walked.split)
           ∙ sym (append_assoc (spell_heading h) (flat_map frame bodies) (drop at seen))
 
       pub far_is : length (spell h bodies) ≡ at
@@ -95,23 +124,29 @@ module _ (seen : List ℕ) (start : ℕ) where
       damaged_there broken = (h, bodies, drop at seen, side_is, begins, far_is, broken)
 
       pub stands_for : (gate : ℕ) (more : List ℕ) → gate ≢ OPEN → drop at seen ≡ gate ∷ more → StandsFor h bodies seen
-      stands_for gate more shut there = (side_is, (gate, more, shut, begins ∙ ap (λ (l : List ℕ). spell h bodies ++ l) there))
+      stands_for gate more shut there =
+          (side_is, (gate, more, shut, begins ∙ ap (λ (l : List ℕ). spell h bodies ++ l) there))
 
       -- the disk that was read, where all of it is sure
-      pub on_disk : (d : DiskState) → d.seen ≡ seen → Only seen d.may_leave → StandsFor h bodies seen → IsOn d h (bodies_at d.seen places) places at false × StandsFor h (bodies_at d.seen places) seen
+      pub on_disk : (d : DiskState) → d.seen ≡ seen → Only seen d.may_leave → StandsFor h bodies seen →
+          StoresSide d h (bodies_at d.seen extents) extents at false × StandsFor h (bodies_at d.seen extents) seen
       on_disk d same only stands =
-          let on : IsOn d h bodies places at false = record {
+          let on : StoresSide d h bodies extents at false = record {
             side = side_is;
             begins = (drop at seen, same ∙ begins);
-            places_are = walked.places_are ∙ ap (λ (n : ℕ). places_from n bodies) here;
+            extents_are = walked.extents_are ∙ ap (λ (n : ℕ). extents_from n bodies) here;
             end_is = sym far_is;
-            at_rest = λ e. (subst (λ (l : List ℕ). StandsFor h bodies l) (sym same) stands, λ image left. only image left ∙ sym same);
+            at_rest = λ e. (
+              subst (λ (l : List ℕ). StandsFor h bodies l) (sym same) stands,
+              λ image left. only image left ∙ sym same,
+            );
           } in
-          let viewed = as_view d h bodies places at false on in
-          (viewed, subst (λ (l : List ℕ). StandsFor h (bodies_at d.seen places) l) same (viewed.at_rest refl).0)
+          let viewed = as_view d h bodies extents at false on in
+          (viewed, subst (λ (l : List ℕ). StandsFor h (bodies_at d.seen extents) l) same (viewed.at_rest refl).0)
 
 -- a disk was made sure, and then read
-module _ (d0 d1 d2 d3 : DiskState) (sure : Only d0.seen d1.may_leave) (disk1 : IsDisk d1) (first : Unwritten d1 d2) (second : Unwritten d2 d3) where
+module _ (d0 d1 d2 d3 : DiskState) (sure : Only d0.seen d1.may_leave) (disk1 : IsDisk d1) (first : Unwritten d1 d2)
+    (second : Unwritten d2 d3) where
   pub seen_1 : d1.seen ≡ d0.seen
   seen_1 = sure d1.seen disk1.reads
 
@@ -125,45 +160,57 @@ module _ (d0 d1 d2 d3 : DiskState) (sure : Only d0.seen d1.may_leave) (disk1 : I
   only_3 image left = sure image (first.images image (second.images image left))
 
 -- an open gate without a whole frame stands where the walk has come
-pub broken_there : (seen seen1 : List ℕ) → seen1 ≡ seen → (start : ℕ) (bodies : List (List ℕ)) (places : List (ℕ × ℕ)) (at place : ℕ) → Walked seen start bodies places at → place ≡ at
+pub broken_there : (seen seen1 : List ℕ) → seen1 ≡ seen →
+    (start : ℕ) (bodies : List (List ℕ)) (extents : List (ℕ × ℕ)) (at place : ℕ) →
+    Walked seen start bodies extents at → place ≡ at
     → ((tail : List ℕ) × (drop at seen1 ≡ OPEN ∷ tail)) × (BeginsWithFrame (drop at seen1) → ⊥)
-    → (bodies : List (List ℕ)) × (places : List (ℕ × ℕ)) × Walked seen start bodies places place × IsBroken bodies (drop place seen)
-broken_there seen seen1 same start bodies places at place walked here broken = (
+    → (bodies : List (List ℕ)) × (extents : List (ℕ × ℕ)) × Walked seen start bodies extents place
+    × IsBroken bodies (drop place seen)
+broken_there seen seen1 same start bodies extents at place walked here broken = (
   bodies,
-  places,
-  subst (λ (n : ℕ). Walked seen start bodies places n) (sym here) walked,
-  subst (λ (n : ℕ). IsBroken bodies (drop n seen)) (sym here) (subst (λ (l : List ℕ). IsBroken bodies (drop at l)) same (inr broken)),
+  extents,
+  subst (λ (n : ℕ). Walked seen start bodies extents n) (sym here) walked,
+  subst (λ (n : ℕ). IsBroken bodies (drop n seen)) (sym here)
+      (subst (λ (l : List ℕ). IsBroken bodies (drop at l)) same (inr broken)),
 )
 
 -- two reads in a row have the front of what is there
-pub front_two : (image start words : List ℕ) (n : ℕ) → start ≡ slice_range image 0 27 → words ≡ slice_range image 27 (27 + n) → start ++ words ≡ take (27 + n) image
-front_two image start words n first second =
+pub front_two : (image start capacities : List ℕ) (n : ℕ) → start ≡ slice_range image 0 27 →
+    capacities ≡ slice_range image 27 (27 + n) → start ++ capacities ≡ take (27 + n) image
+front_two image start capacities n first second =
     (λ i. first i ++ second i)
     ∙ (let span : 27 + n - 27 ≡ n = omega arith in ap (λ (k : ℕ). take 27 image ++ take k (drop 27 image)) span)
     ∙ (λ i. sym (take-take 27 (27 + n) image (omega arith)) i ++ sym (drop-take 27 n image) i)
     ∙ take-append-drop 27 (take (27 + n) image)
 
 -- a header that takes its place is none
-pub too_short : (image : List ℕ) (count : ℕ) → count ≡ get_or image 10 0 → length image - 27 < 8 * count → IsNotOurs image
+pub too_short : (image : List ℕ) (count : ℕ) → count ≡ get_or image 10 0 → length image - 27 < 8 * count →
+    IsNotOurs image
 too_short image count told short h rest ok is =
     let begins = is ∙ ap (λ (l : List ℕ). l ++ rest) (append-nil (spell_heading h)) in
     omega (arith, told, short, count_there h rest image ok begins, long_enough h rest image ok begins)
 
-module _ (image bytes words all : List ℕ) (count : ℕ) (first : bytes ≡ slice_range image 0 27) (second : words ≡ slice_range image 27 (27 + 8 * count)) (whole : all ≡ bytes ++ words) where
+module _ (image bytes capacities all : List ℕ) (count : ℕ) (first : bytes ≡ slice_range image 0 27)
+    (second : capacities ≡ slice_range image 27 (27 + 8 * count)) (whole : all ≡ bytes ++ capacities) where
   all_is : all ≡ take (27 + 8 * count) image
-  all_is = whole ∙ front_two image bytes words (8 * count) first second
+  all_is = whole ∙ front_two image bytes capacities (8 * count) first second
 
   pub header_there : (h : Heading) → all ≡ spell_heading h → (rest : List ℕ) × (image ≡ spell_heading h ++ rest)
   header_there h is = (
     drop (27 + 8 * count) image,
-    sym (take-append-drop (27 + 8 * count) image) ∙ ap (λ (l : List ℕ). l ++ drop (27 + 8 * count) image) (sym all_is ∙ is),
+    sym (take-append-drop (27 + 8 * count) image)
+        ∙ ap (λ (l : List ℕ). l ++ drop (27 + 8 * count) image) (sym all_is ∙ is),
   )
 
-  pub no_header : count ≡ get_or image 10 0 → ((h : Heading) → IsHeading h → all ≡ spell_heading h → ⊥) → IsNotOurs image
+  pub no_header : count ≡ get_or image 10 0 → ((h : Heading) → IsHeading h → all ≡ spell_heading h → ⊥) →
+      IsNotOurs image
   no_header told never h rest ok is =
       let begins = is ∙ ap (λ (l : List ℕ). l ++ rest) (append-nil (spell_heading h)) in
-      never h ok (all_is ∙ ap (λ (n : ℕ). take (27 + 8 * n) image) (told ∙ count_there h rest image ok begins) ∙ heading_there h rest image ok begins)
+      never h ok (all_is ∙ ap (λ (n : ℕ). take (27 + 8 * n) image) (told ∙ count_there h rest image ok begins)
+      ∙ heading_there h rest image ok begins)
 
-pub count_read : (image bytes : List ℕ) (count : ℕ) → length bytes ≡ 27 → bytes ≡ slice_range image 0 27 → count ≡ get_or bytes 10 count → count ≡ get_or image 10 0
+pub count_read : (image bytes : List ℕ) (count : ℕ) → length bytes ≡ 27 → bytes ≡ slice_range image 0 27 →
+    count ≡ get_or bytes 10 count → count ≡ get_or image 10 0
 count_read image bytes count sized first read =
-    get_or_read bytes 10 count (omega (arith, sized)) read 0 ∙ ap (λ (l : List ℕ). get_or l 10 0) first ∙ get_or-take 27 image 10 0 (omega arith)
+    get_or_read bytes 10 count (omega (arith, sized)) read 0 ∙ ap (λ (l : List ℕ). get_or l 10 0) first
+    ∙ get_or-take 27 image 10 0 (omega arith)

@@ -1,5 +1,5 @@
 -- What holds after each answer of a call.
-use Rattle.std.specs.Prelude.{◌≡◌, ◌<◌, ◌≤◌, ◌^◌, ◌+◌, ◌-◌, [], ◌∷◌, ◌++◌, ℕ, true, false, min, Result, Ok, Err}
+use Rattle.std.specs.Prelude.{◌≡◌, ◌<◌, ◌≤◌, ◌^◌, ◌+◌, ◌-◌, [], ◌∷◌, ◌++◌, ℕ, length, true, false, min, Result, Ok, Err}
 use Rattle.vtl_base.specs.declared.faults.DevFault.{DevFault}
 use Rattle.tape_disk.specs.Disk.{DiskState, Only}
 use Rattle.gate_journal.specs.declared.error.JournalError.{JournalError}
@@ -8,12 +8,17 @@ use Rattle.gate_journal.specs.declared.error.Refused.{Refused}
 use Rattle.gate_journal.specs.State.{OpenSide, room_behind}
 use Rattle.gate_journal.specs.Side.{IsNotOurs, IsDamagedAt}
 
--- the disk failed since the old moment, and the fault tells how often so far (own)
+-- no call of the disk failed since the old moment (own)
+abbrev pub NoneFailed : DiskState → DiskState → Type 0
+NoneFailed old new = new.failures ≡ old.failures
+
+-- a call of the disk failed since the old moment, and the fault says how many have so far (own)
 pub record IsFault (fault : DevFault) (old new : DiskState) : Type 0 where
   pub cause : old.failures < new.failures
   pub told : fault.failures ≡ min new.failures (2 ^ 64 - 1)
 
--- a fact for each answer of a call that writes: done, want of memory, a full side, a fault, a fault before (own)
+-- A fact for each answer of a call on an open side: done, out of memory, a full side, a fault, a fault in an earlier
+-- call (own).
 abbrev pub MatchWrite : Result Unit JournalError → Type 0 → Type 0 → Type 0 → (DevFault → Type 0) → Type 0 → Type 0
 MatchWrite (Ok done) ok memory full device failed = ok
 MatchWrite (Err NoMemory) ok memory full device failed = memory
@@ -29,7 +34,7 @@ pub record Appended {D : Type 0} (old new : OpenSide D) (count : ℕ) : Type 0 w
   pub fitted : count + 5 ≤ room_behind old.end
   pub is_fine : new.failed ≡ false
   pub end : new.end ≡ old.end + 5 + count
-  pub places : new.places ≡ old.places ++ (old.end + 5, count) ∷ []
+  pub extents : new.extents ≡ old.extents ++ (old.end + 5, count) ∷ []
   pub reserved : old.reserved ≤ new.reserved + 1
 
 -- the disk failed in an append of that many bytes (own)
@@ -38,7 +43,7 @@ pub record Broke {D : Type 0} (old new : OpenSide D) (count : ℕ) : Type 0 wher
   pub fitted : count + 5 ≤ room_behind old.end
   pub failed : new.failed ≡ true
   pub end : new.end ≡ old.end
-  pub places : new.places ≡ old.places
+  pub extents : new.extents ≡ old.extents
   pub reserved : old.reserved ≤ new.reserved
 
 -- the disk that a call gives back, in an open side or beside its refusal (own)
@@ -46,16 +51,18 @@ abbrev pub disk_after : {D : Type 0} → Result (OpenSide D) (Refused D) → D
 disk_after (Ok side) = side.disk
 disk_after (Err refused) = refused.disk
 
--- why a side is not opened: what the old bytes are, which are then sure; or the disk, or memory (own)
+-- Why a side is not opened: what the old bytes are, which are then sure, and no call failed; or a fault; or memory ran
+-- out, where there are the 27 bytes that each heading has, and no call failed (own).
 abbrev pub NotOpened : JournalError → DiskState → DiskState → Type 0
-NotOpened NotOurs old new = old.honest → IsNotOurs old.seen × Only old.seen new.may_leave
-NotOpened (Damaged at) old new = old.honest → IsDamagedAt old.seen at × Only old.seen new.may_leave
+NotOpened NotOurs old new = NoneFailed old new × (old.honest → IsNotOurs old.seen × Only old.seen new.may_leave)
+NotOpened (Damaged at) old new =
+    NoneFailed old new × (old.honest → IsDamagedAt old.seen at × Only old.seen new.may_leave)
 NotOpened (Device fault) old new = IsFault fault old new
-NotOpened NoMemory old new = Unit {0}
+NotOpened NoMemory old new = NoneFailed old new × (old.honest → 27 ≤ length old.seen)
 NotOpened SideFull old new = ⊥
 NotOpened Failed old new = ⊥
 
--- why a side is not made: memory, and the disk was not touched; or the disk (own)
+-- why a side is not made: memory ran out, and the disk was not touched; or a fault (own)
 abbrev pub NotMade : JournalError → Type 0 → (DevFault → Type 0) → Type 0
 NotMade NoMemory memory device = memory
 NotMade (Device fault) memory device = device fault

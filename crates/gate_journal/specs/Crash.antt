@@ -1,29 +1,15 @@
--- What a crash may leave while a frame is written, in bytes, and a disk that only reads are made of.
-use Rattle.std.specs.Prelude.{◌≡◌, ◌⊎◌, ℕ, List, ◌∷◌, ◌++◌}
-use Rattle.tape_disk.specs.Disk.{DiskState, Smeared}
+-- What a crash may leave while a frame is added, and a disk that was only read.
+use Rattle.std.specs.Prelude.{◌≡◌, ◌⊎◌, ℕ, List, [], ◌∷◌, ◌++◌}
+use Rattle.tape_disk.specs.Disk.{DiskState}
 use Rattle.tape_disk.specs.Moments.{LeavesOnly}
-use Rattle.gate_journal.specs.Side.{OPEN}
+use Rattle.gate_journal.specs.Side.{Heading, StandsFor}
 
--- one of these images, and any bytes in a range of it (own)
-abbrev pub Touched : ℕ → ℕ → (List ℕ → Type 0) → List ℕ → Type 0
-Touched at n images image = (before : List ℕ) × images before × Smeared at n before image
+-- the image stands for the bodies, with the new one or without it (own)
+abbrev pub WithOrWithout : Heading → List (List ℕ) → List ℕ → List ℕ → Type 0
+WithOrWithout heading bodies body image = StandsFor heading bodies image ⊎ StandsFor heading (bodies ++ body ∷ []) image
 
--- the front and the gate, and then anything (own)
-abbrev pub Behind : List ℕ → ℕ → List ℕ → Type 0
-Behind front gate image = (rest : List ℕ) × (image ≡ front ++ gate ∷ rest)
-
--- the front, some gate, and these bytes behind it (own)
-abbrev pub Gated : List ℕ → List ℕ → List ℕ → Type 0
-Gated front bytes image = (gate : ℕ) × (rest : List ℕ) × (image ≡ front ++ gate ∷ bytes ++ rest)
-
-abbrev pub BehindOrGated : List ℕ → ℕ → List ℕ → List ℕ → Type 0
-BehindOrGated front gate bytes image = Behind front gate image ⊎ Gated front bytes image
-
--- the front, an open gate, and these bytes behind it (own)
-abbrev pub Opened : List ℕ → List ℕ → List ℕ → Type 0
-Opened front bytes image = (rest : List ℕ) × (image ≡ front ++ OPEN ∷ bytes ++ rest)
-
--- From old to new nothing was written: a read gives the same, and a crash since leaves what it might have left before (own).
+-- From old to new nothing was written: a read gives the same, and a crash since leaves what it might
+-- have left before (own).
 pub record Unwritten (old new : DiskState) : Type 0 where
   pub seen : new.seen ≡ old.seen
   pub images : (image : List ℕ) → new.may_leave image → old.may_leave image

@@ -1,8 +1,6 @@
 pub mod Answers
 pub mod Crash
-pub mod Found
-pub mod Headers
-pub mod Reading
+pub mod Inner
 pub mod Side
-pub mod Spare
+pub mod SideOn
 pub mod State

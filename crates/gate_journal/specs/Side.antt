@@ -1,9 +1,11 @@
--- What the bytes of a side stand for: a header, and frames behind gates.
-use Rattle.std.specs.Prelude.{◌≡◌, ◌≢◌, ◌⊎◌, ◌≤◌, ℕ, ◌+◌, ◌-◌, List, [], ◌∷◌, ◌++◌, length, replicate, codes, if◌then◌else◌, nat_lt}
+-- What the bytes of a side stand for: a heading, and frames behind gates.
+use Rattle.std.specs.Prelude.{◌≡◌, ◌≢◌, ◌⊎◌, ◌≤◌, ℕ, ◌+◌, ◌-◌, List, [], ◌∷◌, ◌++◌, length, replicate, codes, if◌then◌else◌, nat_lt, IsTrue}
 use Rattle.std.specs.List.{All, flat_map}
 use Rattle.std.specs.Int.{to_be_bytes, w32, w64}
 use Rattle.vtl_base.specs.Barcode.{IsBarcode}
-use Rattle.vtl_base.specs.declared.limits.TheConstants.{MAX_BODY, MIN_CAPACITY, MAX_CAPACITY, MAX_PARTITIONS, DRIVES}
+use Rattle.vtl_base.specs.Limits.{is_capacity}
+use Rattle.vtl_base.specs.declared.limits.TheConstants.{MAX_BODY, MAX_PARTITIONS, DRIVES}
+use Rattle.gate_journal.specs.declared.header.Header.{Header}
 use Rattle.gate_journal.specs.declared.header.SideKind.{SideKind}
 use Rattle.gate_journal.specs.declared.header.SideKind.TheVariants.{Cartridge, Store}
 use Rattle.gate_journal.specs.declared.header.TheConstants.{NAME_BYTES}
@@ -12,11 +14,20 @@ use Rattle.gate_journal.specs.declared.header.TheConstants.{NAME_BYTES}
 abbrev pub OPEN : ℕ
 OPEN = 165
 
--- what a side says of itself: its kind, its name, and of a cartridge the capacity of each partition (own)
+-- a closed gate, as it is written (own)
+abbrev pub CLOSED : ℕ
+CLOSED = 0
+
+-- What a side says of itself: its kind, its name, and of a cartridge the capacity of each partition. It is what a
+-- contract sees of a `Header`, with no word of how that is kept in memory (own).
 pub record Heading : Type 0 where
   pub kind : SideKind
   pub name : List ℕ
-  pub words : List ℕ
+  pub capacities : List ℕ
+
+-- the heading of a header in memory (own)
+abbrev pub heading_of : Header → Heading
+heading_of header = record { kind = header.kind; name = header.name; capacities = header.capacities.items }
 
 -- a text, and spaces behind it up to the length of a name (own)
 abbrev pub padded : List ℕ → List ℕ
@@ -40,24 +51,22 @@ abbrev pub IsCount : SideKind → ℕ → Type 0
 IsCount Cartridge n = (1 ≤ n) × (n ≤ MAX_PARTITIONS)
 IsCount Store n = n ≡ 0
 
--- the capacity of a partition, in bytes (own)
-abbrev pub IsCapacity : ℕ → Type 0
-IsCapacity n = (MIN_CAPACITY ≤ n) × (n ≤ MAX_CAPACITY)
-
 -- a heading that can be spelled (own)
 pub record IsHeading (heading : Heading) : Type 0 where
   pub name : IsName heading.kind heading.name
-  pub count : IsCount heading.kind (length heading.words)
-  pub words : All IsCapacity heading.words
+  pub count : IsCount heading.kind (length heading.capacities)
+  pub capacities : All (λ bytes. IsTrue (is_capacity bytes)) heading.capacities
 
--- the bytes by which the kind is told (own)
+-- the bytes by which the kind is recognized (own)
 abbrev pub mark : SideKind → List ℕ
 mark Cartridge = codes "VTLCART1"
 mark Store = codes "VTLRESV1"
 
--- a heading in bytes: the open gate of the side, the mark of its kind, the closed pair gate, the count, the name, the capacities (own)
+-- a heading in bytes: the open gate of the side, the mark of its kind, the closed pair gate, the count, the name, the
+-- capacities (own)
 abbrev pub spell_heading : Heading → List ℕ
-spell_heading h = OPEN ∷ mark h.kind ++ 0 ∷ length h.words ∷ h.name ++ flat_map (to_be_bytes w64) h.words
+spell_heading h =
+    OPEN ∷ mark h.kind ++ CLOSED ∷ length h.capacities ∷ h.name ++ flat_map (to_be_bytes w64) h.capacities
 
 -- what a frame may hold (own)
 abbrev pub IsBody : List ℕ → Type 0
@@ -79,7 +88,8 @@ pub record IsSide (heading : Heading) (bodies : List (List ℕ)) : Type 0 where
 -- the image begins with the spelling, and a closed gate follows (own)
 abbrev pub StandsFor : Heading → List (List ℕ) → List ℕ → Type 0
 StandsFor heading bodies image =
-    IsSide heading bodies × ((gate : ℕ) × (rest : List ℕ) × (gate ≢ OPEN) × (image ≡ spell heading bodies ++ gate ∷ rest))
+    IsSide heading bodies
+    × ((gate : ℕ) × (rest : List ℕ) × (gate ≢ OPEN) × (image ≡ spell heading bodies ++ gate ∷ rest))
 
 -- the image begins with no heading's spelling (own)
 abbrev pub IsNotOurs : List ℕ → Type 0
@@ -87,19 +97,23 @@ IsNotOurs image = (heading : Heading) (rest : List ℕ) → IsHeading heading �
 
 -- a whole frame, and a further byte (own)
 abbrev pub BeginsWithFrame : List ℕ → Type 0
-BeginsWithFrame bytes = (body : List ℕ) × (further : ℕ) × (more : List ℕ) × IsBody body × (bytes ≡ frame body ++ further ∷ more)
+BeginsWithFrame bytes =
+    (body : List ℕ) × (further : ℕ) × (more : List ℕ) × IsBody body × (bytes ≡ frame body ++ further ∷ more)
 
 -- what lies behind the last whole frame of a damaged side: nothing at all, where there is no frame, or an open gate
 -- without a whole frame and a further byte (own)
 abbrev pub IsBroken : List (List ℕ) → List ℕ → Type 0
-IsBroken bodies rest = ((bodies ≡ []) × (rest ≡ [])) ⊎ (((tail : List ℕ) × (rest ≡ OPEN ∷ tail)) × (BeginsWithFrame rest → ⊥))
+IsBroken bodies rest =
+    ((bodies ≡ []) × (rest ≡ [])) ⊎ (((tail : List ℕ) × (rest ≡ OPEN ∷ tail)) × (BeginsWithFrame rest → ⊥))
 
 -- the image begins with a spelling of that length, and what follows is broken (own)
 abbrev pub IsDamagedAt : List ℕ → ℕ → Type 0
 IsDamagedAt image at =
-    (heading : Heading) × (bodies : List (List ℕ)) × (rest : List ℕ) × IsSide heading bodies × (image ≡ spell heading bodies ++ rest)
-    × (length (spell heading bodies) ≡ at) × IsBroken bodies rest
+    (heading : Heading) × (bodies : List (List ℕ)) × (rest : List ℕ) × IsSide heading bodies
+    × (image ≡ spell heading bodies ++ rest) × (length (spell heading bodies) ≡ at) × IsBroken bodies rest
 
--- with the new body or without it (own)
-abbrev pub WithOrWithout : Heading → List (List ℕ) → List ℕ → List ℕ → Type 0
-WithOrWithout heading bodies body image = StandsFor heading bodies image ⊎ StandsFor heading (bodies ++ body ∷ []) image
+-- the image stands for a side, is not ours, or is damaged at a place (own)
+abbrev pub IsDecided : List ℕ → Type 0
+IsDecided image =
+    ((heading : Heading) × (bodies : List (List ℕ)) × StandsFor heading bodies image)
+    ⊎ (IsNotOurs image ⊎ ((at : ℕ) × IsDamagedAt image at))

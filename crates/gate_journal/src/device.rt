@@ -1,9 +1,9 @@
 //! The calls of the disk that write a side: at most two in a function of its own, five in a row.
 ghost use Rattle.std.specs.Prelude.{◌≡◌, ◌+◌, ◌<◌, ◌≤◌, ◌^◌, [], ◌∷◌, ◌++◌, ℕ, length, take, drop, slice_index, OnOk};
-ghost use Rattle.tape_disk.specs.Disk.{DiskState, Holds, Only, Passes, Smeared};
+ghost use Rattle.tape_disk.specs.Disk.{DiskState, Only, Passes, Smeared, overwritten};
 ghost use Rattle.tape_disk.specs.Moments.{LeavesOnly};
 ghost use Rattle.gate_journal.specs.Side.{OPEN};
-ghost use Rattle.gate_journal.specs.Crash.{BehindOrGated, Opened, Touched};
+ghost use Rattle.gate_journal.specs.Inner.Writing.{BehindOrGated, Opened, Touched};
 
 use crate::spelling::OPEN;
 use tape_disk::Disk;
@@ -17,7 +17,7 @@ fn store_at<D: Disk>(disk: &mut D, at: u64, bytes: &[u8]) -> Result<(), DevFault
         LeavesOnly (D.state disk.old) (D.state disk.new)
         (Touched at (length bytes.now) (D.state disk.old).may_leave) }
     ensures stored { (D.state disk.old).honest → OnOk result
-        (Holds at bytes.now (D.state disk.old).seen (D.state disk.new).seen
+        (((D.state disk.new).seen ≡ overwritten at bytes.now (D.state disk.old).seen)
         × Only (D.state disk.new).seen (D.state disk.new).may_leave) }
 {
     disk.write_at(at, bytes)?;
@@ -34,7 +34,7 @@ fn open_gate<D: Disk>(disk: &mut D, at: u64) -> Result<(), DevFault>
         LeavesOnly (D.state disk.old) (D.state disk.new)
         (Smeared at 1 (D.state disk.old).seen) }
     ensures opened { (D.state disk.old).honest → OnOk result
-        (Holds at (OPEN ∷ []) (D.state disk.old).seen (D.state disk.new).seen
+        (((D.state disk.new).seen ≡ overwritten at (OPEN ∷ []) (D.state disk.old).seen)
         × Only (D.state disk.new).seen (D.state disk.new).may_leave) }
 {
     store_at(disk, at, &[OPEN])

@@ -21,14 +21,15 @@ pub enum JournalError {
     /// The frame would pass the longest side.
     #[error("side full")]
     SideFull,
-    /// The disk failed. What stands there is one of what stood before the call and what it was to
-    /// leave.
+    /// The disk failed in this call. What stands there then is the call's to say: after `append` the
+    /// side with the frame or without it, after `open` and `read_body` what stood there before, and
+    /// after `create` anything.
     #[error("device fault")]
     Device(DevFault),
     /// The disk failed in an earlier call. The side has to be opened again.
     #[error("failed before")]
     Failed,
-    /// A growth was refused.
+    /// Memory ran out. Nothing was written, and no call of the disk failed.
     #[error("out of memory")]
     NoMemory,
 }

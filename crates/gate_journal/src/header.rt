@@ -1,8 +1,8 @@
 //! What a side says of itself, and when that can be spelled.
 ghost use Rattle.std.specs.Prelude.{◌≡◌, ◌↔◌, ◌<◌, ◌≤◌, ◌≢◌, ℕ, IsTrue, length, take, slice_index};
 ghost use Rattle.std.specs.List.{All};
-ghost use Rattle.gate_journal.specs.Side.{IsCapacity, IsCount, IsHeading, IsName, drive_name, mark};
-ghost use Rattle.gate_journal.specs.Headers.{heading_of};
+ghost use Rattle.gate_journal.specs.Side.{IsCount, IsHeading, IsName, drive_name, heading_of, mark};
+ghost use Rattle.vtl_base.specs.Limits.{is_capacity};
 
 use vtl_base::Barcode;
 use vtl_base::limits::{DRIVES, MAX_CAPACITY, MAX_PARTITIONS, MIN_CAPACITY};
@@ -20,7 +20,7 @@ pub enum SideKind {
 }
 
 impl SideKind {
-    // The bytes by which the kind is told.
+    // The bytes by which the kind is recognized.
     pub(crate) fn mark(self) -> &'static [u8; 8]
         ensures { result.now ≡ mark self }
     {
@@ -39,7 +39,7 @@ pub struct Header {
     /// A cartridge's barcode, or `DRIVE` and the drive's number, with spaces behind it.
     pub name: [u8; NAME_BYTES],
     /// The capacity of each partition of a cartridge, in bytes. A store has none.
-    pub words: Vec<u64>,
+    pub capacities: Vec<u64>,
 }
 
 impl Header {
@@ -49,8 +49,8 @@ impl Header {
         ensures { IsTrue result ↔ IsHeading (heading_of self.now) }
     {
         is_name(self.kind, &self.name)
-            && is_count(self.kind, self.words.len())
-            && are_capacities(&self.words)
+            && is_count(self.kind, self.capacities.len())
+            && are_capacities(&self.capacities)
     }
 }
 
@@ -72,12 +72,10 @@ fn is_count(kind: SideKind, count: usize) -> bool
     }
 }
 
-fn are_capacities(words: &[u64]) -> bool
-    ensures { IsTrue result ↔ All IsCapacity words.now }
+fn are_capacities(capacities: &[u64]) -> bool
+    ensures { IsTrue result ↔ All (λ bytes. IsTrue (is_capacity bytes)) capacities.now }
 {
-    words
-        .iter()
-        .all(|&word| word >= MIN_CAPACITY && word <= MAX_CAPACITY)
+    capacities.iter().all(|&capacity| capacity >= MIN_CAPACITY && capacity <= MAX_CAPACITY)
 }
 
 fn is_barcode_name(name: &[u8; NAME_BYTES]) -> bool

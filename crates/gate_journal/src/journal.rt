@@ -2,18 +2,16 @@
 ghost use Rattle.std.specs.Prelude.{◌≡◌, ◌⊎◌, ◌+◌, ◌*◌, ◌<◌, ◌≤◌, ◌++◌, [], ◌∷◌, ℕ, List, length, true, false, OnOk, OnErr, IfOk, IfErr, slice_range, slice_index_or, if◌then◌else◌, is_ok};
 ghost use Rattle.tape_disk.specs.Disk.{Each, Keeps, Only};
 ghost use Rattle.tape_disk.specs.Moments.{LeavesOnly};
-ghost use Rattle.gate_journal.specs.Side.{IsBody, IsHeading, StandsFor, WithOrWithout};
-ghost use Rattle.gate_journal.specs.Answers.{Appended, Broke, IsFault, MatchWrite, NotMade, NotOpened, disk_after};
-ghost use Rattle.gate_journal.specs.Crash.{Unwritten};
-ghost use Rattle.gate_journal.specs.State.{room_behind, IsPlace, IsWithin, IsBodyAt, IsPart};
-ghost use Rattle.gate_journal.specs.Headers.{heading_of};
+ghost use Rattle.gate_journal.specs.Side.{CLOSED, IsBody, IsHeading, StandsFor, heading_of, spell};
+ghost use Rattle.gate_journal.specs.Answers.{Appended, Broke, IsFault, MatchWrite, NoneFailed, NotMade, NotOpened, disk_after};
+ghost use Rattle.gate_journal.specs.Crash.{Unwritten, WithOrWithout};
+ghost use Rattle.gate_journal.specs.State.{room_behind, IsBodyAt, IsBodyPart, IsExtent, LiesInBody};
 
 use crate::device::{write_frame, write_new};
-use crate::error::{JournalError, Refused};
-use crate::header::Header;
 use crate::reading::{Frames, read_side};
 use crate::room::make_room;
 use crate::spelling::{START_BYTES, fill_frame, spell_closed};
+use crate::{Header, JournalError, Refused};
 use std::alloc::Global;
 use std::marker::Model;
 use tape_disk::Disk;
@@ -24,7 +22,7 @@ use vtl_base::limits::MAX_SIDE;
 pub struct Journal<D: Disk> {
     disk: D,
     header: Header,
-    places: Vec<(u64, u32)>,
+    extents: Vec<(u64, u32)>,
     buffer: Vec<u8>,
     end: u64,
     failed: bool,
@@ -33,10 +31,9 @@ pub struct Journal<D: Disk> {
 impl<D: Disk> Model for Journal<D> {
     ghost use Rattle.std.specs.Prelude.{◌≡◌, ◌+◌, ◌^◌, ◌<◌};
     ghost use Rattle.std.specs.List.{All};
-    ghost use Rattle.gate_journal.specs.State.{OpenSide, side_code, bodies_at, IsPlace, IsOn};
-    ghost use Rattle.gate_journal.specs.Side.{IsHeading};
-    ghost use Rattle.gate_journal.specs.Headers.{heading_of};
-    ghost use Rattle.gate_journal.specs.Spare.{spare};
+    ghost use Rattle.gate_journal.specs.State.{OpenSide, side_code, bodies_at, IsExtent, StoresSide};
+    ghost use Rattle.gate_journal.specs.Side.{IsHeading, heading_of};
+    ghost use Rattle.gate_journal.specs.Inner.Spare.{spare};
 
     ghost Value = { OpenSide D };
 
@@ -45,29 +42,32 @@ impl<D: Disk> Model for Journal<D> {
     ghost view = { λ a. record {
       disk = a.disk;
       heading = heading_of a.header;
-      bodies = bodies_at (D.state a.disk).seen a.places.items;
-      places = a.places.items;
+      bodies = bodies_at (D.state a.disk).seen a.extents.items;
+      extents = a.extents.items;
       end = a.end;
       failed = a.failed;
-      reserved = spare a.places a.buffer;
+      reserved = spare a.extents a.buffer;
     } };
 
     ghost invariant = { λ a. IsHeading (heading_of a.header) × (a.end + 1 < 2 ^ 64)
-        × All (IsPlace a.end) a.places.items
-        × ((D.state a.disk).honest → IsOn (D.state a.disk) (heading_of a.header)
-        (bodies_at (D.state a.disk).seen a.places.items) a.places.items a.end a.failed) };
+        × All (IsExtent a.end) a.extents.items
+        × ((D.state a.disk).honest → StoresSide (D.state a.disk) (heading_of a.header)
+        (bodies_at (D.state a.disk).seen a.extents.items) a.extents.items a.end a.failed) };
 }
 
 impl<D: Disk> Journal<D> {
-    /// Makes a side with no frames, whatever the disk held. The header is one that can be spelled.
-    /// After a device fault anything may stand there, and after `NoMemory` the disk was not
-    /// touched.
+    /// Makes a side with no frames, whatever the disk held, of a header that can be spelled. At Ok
+    /// the disk holds its spelling, one closed gate and nothing behind; after a device fault
+    /// anything may stand there; after `NoMemory` the disk was not touched.
     pub fn create(alloc: Global, disk: D, header: Header) -> Result<Journal<D>, Refused<D>>
         requires { IsHeading (heading_of header) }
         ensures disk { Keeps (D.state disk) (D.state (disk_after result)) }
         ensures ok { IfOk result (λ journal. (journal.heading ≡ heading_of header)
-            × (journal.bodies ≡ []) × (journal.places ≡ []) × (journal.failed ≡ false)
-            × (journal.end ≡ 27 + 8 * length journal.heading.words)) }
+            × (journal.bodies ≡ []) × (journal.extents ≡ []) × (journal.failed ≡ false)
+            × (journal.end ≡ 27 + 8 * length journal.heading.capacities)
+            × NoneFailed (D.state disk) (D.state journal.disk)) }
+        ensures bytes { IfOk result (λ journal. (D.state disk).honest →
+            (D.state journal.disk).seen ≡ spell journal.heading [] ++ CLOSED ∷ []) }
         ensures sure { IfOk result (λ journal. (D.state disk).honest →
             Each (D.state journal.disk) (StandsFor journal.heading [])) }
         ensures refused { IfErr result (λ refused. NotMade refused.error
@@ -75,18 +75,16 @@ impl<D: Disk> Journal<D> {
     {
         let mut disk = disk;
         let Ok(bytes) = spell_closed(alloc, &header) else {
-            return Err(Refused {
-                error: JournalError::NoMemory,
-                disk,
-            });
+            let error = JournalError::NoMemory;
+            return Err(Refused { error, disk });
         };
         match write_new(&mut disk, &bytes) {
             Ok(()) => {
-                let end = START_BYTES as u64 + 8 * header.words.len() as u64;
+                let end = START_BYTES as u64 + 8 * header.capacities.len() as u64;
                 Ok(Journal {
                     disk,
                     header,
-                    places: Vec::new(alloc),
+                    extents: Vec::new(alloc),
                     buffer: Vec::new(alloc),
                     end,
                     failed: false,
@@ -100,12 +98,13 @@ impl<D: Disk> Journal<D> {
     }
 
     /// Opens the side that the disk holds. It begins with a sync, and writes nothing: at every
-    /// moment of it, and after every refusal, the disk stands for what it stood for. After
-    /// `NotOurs` and `Damaged` that is sure too.
+    /// moment of it, and after every error, the disk stands for what it stood for. After `NotOurs`
+    /// and `Damaged` that is sure too.
     pub fn open(alloc: Global, disk: D) -> Result<Journal<D>, Refused<D>>
         ensures disk { Keeps (D.state disk) (D.state (disk_after result)) }
-        ensures ok { IfOk result (λ journal. (journal.failed ≡ false) × ((D.state disk).honest →
-            StandsFor journal.heading journal.bodies (D.state disk).seen
+        ensures ok { IfOk result (λ journal. (journal.failed ≡ false)
+            × NoneFailed (D.state disk) (D.state journal.disk)
+            × ((D.state disk).honest → StandsFor journal.heading journal.bodies (D.state disk).seen
             × Only (D.state disk).seen (D.state journal.disk).may_leave)) }
         ensures refused { IfErr result (λ refused.
             NotOpened refused.error (D.state disk) (D.state refused.disk)) }
@@ -115,11 +114,11 @@ impl<D: Disk> Journal<D> {
         let mut disk = disk;
         match read_side(alloc, &mut disk) {
             Ok((header, frames)) => {
-                let Frames { places, end } = frames;
+                let Frames { extents, end } = frames;
                 Ok(Journal {
                     disk,
                     header,
-                    places,
+                    extents,
                     buffer: Vec::new(alloc),
                     end,
                     failed: false,
@@ -129,11 +128,15 @@ impl<D: Disk> Journal<D> {
         }
     }
 
-    /// Where nothing has failed, each image that a crash may leave stands for the side.
+    /// The end is where the spelling ends, of a side that has failed too. Where nothing has failed,
+    /// each image that a crash may leave stands for the side.
     pub fn known(&self)
-        ensures { (D.state self.now.disk).honest → self.now.failed ≡ false →
+        ensures end { (D.state self.now.disk).honest →
+            self.now.end ≡ length (spell self.now.heading self.now.bodies) }
+        ensures sure { (D.state self.now.disk).honest → self.now.failed ≡ false →
             Each (D.state self.now.disk) (StandsFor self.now.heading self.now.bodies) }
     {
+        // Looked at for the proof's sake: the facts are the type's.
         let _ = &self.end;
     }
 
@@ -148,28 +151,28 @@ impl<D: Disk> Journal<D> {
     /// How many frames there are.
     pub fn frames(&self) -> usize
         ensures value { result ≡ length self.now.bodies }
-        ensures places { result ≡ length self.now.places }
+        ensures extents { result ≡ length self.now.extents }
     {
-        self.places.len()
+        self.extents.len()
     }
 
-    /// Where the body of that frame lies: its place and its length. The frame's gate stands 5 bytes
+    /// The extent of that frame's body: its place and its length. The frame's gate stands 5 bytes
     /// before it.
     pub fn body_at(&self, frame: usize) -> (u64, u32)
-        requires { frame < length self.now.places }
-        ensures value { result ≡ slice_index_or self.now.places frame result }
-        ensures inside { IsPlace self.now.end result }
-        ensures whole { IsWithin self.now.places result.0 result.1 }
+        requires { frame < length self.now.extents }
+        ensures value { result ≡ slice_index_or self.now.extents frame result }
+        ensures inside { IsExtent self.now.end result }
+        ensures whole { LiesInBody self.now.extents result.0 result.1 }
         ensures body { (D.state self.now.disk).honest →
             IsBodyAt (D.state self.now.disk).seen self.now.heading self.now.bodies frame result }
     {
-        self.places[frame]
+        self.extents[frame]
     }
 
     /// Fills the buffer with bytes of a body, from that place of the disk on. After a device fault
     /// the side has failed.
     pub fn read_body(&mut self, at: u64, buffer: &mut [u8]) -> Result<(), JournalError>
-        requires { IsWithin self.old.places at (length buffer.old) }
+        requires { LiesInBody self.old.extents at (length buffer.old) }
         ensures disk { Keeps (D.state self.old.disk) (D.state self.new.disk) }
         ensures same { self.new ≡ record self.old {
           disk = self.new.disk;
@@ -177,12 +180,13 @@ impl<D: Disk> Journal<D> {
           failed = self.new.failed;
         } }
         ensures answer { MatchWrite result
-            ((self.old.failed ≡ false) × (self.new.failed ≡ false)) ⊥ ⊥
+            ((self.old.failed ≡ false) × (self.new.failed ≡ false)
+            × NoneFailed (D.state self.old.disk) (D.state self.new.disk)) ⊥ ⊥
             (λ fault. (self.old.failed ≡ false) × (self.new.failed ≡ true)
             × IsFault fault (D.state self.old.disk) (D.state self.new.disk))
             ((self.old.failed ≡ true) × (self.new ≡ self.old)) }
         ensures bytes { (D.state self.old.disk).honest →
-            OnOk result (IsPart self.old.bodies self.old.places at buffer.new) }
+            OnOk result (IsBodyPart self.old.bodies self.old.extents at buffer.new) }
         ensures bodies { (D.state self.old.disk).honest → self.new.bodies ≡ self.old.bodies }
         ensures unwritten { (D.state self.old.disk).honest →
             Unwritten (D.state self.old.disk) (D.state self.new.disk) }
@@ -206,16 +210,16 @@ impl<D: Disk> Journal<D> {
         self.failed
     }
 
-    /// The bytes that may still be added, up to 1,099,511,627,776 in all. A frame takes 5 and its
-    /// body's.
+    /// The bytes that may still be added, up to 1,099,511,627,776 in all with the end gate. A frame
+    /// takes 5 and its body's.
     pub fn room(&self) -> u64
         ensures { result ≡ room_behind self.now.end }
     {
         MAX_SIDE.saturating_sub(self.end + 1)
     }
 
-    /// Makes room in memory for that many appends, which then take none: 16 bytes each, and once
-    /// 8,388,613 for the longest frame.
+    /// Makes room in memory for that many appends, which then take none: 16 bytes for the extent of
+    /// each, and once 8,388,613 for the longest frame.
     pub fn reserve(&mut self, frames: usize) -> Result<(), JournalError>
         ensures ok { OnOk result ((frames ≤ self.new.reserved)
             × (self.old.reserved ≤ self.new.reserved)
@@ -226,19 +230,20 @@ impl<D: Disk> Journal<D> {
         if frames == 0 {
             return Ok(());
         }
-        make_room(&mut self.places, &mut self.buffer, frames)?;
+        make_room(&mut self.extents, &mut self.buffer, frames)?;
         Ok(())
     }
 
     /// Adds a frame with this body of 1 to 8,388,608 bytes. At Ok it is sure, and the room is less
     /// by 5 and the body's bytes. After `Device` it may be there or not, and nothing more is
-    /// written; after every other refusal nothing changed.
+    /// written; after every other error nothing changed.
     pub fn append(&mut self, body: &[u8]) -> Result<(), JournalError>
         requires { IsBody body.now }
         ensures disk { Keeps (D.state self.old.disk) (D.state self.new.disk) }
         ensures heading { self.new.heading ≡ self.old.heading }
         ensures answer { MatchWrite result
-            (Appended self.old self.new (length body.now))
+            (Appended self.old self.new (length body.now)
+            × NoneFailed (D.state self.old.disk) (D.state self.new.disk))
             ((self.old.failed ≡ false) × (length body.now + 5 ≤ room_behind self.old.end)
             × (self.old.reserved ≡ 0) × (self.new ≡ self.old))
             ((self.old.failed ≡ false) × (room_behind self.old.end < length body.now + 5)
@@ -261,11 +266,11 @@ impl<D: Disk> Journal<D> {
         if u64::from(size) + 5 > MAX_SIDE.saturating_sub(self.end + 1) {
             return Err(JournalError::SideFull);
         }
-        make_room(&mut self.places, &mut self.buffer, 1)?;
+        make_room(&mut self.extents, &mut self.buffer, 1)?;
         fill_frame(&mut self.buffer, body);
         match write_frame(&mut self.disk, self.end, &self.buffer) {
             Ok(()) => {
-                self.places.push_reserved((self.end + 5, size));
+                self.extents.push_reserved((self.end + 5, size));
                 self.end += 5 + u64::from(size);
                 Ok(())
             }

@@ -1,16 +1,15 @@
 //! Laws of a side's definitions. Each is a function that does nothing, and its contract is the law.
-ghost use Rattle.std.specs.Prelude.{◌≡◌, ◌⊎◌, ℕ, List};
-ghost use Rattle.gate_journal.specs.Side.{Heading, StandsFor, IsNotOurs, IsDamagedAt};
+ghost use Rattle.std.specs.Prelude.{◌≡◌, ◌↔◌, ℕ, List, Some};
+ghost use Rattle.gate_journal.specs.Side.{Heading, StandsFor, IsNotOurs, IsDamagedAt, IsDecided};
+ghost use Rattle.gate_journal.specs.SideOn.{side_on};
 
 /// Each image stands for some side, is no side of this library, or is damaged at some place.
-pub fn each_image_is_told()
-    ensures { (image : List ℕ) →
-        ((heading : Heading) × (bodies : List (List ℕ)) × StandsFor heading bodies image)
-        ⊎ (IsNotOurs image ⊎ ((at : ℕ) × IsDamagedAt image at)) }
+pub fn each_image_is_decided()
+    ensures { (image : List ℕ) → IsDecided image }
 {}
 
 /// No image is two of the three, stands for two sides, or is damaged at two places.
-pub fn no_image_is_told_twice()
+pub fn no_image_is_decided_twice()
     ensures one_side { (image : List ℕ) (h k : Heading) (bs cs : List (List ℕ)) →
         StandsFor h bs image → StandsFor k cs image → (h ≡ k) × (bs ≡ cs) }
     ensures one_place { (image : List ℕ) (a b : ℕ) →
@@ -20,4 +19,10 @@ pub fn no_image_is_told_twice()
     ensures ours { (image : List ℕ) (h : Heading) (bs : List (List ℕ)) →
         StandsFor h bs image → IsNotOurs image → ⊥ }
     ensures ours_damaged { (image : List ℕ) (at : ℕ) → IsDamagedAt image at → IsNotOurs image → ⊥ }
+{}
+
+/// The side on an image is the one that it stands for.
+pub fn the_side_on_an_image()
+    ensures { (image : List ℕ) (h : Heading) (bs : List (List ℕ)) →
+        (side_on image ≡ Some (h, bs)) ↔ StandsFor h bs image }
 {}

@@ -10,8 +10,6 @@ mod reading;
 mod room;
 mod spelling;
 pub mod stops;
-#[cfg(test)]
-mod tests;
 
 pub use error::{JournalError, Refused};
 pub use header::{Header, SideKind};

@@ -1,12 +1,11 @@
 //! A side is read: its header, then gate and length of each frame. No byte is read twice, no body.
 ghost use Rattle.std.specs.Prelude.{◌≡◌, ◌≢◌, ◌+◌, ◌*◌, ◌<◌, ◌≤◌, ◌^◌, ◌++◌, [], ◌∷◌, ℕ, List, length, drop, true, false, take, ◌==◌, if◌then◌else◌, OnOk, IfOk, IfSome, IfNone, MatchResult, slice_index};
 ghost use Rattle.tape_disk.specs.Disk.{Elapses, Keeps, Passes, Syncs};
-ghost use Rattle.gate_journal.specs.Side.{Heading, IsHeading, spell_heading, OPEN};
-ghost use Rattle.gate_journal.specs.Headers.{heading_of};
-ghost use Rattle.gate_journal.specs.Reading.{words_of, heading_within, kind_told};
+ghost use Rattle.gate_journal.specs.Side.{Heading, IsHeading, OPEN, heading_of, spell_heading};
+ghost use Rattle.gate_journal.specs.Inner.Reading.{numbers_of, heading_within, kind_by_letter};
 ghost use Rattle.std.specs.Int.{to_be_bytes, w32};
 ghost use Rattle.gate_journal.specs.Crash.{Unwritten};
-ghost use Rattle.gate_journal.specs.Found.{FindsRow, FindsHeader, FindsMark, FindsFrames, FindsSide};
+ghost use Rattle.gate_journal.specs.Inner.Found.{FindsRow, FindsHeader, FindsMark, FindsFrames, FindsSide};
 ghost use Rattle.tape_disk.specs.Moments.{LeavesOnly};
 
 use crate::error::JournalError;
@@ -21,7 +20,7 @@ use vtl_base::limits::{MAX_BODY, MAX_PARTITIONS};
 /// Where the bodies of a side lie, and its end gate.
 #[derive(Drop)]
 pub(crate) struct Frames {
-    pub places: Vec<(u64, u32)>,
+    pub extents: Vec<(u64, u32)>,
     pub end: u64,
 }
 
@@ -37,7 +36,7 @@ pub(crate) fn read_side<D: Disk>(
 {
     make_sure(disk)?;
     let header = read_header(alloc, disk)?;
-    let start = START_BYTES as u64 + 8 * header.words.len() as u64;
+    let start = START_BYTES as u64 + 8 * header.capacities.len() as u64;
     let frames = read_frames(alloc, disk, start)?;
     Ok((header, frames))
 }
@@ -70,8 +69,8 @@ fn read_header<D: Disk>(alloc: Global, disk: &mut D) -> Result<Header, JournalEr
     if len - (START_BYTES as u64) < 8 * u64::from(count) {
         return Err(JournalError::NotOurs);
     }
-    let words = read_row(alloc, disk, START_BYTES as u64, 8 * count as usize)?;
-    bytes.extend_from_slice(&words)?;
+    let capacities = read_row(alloc, disk, START_BYTES as u64, 8 * count as usize)?;
+    bytes.extend_from_slice(&capacities)?;
     match header_of(alloc, &bytes)? {
         Some(header) => Ok(header),
         None => Err(JournalError::NotOurs),
@@ -125,15 +124,15 @@ fn header_within(alloc: Global, bytes: &[u8]) -> Result<Header, AllocError>
     let mut name = [0; NAME_BYTES];
     name.copy_from_slice(&bytes[11..START_BYTES]);
     Ok(Header {
-        kind: kind_told(bytes[4]),
+        kind: kind_by_letter(bytes[4]),
         name,
-        words: numbers(alloc, &bytes[START_BYTES..])?,
+        capacities: numbers(alloc, &bytes[START_BYTES..])?,
     })
 }
 
 // The kind that this byte of a mark tells.
-fn kind_told(byte: u8) -> SideKind
-    ensures { result ≡ kind_told byte }
+fn kind_by_letter(byte: u8) -> SideKind
+    ensures { result ≡ kind_by_letter byte }
 {
     if byte == b'C' {
         SideKind::Cartridge
@@ -144,7 +143,7 @@ fn kind_told(byte: u8) -> SideKind
 
 // Eight bytes at a time as numbers.
 fn numbers(alloc: Global, bytes: &[u8]) -> Result<Vec<u64>, AllocError>
-    ensures { IfOk result (λ numbers. numbers.items ≡ words_of bytes.now) }
+    ensures { IfOk result (λ numbers. numbers.items ≡ numbers_of bytes.now) }
 {
     let mut numbers = Vec::new(alloc);
     let mut rest = bytes;
@@ -206,12 +205,12 @@ fn read_frames<D: Disk>(alloc: Global, disk: &mut D, start: u64) -> Result<Frame
     if start >= len {
         return Err(JournalError::Damaged { at: start });
     }
-    let mut places = Vec::new(alloc);
+    let mut extents = Vec::new(alloc);
     let mut at = start;
     while let Some(size) = read_mark(disk, at, len)? {
-        places.reserve(1)?;
-        places.push_reserved((at + 5, size));
+        extents.reserve(1)?;
+        extents.push_reserved((at + 5, size));
         at += 5 + u64::from(size);
     }
-    Ok(Frames { places, end: at })
+    Ok(Frames { extents, end: at })
 }

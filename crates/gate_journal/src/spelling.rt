@@ -21,8 +21,7 @@
 ghost use Rattle.std.specs.Prelude.{◌≡◌, ◌≤◌, ◌<◌, ◌+◌, [], ◌∷◌, ◌++◌, length, drop, IfOk, vec_capacity};
 ghost use Rattle.std.specs.List.{flat_map};
 ghost use Rattle.std.specs.Int.{to_be_bytes, w32, w64};
-ghost use Rattle.gate_journal.specs.Side.{IsBody, IsHeading, spell_heading};
-ghost use Rattle.gate_journal.specs.Headers.{heading_of};
+ghost use Rattle.gate_journal.specs.Side.{CLOSED, IsBody, IsHeading, heading_of, spell_heading};
 ghost use Rattle.gate_journal.specs.declared.spelling.TheConstants.{FRAME_BYTES};
 
 use crate::header::{Header, NAME_BYTES};
@@ -44,27 +43,27 @@ pub(crate) const FRAME_BYTES: usize = 8_388_613;
 
 // A header in bytes.
 pub(crate) fn spell_header(alloc: Global, header: &Header) -> Result<Vec<u8>, AllocError>
-    requires { length header.now.words.items ≤ 4 }
+    requires { length header.now.capacities.items ≤ 4 }
     ensures { IfOk result (λ bytes. bytes.items ≡ spell_heading (heading_of header.now)) }
 {
     let mut bytes = Vec::new(alloc);
     bytes.push(OPEN)?;
     bytes.extend_from_slice(header.kind.mark())?;
     bytes.push(CLOSED)?;
-    bytes.push(header.words.len() as u8)?;
+    bytes.push(header.capacities.len() as u8)?;
     bytes.extend_from_slice(&header.name)?;
-    spell_words(&mut bytes, &header.words)?;
+    spell_capacities(&mut bytes, &header.capacities)?;
     Ok(bytes)
 }
 
 // Eight bytes for each number, behind what is there.
-fn spell_words(bytes: &mut Vec<u8>, words: &[u64]) -> Result<(), AllocError>
+fn spell_capacities(bytes: &mut Vec<u8>, capacities: &[u64]) -> Result<(), AllocError>
     ensures { IfOk result (λ _.
-        bytes.new.items ≡ bytes.old.items ++ flat_map (to_be_bytes w64) words.now) }
+        bytes.new.items ≡ bytes.old.items ++ flat_map (to_be_bytes w64) capacities.now) }
 {
-    for word in words {
+    for capacity in capacities {
         let mut number = [0; 8];
-        BigEndian::write_u64(&mut number, *word);
+        BigEndian::write_u64(&mut number, *capacity);
         bytes.extend_from_slice(&number)?;
     }
     Ok(())
@@ -72,9 +71,9 @@ fn spell_words(bytes: &mut Vec<u8>, words: &[u64]) -> Result<(), AllocError>
 
 // A header with its gate closed, and a closed gate behind it.
 pub(crate) fn spell_closed(alloc: Global, header: &Header) -> Result<Vec<u8>, AllocError>
-    requires { length header.now.words.items ≤ 4 }
+    requires { length header.now.capacities.items ≤ 4 }
     ensures { IfOk result (λ bytes.
-        bytes.items ≡ 0 ∷ drop 1 (spell_heading (heading_of header.now)) ++ 0 ∷ []) }
+        bytes.items ≡ CLOSED ∷ drop 1 (spell_heading (heading_of header.now)) ++ CLOSED ∷ []) }
 {
     let mut bytes = spell_header(alloc, header)?;
     bytes[0] = CLOSED;
@@ -86,7 +85,7 @@ pub(crate) fn spell_closed(alloc: Global, header: &Header) -> Result<Vec<u8>, Al
 pub(crate) fn fill_frame(buffer: &mut Vec<u8>, body: &[u8])
     requires body { IsBody body.now }
     requires room { FRAME_BYTES ≤ vec_capacity buffer.old }
-    ensures frame { buffer.new.items ≡ to_be_bytes w32 (length body.now) ++ body.now ++ 0 ∷ [] }
+    ensures frame { buffer.new.items ≡ to_be_bytes w32 (length body.now) ++ body.now ++ CLOSED ∷ [] }
     ensures room { FRAME_BYTES ≤ vec_capacity buffer.new }
 {
     let mut size = [0; 4];

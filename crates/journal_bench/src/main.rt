@@ -1,6 +1,12 @@
 //! Work for a clock: frames are added to a side, as many bytes are copied, and a side is opened.
 #![tactic(auto)]
 
+#[cfg(test)]
+mod layout_tests;
+#[cfg(test)]
+mod samples;
+#[cfg(test)]
+mod stop_tests;
 mod work;
 
 use std::alloc::Global;

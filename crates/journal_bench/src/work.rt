@@ -14,7 +14,7 @@ fn new_side(alloc: Global) -> Option<Journal<MemDisk>> {
     let header = Header {
         kind: SideKind::Cartridge,
         name: *b"T00001L6        ",
-        words: vec![in alloc; 16_777_216].ok()?,
+        capacities: vec![in alloc; 16_777_216].ok()?,
     };
     if !header.can_be_spelled() {
         return None;
@@ -22,8 +22,8 @@ fn new_side(alloc: Global) -> Option<Journal<MemDisk>> {
     Journal::create(alloc, MemDisk::new(alloc), header).ok()
 }
 
-// Adds a frame. Where a growth was refused it is tried once more: want of memory changed nothing,
-// and after a fault of the disk the side is opened again, and has the frame or not.
+// Adds a frame. Where memory ran out it is tried once more, since nothing changed; after a fault of
+// the disk the side is opened again, and has the frame or not.
 fn add(alloc: Global, side: Journal<MemDisk>, body: &[u8]) -> Option<Journal<MemDisk>>
     requires { IsBody body.now }
 {
@@ -74,6 +74,7 @@ pub fn written(alloc: Global, count: u32) -> Option<usize> {
     }
     for i in 0..count {
         let place = u64::from(i) * 1_000;
+        // True of each piece: it is asked for the proof's sake.
         if place <= disk.len() {
             disk.write_at(place, &piece[..10]).ok()?;
         }

@@ -27,5 +27,6 @@ returns-else-is_ok c =
     let count = c.text_length-count.result in
     let told = c.text_length-count.ensures in (
       λ yes'. absurd (false≢true (sym c.if-is_ok.false ∙ yes')),
-      λ text. c.is_ok.ensures.value ∙ c.parse.ensures.valid.1 (text_front name c.told-name count told.bound told.before told.space text),
+      λ text. c.is_ok.ensures.value ∙ c.parse.ensures.valid.1
+          (text_front name c.told-name count told.bound told.before told.space text),
     )

@@ -1,10 +1,10 @@
 use Rattle.std.proofs.Common.{◌≡◌, ap, sym, ◌∙◌, subst}
 use Rattle.std.proofs.lemmas.Bool.{false≢true}
 use Rattle.gate_journal.specs.Side.{Heading, IsHeading, spell_heading}
-use Rattle.gate_journal.specs.Headers.{heading_of}
-use Rattle.gate_journal.specs.Reading.{heading_within}
-use Rattle.gate_journal.proofs.Headings.{within_is}
-use Rattle.gate_journal.proofs.Words.{equal_bytes}
+use Rattle.gate_journal.specs.Side.{heading_of}
+use Rattle.gate_journal.specs.Inner.Reading.{heading_within}
+use Rattle.gate_journal.specs.Inner.Headings.{within_is}
+use Rattle.gate_journal.proofs.Numbers.{equal_bytes}
 use Rattle.gate_journal.proofs.reading.header_of.Goals as goal
 
 pub returns-then-not-can_be_spelled-clause-none : goal.returns-then-not-can_be_spelled-clause-none

@@ -1,54 +1,66 @@
-use Rattle.std.proofs.Common.{◌≡◌, ℕ, List, ◌++◌, ◌∷◌, [], drop, ◌+◌, arith, sym, ◌∙◌, ap}
+use Rattle.std.proofs.Common.{◌≡◌, ℕ, List, ◌++◌, ◌∷◌, [], drop, ◌+◌, arith, refl, sym, ◌∙◌, ap}
 use Rattle.std.proofs.lemmas.Result.{err_from_is_err_and}
-use Rattle.tape_disk.proofs.Passing.{keeps_then}
-use Rattle.gate_journal.proofs.Places.{one_more}
+use Rattle.tape_disk.specs.Sequences.{keeps_in_sequence}
+use Rattle.gate_journal.proofs.Extents.{one_more}
 use Rattle.gate_journal.proofs.Walks.{nothing_there, walked_more, broken_there, unwritten_then, not_read_since}
 use Rattle.gate_journal.proofs.reading.read_frames.Goals as goal
 
 pub returns-then-start-len-clause-answer : goal.returns-then-start-len-clause-answer
-returns-then-start-len-clause-answer g c = λ honest. nothing_there (g.D.Disk.state c.args.disk.now).seen c.args.start (omega (arith, c.len-len.ensures.length honest, c.if-start-len.true))
+returns-then-start-len-clause-answer g c = (
+  refl,
+  λ honest.
+      nothing_there (g.D.Disk.state c.args.disk.now).seen c.args.start
+      (omega (arith, c.len-len.ensures.length honest, c.if-start-len.true)),
+)
 
 pub returns-in_err-size-clause-answer : goal.returns-in_err-size-clause-answer
 returns-in_err-size-clause-answer g c =
     let d0 = g.D.Disk.state c.args.disk.now in
-    let d1 = g.D.Disk.state c.loop-places.disk in
+    let d1 = g.D.Disk.state c.loop-extents.disk in
     let d2 = g.D.Disk.state c.read_mark.new.disk in
-    let i = c.loop-places.invariant in
+    let i = c.loop-extents.invariant in
     let p = err_from_is_err_and c.from_residual.result c.from_residual.ensures.1 in
     rw (p.1, p.2)
-    (not_read_since d0 d1 d2 c.in_err-size.field-0.0 _ _ i.keeps
+    (not_read_since d0 d1 d2 i.none_failed c.in_err-size.field-0.0 _ _ _ _
     (λ place found honest.
     let so_far = i.honest honest in
-    broken_there d0.seen d1.seen so_far.0.seen c.args.start so_far.2.0 c.loop-places.places.items c.loop-places.at place so_far.2.1 found.0 (found.1 (i.keeps.stays_honest honest)))
+    broken_there d0.seen d1.seen so_far.0.seen c.args.start so_far.2.0 c.loop-extents.extents.items c.loop-extents.at
+    place so_far.2.1 found.0 (found.1 (i.keeps.stays_honest honest)))
+    (λ never. absurd never)
     c.in_err-size.ensures.answer)
 
-pub loop-places-preserved : goal.loop-places-preserved
-loop-places-preserved g c =
+pub loop-extents-preserved : goal.loop-extents-preserved
+loop-extents-preserved g c =
     let d0 = g.D.Disk.state c.args.disk.now in
-    let d1 = g.D.Disk.state c.loop-places.disk in
+    let d1 = g.D.Disk.state c.loop-extents.disk in
     let d2 = g.D.Disk.state c.read_mark.new.disk in
-    let at = c.loop-places.at in
+    let at = c.loop-extents.at in
     let size = c.in-Some.size in
-    let i = c.loop-places.invariant in
+    let i = c.loop-extents.invariant in
     let found = rw c.in-Some.is at c.in_ok-size.ensures.answer in
-    let places_are = c.push_reserved.ensures.items ∙ ap (λ (l : List (ℕ × ℕ)). l ++ (at + 5, size) ∷ []) c.in_ok-reserve.ensures.items in
+    let extents_are = c.push_reserved.ensures.items
+    ∙ ap (λ (l : List (ℕ × ℕ)). l ++ (at + 5, size) ∷ []) c.in_ok-reserve.ensures.items in
     let far : at + (5 + c.from.result) ≡ at + 5 + size = omega (arith, c.from.ensures) in
     record {
       started = omega (arith, i.started);
-      inside = omega (arith, far, found.2);
-      places = one_more at size (at + (5 + c.from.result)) c.loop-places.places.items c.push_reserved.new.self.items i.places places_are found.0 found.1 far;
-      keeps = keeps_then d0 d1 d2 i.keeps c.read_mark.ensures.disk;
+      inside = omega (arith, far, found.3);
+      extents = one_more at size (at + (5 + c.from.result))
+          c.loop-extents.extents.items c.push_reserved.new.self.items i.extents extents_are found.1 found.2 far;
+      keeps = keeps_in_sequence d0 d1 d2 i.keeps c.read_mark.ensures.disk;
+      none_failed = found.0 ∙ i.none_failed;
       honest = λ honest.
           let so_far = i.honest honest in
           let honest1 = i.keeps.stays_honest honest in
-          let frame = found.3 honest1 in
+          let frame = found.4 honest1 in
           let same = so_far.0.seen in (
             unwritten_then d0 d1 d2 so_far.0 (c.read_mark.ensures.unwritten honest1),
             so_far.1,
             (
               _,
-              walked_more d0.seen c.args.start so_far.2.0 c.loop-places.places.items at so_far.2.1 size frame.0 frame.1 c.push_reserved.new.self.items (at + (5 + c.from.result))
-                  frame.2 found.0 found.1 (ap (λ (l : List ℕ). drop at l) (sym same) ∙ frame.3) (frame.4 ∙ ap (λ (l : List ℕ). drop (at + 5 + size) l) same) places_are far,
+              walked_more d0.seen c.args.start so_far.2.0 c.loop-extents.extents.items at so_far.2.1 size frame.0
+                  frame.1 c.push_reserved.new.self.items (at + (5 + c.from.result))
+                  frame.2 found.1 found.2 (ap (λ (l : List ℕ). drop at l) (sym same) ∙ frame.3)
+                  (frame.4 ∙ ap (λ (l : List ℕ). drop (at + 5 + size) l) same) extents_are far,
             ),
           );
     }

@@ -1,10 +1,10 @@
-use Rattle.std.proofs.Common.{◌≡◌, ℕ, List, length, ◌+◌, ◌*◌, arith, rules, subst, sym, ◌∙◌}
+use Rattle.std.proofs.Common.{◌≡◌, ℕ, List, length, ◌+◌, ◌*◌, arith, rules, ap, subst, sym, ◌∙◌, length-append}
 use Rattle.std.proofs.lemmas.Result.{err_from_is_err_and}
-use Rattle.tape_disk.proofs.Passing.{keeps_of, keeps_then}
-use Rattle.gate_journal.specs.Headers.{heading_of}
+use Rattle.tape_disk.specs.Sequences.{keeps_of_passes}
+use Rattle.gate_journal.specs.Side.{heading_of}
 use Rattle.gate_journal.specs.Side.{IsDamagedAt, spell_heading, StandsFor}
 use Rattle.gate_journal.specs.State.{bodies_at}
-use Rattle.gate_journal.proofs.Headings.{length_heading}
+use Rattle.gate_journal.specs.Inner.Headings.{length_heading}
 use Rattle.gate_journal.proofs.Walks.{not_opened_since, damaged_there, stands_for, on_disk, seen_2, only_3}
 use Rattle.gate_journal.proofs.reading.read_side.Goals as goal
 
@@ -15,13 +15,14 @@ returns-in_err-frames-clause-answer g c =
     let d2 = g.D.Disk.state c.read_header.new.disk in
     let d3 = g.D.Disk.state c.read_frames.new.disk in
     let h = heading_of c.in_ok-header.header in
-    let kept1 = keeps_of d0 d1 c.make_sure.result c.make_sure.ensures.passes in
+    let kept1 = keeps_of_passes d0 d1 c.make_sure.result c.make_sure.ensures.passes in
+    let none1 = c.in_ok-make_sure.ensures.passes.none_failed in
     let found = c.in_ok-header.ensures.answer in
-    let count : c.len.result ≡ length c.in_ok-header.header.words.items = search rules in
-    let here : 27 + 8 * c.len.result ≡ length (spell_heading h) = omega (arith, count, length_heading h found.0) in
+    let count : c.len.result ≡ length c.in_ok-header.header.capacities.items = search rules in
+    let here : 27 + 8 * c.len.result ≡ length (spell_heading h) = omega (arith, count, length_heading h found.1) in
     let p = err_from_is_err_and c.from_residual-in_err-frames.result c.from_residual-in_err-frames.ensures.1 in
     rw (p.1, p.2)
-    (not_opened_since d0 d2 d3 c.in_err-frames.field-0.0 _ _ (keeps_then d0 d1 d2 kept1 c.read_header.ensures.disk) (λ bad. absurd bad)
+    (not_opened_since d0 d2 d3 (found.0 ∙ none1) c.in_err-frames.field-0.0 _ _ _ (λ bad. absurd bad)
     (λ at broken honest.
     let honest1 = kept1.stays_honest honest in
     let honest2 = c.read_header.ensures.disk.stays_honest honest1 in
@@ -29,12 +30,19 @@ returns-in_err-frames-clause-answer g c =
     let disk1 = g.met.D.Disk.is_disk c.make_sure.new.disk honest1 in
     let first = c.read_header.ensures.unwritten honest1 in
     let second = c.read_frames.ensures.unwritten honest2 in
-    let rest = found.1 honest1 in
+    let rest = found.2 honest1 in
     let b = broken honest2 in (
       subst (λ (l : List ℕ). IsDamagedAt l at) (seen_2 d0 d1 d2 d3 sure disk1 first second)
-          (damaged_there d2.seen (27 + 8 * c.len.result) b.0 b.1 at b.2 h found.0 rest.0 (first.seen ∙ rest.1) here b.3),
+          (damaged_there d2.seen (27 + 8 * c.len.result) b.0 b.1 at b.2 h found.1 rest.0 (first.seen ∙ rest.1)
+          here b.3),
       only_3 d0 d1 d2 d3 sure disk1 first second,
     ))
+    (λ _ honest.
+    let honest1 = kept1.stays_honest honest in
+    let rest = found.2 honest1 in
+    let same = (c.in_ok-make_sure.ensures.syncs honest).durable (g.D.Disk.state c.make_sure.new.disk).seen
+    (g.met.D.Disk.is_disk c.make_sure.new.disk honest1).reads in
+    omega (arith, ap length same, ap length rest.1, length-append (spell_heading h) rest.0, here))
     c.in_err-frames.ensures.answer)
 
 pub returns-clause-answer : goal.returns-clause-answer
@@ -44,16 +52,18 @@ returns-clause-answer g c =
     let d2 = g.D.Disk.state c.read_header.new.disk in
     let d3 = g.D.Disk.state c.read_frames.new.disk in
     let h = heading_of c.in_ok-header.header in
-    let kept1 = keeps_of d0 d1 c.make_sure.result c.make_sure.ensures.passes in
+    let kept1 = keeps_of_passes d0 d1 c.make_sure.result c.make_sure.ensures.passes in
+    let none1 = c.in_ok-make_sure.ensures.passes.none_failed in
     let found = c.in_ok-header.ensures.answer in
-    let count : c.len.result ≡ length c.in_ok-header.header.words.items = search rules in
-    let here : 27 + 8 * c.len.result ≡ length (spell_heading h) = omega (arith, count, length_heading h found.0) in
+    let count : c.len.result ≡ length c.in_ok-header.header.capacities.items = search rules in
+    let here : 27 + 8 * c.len.result ≡ length (spell_heading h) = omega (arith, count, length_heading h found.1) in
     let frames = c.in_ok-frames.ensures.answer in
-    let places = c.in_ok-frames.frames.places.items in
+    let extents = c.in_ok-frames.frames.extents.items in
     let end = c.in_ok-frames.frames.end in (
-      found.0,
-      frames.0,
-      frames.2,
+      frames.0 ∙ found.0 ∙ none1,
+      found.1,
+      frames.1,
+      frames.3,
       λ honest.
           let honest1 = kept1.stays_honest honest in
           let honest2 = c.read_header.ensures.disk.stays_honest honest1 in
@@ -61,14 +71,16 @@ returns-clause-answer g c =
           let disk1 = g.met.D.Disk.is_disk c.make_sure.new.disk honest1 in
           let first = c.read_header.ensures.unwritten honest1 in
           let second = c.read_frames.ensures.unwritten honest2 in
-          let rest = found.1 honest1 in
-          let walk = frames.3 honest2 in
+          let rest = found.2 honest1 in
+          let walk = frames.4 honest2 in
           let same2 = seen_2 d0 d1 d2 d3 sure disk1 first second in
           let only = only_3 d0 d1 d2 d3 sure disk1 first second in
-          let stands = stands_for d2.seen (27 + 8 * c.len.result) walk.0.0 places end walk.0.1 h found.0 rest.0 (first.seen ∙ rest.1) here walk.1.0 walk.1.1 walk.1.2 walk.1.3 in
-          let both = on_disk d2.seen (27 + 8 * c.len.result) walk.0.0 places end walk.0.1 h found.0 rest.0 (first.seen ∙ rest.1) here d3 second.seen (λ image left. only image left ∙ sym same2) stands in (
+          let stands = stands_for d2.seen (27 + 8 * c.len.result) walk.0.0 extents end walk.0.1 h found.1 rest.0
+          (first.seen ∙ rest.1) here walk.1.0 walk.1.1 walk.1.2 walk.1.3 in
+          let both = on_disk d2.seen (27 + 8 * c.len.result) walk.0.0 extents end walk.0.1 h found.1 rest.0
+          (first.seen ∙ rest.1) here d3 second.seen (λ image left. only image left ∙ sym same2) stands in (
             both.0,
-            subst (λ (l : List ℕ). StandsFor h (bodies_at d3.seen places) l) same2 both.1,
+            subst (λ (l : List ℕ). StandsFor h (bodies_at d3.seen extents) l) same2 both.1,
             only,
           ),
     )

@@ -1,7 +1,7 @@
 use Rattle.std.proofs.Common.{ℕ, length, ◌+◌, List, ◌++◌, ◌∷◌, [], ◌∙◌, ap, arith}
-use Rattle.gate_journal.specs.Headers.{heading_of}
+use Rattle.gate_journal.specs.Side.{heading_of}
 use Rattle.gate_journal.proofs.Bodies.{moments, failed_on, failed_bodies, added_on, added_bodies, added_each}
-use Rattle.gate_journal.proofs.Places.{one_more}
+use Rattle.gate_journal.proofs.Extents.{one_more}
 use Rattle.gate_journal.proofs.journal.Journal.append.Goals as goal
 
 pub invariant_of-self-in-Ok : goal.invariant_of-self-in-Ok
@@ -10,14 +10,19 @@ invariant_of-self-in-Ok g c =
     let d = g.D.Disk.state i.disk in
     let d' = g.D.Disk.state c.write_frame.new.disk in
     let body = c.args.body.now in
-    let places_are = c.push_reserved.ensures.items ∙ ap (λ (l : List (ℕ × ℕ)). l ++ (i.end + 5, length body) ∷ []) c.make_room.ensures.same in (
+    let extents_are = c.push_reserved.ensures.items
+    ∙ ap (λ (l : List (ℕ × ℕ)). l ++ (i.end + 5, length body) ∷ []) c.make_room.ensures.same in (
       c.self.invariant.0,
       omega arith,
-      one_more i.end (length body) (i.end + (5 + c.from-in-Ok.result)) i.places.items c.push_reserved.new.self.items c.self.invariant.2 places_are c.requires.0 c.requires.1 (omega arith),
+      one_more i.end (length body) (i.end + (5 + c.from-in-Ok.result))
+          i.extents.items c.push_reserved.new.self.items c.self.invariant.2 extents_are c.requires.0 c.requires.1
+          (omega arith),
       λ h'.
           let h = c.write_frame.ensures.passes.was_honest h' in
-          added_on d (heading_of i.header) i.places.items i.end i.failed (c.self.invariant.3 h) c.if-self.false body c.requires d' c.deref.result.now (c.deref.ensures.value ∙ c.fill_frame.ensures.frame)
-          c.push_reserved.new.self.items places_are (c.in-Ok.ensures.opened h) (i.end + (5 + c.from-in-Ok.result)) i.failed (omega arith) c.if-self.false,
+          added_on d (heading_of i.header) i.extents.items i.end i.failed (c.self.invariant.3 h)
+          c.if-self.false body c.requires d' c.deref.result.now (c.deref.ensures.value ∙ c.fill_frame.ensures.frame)
+          c.push_reserved.new.self.items extents_are (c.in-Ok.ensures.opened h) (i.end + (5 + c.from-in-Ok.result))
+          i.failed (omega arith) c.if-self.false,
     )
 
 pub invariant_of-self-in-Err : goal.invariant_of-self-in-Err
@@ -31,7 +36,9 @@ invariant_of-self-in-Err g c =
       λ h'.
           let h = c.write_frame.ensures.passes.was_honest h' in
           rw c.make_room.ensures.same
-          (failed_on d (heading_of i.header) i.places.items i.end i.failed (c.self.invariant.3 h) c.if-self.false c.args.body.now c.requires d' c.deref.result.now (c.deref.ensures.value ∙ c.fill_frame.ensures.frame)
+          (failed_on d (heading_of i.header) i.extents.items i.end i.failed (c.self.invariant.3 h)
+          c.if-self.false c.args.body.now c.requires d' c.deref.result.now
+          (c.deref.ensures.value ∙ c.fill_frame.ensures.frame)
           (c.write_frame.ensures.any_moment h) (g.met.D.Disk.is_disk c.write_frame.new.disk h')),
     )
 
@@ -41,9 +48,11 @@ returns-in-Ok-clause-bodies g c = rw (← c.self.view_is) (λ h.
     let d = g.D.Disk.state i.disk in
     let d' = g.D.Disk.state c.write_frame.new.disk in
     let body = c.args.body.now in
-    let places_are = c.push_reserved.ensures.items ∙ ap (λ (l : List (ℕ × ℕ)). l ++ (i.end + 5, length body) ∷ []) c.make_room.ensures.same in
-    added_bodies d (heading_of i.header) i.places.items i.end i.failed (c.self.invariant.3 h) c.if-self.false body c.requires d' c.deref.result.now (c.deref.ensures.value ∙ c.fill_frame.ensures.frame)
-    c.push_reserved.new.self.items places_are (c.in-Ok.ensures.opened h))
+    let extents_are = c.push_reserved.ensures.items
+    ∙ ap (λ (l : List (ℕ × ℕ)). l ++ (i.end + 5, length body) ∷ []) c.make_room.ensures.same in
+    added_bodies d (heading_of i.header) i.extents.items i.end i.failed (c.self.invariant.3 h)
+    c.if-self.false body c.requires d' c.deref.result.now (c.deref.ensures.value ∙ c.fill_frame.ensures.frame)
+    c.push_reserved.new.self.items extents_are (c.in-Ok.ensures.opened h))
 
 pub returns-in-Ok-clause-sure : goal.returns-in-Ok-clause-sure
 returns-in-Ok-clause-sure g c = rw (← c.self.view_is) (λ h.
@@ -51,15 +60,19 @@ returns-in-Ok-clause-sure g c = rw (← c.self.view_is) (λ h.
     let d = g.D.Disk.state i.disk in
     let d' = g.D.Disk.state c.write_frame.new.disk in
     let body = c.args.body.now in
-    let places_are = c.push_reserved.ensures.items ∙ ap (λ (l : List (ℕ × ℕ)). l ++ (i.end + 5, length body) ∷ []) c.make_room.ensures.same in
-    added_each d (heading_of i.header) i.places.items i.end i.failed (c.self.invariant.3 h) c.if-self.false body c.requires d' c.deref.result.now (c.deref.ensures.value ∙ c.fill_frame.ensures.frame)
-    c.push_reserved.new.self.items places_are (c.in-Ok.ensures.opened h))
+    let extents_are = c.push_reserved.ensures.items
+    ∙ ap (λ (l : List (ℕ × ℕ)). l ++ (i.end + 5, length body) ∷ []) c.make_room.ensures.same in
+    added_each d (heading_of i.header) i.extents.items i.end i.failed (c.self.invariant.3 h)
+    c.if-self.false body c.requires d' c.deref.result.now (c.deref.ensures.value ∙ c.fill_frame.ensures.frame)
+    c.push_reserved.new.self.items extents_are (c.in-Ok.ensures.opened h))
 
 pub returns-in-Ok-clause-any_moment : goal.returns-in-Ok-clause-any_moment
 returns-in-Ok-clause-any_moment g c = rw (← c.self.view_is) (λ h fine.
     let i = c.self.inside in
-    moments (g.D.Disk.state i.disk) (heading_of i.header) i.places.items i.end i.failed (c.self.invariant.3 h) fine c.args.body.now c.requires
-    (g.D.Disk.state c.write_frame.new.disk) c.deref.result.now (c.deref.ensures.value ∙ c.fill_frame.ensures.frame) (c.write_frame.ensures.any_moment h))
+    moments (g.D.Disk.state i.disk) (heading_of i.header) i.extents.items i.end i.failed (c.self.invariant.3 h)
+    fine c.args.body.now c.requires
+    (g.D.Disk.state c.write_frame.new.disk) c.deref.result.now (c.deref.ensures.value ∙ c.fill_frame.ensures.frame)
+    (c.write_frame.ensures.any_moment h))
 
 pub returns-in-Err-clause-bodies : goal.returns-in-Err-clause-bodies
 returns-in-Err-clause-bodies g c = rw (← c.self.view_is) (λ h.
@@ -68,11 +81,15 @@ returns-in-Err-clause-bodies g c = rw (← c.self.view_is) (λ h.
     let d' = g.D.Disk.state c.write_frame.new.disk in
     let h' = c.write_frame.ensures.passes.stays_honest h in
     rw c.make_room.ensures.same
-    (failed_bodies d (heading_of i.header) i.places.items i.end i.failed (c.self.invariant.3 h) c.if-self.false c.args.body.now c.requires d' c.deref.result.now (c.deref.ensures.value ∙ c.fill_frame.ensures.frame)
+    (failed_bodies d (heading_of i.header) i.extents.items i.end i.failed (c.self.invariant.3 h)
+    c.if-self.false c.args.body.now c.requires d' c.deref.result.now
+    (c.deref.ensures.value ∙ c.fill_frame.ensures.frame)
     (c.write_frame.ensures.any_moment h) (g.met.D.Disk.is_disk c.write_frame.new.disk h')))
 
 pub returns-in-Err-clause-any_moment : goal.returns-in-Err-clause-any_moment
 returns-in-Err-clause-any_moment g c = rw (← c.self.view_is) (λ h fine.
     let i = c.self.inside in
-    moments (g.D.Disk.state i.disk) (heading_of i.header) i.places.items i.end i.failed (c.self.invariant.3 h) fine c.args.body.now c.requires
-    (g.D.Disk.state c.write_frame.new.disk) c.deref.result.now (c.deref.ensures.value ∙ c.fill_frame.ensures.frame) (c.write_frame.ensures.any_moment h))
+    moments (g.D.Disk.state i.disk) (heading_of i.header) i.extents.items i.end i.failed (c.self.invariant.3 h)
+    fine c.args.body.now c.requires
+    (g.D.Disk.state c.write_frame.new.disk) c.deref.result.now (c.deref.ensures.value ∙ c.fill_frame.ensures.frame)
+    (c.write_frame.ensures.any_moment h))

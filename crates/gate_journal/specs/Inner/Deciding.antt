@@ -5,31 +5,32 @@ use Rattle.std.specs.List.{All}
 use Rattle.std.proofs.lemmas.Bool.{cases_eq, cases_lt, cases_Bool, false≢true}
 use Rattle.std.proofs.lemmas.List.Elements.{All-nil, All-cons, All-head, All-tail}
 
-abbrev pub Told : Type 0 → Type 0
-Told P = P ⊎ (P → ⊥)
+abbrev pub Decidable : Type 0 → Type 0
+Decidable P = P ⊎ (P → ⊥)
 
 module _ {P Q : Type 0} where
-  pub both : Told P → Told Q → Told (P × Q)
+  pub both : Decidable P → Decidable Q → Decidable (P × Q)
   both (inl p) (inl q) = inl (p, q)
   both (inr never) q = inr (λ w. never w.0)
   both (inl p) (inr never) = inr (λ w. never w.1)
 
-  pub told_as : (P → Q) → (Q → P) → Told P → Told Q
-  told_as to back (inl p) = inl (to p)
-  told_as to back (inr never) = inr (λ q. never (back q))
+  pub decided_as : (P → Q) → (Q → P) → Decidable P → Decidable Q
+  decided_as to back (inl p) = inl (to p)
+  decided_as to back (inr never) = inr (λ q. never (back q))
 
-pub below : (m n : ℕ) → Told (m ≤ n)
+pub below : (m n : ℕ) → Decidable (m ≤ n)
 below m n = ⊎_elim (λ (l : n < m). inr (λ h. omega arith)) inl (cases_lt n m)
 
-pub is_true : (b : Bool) → Told (IsTrue b)
+pub is_true : (b : Bool) → Decidable (IsTrue b)
 is_true b = ⊎_elim inl (λ no. inr (λ yes. false≢true (cc))) (cases_Bool b)
 
-pub all : {X : Type 0} (P : X → Type 0) → ((x : X) → Told (P x)) → (xs : List X) → Told (All P xs)
+pub all : {X : Type 0} (P : X → Type 0) → ((x : X) → Decidable (P x)) → (xs : List X) → Decidable (All P xs)
 all P each [] = inl (All-nil P)
-all P each (x ∷ xs) = told_as (λ w. All-cons P x xs w.0 w.1) (λ a. (All-head P x xs a, All-tail P x xs a)) (both (each x) (all P each xs))
+all P each (x ∷ xs) = decided_as (λ w. All-cons P x xs w.0 w.1) (λ a. (All-head P x xs a, All-tail P x xs a))
+    (both (each x) (all P each xs))
 
 -- some number below n
-pub some_below : (P : ℕ → Type 0) → ((k : ℕ) → Told (P k)) → (n : ℕ) → Told ((k : ℕ) × (k < n) × P k)
+pub some_below : (P : ℕ → Type 0) → ((k : ℕ) → Decidable (P k)) → (n : ℕ) → Decidable ((k : ℕ) × (k < n) × P k)
 some_below P each zero = inr (λ w. absurd (omega (arith, w.1)))
 some_below P each (suc n) = elim (each n) [
   | inl p ↦ inl (n, omega arith, p)
@@ -42,7 +43,7 @@ some_below P each (suc n) = elim (each n) [
   ]
 ]
 
-pub same : (xs ys : List ℕ) → Told (xs ≡ ys)
+pub same : (xs ys : List ℕ) → Decidable (xs ≡ ys)
 same [] [] = inl refl
 same [] (y ∷ ys) = inr (λ e. cc)
 same (x ∷ xs) [] = inr (λ e. cc)

@@ -1,5 +1,5 @@
-use Rattle.gate_journal.proofs.Sides.{one_side, one_place, sound, never_ours, stands, damaged}
-use Rattle.gate_journal.proofs.laws.no_image_is_told_twice.Goals as goal
+use Rattle.gate_journal.specs.Inner.Sides.{one_side, one_place, sound, never_ours, stands, damaged}
+use Rattle.gate_journal.proofs.laws.no_image_is_decided_twice.Goals as goal
 
 pub returns : goal.returns
 returns c = record {

@@ -6,14 +6,19 @@ use Rattle.gate_journal.specs.declared.header.SideKind.TheVariants.{Cartridge, S
 use Rattle.gate_journal.specs.Side.{Heading}
 
 -- eight bytes at a time as numbers (own)
-abbrev pub words_of : List ℕ → List ℕ
-words_of (a ∷ b ∷ c ∷ d ∷ e ∷ f ∷ g ∷ h ∷ rest) = big_number 8 (a ∷ b ∷ c ∷ d ∷ e ∷ f ∷ g ∷ h ∷ []) ∷ words_of rest
-words_of rest = []
+abbrev pub numbers_of : List ℕ → List ℕ
+numbers_of (a ∷ b ∷ c ∷ d ∷ e ∷ f ∷ g ∷ h ∷ rest) =
+    big_number 8 (a ∷ b ∷ c ∷ d ∷ e ∷ f ∷ g ∷ h ∷ []) ∷ numbers_of rest
+numbers_of rest = []
 
 -- the kind by the one letter in which the marks differ first (own)
-abbrev pub kind_told : ℕ → SideKind
-kind_told byte = if byte == 67 then Cartridge else Store
+abbrev pub kind_by_letter : ℕ → SideKind
+kind_by_letter byte = if byte == 67 then Cartridge else Store
 
 -- the heading that bytes spell, if they spell one (own)
 abbrev pub heading_within : List ℕ → Heading
-heading_within bytes = record { kind = kind_told (slice_index bytes 4); name = take 16 (drop 11 bytes); words = words_of (drop 27 bytes) }
+heading_within bytes = record {
+  kind = kind_by_letter (slice_index bytes 4);
+  name = take 16 (drop 11 bytes);
+  capacities = numbers_of (drop 27 bytes);
+}

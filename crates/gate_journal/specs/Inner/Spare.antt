@@ -3,6 +3,7 @@ use Rattle.std.specs.Prelude.{ℕ, ◌-◌, if◌then◌else◌, nat_le, vec_len
 use Rattle.std.specs.declared.vec.Vec.{Vec}
 use Rattle.gate_journal.specs.declared.spelling.TheConstants.{FRAME_BYTES}
 
--- the places that are free, where the buffer has room for the longest frame (own)
+-- the extents that may be added, where the buffer has room for the longest frame (own)
 abbrev pub spare : {A B P Q : Type 0} → Vec A P → Vec B Q → ℕ
-spare places buffer = if nat_le FRAME_BYTES (vec_capacity buffer) then vec_capacity places - vec_len places else 0
+spare extents buffer =
+    if nat_le FRAME_BYTES (vec_capacity buffer) then vec_capacity extents - vec_len extents else 0

@@ -1,0 +1,210 @@
+-- A heading is spelled in one way, and one can find out whether bytes begin with one.
+use Rattle.std.proofs.Common.{◌≡◌, ℕ, ◌<◌, ◌≤◌, ◌+◌, ◌-◌, ◌*◌, ◌^◌, List, [], ◌∷◌, ◌++◌, length, take, drop, get_or, replicate, refl, sym, ◌∙◌, ap, subst, arith, append_assoc, length-append, true, false, cond, nat_lt}
+use Rattle.std.specs.Prelude.{codes, Bool, IsTrue, nat_le, ◌&&◌}
+use Rattle.std.specs.List.{All, flat_map}
+use Rattle.std.specs.Int.{to_be_bytes, w64}
+use Rattle.std.proofs.lemmas.List.{take_at, drop_at, length-replicate}
+use Rattle.std.proofs.lemmas.List.Elements.{All-head, All-tail}
+use Rattle.std.proofs.lemmas.Bool.{cases_eq, leb-true, false≢true}
+use Rattle.vtl_base.specs.Barcode.{IsBarcode, is_symbol}
+use Rattle.vtl_base.specs.Limits.{is_capacity}
+use Rattle.gate_journal.specs.declared.header.SideKind.{SideKind}
+use Rattle.gate_journal.specs.declared.header.SideKind.TheVariants.{Cartridge, Store}
+use Rattle.gate_journal.specs.Side.{OPEN, Heading, padded, digits, drive_name, IsName, IsCount, IsHeading, mark, spell_heading}
+use Rattle.gate_journal.specs.Inner.Reading.{numbers_of, heading_within}
+use Rattle.std.specs.Prelude.{slice_index}
+use Rattle.byteorder.specs.Numbers.{big_number-reads_back}
+use Rattle.gate_journal.specs.Inner.Deciding.{Decidable, both, decided_as, below, is_true, all, some_below, same}
+
+length_padded : (text : List ℕ) → length text ≤ 16 → length (padded text) ≡ 16
+length_padded text short = omega
+    (arith, short, length-append text (replicate (16 - length text) 32), length-replicate {A = ℕ} (16 - length text) 32)
+
+short_digits : (n : ℕ) → length (codes "DRIVE" ++ digits n) ≤ 16
+short_digits n = elim (nat_lt n 10) as
+    (λ b. length (codes "DRIVE" ++ cond b ((48 + n) ∷ []) (49 ∷ (38 + n) ∷ [])) ≤ 16)
+    [ true ↦ omega arith | false ↦ omega arith ]
+
+pub length_name : (kind : SideKind) (name : List ℕ) → IsName kind name → length name ≡ 16
+length_name Cartridge name (text, ok, is) = ap length is ∙ length_padded text ok.short
+length_name Store name (n, low, high, is) = ap length is ∙ length_padded (codes "DRIVE" ++ digits n) (short_digits n)
+
+pub length_capacities : (capacities : List ℕ) → length (flat_map (to_be_bytes w64) capacities) ≡ 8 * length capacities
+length_capacities [] = refl
+length_capacities (w ∷ ws) = omega
+    (arith, length_capacities ws, length-append (to_be_bytes w64 w) (flat_map (to_be_bytes w64) ws))
+
+-- the heading of that kind that the bytes may begin with
+abbrev pub heading_at : SideKind → List ℕ → Heading
+heading_at kind bytes = record {
+  kind = kind;
+  name = take 16 (drop 11 bytes);
+  capacities = numbers_of (take (8 * slice_index bytes 10) (drop 27 bytes));
+}
+
+second_true : (x y : Bool) → (x && y) ≡ true → y ≡ true
+second_true true y e = e
+second_true false y e = absurd (false≢true e)
+
+abbrev Allowed : ℕ → Type 0
+Allowed bytes = IsTrue (is_capacity bytes)
+
+pub numbers_again : (capacities : List ℕ) → All Allowed capacities →
+    numbers_of (flat_map (to_be_bytes w64) capacities) ≡ capacities
+numbers_again [] ok = refl
+numbers_again (w ∷ ws) ok =
+    let below : w ≤ 1099511627776 =
+    leb-true w 1099511627776 (second_true (nat_le 4096 w) _ (All-head Allowed w ws ok)) in
+    let fits : w < 2 ^ 64 = omega (arith, below) in
+    λ i. big_number-reads_back 8 w [] fits i ∷ numbers_again ws (All-tail Allowed w ws ok) i
+
+module _ (name capacities rest : List ℕ) (named : length name ≡ 16) (ok : All Allowed capacities) where
+  abbrev tail : List ℕ
+  tail = name ++ flat_map (to_be_bytes w64) capacities ++ rest
+
+  tail_name : take 16 tail ≡ name
+  tail_name = ap (λ (l : List ℕ). take 16 l) (append_assoc name (flat_map (to_be_bytes w64) capacities) rest)
+      ∙ take_at name (flat_map (to_be_bytes w64) capacities ++ rest) 16 named
+
+  tail_capacities : numbers_of (take (8 * length capacities) (drop 16 tail)) ≡ capacities
+  tail_capacities =
+      ap (λ (l : List ℕ). numbers_of (take (8 * length capacities) l))
+      (ap (λ (l : List ℕ). drop 16 l) (append_assoc name (flat_map (to_be_bytes w64) capacities) rest)
+      ∙ drop_at name (flat_map (to_be_bytes w64) capacities ++ rest) 16 named)
+      ∙ ap numbers_of (take_at (flat_map (to_be_bytes w64) capacities) rest (8 * length capacities)
+      (length_capacities capacities))
+      ∙ numbers_again capacities ok
+
+  pub heading_again : (kind : SideKind) →
+      heading_at kind (spell_heading (record { kind = kind; name = name; capacities = capacities }) ++ rest) ≡ record
+      { kind = kind; name = name; capacities = capacities }
+  heading_again Cartridge = λ i. record { kind = Cartridge; name = tail_name i; capacities = tail_capacities i }
+  heading_again Store = λ i. record { kind = Store; name = tail_name i; capacities = tail_capacities i }
+
+within_again : (kind : SideKind) (name capacities : List ℕ) → length name ≡ 16 → All Allowed capacities →
+    heading_within (spell_heading (record { kind = kind; name = name; capacities = capacities })) ≡ record {
+      kind =
+          kind;
+      name = name;
+      capacities = capacities;
+    }
+within_again Cartridge name capacities named ok =
+    let bytes = flat_map (to_be_bytes w64) capacities in
+    λ i. record {
+      kind = Cartridge;
+      name = take_at name bytes 16 named i;
+      capacities =
+          (ap numbers_of (drop_at name bytes 16 named) ∙ numbers_again capacities ok) i;
+    }
+within_again Store name capacities named ok =
+    let bytes = flat_map (to_be_bytes w64) capacities in
+    λ i. record {
+      kind = Store;
+      name = take_at name bytes 16 named i;
+      capacities =
+          (ap numbers_of (drop_at name bytes 16 named) ∙ numbers_again capacities ok) i;
+    }
+
+pub within_is : (h : Heading) → IsHeading h → heading_within (spell_heading h) ≡ h
+within_is h ok = within_again h.kind h.name h.capacities (length_name h.kind h.name ok.name) ok.capacities
+
+pub heading_is : (h : Heading) (rest : List ℕ) → IsHeading h → heading_at h.kind (spell_heading h ++ rest) ≡ h
+heading_is h rest ok = heading_again h.name h.capacities rest (length_name h.kind h.name ok.name) ok.capacities h.kind
+
+-- the mark tells the kind
+fourth : (k : SideKind) (n m r : List ℕ) →
+    get_or (spell_heading (record { kind = k; name = n; capacities = m }) ++ r) 4 0 ≡ get_or (mark k) 3 0
+fourth Cartridge n m r = refl
+fourth Store n m r = refl
+
+told_kind : (k l : SideKind) → get_or (mark k) 3 0 ≡ get_or (mark l) 3 0 → k ≡ l
+told_kind Cartridge Cartridge e = refl
+told_kind Store Store e = refl
+told_kind Cartridge Store e = absurd (omega (arith, e))
+told_kind Store Cartridge e = absurd (omega (arith, e))
+
+pub same_heading : (h k : Heading) (r s : List ℕ) → IsHeading h → IsHeading k →
+    spell_heading h ++ r ≡ spell_heading k ++ s → h ≡ k
+same_heading h k r s okh okk e =
+    let kinds = told_kind h.kind k.kind
+    (sym (fourth h.kind h.name h.capacities r) ∙ ap (λ (l : List ℕ). get_or l 4 0) e
+    ∙ fourth k.kind k.name k.capacities s) in
+    sym (heading_is h r okh) ∙ (λ i. heading_at (kinds i) (e i)) ∙ heading_is k s okk
+
+-- whether bytes begin with a heading
+decided_barcode : (bytes : List ℕ) → Decidable (IsBarcode bytes)
+decided_barcode bytes =
+    decided_as (λ w. record { some = w.0.0; short = w.0.1; symbols = w.1 }) (λ b. ((b.some, b.short), b.symbols))
+    (both (both (below 1 (length bytes)) (below (length bytes) 16))
+    (all (λ byte. is_symbol byte ≡ true) (λ byte. is_true (is_symbol byte)) bytes))
+
+decided_name : (kind : SideKind) (name : List ℕ) → Decidable (IsName kind name)
+decided_name Cartridge name =
+    decided_as
+    (λ (w : (n : ℕ) × (n < 17) × (IsBarcode (take n name) × (name ≡ padded (take n name)))).
+    (take w.0 name, w.2.0, w.2.1))
+    (λ (t : (text : List ℕ) × IsBarcode text × (name ≡ padded text)).
+    let front : take (length t.0) name ≡ t.0 =
+    ap (λ (l : List ℕ). take (length t.0) l) t.2 ∙ take_at t.0 (replicate (16 - length t.0) 32) (length t.0) refl in (
+      length t.0,
+      omega (arith, t.1.short),
+      (subst (λ (l : List ℕ). IsBarcode l) (sym front) t.1, t.2 ∙ ap padded (sym front)),
+    ))
+    (some_below (λ n. IsBarcode (take n name) × (name ≡ padded (take n name)))
+    (λ n. both (decided_barcode (take n name)) (same name (padded (take n name)))) 17)
+decided_name Store name =
+    decided_as
+    (λ (w : (n : ℕ) × (n < 17) × ((1 ≤ n) × (name ≡ drive_name n))).
+    (w.0, w.2.0, (let l : w.0 ≤ 16 = omega (arith, w.1) in l), w.2.1))
+    (λ (w : (n : ℕ) × (1 ≤ n) × (n ≤ 16) × (name ≡ drive_name n)). (w.0, omega (arith, w.2), (w.1, w.3)))
+    (some_below (λ n. (1 ≤ n) × (name ≡ drive_name n)) (λ n. both (below 1 n) (same name (drive_name n))) 17)
+
+decided_count : (kind : SideKind) (n : ℕ) → Decidable (IsCount kind n)
+decided_count Cartridge n = both (below 1 n) (below n 4)
+decided_count Store n = cases_eq n 0
+
+pub decided_heading : (h : Heading) → Decidable (IsHeading h)
+decided_heading h =
+    decided_as (λ w. record { name = w.0.0; count = w.0.1; capacities = w.1 }) (λ b. ((b.name, b.count), b.capacities))
+    (both (both (decided_name h.kind h.name) (decided_count h.kind (length h.capacities)))
+    (all Allowed (λ n. is_true (is_capacity n)) h.capacities))
+
+few : (kind : SideKind) (n : ℕ) → IsCount kind n → n ≤ 4
+few Cartridge n count = count.1
+few Store n count = omega (arith, count)
+
+pub few_capacities : (h : Heading) → IsHeading h → length h.capacities ≤ 4
+few_capacities h ok = few h.kind (length h.capacities) ok.count
+
+length_mark : (kind : SideKind) → length (mark kind) ≡ 8
+length_mark Cartridge = refl
+length_mark Store = refl
+
+pub length_heading : (h : Heading) → IsHeading h → length (spell_heading h) ≡ 27 + 8 * length h.capacities
+length_heading h ok =
+    omega (
+      arith,
+      length_name h.kind h.name ok.name,
+      length_capacities h.capacities,
+      length_mark h.kind,
+      length-append (OPEN ∷ mark h.kind ++ 0 ∷ length h.capacities ∷ h.name) (flat_map (to_be_bytes w64) h.capacities),
+      length-append (OPEN ∷ mark h.kind) (0 ∷ length h.capacities ∷ h.name),
+    )
+
+told_count_at : (kind : SideKind) (name capacities rest : List ℕ) →
+    get_or (spell_heading (record { kind = kind; name = name; capacities = capacities }) ++ rest)
+    10 0 ≡ length capacities
+told_count_at Cartridge name capacities rest = refl
+told_count_at Store name capacities rest = refl
+
+-- what an image that begins with a heading has in front
+module _ (h : Heading) (rest image : List ℕ) (ok : IsHeading h) (is : image ≡ spell_heading h ++ rest) where
+  pub count_there : get_or image 10 0 ≡ length h.capacities
+  count_there = ap (λ (l : List ℕ). get_or l 10 0) is ∙ told_count_at h.kind h.name h.capacities rest
+
+  pub heading_there : take (27 + 8 * length h.capacities) image ≡ spell_heading h
+  heading_there = ap (λ (l : List ℕ). take (27 + 8 * length h.capacities) l) is
+      ∙ take_at (spell_heading h) rest (27 + 8 * length h.capacities) (length_heading h ok)
+
+  pub long_enough : 27 + 8 * length h.capacities ≤ length image
+  long_enough = omega (arith, ap length is, length_heading h ok, length-append (spell_heading h) rest)

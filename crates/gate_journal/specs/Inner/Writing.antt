@@ -1,0 +1,24 @@
+-- What a crash may leave while a frame is written, in bytes.
+use Rattle.std.specs.Prelude.{◌≡◌, ◌⊎◌, ℕ, List, ◌∷◌, ◌++◌}
+use Rattle.tape_disk.specs.Disk.{Smeared}
+use Rattle.gate_journal.specs.Side.{OPEN}
+
+-- one of these images, and any bytes in a range of it (own)
+abbrev pub Touched : ℕ → ℕ → (List ℕ → Type 0) → List ℕ → Type 0
+Touched at n images image = (before : List ℕ) × images before × Smeared at n before image
+
+-- the front and the gate, and then anything (own)
+abbrev pub Behind : List ℕ → ℕ → List ℕ → Type 0
+Behind front gate image = (rest : List ℕ) × (image ≡ front ++ gate ∷ rest)
+
+-- the front, some gate, and these bytes behind it (own)
+abbrev pub Gated : List ℕ → List ℕ → List ℕ → Type 0
+Gated front bytes image = (gate : ℕ) × (rest : List ℕ) × (image ≡ front ++ gate ∷ bytes ++ rest)
+
+-- anything behind the old gate, or these bytes behind some gate (own)
+abbrev pub BehindOrGated : List ℕ → ℕ → List ℕ → List ℕ → Type 0
+BehindOrGated front gate bytes image = Behind front gate image ⊎ Gated front bytes image
+
+-- the front, an open gate, and these bytes behind it (own)
+abbrev pub Opened : List ℕ → List ℕ → List ℕ → Type 0
+Opened front bytes image = (rest : List ℕ) × (image ≡ front ++ OPEN ∷ bytes ++ rest)

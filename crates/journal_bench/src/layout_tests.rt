@@ -1,0 +1,75 @@
+//! The layout byte by byte, every cut and every gate.
+use crate::samples::{FIRST, SECOND, SIDE, body_of, frames_of, shut, written};
+use gate_journal::{Journal, JournalError};
+use std::test::Fail;
+use tape_disk::MemDisk;
+
+#[test]
+fn a_side_byte_by_byte(rt: HostRuntime) -> Result<(), Fail> {
+    let alloc = rt.alloc();
+    for (frames, gate, room) in [
+        (0, 35, 1_099_511_627_740),
+        (1, 55, 1_099_511_627_720),
+        (2, 70, 1_099_511_627_705),
+    ] {
+        let journal = written(alloc, frames)?;
+        let state = (journal.frames(), journal.has_failed(), journal.room());
+        assert_eq!(rt; state, (frames, false, room));
+        assert_eq!(rt; journal.disk().bytes(), shut(alloc, gate)?.as_slice());
+    }
+    Ok(())
+}
+
+#[test]
+fn bodies_are_read_back(rt: HostRuntime) -> Result<(), Fail> {
+    let alloc = rt.alloc();
+    let Ok(mut journal) = Journal::open(alloc, MemDisk::from_bytes(alloc, &SIDE)?) else {
+        return Err(Fail::from("not opened"));
+    };
+    let header = journal.header();
+    assert_eq!(rt; header.name, *b"T00001L6        ");
+    assert_eq!(rt; header.capacities.as_slice(), [4096].as_slice());
+    for (frame, place, bytes) in [(0, 40, FIRST.as_slice()), (1, 60, SECOND.as_slice())] {
+        let Ok((at, body)) = body_of(alloc, &mut journal, frame) else {
+            return Err(Fail::from("not read"));
+        };
+        assert_eq!(rt; (at, body.as_slice()), (place, bytes));
+    }
+    Ok(())
+}
+
+#[test]
+fn every_cut(rt: HostRuntime) -> Result<(), Fail> {
+    let alloc = rt.alloc();
+    for len in 0..SIDE.len() {
+        let found = frames_of(alloc, MemDisk::from_bytes(alloc, &SIDE[..len])?);
+        let expected = match len {
+            0..=34 => Err(JournalError::NotOurs),
+            35..=55 => Err(JournalError::Damaged { at: 35 }),
+            _ => Err(JournalError::Damaged { at: 55 }),
+        };
+        assert_eq!(rt; found, expected, "cut to {len} bytes");
+    }
+    Ok(())
+}
+
+#[test]
+fn every_gate(rt: HostRuntime) -> Result<(), Fail> {
+    let alloc = rt.alloc();
+    for value in 0..=255 {
+        for (gate, shut, open) in [
+            (35, 0, Ok(2)),
+            (55, 1, Ok(2)),
+            (70, 2, Err(JournalError::Damaged { at: 70 })),
+        ] {
+            let mut bytes = SIDE;
+            if gate < bytes.len() {
+                bytes[gate] = value;
+            }
+            let found = frames_of(alloc, MemDisk::from_bytes(alloc, &bytes)?);
+            let expected = if value == 0xa5 { open } else { Ok(shut) };
+            assert_eq!(rt; found, expected, "{value} at {gate}");
+        }
+    }
+    Ok(())
+}
