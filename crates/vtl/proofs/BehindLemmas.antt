@@ -6,12 +6,12 @@ use Rattle.std.proofs.lemmas.Grind.{flat_map-append}
 use Rattle.std.specs.Io.KnownBytes.{Appends, Consumes}
 use Rattle.scsi_wire.specs.declared.replies.Reply.{Reply}
 use Rattle.vtl.specs.declared.lines.Line.{Line}
-use Rattle.vtl.specs.declared.lines.Meaning.{Meaning}
+use Rattle.vtl.specs.declared.lines.ParsedLine.{ParsedLine}
 use Rattle.vtl.specs.declared.phases.Phase.{Phase}
-use Rattle.vtl.specs.Phases.{meanings_of, phases_to_run, by_host, in_turn}
+use Rattle.vtl.specs.Phases.{parsed_lines, phases_to_run, by_host, in_turn}
 use Rattle.vtl.specs.Text.{reply_text, text_of}
 use Rattle.vtl.specs.Reading.{Reading}
-use Rattle.vtl.specs.ReadPhase.{rest_of, SaysFirst, IsPhase, ReadsPhase}
+use Rattle.vtl.specs.ReadPhase.{rest_of, ParsesFirst, IsPhase, ReadsPhase}
 use Rattle.vtl.proofs.PhaseLemmas.{at_end}
 use Rattle.vtl.proofs.TextLemmas.{appends_on}
 
@@ -37,21 +37,21 @@ take_part count lines behind =
     ∙ take-append_seam (take count lines) (drop count lines ++ behind)
 
 -- what is run and written behind some phases
-runs_behind : (front said : List Meaning) (phases : List (List Line)) → phases_to_run (front ++ said) ≡ phases ++ phases_to_run said → in_turn (phases_to_run (front ++ said)) ≡ in_turn phases ++ in_turn (phases_to_run said)
-runs_behind front said phases to_run = ap in_turn to_run ∙ in_turn-append phases (phases_to_run said)
+runs_behind : (front parsed_list : List ParsedLine) (phases : List (List Line)) → phases_to_run (front ++ parsed_list) ≡ phases ++ phases_to_run parsed_list → in_turn (phases_to_run (front ++ parsed_list)) ≡ in_turn phases ++ in_turn (phases_to_run parsed_list)
+runs_behind front parsed_list phases to_run = ap in_turn to_run ∙ in_turn-append phases (phases_to_run parsed_list)
 
-pub lines_behind : (front said : List Meaning) (phases : List (List Line)) (lines : List Line) → phases_to_run (front ++ said) ≡ phases ++ phases_to_run said → lines ≡ in_turn (phases_to_run said) → in_turn phases ++ lines ≡ in_turn (phases_to_run (front ++ said))
-lines_behind front said phases lines to_run is = ap (λ (xs : List Line). in_turn phases ++ xs) is ∙ sym (runs_behind front said phases to_run)
+pub lines_behind : (front parsed_list : List ParsedLine) (phases : List (List Line)) (lines : List Line) → phases_to_run (front ++ parsed_list) ≡ phases ++ phases_to_run parsed_list → lines ≡ in_turn (phases_to_run parsed_list) → in_turn phases ++ lines ≡ in_turn (phases_to_run (front ++ parsed_list))
+lines_behind front parsed_list phases lines to_run is = ap (λ (xs : List Line). in_turn phases ++ xs) is ∙ sym (runs_behind front parsed_list phases to_run)
 
-pub phases_behind : (front said : List Meaning) (phases : List (List Line)) (lines : List Line) (count : ℕ) → phases_to_run (front ++ said) ≡ phases ++ phases_to_run said → lines ≡ in_turn (take count (phases_to_run said)) → in_turn phases ++ lines ≡ in_turn (take (length phases + count) (phases_to_run (front ++ said)))
-phases_behind front said phases lines count to_run is =
+pub phases_behind : (front parsed_list : List ParsedLine) (phases : List (List Line)) (lines : List Line) (count : ℕ) → phases_to_run (front ++ parsed_list) ≡ phases ++ phases_to_run parsed_list → lines ≡ in_turn (take count (phases_to_run parsed_list)) → in_turn phases ++ lines ≡ in_turn (take (length phases + count) (phases_to_run (front ++ parsed_list)))
+phases_behind front parsed_list phases lines count to_run is =
     ap (λ (xs : List Line). in_turn phases ++ xs) is
-    ∙ sym (ap (λ (xs : List (List Line)). in_turn (take (length phases + count) xs)) to_run ∙ ap in_turn (take-append-add phases (phases_to_run said) count) ∙ in_turn-append phases (take count (phases_to_run said)))
+    ∙ sym (ap (λ (xs : List (List Line)). in_turn (take (length phases + count) xs)) to_run ∙ ap in_turn (take-append-add phases (phases_to_run parsed_list) count) ∙ in_turn-append phases (take count (phases_to_run parsed_list)))
 
-pub some_behind : (front said : List Meaning) (phases : List (List Line)) (lines : List Line) (count : ℕ) → phases_to_run (front ++ said) ≡ phases ++ phases_to_run said → lines ≡ take count (in_turn (phases_to_run said)) → in_turn phases ++ lines ≡ take (length (in_turn phases) + count) (in_turn (phases_to_run (front ++ said)))
-some_behind front said phases lines count to_run is =
+pub some_behind : (front parsed_list : List ParsedLine) (phases : List (List Line)) (lines : List Line) (count : ℕ) → phases_to_run (front ++ parsed_list) ≡ phases ++ phases_to_run parsed_list → lines ≡ take count (in_turn (phases_to_run parsed_list)) → in_turn phases ++ lines ≡ take (length (in_turn phases) + count) (in_turn (phases_to_run (front ++ parsed_list)))
+some_behind front parsed_list phases lines count to_run is =
     ap (λ (xs : List Line). in_turn phases ++ xs) is
-    ∙ sym (ap (take (length (in_turn phases) + count)) (runs_behind front said phases to_run) ∙ take-append-add (in_turn phases) (in_turn (phases_to_run said)) count)
+    ∙ sym (ap (take (length (in_turn phases) + count)) (runs_behind front parsed_list phases to_run) ∙ take-append-add (in_turn phases) (in_turn (phases_to_run parsed_list)) count)
 
 pub written_behind : (before during now : Option (List ℕ)) (first rest : List Reply) → Appends before during (text_of first) → Appends during now (text_of rest) → Appends before now (text_of (first ++ rest))
 written_behind before during now first rest one two = rw (text_of-append first rest) (appends_on before during now (text_of first) (text_of rest) one two)
@@ -62,28 +62,28 @@ some_written_behind before during now first rest count one two = rw (take-append
 -- the commands of a phase that was read, among those of the whole script
 pub record IsInScript (is_configured : ℕ → Bool) (text : List ℕ) (lines : List Line) : Type 0 where
   pub behind : List Line
-  pub runs : in_turn (phases_to_run (meanings_of is_configured text)) ≡ by_host lines ++ behind
+  pub runs : in_turn (phases_to_run (parsed_lines is_configured text)) ≡ by_host lines ++ behind
   pub count : ℕ
-  pub phases : by_host lines ≡ in_turn (take count (phases_to_run (meanings_of is_configured text)))
+  pub phases : by_host lines ≡ in_turn (take count (phases_to_run (parsed_lines is_configured text)))
 
-phase_in : (is_configured : ℕ → Bool) (is_last : Bool) (said all behind : List Meaning) (lines : List Line) → all ≡ said ++ behind → (is_last ≡ true → behind ≡ []) → IsPhase is_last said lines → (rest : List Line) × (in_turn (phases_to_run all) ≡ by_host lines ++ rest) × ((count : ℕ) × (by_host lines ≡ in_turn (take count (phases_to_run all))))
-phase_in is_configured true said all behind lines is last phase =
-    let whole : all ≡ said = is ∙ ap (λ (xs : List Meaning). said ++ xs) (last refl) ∙ append-nil said in
+phase_in : (is_configured : ℕ → Bool) (is_last : Bool) (parsed_list all behind : List ParsedLine) (lines : List Line) → all ≡ parsed_list ++ behind → (is_last ≡ true → behind ≡ []) → IsPhase is_last parsed_list lines → (rest : List Line) × (in_turn (phases_to_run all) ≡ by_host lines ++ rest) × ((count : ℕ) × (by_host lines ≡ in_turn (take count (phases_to_run all))))
+phase_in is_configured true parsed_list all behind lines is last phase =
+    let whole : all ≡ parsed_list = is ∙ ap (λ (xs : List ParsedLine). parsed_list ++ xs) (last refl) ∙ append-nil parsed_list in
     let runs : in_turn (phases_to_run all) ≡ by_host lines = ap in_turn (ap phases_to_run whole) ∙ phase in
     ([], runs ∙ sym (append-nil (by_host lines)), (length (phases_to_run all), sym (ap in_turn (take_all (length (phases_to_run all)) (phases_to_run all) (omega arith)) ∙ runs)))
-phase_in is_configured false said all behind lines is last phase =
+phase_in is_configured false parsed_list all behind lines is last phase =
     let first : phases_to_run all ≡ lines ∷ phases_to_run behind = ap phases_to_run is ∙ phase behind in
     (in_turn (phases_to_run behind), ap in_turn first, (1, sym (ap (λ (xs : List (List Line)). in_turn (take 1 xs)) first ∙ append-nil (by_host lines))))
 
-behind_of : (is_configured : ℕ → Bool) (is_last : Bool) (text read : List ℕ) (said : List Meaning) (unread : List ℕ) (left : Option (List ℕ)) → SaysFirst is_configured is_last (text ++ read) said unread left → (behind : List Meaning) × (meanings_of is_configured (text ++ (read ++ rest_of left)) ≡ said ++ behind) × (is_last ≡ true → behind ≡ [])
-behind_of is_configured true text read said unread left says =
-    ([], ap (meanings_of is_configured) (sym (append_assoc text read (rest_of left)) ∙ ap (λ (xs : List ℕ). (text ++ read) ++ xs) (at_end left says.0) ∙ append-nil (text ++ read)) ∙ says.1 ∙ sym (append-nil said), λ is. refl)
-behind_of is_configured false text read said unread left says =
-    (meanings_of is_configured (unread ++ rest_of left), ap (meanings_of is_configured) (sym (append_assoc text read (rest_of left))) ∙ says (rest_of left), λ is. absurd (cc))
+behind_of : (is_configured : ℕ → Bool) (is_last : Bool) (text read : List ℕ) (parsed_list : List ParsedLine) (unread : List ℕ) (left : Option (List ℕ)) → ParsesFirst is_configured is_last (text ++ read) parsed_list unread left → (behind : List ParsedLine) × (parsed_lines is_configured (text ++ (read ++ rest_of left)) ≡ parsed_list ++ behind) × (is_last ≡ true → behind ≡ [])
+behind_of is_configured true text read parsed_list unread left says =
+    ([], ap (parsed_lines is_configured) (sym (append_assoc text read (rest_of left)) ∙ ap (λ (xs : List ℕ). (text ++ read) ++ xs) (at_end left says.0) ∙ append-nil (text ++ read)) ∙ says.1 ∙ sym (append-nil parsed_list), λ is. refl)
+behind_of is_configured false text read parsed_list unread left says =
+    (parsed_lines is_configured (unread ++ rest_of left), ap (parsed_lines is_configured) (sym (append_assoc text read (rest_of left))) ∙ says (rest_of left), λ is. absurd (cc))
 
 -- the commands of a phase that was read are the first of those that a script runs
 pub in_script : (is_configured : ℕ → Bool) (left left' : Option (List ℕ)) (old new : Reading) (phase : Phase) → (reads : ReadsPhase is_configured left old left' new phase) → IsInScript is_configured (old.unread ++ (reads.read ++ rest_of left')) phase.lines.items
 in_script is_configured left left' old new phase reads =
-    let behind = behind_of is_configured phase.is_last old.unread reads.read reads.said new.unread left' reads.says in
-    let at = phase_in is_configured phase.is_last reads.said (meanings_of is_configured (old.unread ++ (reads.read ++ rest_of left'))) behind.0 phase.lines.items behind.1 behind.2 reads.is_phase in
+    let behind = behind_of is_configured phase.is_last old.unread reads.read reads.parsed_list new.unread left' reads.says in
+    let at = phase_in is_configured phase.is_last reads.parsed_list (parsed_lines is_configured (old.unread ++ (reads.read ++ rest_of left'))) behind.0 phase.lines.items behind.1 behind.2 reads.is_phase in
     record { behind = at.0; runs = at.1; count = at.2.0; phases = at.2.1 }

@@ -6,16 +6,16 @@ use Rattle.std.proofs.lemmas.List.Folds.{list_any-append}
 use Rattle.std.specs.Io.KnownBytes.{Appends}
 use Rattle.scsi_wire.specs.declared.replies.Reply.{Reply}
 use Rattle.vtl.specs.declared.lines.Line.{Line}
-use Rattle.vtl.specs.declared.lines.Meaning.{Meaning}
+use Rattle.vtl.specs.declared.lines.ParsedLine.{ParsedLine}
 use Rattle.vtl.specs.declared.phases.Phase.{Phase}
 use Rattle.vtl.specs.declared.faults.ScriptFault.{ScriptFault}
 use Rattle.vtl.specs.declared.faults.ScriptFault.TheVariants.{BadLine, ReadFault, WriteFault, NoMemory}
-use Rattle.vtl.specs.Phases.{meanings_of, is_refused, refused_line, phases_to_run, by_host, in_turn}
+use Rattle.vtl.specs.Phases.{parsed_lines, is_refused, refused_line, phases_to_run, by_host, in_turn}
 use Rattle.vtl.specs.Text.{text_of}
 use Rattle.vtl.specs.Reading.{Reading, unbegun}
-use Rattle.vtl.specs.ReadPhase.{rest_of, SaysFirst, IsPhase, ReadsPhase, RefusesPhase}
-use Rattle.vtl.specs.Runs.{AnswersSome, EndsWith, Follows}
-use Rattle.vtl.specs.RunPhase.{EndsFrom, Finishes, GoesOn, RunsPhase}
+use Rattle.vtl.specs.ReadPhase.{rest_of, ParsesFirst, IsPhase, ReadsPhase, RefusesPhase}
+use Rattle.vtl.specs.Runs.{AnswersSome, ScriptEnds, RunsScript}
+use Rattle.vtl.specs.RunPhase.{EndsFrom, FinishesScript, GoesOn, RunsPhase}
 use Rattle.vtl.proofs.ReadingLemmas.{consumes_on, consumes_none}
 use Rattle.vtl.proofs.PhaseLemmas.{at_end, texts}
 use Rattle.vtl.proofs.TextLemmas.{appends_none, appends_on}
@@ -24,7 +24,7 @@ use Rattle.vtl.proofs.BehindLemmas.{known_on, known_rest, in_turn-append, text_o
 
 module _ {P : Type 0} (is_configured : ℕ → Bool) (answers : P → List Line → List Reply → P → Type 0) (nothing : (runner : P) → answers runner [] [] runner) (on : (old mid new : P) (first rest : List Line) (replies others : List Reply) → answers old first replies mid → answers mid rest others new → answers old (first ++ rest) (replies ++ others) new) where
   -- a phase was not read
-  pub finish_unread : (reading : Reading) (old : P) (left before : Option (List ℕ)) → Finishes is_configured answers reading old left before old before (Err ReadFault)
+  pub finish_unread : (reading : Reading) (old : P) (left before : Option (List ℕ)) → FinishesScript is_configured answers reading old left before old before (Err ReadFault)
   finish_unread reading old left before = record {
     text = rest_of left;
     known = known_rest left;
@@ -34,7 +34,7 @@ module _ {P : Type 0} (is_configured : ℕ → Bool) (answers : P → List Line 
     ended = (0, refl, appends_none before);
   }
 
-  pub finish_short : (reading : Reading) (old : P) (left before : Option (List ℕ)) → Finishes is_configured answers reading old left before old before (Err NoMemory)
+  pub finish_short : (reading : Reading) (old : P) (left before : Option (List ℕ)) → FinishesScript is_configured answers reading old left before old before (Err NoMemory)
   finish_short reading old left before = record {
     text = rest_of left;
     known = known_rest left;
@@ -45,27 +45,27 @@ module _ {P : Type 0} (is_configured : ℕ → Bool) (answers : P → List Line 
   }
 
   -- a line of a phase is refused
-  pub finish_refused : (reading : Reading) (old : P) (left left' before : Option (List ℕ)) (number : ℕ) → RefusesPhase is_configured left reading left' number → Finishes is_configured answers reading old left before old before (Err (BadLine number))
+  pub finish_refused : (reading : Reading) (old : P) (left left' before : Option (List ℕ)) (number : ℕ) → RefusesPhase is_configured left reading left' number → FinishesScript is_configured answers reading old left before old before (Err (BadLine number))
   finish_refused reading old left left' before number refuses =
-      let says = ap (meanings_of is_configured) (sym (append_assoc reading.unread refuses.read (rest_of left'))) ∙ refuses.says in
+      let says = ap (parsed_lines is_configured) (sym (append_assoc reading.unread refuses.read (rest_of left'))) ∙ refuses.says in
       record {
         text = refuses.read ++ rest_of left';
         known = known_on left left' refuses.read (rest_of left') refuses.taken (known_rest left');
         lines = [];
         replies = [];
         answered = nothing old;
-        ended = (length refuses.said + 1, omega (arith, refuses.number_is), (ap refused_line says ∙ first_refused refuses.said refuses.behind refuses.accepted, sym (ap in_turn (ap phases_to_run says ∙ refuses.not_run)), appends_none before));
+        ended = (length refuses.parsed_list + 1, omega (arith, refuses.number_is), (ap refused_line says ∙ first_refused refuses.parsed_list refuses.behind refuses.accepted, sym (ap in_turn (ap phases_to_run says ∙ refuses.not_run)), appends_none before));
       }
 
   -- a phase was not read, or a line of it is refused
-  pub read_failed : (reading : Reading) (old : P) (left left' before : Option (List ℕ)) (fault : ScriptFault) → (fault ≡ WriteFault → ⊥) → ((number : ℕ) → fault ≡ BadLine number → RefusesPhase is_configured left reading left' number) → Finishes is_configured answers reading old left before old before (Err fault)
+  pub read_failed : (reading : Reading) (old : P) (left left' before : Option (List ℕ)) (fault : ScriptFault) → (fault ≡ WriteFault → ⊥) → ((number : ℕ) → fault ≡ BadLine number → RefusesPhase is_configured left reading left' number) → FinishesScript is_configured answers reading old left before old before (Err fault)
   read_failed reading old left left' before (BadLine number) other refuses = finish_refused reading old left left' before number (refuses number refl)
   read_failed reading old left left' before ReadFault other refuses = finish_unread reading old left before
   read_failed reading old left left' before WriteFault other refuses = absurd (other refl)
   read_failed reading old left left' before NoMemory other refuses = finish_short reading old left before
 
   -- a phase was read, and its commands were not all run
-  pub finish_part : (reading reading' : Reading) (old : P) (left left' before : Option (List ℕ)) (new : P) (phase : Phase) → ReadsPhase is_configured left reading left' reading' phase → AnswersSome answers old (by_host phase.lines.items) new → Finishes is_configured answers reading old left before new before (Err NoMemory)
+  pub finish_part : (reading reading' : Reading) (old : P) (left left' before : Option (List ℕ)) (new : P) (phase : Phase) → ReadsPhase is_configured left reading left' reading' phase → AnswersSome answers old (by_host phase.lines.items) new → FinishesScript is_configured answers reading old left before new before (Err NoMemory)
   finish_part reading reading' old left left' before new phase reads some =
       let lines = by_host phase.lines.items in
       let at = in_script is_configured left left' reading reading' phase reads in
@@ -79,7 +79,7 @@ module _ {P : Type 0} (is_configured : ℕ → Bool) (answers : P → List Line 
       }
 
   -- its commands were run, and the first of its answers were written
-  pub finish_print : (reading reading' : Reading) (old : P) (left left' before now : Option (List ℕ)) (new : P) (phase : Phase) (replies : List Reply) (written : ℕ) → ReadsPhase is_configured left reading left' reading' phase → answers old (by_host phase.lines.items) replies new → Appends before now (text_of (take written replies)) → Finishes is_configured answers reading old left before new now (Err NoMemory)
+  pub finish_print : (reading reading' : Reading) (old : P) (left left' before now : Option (List ℕ)) (new : P) (phase : Phase) (replies : List Reply) (written : ℕ) → ReadsPhase is_configured left reading left' reading' phase → answers old (by_host phase.lines.items) replies new → Appends before now (text_of (take written replies)) → FinishesScript is_configured answers reading old left before new now (Err NoMemory)
   finish_print reading reading' old left left' before now new phase replies written reads answered appends =
       let lines = by_host phase.lines.items in
       let at = in_script is_configured left left' reading reading' phase reads in
@@ -93,7 +93,7 @@ module _ {P : Type 0} (is_configured : ℕ → Bool) (answers : P → List Line 
       }
 
   -- a write failed
-  pub finish_unwritten : (reading reading' : Reading) (old : P) (left left' before now : Option (List ℕ)) (new : P) (phase : Phase) (replies : List Reply) → ReadsPhase is_configured left reading left' reading' phase → answers old (by_host phase.lines.items) replies new → Finishes is_configured answers reading old left before new now (Err WriteFault)
+  pub finish_unwritten : (reading reading' : Reading) (old : P) (left left' before now : Option (List ℕ)) (new : P) (phase : Phase) (replies : List Reply) → ReadsPhase is_configured left reading left' reading' phase → answers old (by_host phase.lines.items) replies new → FinishesScript is_configured answers reading old left before new now (Err WriteFault)
   finish_unwritten reading reading' old left left' before now new phase replies reads answered =
       let at = in_script is_configured left left' reading reading' phase reads in
       record {
@@ -106,19 +106,19 @@ module _ {P : Type 0} (is_configured : ℕ → Bool) (answers : P → List Line 
       }
 
   -- the last phase was run and answered
-  pub finish_last : (reading reading' : Reading) (old : P) (left left' before now : Option (List ℕ)) (new : P) (phase : Phase) (replies : List Reply) → phase.is_last ≡ true → ReadsPhase is_configured left reading left' reading' phase → answers old (by_host phase.lines.items) replies new → Appends before now (text_of replies) → Finishes is_configured answers reading old left before new now (Ok tt)
+  pub finish_last : (reading reading' : Reading) (old : P) (left left' before now : Option (List ℕ)) (new : P) (phase : Phase) (replies : List Reply) → phase.is_last ≡ true → ReadsPhase is_configured left reading left' reading' phase → answers old (by_host phase.lines.items) replies new → Appends before now (text_of replies) → FinishesScript is_configured answers reading old left before new now (Ok tt)
   finish_last reading reading' old left left' before now new phase replies last reads answered appends =
-      let says : SaysFirst is_configured true (reading.unread ++ reads.read) reads.said reading'.unread left' = rw last at reads.says in
-      let is_phase : IsPhase true reads.said phase.lines.items = rw last at reads.is_phase in
+      let says : ParsesFirst is_configured true (reading.unread ++ reads.read) reads.parsed_list reading'.unread left' = rw last at reads.says in
+      let is_phase : IsPhase true reads.parsed_list phase.lines.items = rw last at reads.is_phase in
       let text_is : reads.read ++ rest_of left' ≡ reads.read = ap (λ (xs : List ℕ). reads.read ++ xs) (at_end left' says.0) ∙ append-nil reads.read in
-      let said_is : meanings_of is_configured (reading.unread ++ (reads.read ++ rest_of left')) ≡ reads.said = ap (λ (xs : List ℕ). meanings_of is_configured (reading.unread ++ xs)) text_is ∙ says.1 in
+      let parsed_list_is : parsed_lines is_configured (reading.unread ++ (reads.read ++ rest_of left')) ≡ reads.parsed_list = ap (λ (xs : List ℕ). parsed_lines is_configured (reading.unread ++ xs)) text_is ∙ says.1 in
       record {
         text = reads.read ++ rest_of left';
         known = known_on left left' reads.read (rest_of left') reads.taken (known_rest left');
         lines = by_host phase.lines.items;
         replies = replies;
         answered = answered;
-        ended = (omega (arith, ap length text_is, reads.bytes, reads.within), ap refused_line said_is ∙ none_refused reads.said reads.accepted, sym (ap in_turn (ap phases_to_run said_is) ∙ is_phase), appends);
+        ended = (omega (arith, ap length text_is, reads.bytes, reads.within), ap refused_line parsed_list_is ∙ none_refused reads.parsed_list reads.accepted, sym (ap in_turn (ap phases_to_run parsed_list_is) ∙ is_phase), appends);
       }
 
   -- a phase that is not the last was run and answered
@@ -127,7 +127,7 @@ module _ {P : Type 0} (is_configured : ℕ → Bool) (answers : P → List Line 
       record {
         read = reads.read;
         taken = reads.taken;
-        said = reads.said;
+        parsed_list = reads.parsed_list;
         says = rw more at reads.says;
         accepted = reads.accepted;
         lines = reads.lines more;
@@ -144,8 +144,8 @@ module _ {P : Type 0} (is_configured : ℕ → Bool) (answers : P → List Line 
   begin reading old left before = record {
     read = [];
     taken = consumes_none left;
-    said = [];
-    says = λ more. ap (λ (text : List ℕ). meanings_of is_configured (text ++ more)) (append-nil reading.unread);
+    parsed_list = [];
+    says = λ more. ap (λ (text : List ℕ). parsed_lines is_configured (text ++ more)) (append-nil reading.unread);
     accepted = refl;
     lines = omega arith;
     bytes = omega arith;
@@ -161,18 +161,18 @@ module _ {P : Type 0} (is_configured : ℕ → Bool) (answers : P → List Line 
   goes_on reading mid new old between last a b c before during after one two = record {
     read = one.read ++ two.read;
     taken = consumes_on a b c one.read two.read one.taken two.taken;
-    said = one.said ++ two.said;
+    parsed_list = one.parsed_list ++ two.parsed_list;
     says = λ more.
-        ap (meanings_of is_configured) (texts reading.unread one.read two.read more) ∙ one.says (two.read ++ more)
-        ∙ ap (λ (text : List ℕ). one.said ++ meanings_of is_configured text) (sym (append_assoc mid.unread two.read more))
-        ∙ ap (λ (said : List Meaning). one.said ++ said) (two.says more)
-        ∙ sym (append_assoc one.said two.said (meanings_of is_configured (new.unread ++ more)));
-    accepted = list_any-append is_refused one.said two.said ∙ rw (one.accepted, two.accepted) refl;
-    lines = omega (arith, one.lines, two.lines, length-append one.said two.said);
+        ap (parsed_lines is_configured) (texts reading.unread one.read two.read more) ∙ one.says (two.read ++ more)
+        ∙ ap (λ (text : List ℕ). one.parsed_list ++ parsed_lines is_configured text) (sym (append_assoc mid.unread two.read more))
+        ∙ ap (λ (parsed_list : List ParsedLine). one.parsed_list ++ parsed_list) (two.says more)
+        ∙ sym (append_assoc one.parsed_list two.parsed_list (parsed_lines is_configured (new.unread ++ more)));
+    accepted = list_any-append is_refused one.parsed_list two.parsed_list ∙ rw (one.accepted, two.accepted) refl;
+    lines = omega (arith, one.lines, two.lines, length-append one.parsed_list two.parsed_list);
     bytes = omega (arith, one.bytes, two.bytes, length-append one.read two.read);
     phases = one.phases ++ two.phases;
     to_run = λ more.
-        ap phases_to_run (append_assoc one.said two.said more) ∙ one.to_run (two.said ++ more)
+        ap phases_to_run (append_assoc one.parsed_list two.parsed_list more) ∙ one.to_run (two.parsed_list ++ more)
         ∙ ap (λ (phases : List (List Line)). one.phases ++ phases) (two.to_run more)
         ∙ sym (append_assoc one.phases two.phases (phases_to_run more));
     replies = one.replies ++ two.replies;
@@ -181,51 +181,51 @@ module _ {P : Type 0} (is_configured : ℕ → Bool) (answers : P → List Line 
   }
 
   -- the end of a script, from its start on
-  ends_behind : (reading mid : Reading) (old between new : P) (a b before during now : Option (List ℕ)) (one : GoesOn is_configured answers reading old a before mid between b during) (size : ℕ) (said : List Meaning) (lines : List Line) (replies : List Reply) (result : Result (Unit {0}) ScriptFault) → EndsFrom mid size said lines replies during now result → EndsFrom reading (length one.read + size) (one.said ++ said) (in_turn one.phases ++ lines) (one.replies ++ replies) before now result
-  ends_behind reading mid old between new a b before during now one size said lines replies (Ok done) ends =
-      (omega (arith, one.bytes, ends.0), none_behind one.said said one.accepted ends.1, lines_behind one.said said one.phases lines (one.to_run said) ends.2, written_behind before during now one.replies replies one.written ends.3)
-  ends_behind reading mid old between new a b before during now one size said lines replies (Err (BadLine number)) ends =
-      (length one.said + ends.0, omega (arith, one.lines, ends.1), (refused_behind one.said said ends.0 one.accepted ends.2.0, lines_behind one.said said one.phases lines (one.to_run said) ends.2.1, written_behind before during now one.replies replies one.written ends.2.2))
-  ends_behind reading mid old between new a b before during now one size said lines replies (Err ReadFault) ends =
-      (length one.phases + ends.0, phases_behind one.said said one.phases lines ends.0 (one.to_run said) ends.1, written_behind before during now one.replies replies one.written ends.2)
-  ends_behind reading mid old between new a b before during now one size said lines replies (Err WriteFault) ends =
-      (length one.phases + ends.0, phases_behind one.said said one.phases lines ends.0 (one.to_run said) ends.1)
-  ends_behind reading mid old between new a b before during now one size said lines replies (Err NoMemory) ends =
-      (length (in_turn one.phases) + ends.0, length one.replies + ends.1, some_behind one.said said one.phases lines ends.0 (one.to_run said) ends.2, some_written_behind before during now one.replies replies ends.1 one.written ends.3)
+  ends_behind : (reading mid : Reading) (old between new : P) (a b before during now : Option (List ℕ)) (one : GoesOn is_configured answers reading old a before mid between b during) (size : ℕ) (parsed_list : List ParsedLine) (lines : List Line) (replies : List Reply) (result : Result (Unit {0}) ScriptFault) → EndsFrom mid size parsed_list lines replies during now result → EndsFrom reading (length one.read + size) (one.parsed_list ++ parsed_list) (in_turn one.phases ++ lines) (one.replies ++ replies) before now result
+  ends_behind reading mid old between new a b before during now one size parsed_list lines replies (Ok done) ends =
+      (omega (arith, one.bytes, ends.0), none_behind one.parsed_list parsed_list one.accepted ends.1, lines_behind one.parsed_list parsed_list one.phases lines (one.to_run parsed_list) ends.2, written_behind before during now one.replies replies one.written ends.3)
+  ends_behind reading mid old between new a b before during now one size parsed_list lines replies (Err (BadLine number)) ends =
+      (length one.parsed_list + ends.0, omega (arith, one.lines, ends.1), (refused_behind one.parsed_list parsed_list ends.0 one.accepted ends.2.0, lines_behind one.parsed_list parsed_list one.phases lines (one.to_run parsed_list) ends.2.1, written_behind before during now one.replies replies one.written ends.2.2))
+  ends_behind reading mid old between new a b before during now one size parsed_list lines replies (Err ReadFault) ends =
+      (length one.phases + ends.0, phases_behind one.parsed_list parsed_list one.phases lines ends.0 (one.to_run parsed_list) ends.1, written_behind before during now one.replies replies one.written ends.2)
+  ends_behind reading mid old between new a b before during now one size parsed_list lines replies (Err WriteFault) ends =
+      (length one.phases + ends.0, phases_behind one.parsed_list parsed_list one.phases lines ends.0 (one.to_run parsed_list) ends.1)
+  ends_behind reading mid old between new a b before during now one size parsed_list lines replies (Err NoMemory) ends =
+      (length (in_turn one.phases) + ends.0, length one.replies + ends.1, some_behind one.parsed_list parsed_list one.phases lines ends.0 (one.to_run parsed_list) ends.2, some_written_behind before during now one.replies replies ends.1 one.written ends.3)
 
-  pub finish_on : (reading mid : Reading) (old between new : P) (a b before during now : Option (List ℕ)) (result : Result (Unit {0}) ScriptFault) → GoesOn is_configured answers reading old a before mid between b during → Finishes is_configured answers mid between b during new now result → Finishes is_configured answers reading old a before new now result
+  pub finish_on : (reading mid : Reading) (old between new : P) (a b before during now : Option (List ℕ)) (result : Result (Unit {0}) ScriptFault) → GoesOn is_configured answers reading old a before mid between b during → FinishesScript is_configured answers mid between b during new now result → FinishesScript is_configured answers reading old a before new now result
   finish_on reading mid old between new a b before during now result one two =
-      let said_is : meanings_of is_configured (reading.unread ++ (one.read ++ two.text)) ≡ one.said ++ meanings_of is_configured (mid.unread ++ two.text) =
-      ap (meanings_of is_configured) (sym (append_assoc reading.unread one.read two.text)) ∙ one.says two.text in
+      let parsed_list_is : parsed_lines is_configured (reading.unread ++ (one.read ++ two.text)) ≡ one.parsed_list ++ parsed_lines is_configured (mid.unread ++ two.text) =
+      ap (parsed_lines is_configured) (sym (append_assoc reading.unread one.read two.text)) ∙ one.says two.text in
       record {
         text = one.read ++ two.text;
         known = known_on a b one.read two.text one.taken two.known;
         lines = in_turn one.phases ++ two.lines;
         replies = one.replies ++ two.replies;
         answered = on old between new (in_turn one.phases) two.lines one.replies two.replies one.answered two.answered;
-        ended = rw (said_is, length-append one.read two.text) (ends_behind reading mid old between new a b before during now one (length two.text) (meanings_of is_configured (mid.unread ++ two.text)) two.lines two.replies result two.ended);
+        ended = rw (parsed_list_is, length-append one.read two.text) (ends_behind reading mid old between new a b before during now one (length two.text) (parsed_lines is_configured (mid.unread ++ two.text)) two.lines two.replies result two.ended);
       }
 
-  ends_whole : (size : ℕ) (said : List Meaning) (lines : List Line) (replies : List Reply) (before now : Option (List ℕ)) (result : Result (Unit {0}) ScriptFault) → EndsFrom unbegun size said lines replies before now result → EndsWith size said lines replies before now result
-  ends_whole size said lines replies before now (Ok done) ends = (omega (arith, ends.0), ends.1, ends.2, ends.3)
-  ends_whole size said lines replies before now (Err (BadLine number)) ends = let is : number ≡ ends.0 = omega (arith, ends.1) in rw is ends.2
-  ends_whole size said lines replies before now (Err ReadFault) ends = ends
-  ends_whole size said lines replies before now (Err WriteFault) ends = ends
-  ends_whole size said lines replies before now (Err NoMemory) ends = ends
+  ends_whole : (size : ℕ) (parsed_list : List ParsedLine) (lines : List Line) (replies : List Reply) (before now : Option (List ℕ)) (result : Result (Unit {0}) ScriptFault) → EndsFrom unbegun size parsed_list lines replies before now result → ScriptEnds size parsed_list lines replies before now result
+  ends_whole size parsed_list lines replies before now (Ok done) ends = (omega (arith, ends.0), ends.1, ends.2, ends.3)
+  ends_whole size parsed_list lines replies before now (Err (BadLine number)) ends = let is : number ≡ ends.0 = omega (arith, ends.1) in rw is ends.2
+  ends_whole size parsed_list lines replies before now (Err ReadFault) ends = ends
+  ends_whole size parsed_list lines replies before now (Err WriteFault) ends = ends
+  ends_whole size parsed_list lines replies before now (Err NoMemory) ends = ends
 
   -- what was run from the start on
-  pub follows : (old : P) (left before : Option (List ℕ)) (new : P) (now : Option (List ℕ)) (result : Result (Unit {0}) ScriptFault) → Finishes is_configured answers unbegun old left before new now result → Follows is_configured answers old left before new now result
+  pub follows : (old : P) (left before : Option (List ℕ)) (new : P) (now : Option (List ℕ)) (result : Result (Unit {0}) ScriptFault) → FinishesScript is_configured answers unbegun old left before new now result → RunsScript is_configured answers old left before new now result
   follows old left before new now result ends = record {
     text = ends.text;
     known = ends.known;
     lines = ends.lines;
     replies = ends.replies;
     answered = ends.answered;
-    ended = ends_whole (length ends.text) (meanings_of is_configured ends.text) ends.lines ends.replies before now result ends.ended;
+    ended = ends_whole (length ends.text) (parsed_lines is_configured ends.text) ends.lines ends.replies before now result ends.ended;
   }
 
   -- the answers of a phase were not all written
-  pub write_failed : (reading reading' : Reading) (old : P) (left left' before now : Option (List ℕ)) (new : P) (phase : Phase) (replies : List Reply) (fault : ScriptFault) → ReadsPhase is_configured left reading left' reading' phase → answers old (by_host phase.lines.items) replies new → (fault ≡ WriteFault) ⊎ (fault ≡ NoMemory) → (fault ≡ NoMemory → (count : ℕ) × Appends before now (text_of (take count replies))) → Finishes is_configured answers reading old left before new now (Err fault)
+  pub write_failed : (reading reading' : Reading) (old : P) (left left' before now : Option (List ℕ)) (new : P) (phase : Phase) (replies : List Reply) (fault : ScriptFault) → ReadsPhase is_configured left reading left' reading' phase → answers old (by_host phase.lines.items) replies new → (fault ≡ WriteFault) ⊎ (fault ≡ NoMemory) → (fault ≡ NoMemory → (count : ℕ) × Appends before now (text_of (take count replies))) → FinishesScript is_configured answers reading old left before new now (Err fault)
   write_failed reading reading' old left left' before now new phase replies (BadLine number) reads answered (inl is) some = absurd (cc)
   write_failed reading reading' old left left' before now new phase replies (BadLine number) reads answered (inr is) some = absurd (cc)
   write_failed reading reading' old left left' before now new phase replies ReadFault reads answered (inl is) some = absurd (cc)

@@ -3,9 +3,9 @@ use Rattle.std.specs.Prelude.{ℕ, ◌+◌, ◌-◌, ◌==◌, ◌&&◌, nat_lt,
 use Rattle.std.specs.List.{slice_split, list_any, range_with_len}
 use Rattle.vtl_base.specs.declared.limits.TheConstants.{LINE_BYTES}
 use Rattle.vtl.specs.declared.lines.Line.{Line}
-use Rattle.vtl.specs.declared.lines.Meaning.{Meaning}
-use Rattle.vtl.specs.declared.lines.Meaning.TheVariants.{PhaseEnd, Command, Refused}
-use Rattle.vtl.specs.Lines.{fields_of, said_by}
+use Rattle.vtl.specs.declared.lines.ParsedLine.{ParsedLine}
+use Rattle.vtl.specs.declared.lines.ParsedLine.TheVariants.{PhaseEnd, Command, Refused}
+use Rattle.vtl.specs.Lines.{line_fields, parse_fields}
 
 -- a line without the carriage return at its end (own)
 abbrev pub without_return : List ℕ → List ℕ
@@ -13,44 +13,44 @@ without_return line =
     if nat_lt 0 (length line) && slice_index line (length line - 1) == 13 then take (length line - 1) line else line
 
 -- what a line says that has so many bytes before its line feed, and these that count (own)
-abbrev pub meaning_of : (ℕ → Bool) → ℕ → List ℕ → Meaning
-meaning_of is_configured count line =
-    if nat_lt LINE_BYTES count then Refused else said_by is_configured (fields_of line)
+abbrev pub parsed_line : (ℕ → Bool) → ℕ → List ℕ → ParsedLine
+parsed_line is_configured count line =
+    if nat_lt LINE_BYTES count then Refused else parse_fields is_configured (line_fields line)
 
 -- what the lines say whose bytes these are, the last of which lacks a line feed (own)
-abbrev pub meanings_in : (ℕ → Bool) → List (List ℕ) → List Meaning
-meanings_in is_configured [] = []
-meanings_in is_configured (line ∷ []) = meaning_of is_configured (length line) line ∷ []
-meanings_in is_configured (line ∷ next ∷ lines) =
-    meaning_of is_configured (length line) (without_return line) ∷ meanings_in is_configured (next ∷ lines)
+abbrev pub parsed_parts : (ℕ → Bool) → List (List ℕ) → List ParsedLine
+parsed_parts is_configured [] = []
+parsed_parts is_configured (line ∷ []) = parsed_line is_configured (length line) line ∷ []
+parsed_parts is_configured (line ∷ next ∷ lines) =
+    parsed_line is_configured (length line) (without_return line) ∷ parsed_parts is_configured (next ∷ lines)
 
 -- what the lines of a text say: a line feed ends a line, and behind the last there is one more, which says nothing where it is empty (own)
-abbrev pub meanings_of : (ℕ → Bool) → List ℕ → List Meaning
-meanings_of is_configured text = meanings_in is_configured (slice_split (λ byte. byte == 10) text)
+abbrev pub parsed_lines : (ℕ → Bool) → List ℕ → List ParsedLine
+parsed_lines is_configured text = parsed_parts is_configured (slice_split (λ byte. byte == 10) text)
 
-abbrev pub is_refused : Meaning → Bool
+abbrev pub is_refused : ParsedLine → Bool
 is_refused Refused = true
 is_refused other = false
 
-abbrev pub is_phase_end : Meaning → Bool
+abbrev pub is_phase_end : ParsedLine → Bool
 is_phase_end PhaseEnd = true
 is_phase_end other = false
 
-abbrev pub line_in : Meaning → Option Line
+abbrev pub line_in : ParsedLine → Option Line
 line_in (Command line) = Some line
 line_in other = None
 
 -- whether no line of a phase is refused (own)
-abbrev pub is_good : List Meaning → Bool
-is_good said = not (list_any is_refused said)
+abbrev pub is_good : List ParsedLine → Bool
+is_good parsed_list = not (list_any is_refused parsed_list)
 
 -- the phases that are run, each its commands: those before the first that has a refused line (own)
-abbrev pub phases_to_run : List Meaning → List (List Line)
-phases_to_run said = map (filter_map line_in) (take_while is_good (slice_split is_phase_end said))
+abbrev pub phases_to_run : List ParsedLine → List (List Line)
+phases_to_run parsed_list = map (filter_map line_in) (take_while is_good (slice_split is_phase_end parsed_list))
 
 -- the number of the first line that is refused, from 1 on (own)
-abbrev pub refused_line : List Meaning → Option ℕ
-refused_line said = option_map (λ place. place + 1) (position is_refused said)
+abbrev pub refused_line : List ParsedLine → Option ℕ
+refused_line parsed_list = option_map (λ place. place + 1) (position is_refused parsed_list)
 
 -- whether the host of a command is one: 1 to 64 (own)
 abbrev pub has_host : Line → Bool

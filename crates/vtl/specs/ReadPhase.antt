@@ -4,13 +4,13 @@ use Rattle.std.specs.List.{list_any, list_all}
 use Rattle.std.specs.Io.KnownBytes.{Consumes, IsAtEnd}
 use Rattle.vtl_base.specs.declared.limits.TheConstants.{SCRIPT_BYTES}
 use Rattle.vtl.specs.declared.lines.Line.{Line}
-use Rattle.vtl.specs.declared.lines.Meaning.{Meaning}
-use Rattle.vtl.specs.declared.lines.Meaning.TheVariants.{Refused}
-use Rattle.vtl.specs.declared.phases.Next.{Next}
+use Rattle.vtl.specs.declared.lines.ParsedLine.{ParsedLine}
+use Rattle.vtl.specs.declared.lines.ParsedLine.TheVariants.{Refused}
+use Rattle.vtl.specs.declared.phases.NextLine.{NextLine}
 use Rattle.vtl.specs.declared.phases.Phase.{Phase}
 use Rattle.vtl.specs.declared.faults.ScriptFault.{ScriptFault}
 use Rattle.vtl.specs.declared.faults.ScriptFault.TheVariants.{BadLine}
-use Rattle.vtl.specs.Phases.{meanings_of, is_refused, has_host, line_in, phases_to_run, by_host, in_turn}
+use Rattle.vtl.specs.Phases.{parsed_lines, is_refused, has_host, line_in, phases_to_run, by_host, in_turn}
 use Rattle.vtl.specs.Reading.{Reading, work_left}
 
 -- the bytes that a reader is known to have left (own)
@@ -18,62 +18,62 @@ abbrev pub rest_of : Option (List ℕ) → List ℕ
 rest_of left = unwrap_or left []
 
 -- a line that is refused has its number told (own)
-abbrev pub Accepts : Meaning → Bool → ℕ → Result Next ScriptFault → Type 0
-Accepts meaning is_last number (Ok next) = (next ≡ record { meaning = meaning; is_last = is_last }) × (is_refused meaning ≡ false)
-Accepts meaning is_last number (Err fault) = (fault ≡ BadLine number) × (meaning ≡ Refused)
+abbrev pub ReportsRefused : ParsedLine → Bool → ℕ → Result NextLine ScriptFault → Type 0
+ReportsRefused parsed is_last number (Ok next) = (next ≡ record { parsed = parsed; is_last = is_last }) × (is_refused parsed ≡ false)
+ReportsRefused parsed is_last number (Err fault) = (fault ≡ BadLine number) × (parsed ≡ Refused)
 
 -- what the bytes say that stand before the others of a text, whatever follows; at its end, with nothing behind them (own)
-abbrev pub SaysFirst : (ℕ → Bool) → Bool → List ℕ → List Meaning → List ℕ → Option (List ℕ) → Type 0
-SaysFirst is_configured true text said unread left = IsAtEnd left × (meanings_of is_configured text ≡ said)
-SaysFirst is_configured false text said unread left =
-    (more : List ℕ) → meanings_of is_configured (text ++ more) ≡ said ++ meanings_of is_configured (unread ++ more)
+abbrev pub ParsesFirst : (ℕ → Bool) → Bool → List ℕ → List ParsedLine → List ℕ → Option (List ℕ) → Type 0
+ParsesFirst is_configured true text parsed_list unread left = IsAtEnd left × (parsed_lines is_configured text ≡ parsed_list)
+ParsesFirst is_configured false text parsed_list unread left =
+    (more : List ℕ) → parsed_lines is_configured (text ++ more) ≡ parsed_list ++ parsed_lines is_configured (unread ++ more)
 
 -- a line was read, and says this (own)
-pub record TellsNext (is_configured : ℕ → Bool) (left : Option (List ℕ)) (old : Reading) (left' : Option (List ℕ)) (new : Reading) (next : Next) : Type 0 where
+pub record ReadsLine (is_configured : ℕ → Bool) (left : Option (List ℕ)) (old : Reading) (left' : Option (List ℕ)) (new : Reading) (next : NextLine) : Type 0 where
   pub read : List ℕ
   pub taken : Consumes left left' read
-  pub says : SaysFirst is_configured next.is_last (old.unread ++ read) (next.meaning ∷ []) new.unread left'
-  pub accepted : is_refused next.meaning ≡ false
-  pub host : list_all has_host (filter_map line_in (next.meaning ∷ [])) ≡ true
+  pub says : ParsesFirst is_configured next.is_last (old.unread ++ read) (next.parsed ∷ []) new.unread left'
+  pub accepted : is_refused next.parsed ≡ false
+  pub host : list_all has_host (filter_map line_in (next.parsed ∷ [])) ≡ true
   pub bytes : new.bytes ≡ old.bytes + length read
   pub within : new.bytes ≤ SCRIPT_BYTES
   pub lines : next.is_last ≡ false → new.lines ≡ old.lines + 1
   pub less : next.is_last ≡ false → work_left new < work_left old
 
 -- the line of this number was read, and is refused (own)
-pub record RefusesNext (is_configured : ℕ → Bool) (left : Option (List ℕ)) (old : Reading) (left' : Option (List ℕ)) (number : ℕ) : Type 0 where
+pub record RefusesLine (is_configured : ℕ → Bool) (left : Option (List ℕ)) (old : Reading) (left' : Option (List ℕ)) (number : ℕ) : Type 0 where
   pub read : List ℕ
   pub taken : Consumes left left' read
   pub number_is : number ≡ old.lines + 1
-  pub behind : List Meaning
-  pub says : meanings_of is_configured ((old.unread ++ read) ++ rest_of left') ≡ Refused ∷ behind
+  pub behind : List ParsedLine
+  pub says : parsed_lines is_configured ((old.unread ++ read) ++ rest_of left') ≡ Refused ∷ behind
 
 -- the lines of a phase are those that are run before what follows; at the end of a text, they are the last (own)
-abbrev pub IsPhase : Bool → List Meaning → List Line → Type 0
-IsPhase true said lines = in_turn (phases_to_run said) ≡ by_host lines
-IsPhase false said lines = (more : List Meaning) → phases_to_run (said ++ more) ≡ lines ∷ phases_to_run more
+abbrev pub IsPhase : Bool → List ParsedLine → List Line → Type 0
+IsPhase true parsed_list lines = in_turn (phases_to_run parsed_list) ≡ by_host lines
+IsPhase false parsed_list lines = (more : List ParsedLine) → phases_to_run (parsed_list ++ more) ≡ lines ∷ phases_to_run more
 
 -- a phase was read, with the lines to be run (own)
 pub record ReadsPhase (is_configured : ℕ → Bool) (left : Option (List ℕ)) (old : Reading) (left' : Option (List ℕ)) (new : Reading) (phase : Phase) : Type 0 where
   pub read : List ℕ
   pub taken : Consumes left left' read
-  pub said : List Meaning
-  pub says : SaysFirst is_configured phase.is_last (old.unread ++ read) said new.unread left'
-  pub accepted : list_any is_refused said ≡ false
-  pub lines : phase.is_last ≡ false → new.lines ≡ old.lines + length said
+  pub parsed_list : List ParsedLine
+  pub says : ParsesFirst is_configured phase.is_last (old.unread ++ read) parsed_list new.unread left'
+  pub accepted : list_any is_refused parsed_list ≡ false
+  pub lines : phase.is_last ≡ false → new.lines ≡ old.lines + length parsed_list
   pub less : phase.is_last ≡ false → work_left new < work_left old
   pub bytes : new.bytes ≡ old.bytes + length read
   pub within : new.bytes ≤ SCRIPT_BYTES
   pub hosts : list_all has_host phase.lines.items ≡ true
-  pub is_phase : IsPhase phase.is_last said phase.lines.items
+  pub is_phase : IsPhase phase.is_last parsed_list phase.lines.items
 
 -- a phase was read up to the line of this number, which is refused (own)
 pub record RefusesPhase (is_configured : ℕ → Bool) (left : Option (List ℕ)) (old : Reading) (left' : Option (List ℕ)) (number : ℕ) : Type 0 where
   pub read : List ℕ
   pub taken : Consumes left left' read
-  pub said : List Meaning
-  pub accepted : list_any is_refused said ≡ false
-  pub number_is : number ≡ old.lines + length said + 1
-  pub behind : List Meaning
-  pub says : meanings_of is_configured ((old.unread ++ read) ++ rest_of left') ≡ said ++ Refused ∷ behind
-  pub not_run : phases_to_run (said ++ Refused ∷ behind) ≡ []
+  pub parsed_list : List ParsedLine
+  pub accepted : list_any is_refused parsed_list ≡ false
+  pub number_is : number ≡ old.lines + length parsed_list + 1
+  pub behind : List ParsedLine
+  pub says : parsed_lines is_configured ((old.unread ++ read) ++ rest_of left') ≡ parsed_list ++ Refused ∷ behind
+  pub not_run : phases_to_run (parsed_list ++ Refused ∷ behind) ≡ []

@@ -3,8 +3,8 @@ use Rattle.std.specs.Prelude.{◌≡◌, ℕ, ◌+◌, ◌-◌, ◌<◌, ◌≤�
 use Rattle.std.specs.Io.KnownBytes.{Consumes, IsAtEnd}
 use Rattle.vtl_base.specs.declared.limits.TheConstants.{SCRIPT_BYTES, LINE_BYTES}
 use Rattle.vtl.specs.declared.faults.ScriptFault.{ScriptFault}
-use Rattle.vtl.specs.declared.blocks.Found.{Found}
-use Rattle.vtl.specs.declared.blocks.Found.TheVariants.{Line, Last, TooLong}
+use Rattle.vtl.specs.declared.line_readers.Found.{Found}
+use Rattle.vtl.specs.declared.line_readers.Found.TheVariants.{Line, Last, TooLong}
 
 -- how far a script was read, as a contract sees it (own)
 pub record Reading : Type 0 where
@@ -22,10 +22,10 @@ abbrev pub work_left : Reading → ℕ
 work_left reading = (SCRIPT_BYTES + length reading.unread) - reading.bytes
 
 -- how many bytes a read gave: none where it failed or was interrupted (own)
-abbrev pub count_of : Result (Option ℕ) ScriptFault → ℕ
-count_of (Ok (Some count)) = count
-count_of (Ok None) = 0
-count_of (Err fault) = 0
+abbrev pub bytes_read : Result (Option ℕ) ScriptFault → ℕ
+bytes_read (Ok (Some count)) = count
+bytes_read (Ok None) = 0
+bytes_read (Err fault) = 0
 
 -- some bytes came from a reader that knew the bytes `left`, and stand behind the others (own)
 pub record Comes (left : Option (List ℕ)) (old : Reading) (left' : Option (List ℕ)) (new : Reading) : Type 0 where

@@ -1,7 +1,7 @@
 //! A virtual tape library: runs a script against a drive in memory.
 #![tactic(auto)]
 
-mod blocks;
+mod line_readers;
 mod drives;
 mod faults;
 pub mod laws;
@@ -14,7 +14,7 @@ mod splits;
 #[cfg(test)]
 mod tests;
 mod texts;
-mod turns;
+mod hosts;
 
 use programs::{fault_line, run};
 use std::process::ExitCode;

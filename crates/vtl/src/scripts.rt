@@ -2,14 +2,14 @@
 ghost use Rattle.std.specs.Prelude.{◌≡◌, ◌<◌, Ok, true};
 ghost use Rattle.vtl.specs.Reading.{work_left};
 ghost use Rattle.vtl.specs.RunPhase.{RunsPhase};
-ghost use Rattle.vtl.specs.Runs.{Follows};
+ghost use Rattle.vtl.specs.Runs.{RunsScript};
 
-use crate::blocks::Blocks;
+use crate::line_readers::LineReader;
 use crate::faults::ScriptFault;
 use crate::phases::{Phase, read_phase};
 use crate::runners::Runner;
 use crate::texts::print_replies;
-use crate::turns::put_in_turn;
+use crate::hosts::sort_by_host;
 use std::alloc::Global;
 use std::io::{Read, Write};
 
@@ -17,18 +17,18 @@ use std::io::{Read, Write};
 fn run_phase<P: Runner, R: Read, W: Write>(
     alloc: Global,
     runner: &mut P,
-    blocks: &mut Blocks,
+    line_reader: &mut LineReader,
     reader: &mut R,
     writer: &mut W,
 ) -> Result<bool, ScriptFault>
     ensures runs { RunsPhase (P.is_configured runner.old) P.answers
-        blocks.old runner.old (R.remaining reader.old) (W.contents writer.old)
-        blocks.new runner.new (R.remaining reader.new) (W.contents writer.new) result }
-    ensures less { result ≡ Ok true → work_left blocks.new < work_left blocks.old }
+        line_reader.old runner.old (R.remaining reader.old) (W.contents writer.old)
+        line_reader.new runner.new (R.remaining reader.new) (W.contents writer.new) result }
+    ensures less { result ≡ Ok true → work_left line_reader.new < work_left line_reader.old }
     ensures same { P.is_configured runner.new ≡ P.is_configured runner.old }
 {
-    let Phase { mut lines, is_last } = read_phase(alloc, runner, blocks, reader)?;
-    put_in_turn(&mut lines)?;
+    let Phase { mut lines, is_last } = read_phase(alloc, runner, line_reader, reader)?;
+    sort_by_host(&mut lines)?;
     let replies = runner.run(alloc, lines.as_slice())?;
     print_replies(alloc, writer, replies.as_slice())?;
     Ok(!is_last)
@@ -42,11 +42,11 @@ pub fn run_script<P: Runner, R: Read, W: Write>(
     reader: &mut R,
     writer: &mut W,
 ) -> Result<(), ScriptFault>
-    ensures { Follows (P.is_configured runner.old) P.answers
+    ensures { RunsScript (P.is_configured runner.old) P.answers
         runner.old (R.remaining reader.old) (W.contents writer.old)
         runner.new (W.contents writer.new) result }
 {
-    let mut blocks = Blocks::new(alloc);
-    while run_phase(alloc, runner, &mut blocks, reader, writer)? {}
+    let mut line_reader = LineReader::new(alloc);
+    while run_phase(alloc, runner, &mut line_reader, reader, writer)? {}
     Ok(())
 }

@@ -9,7 +9,7 @@ use std::alloc::{AllocError, Global};
 use std::io::Write;
 
 // The bytes that are written at once, but for one answer more.
-const CHUNK: usize = 65_536;
+const WRITE_CHUNK: usize = 65_536;
 
 // Adds a space and these bytes in hex, where there are any.
 fn add_hex(alloc: Global, text: &mut Vec<u8>, bytes: &[u8]) -> Result<(), AllocError>
@@ -71,7 +71,7 @@ pub fn print_replies<W: Write>(
     let mut text = Vec::new(alloc);
     for reply in replies {
         add_reply(alloc, &mut text, reply)?;
-        if text.len() >= CHUNK {
+        if text.len() >= WRITE_CHUNK {
             put(writer, &mut text)?;
         }
     }

@@ -8,36 +8,36 @@ returns-in_err-lines-clause-runs g c =
     let runner = g.P.Runner in
     let laws = g.met.P.Runner in
     let exit = err_from_is_err_and c.from_residual.result c.from_residual.ensures.1 in
-    rw (exit.1, exit.2) (read_failed (runner.is_configured c.args.runner.now) runner.answers laws.answers_none laws.answers_on c.args.blocks.now c.args.runner.now _ (g.R.Read.remaining c.read_phase.new.reader) _ c.in_err-lines.field-0.0
+    rw (exit.1, exit.2) (read_failed (runner.is_configured c.args.runner.now) runner.answers laws.answers_none laws.answers_on c.args.line_reader.now c.args.runner.now _ (g.R.Read.remaining c.read_phase.new.reader) _ c.in_err-lines.field-0.0
     c.in_err-lines.ensures.fault (λ number is. c.read_phase.ensures.refused number (c.in_err-lines.was ∙ ap Err is)))
 
-pub returns-in_err-put_in_turn-clause-runs : goal.returns-in_err-put_in_turn-clause-runs
-returns-in_err-put_in_turn-clause-runs g c =
+pub returns-in_err-sort_by_host-clause-runs : goal.returns-in_err-sort_by_host-clause-runs
+returns-in_err-sort_by_host-clause-runs g c =
     let runner = g.P.Runner in
     let laws = g.met.P.Runner in
-    let exit = err_from_is_err_and c.from_residual-in_err-put_in_turn.result c.from_residual-in_err-put_in_turn.ensures.1 in
-    rw (exit.1, exit.2) (finish_short (runner.is_configured c.args.runner.now) runner.answers laws.answers_none laws.answers_on c.args.blocks.now c.args.runner.now _ _)
+    let exit = err_from_is_err_and c.from_residual-in_err-sort_by_host.result c.from_residual-in_err-sort_by_host.ensures.1 in
+    rw (exit.1, exit.2) (finish_short (runner.is_configured c.args.runner.now) runner.answers laws.answers_none laws.answers_on c.args.line_reader.now c.args.runner.now _ _)
 
 pub returns-in_err-replies-clause-runs : goal.returns-in_err-replies-clause-runs
 returns-in_err-replies-clause-runs g c =
     let runner = g.P.Runner in
     let laws = g.met.P.Runner in
     let exit = err_from_is_err_and c.from_residual-in_err-replies.result c.from_residual-in_err-replies.ensures.1 in
-    rw (exit.1, exit.2) (finish_part (runner.is_configured c.args.runner.now) runner.answers laws.answers_none laws.answers_on c.args.blocks.now c.read_phase.new.blocks c.args.runner.now _ (g.R.Read.remaining c.read_phase.new.reader) _ c.run.new.self c.in_ok-lines.field-0
-    c.in_ok-lines.ensures.ok (rw (c.as_slice.ensures.value, c.in_ok-put_in_turn.ensures) at c.in_err-replies.ensures.err))
+    rw (exit.1, exit.2) (finish_part (runner.is_configured c.args.runner.now) runner.answers laws.answers_none laws.answers_on c.args.line_reader.now c.read_phase.new.line_reader c.args.runner.now _ (g.R.Read.remaining c.read_phase.new.reader) _ c.run.new.self c.in_ok-lines.field-0
+    c.in_ok-lines.ensures.ok (rw (c.as_slice.ensures.value, c.in_ok-sort_by_host.ensures) at c.in_err-replies.ensures.err))
 
 pub returns-in_err-print_replies-clause-runs : goal.returns-in_err-print_replies-clause-runs
 returns-in_err-print_replies-clause-runs g c =
     let runner = g.P.Runner in
     let laws = g.met.P.Runner in
     let exit = err_from_is_err_and c.from_residual-in_err-print_replies.result c.from_residual-in_err-print_replies.ensures.1 in
-    rw (exit.1, exit.2) (write_failed (runner.is_configured c.args.runner.now) runner.answers laws.answers_none laws.answers_on c.args.blocks.now c.read_phase.new.blocks c.args.runner.now _ (g.R.Read.remaining c.read_phase.new.reader) _ (g.W.Write.contents c.print_replies.new.writer) c.run.new.self c.in_ok-lines.field-0 c.in_ok-replies.replies.items c.in_err-print_replies.field-0.0
-    c.in_ok-lines.ensures.ok (rw (c.as_slice.ensures.value, c.in_ok-put_in_turn.ensures) at c.in_ok-replies.ensures.ok) c.in_err-print_replies.ensures.fault
+    rw (exit.1, exit.2) (write_failed (runner.is_configured c.args.runner.now) runner.answers laws.answers_none laws.answers_on c.args.line_reader.now c.read_phase.new.line_reader c.args.runner.now _ (g.R.Read.remaining c.read_phase.new.reader) _ (g.W.Write.contents c.print_replies.new.writer) c.run.new.self c.in_ok-lines.field-0 c.in_ok-replies.replies.items c.in_err-print_replies.field-0.0
+    c.in_ok-lines.ensures.ok (rw (c.as_slice.ensures.value, c.in_ok-sort_by_host.ensures) at c.in_ok-replies.ensures.ok) c.in_err-print_replies.ensures.fault
     (λ is. rw c.as_slice-2.ensures.value at (c.print_replies.ensures.some (c.in_err-print_replies.was ∙ ap Err is))))
 
 pub returns-clause-runs : goal.returns-clause-runs
 returns-clause-runs g c =
     let runner = g.P.Runner in
     let laws = g.met.P.Runner in
-    phase_done (runner.is_configured c.args.runner.now) runner.answers laws.answers_none laws.answers_on c.args.blocks.now c.read_phase.new.blocks c.args.runner.now _ (g.R.Read.remaining c.read_phase.new.reader) _ (g.W.Write.contents c.print_replies.new.writer) c.run.new.self c.in_ok-lines.field-0 c.in_ok-replies.replies.items c.in_ok-lines.field-0.is_last refl
-    c.in_ok-lines.ensures.ok (rw (c.as_slice.ensures.value, c.in_ok-put_in_turn.ensures) at c.in_ok-replies.ensures.ok) (rw c.as_slice-2.ensures.value at c.in_ok-print_replies.ensures.ok)
+    phase_done (runner.is_configured c.args.runner.now) runner.answers laws.answers_none laws.answers_on c.args.line_reader.now c.read_phase.new.line_reader c.args.runner.now _ (g.R.Read.remaining c.read_phase.new.reader) _ (g.W.Write.contents c.print_replies.new.writer) c.run.new.self c.in_ok-lines.field-0 c.in_ok-replies.replies.items c.in_ok-lines.field-0.is_last refl
+    c.in_ok-lines.ensures.ok (rw (c.as_slice.ensures.value, c.in_ok-sort_by_host.ensures) at c.in_ok-replies.ensures.ok) (rw c.as_slice-2.ensures.value at c.in_ok-print_replies.ensures.ok)

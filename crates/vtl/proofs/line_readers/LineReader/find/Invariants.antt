@@ -1,6 +1,6 @@
 use Rattle.std.proofs.Common.{◌-◌}
 use Rattle.vtl.proofs.ReadingLemmas.{IsSearched}
-use Rattle.vtl.proofs.blocks.Blocks.find.Given as goal
+use Rattle.vtl.proofs.line_readers.LineReader.find.Given as goal
 
 -- what came so far has no line feed in front
 abbrev pub invariant-loop-place : goal.invariant-loop-place

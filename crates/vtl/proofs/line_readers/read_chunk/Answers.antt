@@ -2,7 +2,7 @@ use Rattle.std.proofs.Common.{◌≡◌, ◌+◌, take, drop, subst, sym, ap, �
 use Rattle.std.proofs.lemmas.List.{with_items_is, places, drop-take}
 use Rattle.std.specs.Io.KnownBytes.{Consumes}
 use Rattle.vtl.proofs.ReadingLemmas.{on_ok}
-use Rattle.vtl.proofs.blocks.read_block.Goals as goal
+use Rattle.vtl.proofs.line_readers.read_chunk.Goals as goal
 
 pub returns-clause-taken : goal.returns-clause-taken
 returns-clause-taken g c =

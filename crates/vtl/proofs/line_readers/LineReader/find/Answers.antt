@@ -1,7 +1,7 @@
 use Rattle.std.proofs.Common.{◌==◌, length, Ok, sym, ap, ◌∙◌, arith}
 use Rattle.vtl.proofs.SplitLemmas.{found_in, missed_in}
 use Rattle.vtl.proofs.ReadingLemmas.{searched_on}
-use Rattle.vtl.proofs.blocks.Blocks.find.Goals as goal
+use Rattle.vtl.proofs.line_readers.LineReader.find.Goals as goal
 
 pub returns-in-Some-clause-found : goal.returns-in-Some-clause-found
 returns-in-Some-clause-found g c =

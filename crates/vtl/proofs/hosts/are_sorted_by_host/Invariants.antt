@@ -1,6 +1,6 @@
 use Rattle.std.proofs.Common.{◌≤◌}
 use Rattle.std.specs.List.{AllAdjacentBelow}
-use Rattle.vtl.proofs.turns.are_in_turn.Given as goal
+use Rattle.vtl.proofs.hosts.are_sorted_by_host.Given as goal
 
 -- no host so far stands behind a higher one
 abbrev pub invariant-loop-i : goal.invariant-loop-i

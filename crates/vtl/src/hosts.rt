@@ -8,7 +8,7 @@ use crate::lines::Line;
 use std::alloc::AllocError;
 
 // Whether no host stands behind a higher one.
-fn are_in_turn(lines: &[Line]) -> bool
+fn are_sorted_by_host(lines: &[Line]) -> bool
     ensures { result ≡ true → IsNonDecreasingBy (λ line. line.host) lines.now }
 {
     for i in 1..lines.len() {
@@ -21,11 +21,11 @@ fn are_in_turn(lines: &[Line]) -> bool
 
 /// Puts the commands of a phase in the order of their turns: by rising host, each host's in their
 /// order.
-pub fn put_in_turn(lines: &mut Vec<Line>) -> Result<(), AllocError>
+pub fn sort_by_host(lines: &mut Vec<Line>) -> Result<(), AllocError>
     requires { list_all has_host lines.old.items ≡ true }
     ensures { OnOk result (lines.new.items ≡ by_host lines.old.items) }
 {
-    if are_in_turn(lines.as_slice()) {
+    if are_sorted_by_host(lines.as_slice()) {
         return Ok(());
     }
     lines.sort_by_key(|line| line.host.number())

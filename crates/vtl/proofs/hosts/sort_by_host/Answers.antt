@@ -2,10 +2,10 @@ use Rattle.std.proofs.Common.{◌≡◌, sym, rules}
 use Rattle.std.proofs.lemmas.List.Sorted.{IsNonDecreasingBy-from_sort_by_key, answers_always}
 use Rattle.std.proofs.lemmas.Result.{on_ok_weaker}
 use Rattle.vtl.proofs.TurnLemmas.{by_host-rising, by_host-sorted}
-use Rattle.vtl.proofs.turns.put_in_turn.Goals as goal
+use Rattle.vtl.proofs.hosts.sort_by_host.Goals as goal
 
-pub returns-then-are_in_turn : goal.returns-then-are_in_turn
-returns-then-are_in_turn c = sym (by_host-rising c.args.lines.now.items (rw c.as_slice.ensures.value at (c.are_in_turn.ensures c.if-are_in_turn.true)) c.requires)
+pub returns-then-are_sorted_by_host : goal.returns-then-are_sorted_by_host
+returns-then-are_sorted_by_host c = sym (by_host-rising c.args.lines.now.items (rw c.as_slice.ensures.value at (c.are_sorted_by_host.ensures c.if-are_sorted_by_host.true)) c.requires)
 
 pub returns : goal.returns
 returns c =

@@ -1,7 +1,7 @@
-//! The bytes of a script, read in blocks.
+//! The bytes of a script, read in line_reader.
 ghost use Rattle.std.specs.Prelude.{◌≡◌, ◌<◌, ◌≤◌, ◌+◌, ◌==◌, ◌++◌, ◌⊎◌, ℕ, length, take, drop, vec_len, position, Some, None, Ok, false, IfOk, IfErr, OnOk, OnErr};
 ghost use Rattle.std.specs.Io.KnownBytes.{Consumes, IsAtEnd};
-ghost use Rattle.vtl.specs.Reading.{unbegun, count_of, Comes, Ends};
+ghost use Rattle.vtl.specs.Reading.{unbegun, bytes_read, Comes, Ends};
 
 use crate::faults::ScriptFault;
 use crate::splits::place_of;
@@ -11,11 +11,11 @@ use std::marker::Model;
 use vtl_base::limits::{LINE_BYTES, SCRIPT_BYTES, SCRIPT_READS};
 
 // The bytes that a read asks for.
-const BLOCK: usize = 65_536;
+const READ_CHUNK: usize = 65_536;
 
 /// The bytes of a script that were read, from the first line on that was not taken up.
 #[derive(Drop)]
-pub struct Blocks {
+pub struct LineReader {
     buffer: Vec<u8>,
     start: usize,
     bytes: u64,
@@ -33,7 +33,7 @@ pub enum Found {
     TooLong,
 }
 
-impl Model for Blocks {
+impl Model for LineReader {
     ghost use Rattle.std.specs.Prelude.{ℕ, ◌≤◌, ◌+◌, ◌-◌, drop, vec_len};
     ghost use Rattle.vtl_base.specs.declared.limits.TheConstants.{SCRIPT_BYTES, SCRIPT_READS};
     ghost use Rattle.vtl.specs.Reading.{Reading};
@@ -56,8 +56,8 @@ impl Model for Blocks {
 fn read_once<R: Read>(reader: &mut R, slice: &mut [u8]) -> Result<Option<usize>, ScriptFault>
     requires { 0 < length slice.old }
     ensures taken { Consumes (R.remaining reader.old) (R.remaining reader.new)
-        (take (count_of result) slice.new) }
-    ensures within { count_of result ≤ length slice.new }
+        (take (bytes_read result) slice.new) }
+    ensures within { bytes_read result ≤ length slice.new }
     ensures end { result ≡ Ok (Some 0) → IsAtEnd (R.remaining reader.new) }
     ensures fault { IfErr result (λ fault. fault ≡ ScriptFault.ReadFault) }
 {
@@ -77,8 +77,8 @@ fn read_behind<R: Read>(
     requires { filled < length buffer.old }
     ensures front { take filled buffer.new ≡ take filled buffer.old }
     ensures taken { Consumes (R.remaining reader.old) (R.remaining reader.new)
-        (take (count_of result) (drop filled buffer.new)) }
-    ensures within { filled + count_of result ≤ length buffer.new }
+        (take (bytes_read result) (drop filled buffer.new)) }
+    ensures within { filled + bytes_read result ≤ length buffer.new }
     ensures end { result ≡ Ok (Some 0) → IsAtEnd (R.remaining reader.new) }
     ensures fault { IfErr result (λ fault. fault ≡ ScriptFault.ReadFault) }
 {
@@ -87,7 +87,7 @@ fn read_behind<R: Read>(
 
 // How many bytes a read gave.
 fn count(outcome: &Result<Option<usize>, ScriptFault>) -> usize
-    ensures { result ≡ count_of outcome.now }
+    ensures { result ≡ bytes_read outcome.now }
 {
     match outcome {
         Ok(Some(count)) => *count,
@@ -96,23 +96,23 @@ fn count(outcome: &Result<Option<usize>, ScriptFault>) -> usize
 }
 
 // One read, whose bytes are put behind those of the buffer.
-fn read_block<R: Read>(reader: &mut R, buffer: &mut Vec<u8>) -> Result<Option<usize>, ScriptFault>
+fn read_chunk<R: Read>(reader: &mut R, buffer: &mut Vec<u8>) -> Result<Option<usize>, ScriptFault>
     ensures taken { OnOk result (Consumes (R.remaining reader.old) (R.remaining reader.new)
         (drop (vec_len buffer.old) buffer.new.items)) }
     ensures front { OnOk result (take (vec_len buffer.old) buffer.new.items ≡ buffer.old.items) }
-    ensures count { vec_len buffer.new ≡ vec_len buffer.old + count_of result }
+    ensures count { vec_len buffer.new ≡ vec_len buffer.old + bytes_read result }
     ensures end { result ≡ Ok (Some 0) → IsAtEnd (R.remaining reader.new) }
     ensures fault { IfErr result (λ fault.
         (fault ≡ ScriptFault.ReadFault) ⊎ (fault ≡ ScriptFault.NoMemory)) }
 {
     let filled = buffer.len();
-    buffer.resize(filled + BLOCK, 0)?;
+    buffer.resize(filled + READ_CHUNK, 0)?;
     let outcome = read_behind(reader, buffer.as_mut_slice(), filled);
     buffer.truncate(filled + count(&outcome));
     outcome
 }
 
-impl Blocks {
+impl LineReader {
     ghost use Rattle.std.specs.Prelude.{◌≡◌, ◌<◌, ◌≤◌, ◌+◌, ◌⊎◌, drop, take, length, Ok, Err, false, IfOk, IfErr, OnOk};
     ghost use Rattle.vtl_base.specs.declared.limits.TheConstants.{SCRIPT_BYTES, SCRIPT_READS};
     ghost use Rattle.vtl.specs.Reading.{unbegun, work_left, Comes, Ends};
@@ -121,7 +121,7 @@ impl Blocks {
     pub fn new(alloc: Global) -> Self
         ensures { result ≡ unbegun }
     {
-        Blocks {
+        LineReader {
             buffer: Vec::new(alloc),
             start: 0,
             bytes: 0,
@@ -159,7 +159,7 @@ impl Blocks {
         }
         self.reads += 1;
         self.close_up();
-        match read_block(reader, &mut self.buffer)? {
+        match read_chunk(reader, &mut self.buffer)? {
             None => Ok(true),
             Some(0) => Ok(false),
             Some(count) if count as u64 > SCRIPT_BYTES - self.bytes => {
