@@ -1,5 +1,5 @@
 -- What the lines of a text say, read from its front.
-use Rattle.std.proofs.Common.{◌≡◌, ℕ, ◌+◌, ◌<◌, ◌≤◌, Bool, true, false, not, ◌||◌, List, [], ◌∷◌, ◌++◌, length, take, drop, map, Option, Some, None, Result, Ok, Err, IfOk, position, refl, sym, ap, ◌∙◌, arith, append_assoc, length-take-le, nat_lt, filter_map, take_while, ◌==◌}
+use Rattle.std.proofs.Common.{inl, inr, ◌≡◌, ℕ, ◌+◌, ◌<◌, ◌≤◌, Bool, true, false, not, ◌||◌, List, [], ◌∷◌, ◌++◌, length, take, drop, map, Option, Some, None, Result, Ok, Err, IfOk, position, refl, sym, ap, ◌∙◌, arith, append_assoc, length-take-le, nat_lt, filter_map, take_while, ◌==◌}
 use Rattle.std.proofs.lemmas.Bool.Decides.{nat_tests}
 use Rattle.std.proofs.lemmas.List.{take-append-le, drop-append-le, length-append, append-nil}
 use Rattle.std.proofs.lemmas.List.Folds.{list_any-append, list_all-append}
@@ -9,14 +9,19 @@ use Rattle.std.specs.Io.KnownBytes.{Consumes, IsAtEnd}
 use Rattle.vtl.specs.declared.lines.Line.{Line}
 use Rattle.vtl.specs.declared.lines.ParsedLine.{ParsedLine}
 use Rattle.vtl.specs.declared.lines.ParsedLine.TheVariants.{Nothing, PhaseEnd, Command, Refused}
-use Rattle.vtl.specs.Phases.{without_return, parsed_line, parsed_parts, parsed_lines, is_refused, is_phase_end, is_good, has_host, line_in, phases_to_run, by_host, in_turn}
 use Rattle.std.proofs.lemmas.List.Sums.{take_while-cons}
 use Rattle.vtl.specs.declared.phases.NextLine.{NextLine}
-use Rattle.vtl.specs.declared.phases.Phase.{Phase}
+use Rattle.vtl.specs.declared.phases.PhaseLines.{PhaseLines}
+use Rattle.vtl.specs.declared.items.Item.{Item}
+use Rattle.vtl.specs.declared.items.Item.TheVariants.{Phase}
+use Rattle.vtl.specs.declared.items.NextItem.{NextItem}
+use Rattle.vtl.specs.Parsed.{without_return, parsed_line, parsed_parts, parsed_lines, is_refused, is_phase_end, line_in}
+use Rattle.vtl.specs.Items.{has_host, by_host, items_after, items_to_run}
+use Rattle.vtl.specs.Inner.ReadItem.{rest_of, ReportsRefused, ParsesFirst, ReadsLine, RefusesLine, ReadsPhase, ReadsItem, RefusesItem, IsItem}
+use Rattle.vtl.proofs.HostLemmas.{all_by_host}
 use Rattle.vtl.specs.declared.faults.ScriptFault.{ScriptFault}
 use Rattle.vtl.specs.declared.faults.ScriptFault.TheVariants.{BadLine}
-use Rattle.vtl.specs.Reading.{Reading, Comes, work_left}
-use Rattle.vtl.specs.ReadPhase.{rest_of, ReportsRefused, ParsesFirst, ReadsLine, RefusesLine, ReadsPhase, RefusesPhase, IsPhase}
+use Rattle.vtl.specs.Inner.Reading.{Reading, Comes, work_left}
 use Rattle.vtl.proofs.ReadingLemmas.{consumes_on, consumes_none}
 use Rattle.vtl.proofs.TurnLemmas.{by_host-none}
 use Rattle.vtl.proofs.SplitLemmas.{split_at, split_whole, found, missed}
@@ -56,38 +61,6 @@ says_long is_configured text more none long =
     let refused = long_first is_configured (text ++ first.part) first.parts (omega (arith, long, length-append text first.part)) in
     (refused.0, ap (parsed_parts is_configured) cut ∙ refused.1)
 
--- a phase whose lines are all good
-good_of : (parsed_list : List ParsedLine) → list_any is_refused parsed_list ≡ false → is_good parsed_list ≡ true
-good_of parsed_list none = rw none refl
-
-taken_good : (parsed_list : List ParsedLine) (rest : List (List ParsedLine)) → is_good parsed_list ≡ true → take_while is_good (parsed_list ∷ rest) ≡ parsed_list ∷ take_while is_good rest
-taken_good parsed_list rest good = take_while-cons is_good parsed_list rest ∙ rw good refl
-
-taken_bad : (parsed_list : List ParsedLine) (rest : List (List ParsedLine)) → is_good parsed_list ≡ false → take_while is_good (parsed_list ∷ rest) ≡ []
-taken_bad parsed_list rest bad = take_while-cons is_good parsed_list rest ∙ rw bad refl
-
-pub run_phase : (parsed_list more : List ParsedLine) → list_any is_refused parsed_list ≡ false → list_any is_phase_end parsed_list ≡ false → phases_to_run (parsed_list ++ PhaseEnd ∷ more) ≡ filter_map line_in parsed_list ∷ phases_to_run more
-run_phase parsed_list more good within =
-    ap (map (filter_map line_in)) (ap (take_while is_good) (split_end is_phase_end parsed_list PhaseEnd more within refl) ∙ taken_good parsed_list (slice_split is_phase_end more) (good_of parsed_list good))
-
-pub run_last : (parsed_list : List ParsedLine) → list_any is_refused parsed_list ≡ false → list_any is_phase_end parsed_list ≡ false → phases_to_run parsed_list ≡ filter_map line_in parsed_list ∷ []
-run_last parsed_list good within =
-    ap (map (filter_map line_in)) (ap (take_while is_good) (split_all is_phase_end parsed_list within) ∙ taken_good parsed_list [] (good_of parsed_list good))
-
-any_refused : (parsed_list part : List ParsedLine) → list_any is_refused (parsed_list ++ Refused ∷ part) ≡ true
-any_refused [] part = refl
-any_refused (Nothing ∷ parsed_list) part = any_refused parsed_list part
-any_refused (PhaseEnd ∷ parsed_list) part = any_refused parsed_list part
-any_refused (Command line ∷ parsed_list) part = any_refused parsed_list part
-any_refused (Refused ∷ parsed_list) part = refl
-
-pub run_none : (parsed_list behind : List ParsedLine) → list_any is_phase_end parsed_list ≡ false → phases_to_run (parsed_list ++ Refused ∷ behind) ≡ []
-run_none parsed_list behind within =
-    let first = first_of_split is_phase_end behind in
-    let splits = split_front is_phase_end parsed_list (Refused ∷ behind) (Refused ∷ first.part) first.parts within (ap (onto_first Refused) first.splits) in
-    let bad : is_good (parsed_list ++ Refused ∷ first.part) ≡ false = ap not (any_refused parsed_list first.part) in
-    ap (map (filter_map line_in)) (ap (take_while is_good) splits ∙ taken_bad (parsed_list ++ Refused ∷ first.part) first.parts bad)
-
 -- what a line says that a line feed ends
 pub line_says : (is_configured : ℕ → Bool) (unread unread' : List ℕ) (count : ℕ) (parsed : ParsedLine) → position (λ byte. byte == 10) unread ≡ Some count → parsed ≡ parsed_line is_configured count (without_return (take count unread)) → unread' ≡ drop (count + 1) unread → (more : List ℕ) → parsed_lines is_configured (unread ++ more) ≡ parsed ∷ parsed_lines is_configured (unread' ++ more)
 line_says is_configured unread unread' count parsed found is rest more = rw (is, rest) (says_line is_configured unread count more found)
@@ -103,15 +76,16 @@ whole is_configured true text parsed_list unread left h =
 whole is_configured false text parsed_list unread left h = (parsed_lines is_configured (unread ++ rest_of left), h (rest_of left))
 
 -- a line that was read, by what is told of it
-pub tells : (is_configured : ℕ → Bool) (left left' : Option (List ℕ)) (old mid new : Reading) (parsed : ParsedLine) (is_last : Bool) (number : ℕ) (result : Result NextLine ScriptFault) → list_all has_host (filter_map line_in (parsed ∷ [])) ≡ true → mid.bytes ≤ 2147483648 → new.bytes ≡ mid.bytes → Comes left old left' mid → ParsesFirst is_configured is_last mid.unread (parsed ∷ []) new.unread left' → (is_last ≡ false → new.lines ≡ old.lines + 1) → (is_last ≡ false → work_left new < work_left old) → ReportsRefused parsed is_last number result → IfOk result (ReadsLine is_configured left old left' new)
-tells is_configured left left' old mid new parsed is_last number (Err fault) host within bytes comes says lines less accepts = tt
-tells is_configured left left' old mid new parsed is_last number (Ok next) host within bytes comes says lines less accepts =
+pub tells : (is_configured : ℕ → Bool) (left left' : Option (List ℕ)) (old mid new : Reading) (parsed : ParsedLine) (is_last : Bool) (number : ℕ) (result : Result NextLine ScriptFault) → list_all has_host (filter_map line_in (parsed ∷ [])) ≡ true → list_all (λ line. is_configured line.drive) (filter_map line_in (parsed ∷ [])) ≡ true → mid.bytes ≤ 2147483648 → new.bytes ≡ mid.bytes → Comes left old left' mid → ParsesFirst is_configured is_last mid.unread (parsed ∷ []) new.unread left' → (is_last ≡ false → new.lines ≡ old.lines + 1) → (is_last ≡ false → work_left new < work_left old) → ReportsRefused parsed is_last number result → IfOk result (ReadsLine is_configured left old left' new)
+tells is_configured left left' old mid new parsed is_last number (Err fault) host drive within bytes comes says lines less accepts = tt
+tells is_configured left left' old mid new parsed is_last number (Ok next) host drive within bytes comes says lines less accepts =
     rw accepts.0 (record {
       read = comes.read;
       taken = comes.taken;
       says = rw (← comes.unread) says;
       accepted = accepts.1;
       host = host;
+      drive = drive;
       bytes = bytes ∙ comes.bytes;
       within = omega (arith, bytes, within);
       lines = lines;
@@ -148,44 +122,60 @@ pub work_same : (left left' : Option (List ℕ)) (old new : Reading) → Comes l
 work_same left left' old new comes = omega (arith, comes.bytes, ap length comes.unread, length-append old.unread comes.read)
 
 -- some lines of a phase were read, with these commands
-pub record IsGathered (is_configured : ℕ → Bool) (left : Option (List ℕ)) (old : Reading) (left' : Option (List ℕ)) (new : Reading) (lines : List Line) : Type 0 where
+pub record IsGathered (is_configured : ℕ → Bool) (left : Option (List ℕ)) (old : Reading)
+    (left' : Option (List ℕ)) (new : Reading) (lines : List Line) : Type 0 where
   pub read : List ℕ
   pub taken : Consumes left left' read
   pub parsed_list : List ParsedLine
-  pub says : (more : List ℕ) → parsed_lines is_configured ((old.unread ++ read) ++ more) ≡ parsed_list ++ parsed_lines is_configured (new.unread ++ more)
+  pub says :
+      (more : List ℕ) → parsed_lines is_configured ((old.unread ++ read) ++ more)
+      ≡ parsed_list ++ parsed_lines is_configured (new.unread ++ more)
   pub accepted : list_any is_refused parsed_list ≡ false
-  pub within : list_any is_phase_end parsed_list ≡ false
+  pub to_run : (more : List ParsedLine) → items_to_run (parsed_list ++ more) ≡ items_after lines more
   pub counted : new.lines ≡ old.lines + length parsed_list
   pub less : work_left new ≤ work_left old
-  pub gathered : lines ≡ filter_map line_in parsed_list
   pub hosts : list_all has_host lines ≡ true
+  pub drives : list_all (λ line. is_configured line.drive) lines ≡ true
   pub bytes : new.bytes ≡ old.bytes + length read
 
-pub gathered_none : (is_configured : ℕ → Bool) (left : Option (List ℕ)) (reading : Reading) → IsGathered is_configured left reading left reading []
+pub gathered_none : (is_configured : ℕ → Bool) (left : Option (List ℕ)) (reading : Reading)
+    → IsGathered is_configured left reading left reading []
 gathered_none is_configured left reading = record {
   read = [];
   taken = consumes_none left;
   parsed_list = [];
   says = λ more. ap (λ (text : List ℕ). parsed_lines is_configured (text ++ more)) (append-nil reading.unread);
   accepted = refl;
-  within = refl;
+  to_run = λ more. refl;
   counted = omega arith;
   less = omega arith;
-  gathered = refl;
   hosts = refl;
+  drives = refl;
   bytes = omega arith;
 }
 
 pub both_none : (p : ParsedLine → Bool) (parsed_list : List ParsedLine) (parsed : ParsedLine) → list_any p parsed_list ≡ false → p parsed ≡ false → list_any p (parsed_list ++ parsed ∷ []) ≡ false
 both_none p parsed_list parsed first second = list_any-append p parsed_list (parsed ∷ []) ∙ rw (first, second) refl
 
--- the hosts of both lists are hosts
-all_hosts : (lines lines' more : List Line) → list_all has_host lines ≡ true → list_all has_host more ≡ true → lines' ≡ lines ++ more → list_all has_host lines' ≡ true
-all_hosts lines lines' more first second is = ap (list_all has_host) is ∙ list_all-append has_host lines more ∙ rw (first, second) refl
+-- what passes of both lists passes
+all_of : (p : Line → Bool) (lines lines' more : List Line) → list_all p lines ≡ true → list_all p more ≡ true
+    → lines' ≡ lines ++ more → list_all p lines' ≡ true
+all_of p lines lines' more first second is =
+    ap (list_all p) is ∙ list_all-append p lines more ∙ rw (first, second) refl
 
 -- what is read first, and then more
 pub texts : (old first second more : List ℕ) → (old ++ (first ++ second)) ++ more ≡ (old ++ first) ++ (second ++ more)
 texts old first second more = simp append_assoc
+
+-- a line that ends no phase, behind some commands of it
+line_on : (parsed : ParsedLine) (lines lines' : List Line) (more : List ParsedLine) → is_refused parsed ≡ false
+    → is_phase_end parsed ≡ false → lines' ≡ lines ++ filter_map line_in (parsed ∷ [])
+    → items_after lines (parsed ∷ more) ≡ items_after lines' more
+line_on Nothing lines lines' more good inside is =
+    ap (λ (xs : List Line). items_after xs more) (sym (is ∙ append-nil lines))
+line_on (Command line) lines lines' more good inside is = ap (λ (xs : List Line). items_after xs more) (sym is)
+line_on PhaseEnd lines lines' more good inside is = absurd (cc)
+line_on Refused lines lines' more good inside is = absurd (cc)
 
 pub gathers_on : (is_configured : ℕ → Bool) (a b c : Option (List ℕ)) (old mid new : Reading) (lines lines' : List Line) (next : NextLine) → IsGathered is_configured a old b mid lines → ReadsLine is_configured b mid c new next → next.is_last ≡ false → is_phase_end next.parsed ≡ false → lines' ≡ lines ++ filter_map line_in (next.parsed ∷ []) → IsGathered is_configured a old c new lines'
 gathers_on is_configured a b c old mid new lines lines' next so tells on inside more_lines =
@@ -200,11 +190,13 @@ gathers_on is_configured a b c old mid new lines lines' next so tells on inside 
           ∙ ap (λ (parsed_list : List ParsedLine). so.parsed_list ++ parsed_list) (second more)
           ∙ sym (append_assoc so.parsed_list (next.parsed ∷ []) (parsed_lines is_configured (new.unread ++ more)));
       accepted = both_none is_refused so.parsed_list next.parsed so.accepted tells.accepted;
-      within = both_none is_phase_end so.parsed_list next.parsed so.within inside;
+      to_run = λ more.
+          ap items_to_run (append_assoc so.parsed_list (next.parsed ∷ []) more) ∙ so.to_run (next.parsed ∷ more)
+          ∙ line_on next.parsed lines lines' more tells.accepted inside more_lines;
       counted = omega (arith, so.counted, tells.lines on, length-append so.parsed_list (next.parsed ∷ []));
       less = omega (arith, so.less, tells.less on);
-      gathered = more_lines ∙ ap (λ (xs : List Line). xs ++ filter_map line_in (next.parsed ∷ [])) so.gathered ∙ sym (filter_map-append line_in so.parsed_list (next.parsed ∷ []));
-      hosts = all_hosts lines lines' (filter_map line_in (next.parsed ∷ [])) so.hosts tells.host more_lines;
+      hosts = all_of has_host lines lines' (filter_map line_in (next.parsed ∷ [])) so.hosts tells.host more_lines;
+      drives = all_of (λ line. is_configured line.drive) lines lines' (filter_map line_in (next.parsed ∷ [])) so.drives tells.drive more_lines;
       bytes = omega (arith, so.bytes, tells.bytes, length-append so.read tells.read);
     }
 
@@ -217,48 +209,58 @@ says_then is_configured false old mid new first second parsed_list more left so 
     ∙ ap (λ (xs : List ParsedLine). parsed_list ++ xs) (tells rest)
     ∙ sym (append_assoc parsed_list more (parsed_lines is_configured (new ++ rest)))
 
--- the lines up to the end of a phase are a phase
-ended_phase : (is_last : Bool) (parsed_list : List ParsedLine) (lines : List Line) → list_any is_refused parsed_list ≡ false → list_any is_phase_end parsed_list ≡ false → lines ≡ filter_map line_in parsed_list → IsPhase is_last (parsed_list ++ PhaseEnd ∷ []) lines
-ended_phase true parsed_list lines good within is =
-    ap in_turn (run_phase parsed_list [] good within) ∙ ap (λ (xs : List Line). by_host (filter_map line_in parsed_list) ++ (xs ++ [])) by_host-none
-    ∙ append-nil (by_host (filter_map line_in parsed_list)) ∙ ap by_host (sym is)
-ended_phase false parsed_list lines good within is = λ more. ap phases_to_run (append_assoc parsed_list (PhaseEnd ∷ []) more) ∙ run_phase parsed_list more good within ∙ ap (λ (xs : List Line). xs ∷ phases_to_run more) (sym is)
+-- the last line of an item, by what it says and whether the text has ended
+item_ends : (parsed : ParsedLine) (is_last : Bool) (parsed_list : List ParsedLine) (lines lines' : List Line)
+    → ((more : List ParsedLine) → items_to_run (parsed_list ++ more) ≡ items_after lines more)
+    → is_refused parsed ≡ false → (is_phase_end parsed || is_last) ≡ true
+    → lines' ≡ lines ++ filter_map line_in (parsed ∷ [])
+    → IsItem is_last (parsed_list ++ parsed ∷ []) (Phase (by_host lines'))
+item_ends PhaseEnd true parsed_list lines lines' to_run good ends is =
+    let same : lines ≡ lines' = sym (is ∙ append-nil lines) in
+    (
+      Phase [] ∷ [],
+      to_run (PhaseEnd ∷ []) ∙ ap (λ (xs : List Line). Phase (by_host xs) ∷ Phase (by_host []) ∷ []) same
+          ∙ ap (λ (xs : List Line). Phase (by_host lines') ∷ Phase xs ∷ []) by_host-none,
+      inr refl,
+    )
+item_ends PhaseEnd false parsed_list lines lines' to_run good ends is = λ more.
+    ap items_to_run (append_assoc parsed_list (PhaseEnd ∷ []) more) ∙ to_run (PhaseEnd ∷ more)
+    ∙ ap (λ (xs : List Line). Phase (by_host xs) ∷ items_to_run more) (sym (is ∙ append-nil lines))
+item_ends Nothing true parsed_list lines lines' to_run good ends is =
+    ([], to_run (Nothing ∷ []) ∙ ap (λ (xs : List Line). Phase (by_host xs) ∷ []) (sym (is ∙ append-nil lines)), inl refl)
+item_ends (Command line) true parsed_list lines lines' to_run good ends is =
+    ([], to_run (Command line ∷ []) ∙ ap (λ (xs : List Line). Phase (by_host xs) ∷ []) (sym is), inl refl)
+item_ends Nothing false parsed_list lines lines' to_run good ends is = absurd (cc)
+item_ends (Command line) false parsed_list lines lines' to_run good ends is = absurd (cc)
+item_ends Refused is_last parsed_list lines lines' to_run good ends is = absurd (cc)
 
--- and so are the lines up to the end of the text
-last_phase : (parsed_list : List ParsedLine) (lines : List Line) → list_any is_refused parsed_list ≡ false → list_any is_phase_end parsed_list ≡ false → lines ≡ filter_map line_in parsed_list → IsPhase true parsed_list lines
-last_phase parsed_list lines good within is = ap in_turn (run_last parsed_list good within) ∙ append-nil (by_host (filter_map line_in parsed_list)) ∙ ap by_host (sym is)
-
--- the last line of a phase, by what it says and whether the text has ended
-ends_with : (parsed : ParsedLine) (is_last : Bool) (parsed_list : List ParsedLine) (lines lines' : List Line) → list_any is_refused parsed_list ≡ false → is_refused parsed ≡ false → list_any is_phase_end parsed_list ≡ false → (is_phase_end parsed || is_last) ≡ true → lines ≡ filter_map line_in parsed_list → lines' ≡ lines ++ filter_map line_in (parsed ∷ []) → IsPhase is_last (parsed_list ++ parsed ∷ []) lines'
-ends_with PhaseEnd is_last parsed_list lines lines' good one within ends is more =
-    ended_phase is_last parsed_list lines' good within (more ∙ append-nil lines ∙ is)
-ends_with Refused is_last parsed_list lines lines' good one within ends is more = absurd (cc)
-ends_with Nothing true parsed_list lines lines' good one within ends is more =
-    last_phase (parsed_list ++ Nothing ∷ []) lines' (both_none is_refused parsed_list Nothing good refl) (both_none is_phase_end parsed_list Nothing within refl)
-    (more ∙ ap (λ (xs : List Line). xs ++ []) is ∙ sym (filter_map-append line_in parsed_list (Nothing ∷ [])))
-ends_with (Command line) true parsed_list lines lines' good one within ends is more =
-    last_phase (parsed_list ++ Command line ∷ []) lines' (both_none is_refused parsed_list (Command line) good refl) (both_none is_phase_end parsed_list (Command line) within refl)
-    (more ∙ ap (λ (xs : List Line). xs ++ line ∷ []) is ∙ sym (filter_map-append line_in parsed_list (Command line ∷ [])))
-ends_with Nothing false parsed_list lines lines' good one within ends is more = absurd (cc)
-ends_with (Command line) false parsed_list lines lines' good one within ends is more = absurd (cc)
-
-pub phase_read : (is_configured : ℕ → Bool) (a b c : Option (List ℕ)) (old mid new : Reading) (lines : List Line) (next : NextLine) (phase : Phase) → IsGathered is_configured a old b mid lines → ReadsLine is_configured b mid c new next → (is_phase_end next.parsed || next.is_last) ≡ true → phase.is_last ≡ next.is_last → phase.lines.items ≡ lines ++ filter_map line_in (next.parsed ∷ []) → ReadsPhase is_configured a old c new phase
+pub phase_read : (is_configured : ℕ → Bool) (a b c : Option (List ℕ)) (old mid new : Reading) (lines : List Line)
+    (next : NextLine) (phase : PhaseLines) → IsGathered is_configured a old b mid lines
+    → ReadsLine is_configured b mid c new next → (is_phase_end next.parsed || next.is_last) ≡ true
+    → phase.is_last ≡ next.is_last → phase.lines.items ≡ lines ++ filter_map line_in (next.parsed ∷ [])
+    → ReadsPhase is_configured a old c new phase
 phase_read is_configured a b c old mid new lines next phase so tells ends same_last same_lines =
+    let more = filter_map line_in (next.parsed ∷ []) in
     record {
-      read = so.read ++ tells.read;
-      taken = consumes_on a b c so.read tells.read so.taken tells.taken;
-      parsed_list = so.parsed_list ++ next.parsed ∷ [];
-      says = rw same_last (says_then is_configured next.is_last old.unread mid.unread new.unread so.read tells.read so.parsed_list (next.parsed ∷ []) c so.says tells.says);
-      accepted = both_none is_refused so.parsed_list next.parsed so.accepted tells.accepted;
-      lines = λ on. let counted = tells.lines (sym same_last ∙ on) in omega (arith, so.counted, counted, length-append so.parsed_list (next.parsed ∷ []));
-      less = λ on. let least = tells.less (sym same_last ∙ on) in omega (arith, so.less, least);
-      bytes = omega (arith, so.bytes, tells.bytes, length-append so.read tells.read);
-      within = tells.within;
-      hosts = all_hosts lines phase.lines.items (filter_map line_in (next.parsed ∷ [])) so.hosts tells.host same_lines;
-      is_phase = rw same_last (ends_with next.parsed next.is_last so.parsed_list lines phase.lines.items so.accepted tells.accepted so.within ends so.gathered same_lines);
+      reads = record {
+        read = so.read ++ tells.read;
+        taken = consumes_on a b c so.read tells.read so.taken tells.taken;
+        parsed_list = so.parsed_list ++ next.parsed ∷ [];
+        says = rw same_last (says_then is_configured next.is_last old.unread mid.unread new.unread so.read tells.read so.parsed_list (next.parsed ∷ []) c so.says tells.says);
+        accepted = both_none is_refused so.parsed_list next.parsed so.accepted tells.accepted;
+        lines = λ on. let counted = tells.lines (sym same_last ∙ on) in omega (arith, so.counted, counted, length-append so.parsed_list (next.parsed ∷ []));
+        less = λ on. let least = tells.less (sym same_last ∙ on) in omega (arith, so.less, least);
+        bytes = omega (arith, so.bytes, tells.bytes, length-append so.read tells.read);
+        within = tells.within;
+        is_item = rw same_last (item_ends next.parsed next.is_last so.parsed_list lines phase.lines.items so.to_run tells.accepted ends same_lines);
+      };
+      hosts = all_of has_host lines phase.lines.items more so.hosts tells.host same_lines;
+      drives = all_of (λ line. is_configured line.drive) lines phase.lines.items more so.drives tells.drive same_lines;
     }
 
-pub phase_refused : (is_configured : ℕ → Bool) (a b c : Option (List ℕ)) (old mid : Reading) (lines : List Line) (number : ℕ) → IsGathered is_configured a old b mid lines → RefusesLine is_configured b mid c number → RefusesPhase is_configured a old c number
+pub phase_refused : (is_configured : ℕ → Bool) (a b c : Option (List ℕ)) (old mid : Reading) (lines : List Line)
+    (number : ℕ) → IsGathered is_configured a old b mid lines → RefusesLine is_configured b mid c number
+    → RefusesItem is_configured a old c number
 phase_refused is_configured a b c old mid lines number so refuses =
     record {
       read = so.read ++ refuses.read;
@@ -271,7 +273,17 @@ phase_refused is_configured a b c old mid lines number so refuses =
           ap (parsed_lines is_configured) (texts old.unread so.read refuses.read (rest_of c)) ∙ so.says (refuses.read ++ rest_of c)
           ∙ ap (λ (text : List ℕ). so.parsed_list ++ parsed_lines is_configured text) (sym (append_assoc mid.unread refuses.read (rest_of c)))
           ∙ ap (λ (xs : List ParsedLine). so.parsed_list ++ xs) refuses.says;
-      not_run = run_none so.parsed_list refuses.behind so.within;
+      not_run = so.to_run (Refused ∷ refuses.behind);
+    }
+
+-- a phase that was read is an item, its commands in the order of their turns
+pub item_read : (is_configured : ℕ → Bool) (left left' : Option (List ℕ)) (old new : Reading) (phase : PhaseLines)
+    (next : NextItem) → ReadsPhase is_configured left old left' new phase → next.is_last ≡ phase.is_last
+    → next.item ≡ Phase (by_host phase.lines.items) → ReadsItem is_configured left old left' new next
+item_read is_configured left left' old new phase next reads same_last same_item =
+    record {
+      reads = rw (same_last, same_item) reads.reads;
+      runnable = rw same_item (all_by_host (λ line. is_configured line.drive) phase.lines.items reads.drives);
     }
 
 pub or_last : (b : Bool) → (b || true) ≡ true

@@ -2,7 +2,7 @@
 use Rattle.std.proofs.Common.{◌≡◌, ℕ, ◌+◌, ◌≤◌, List, [], ◌++◌, length, take, drop, Option, Some, None, Result, Ok, Err, OnOk, OnErr, position, refl, sym, ap, ◌∙◌, subst, arith, append_assoc, length-drop, ◌==◌}
 use Rattle.std.proofs.lemmas.List.{drop_at, take-append-drop, take-append-le, take_all, append-nil, drop-append-le, length-append}
 use Rattle.std.specs.Io.KnownBytes.{Consumes}
-use Rattle.vtl.specs.Reading.{Reading, Comes}
+use Rattle.vtl.specs.Inner.Reading.{Reading, Comes}
 
 -- what holds anyway holds at Ok
 pub on_ok : {T E : Type 0} (r : Result T E) (P : Type 0) → P → OnOk r P

@@ -5,7 +5,7 @@ use Rattle.std.proofs.lemmas.List.{append-nil, length-append}
 use Rattle.std.specs.List.{list_any, position_or_len}
 use Rattle.vtl.specs.declared.lines.ParsedLine.{ParsedLine}
 use Rattle.vtl.specs.declared.lines.ParsedLine.TheVariants.{Refused}
-use Rattle.vtl.specs.Phases.{is_refused, refused_line}
+use Rattle.vtl.specs.Parsed.{is_refused, refused_line}
 
 -- the first place behind elements none of which passes
 behind_with : (p : ParsedLine → Bool) (x : ParsedLine) (xs ys : List ParsedLine) (b : Bool) → p x ≡ b → (b || list_any p xs) ≡ false → (list_any p xs ≡ false → position_or_len p (xs ++ ys) ≡ length xs + position_or_len p ys) → position_or_len p (x ∷ (xs ++ ys)) ≡ length (x ∷ xs) + position_or_len p ys

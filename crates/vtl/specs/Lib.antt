@@ -1,10 +1,9 @@
 pub mod Faults
 pub mod Held
+pub mod Inner
+pub mod Items
 pub mod Lines
 pub mod OneHost
-pub mod Phases
-pub mod ReadPhase
-pub mod Reading
-pub mod RunPhase
+pub mod Parsed
 pub mod Runs
 pub mod Text

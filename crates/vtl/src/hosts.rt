@@ -2,7 +2,7 @@
 ghost use Rattle.std.specs.Prelude.{◌≡◌, true, OnOk};
 ghost use Rattle.std.specs.List.{list_all};
 ghost use Rattle.std.specs.List.Sorted.{IsNonDecreasingBy};
-ghost use Rattle.vtl.specs.Phases.{by_host, has_host};
+ghost use Rattle.vtl.specs.Items.{by_host, has_host};
 
 use crate::lines::Line;
 use std::alloc::AllocError;

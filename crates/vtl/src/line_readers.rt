@@ -1,7 +1,7 @@
 //! The bytes of a script, read in line_reader.
 ghost use Rattle.std.specs.Prelude.{◌≡◌, ◌<◌, ◌≤◌, ◌+◌, ◌==◌, ◌++◌, ◌⊎◌, ℕ, length, take, drop, vec_len, position, Some, None, Ok, false, IfOk, IfErr, OnOk, OnErr};
 ghost use Rattle.std.specs.Io.KnownBytes.{Consumes, IsAtEnd};
-ghost use Rattle.vtl.specs.Reading.{unbegun, bytes_read, Comes, Ends};
+ghost use Rattle.vtl.specs.Inner.Reading.{unbegun, bytes_read, Comes, Ends};
 
 use crate::faults::ScriptFault;
 use crate::splits::place_of;
@@ -36,7 +36,7 @@ pub enum Found {
 impl Model for LineReader {
     ghost use Rattle.std.specs.Prelude.{ℕ, ◌≤◌, ◌+◌, ◌-◌, drop, vec_len};
     ghost use Rattle.vtl_base.specs.declared.limits.TheConstants.{SCRIPT_BYTES, SCRIPT_READS};
-    ghost use Rattle.vtl.specs.Reading.{Reading};
+    ghost use Rattle.vtl.specs.Inner.Reading.{Reading};
 
     ghost Value = { Reading };
 
@@ -115,7 +115,7 @@ fn read_chunk<R: Read>(reader: &mut R, buffer: &mut Vec<u8>) -> Result<Option<us
 impl LineReader {
     ghost use Rattle.std.specs.Prelude.{◌≡◌, ◌<◌, ◌≤◌, ◌+◌, ◌⊎◌, drop, take, length, Ok, Err, false, IfOk, IfErr, OnOk};
     ghost use Rattle.vtl_base.specs.declared.limits.TheConstants.{SCRIPT_BYTES, SCRIPT_READS};
-    ghost use Rattle.vtl.specs.Reading.{unbegun, work_left, Comes, Ends};
+    ghost use Rattle.vtl.specs.Inner.Reading.{unbegun, work_left, Comes, Ends};
 
     /// Nothing yet.
     pub fn new(alloc: Global) -> Self

@@ -1,10 +1,12 @@
 //! A virtual tape library: runs a script against a drive in memory.
 #![tactic(auto)]
 
-mod line_readers;
 mod drives;
 mod faults;
+mod hosts;
+mod items;
 pub mod laws;
+mod line_readers;
 mod lines;
 mod phases;
 mod programs;
@@ -14,7 +16,6 @@ mod splits;
 #[cfg(test)]
 mod tests;
 mod texts;
-mod hosts;
 
 use programs::{fault_line, run};
 use std::process::ExitCode;

@@ -1,7 +1,7 @@
 //! A script, read phase by phase.
 ghost use Rattle.std.specs.Prelude.{◌≡◌, ◌≢◌, ◌++◌, ◌∷◌, [], ℕ, filter_map, IfOk, IfErr, OnOk, Err};
-ghost use Rattle.vtl.specs.Phases.{without_return, parsed_line, is_phase_end, line_in};
-ghost use Rattle.vtl.specs.ReadPhase.{ReportsRefused, ReadsLine, ReadsPhase, RefusesLine, RefusesPhase};
+ghost use Rattle.vtl.specs.Parsed.{without_return, parsed_line, is_phase_end, line_in};
+ghost use Rattle.vtl.specs.Inner.ReadItem.{ReportsRefused, ReadsLine, ReadsPhase, RefusesLine, RefusesItem};
 
 use crate::line_readers::{LineReader, Found};
 use crate::faults::ScriptFault;
@@ -19,9 +19,9 @@ pub struct NextLine {
     pub is_last: bool,
 }
 
-/// The commands of a phase, and whether the text has ended with it.
+/// The commands of a phase in the order of their lines, and whether the text has ended with it.
 #[derive(Drop)]
-pub struct Phase {
+pub struct PhaseLines {
     pub lines: Vec<Line>,
     pub is_last: bool,
 }
@@ -115,11 +115,11 @@ pub fn read_phase<P: Runner, R: Read>(
     runner: &P,
     line_reader: &mut LineReader,
     reader: &mut R,
-) -> Result<Phase, ScriptFault>
+) -> Result<PhaseLines, ScriptFault>
     ensures ok { IfOk result (ReadsPhase (P.is_configured runner.now)
         (R.remaining reader.old) line_reader.old (R.remaining reader.new) line_reader.new) }
     ensures refused { (number : ℕ) → result ≡ Err (ScriptFault.BadLine number) →
-        RefusesPhase (P.is_configured runner.now)
+        RefusesItem (P.is_configured runner.now)
         (R.remaining reader.old) line_reader.old (R.remaining reader.new) number }
     ensures fault { IfErr result (λ fault. fault ≢ ScriptFault.WriteFault) }
 {
@@ -128,7 +128,7 @@ pub fn read_phase<P: Runner, R: Read>(
         let NextLine { parsed, is_last } = read_line(alloc, runner, line_reader, reader)?;
         let is_end = gather(&mut lines, parsed)?;
         if is_end || is_last {
-            return Ok(Phase { lines, is_last });
+            return Ok(PhaseLines { lines, is_last });
         }
     }
 }

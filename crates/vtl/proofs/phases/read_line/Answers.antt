@@ -1,8 +1,8 @@
 use Rattle.std.proofs.Common.{◌≡◌, ◌+◌, take, false, true, length, ap, sym, ◌∙◌, refl, arith, ℕ}
-use Rattle.vtl.specs.Phases.{parsed_line, without_return}
-use Rattle.vtl.specs.Reading.{Reading}
+use Rattle.vtl.specs.Parsed.{parsed_line, without_return}
+use Rattle.vtl.specs.Inner.Reading.{Reading}
 use Rattle.vtl.proofs.PhaseLemmas.{line_says, says_last, tells, refuses, refuses_long, work_same}
-use Rattle.vtl.proofs.HostLemmas.{hosts_of}
+use Rattle.vtl.proofs.HostLemmas.{hosts_of, drives_of}
 use Rattle.vtl.proofs.phases.read_line.Goals as goal
 
 pub returns-in_ok-parsed-in-Line-clause-ok : goal.returns-in_ok-parsed-in-Line-clause-ok
@@ -13,7 +13,7 @@ returns-in_ok-parsed-in-Line-clause-ok g c =
     let parsed_is : parsed ≡ parsed_line is_configured c.in-Line.count (without_return (take c.in-Line.count mid.unread)) =
     c.in_ok-parsed-in-Line.ensures ∙ ap (parsed_line is_configured c.in-Line.count) (c.without_return.ensures ∙ ap without_return c.front.ensures) in
     let says = line_says is_configured mid.unread c.take_up.new.self.unread c.in-Line.count parsed (rw c.in-Line.is at c.in_ok-count.ensures.found) parsed_is (ap (λ (r : Reading). r.unread) c.take_up.ensures.line) in
-    tells is_configured _ _ c.args.line_reader.now mid c.take_up.new.self parsed false (c.lines-number.result + 1) c.accepted.result (hosts_of is_configured c.in-Line.count (without_return (take c.in-Line.count mid.unread)) parsed parsed_is) c.in_ok-count.ensures.within (ap (λ (r : Reading). r.bytes) c.take_up.ensures.line) c.in_ok-count.ensures.comes says
+    tells is_configured _ _ c.args.line_reader.now mid c.take_up.new.self parsed false (c.lines-number.result + 1) c.accepted.result (hosts_of is_configured c.in-Line.count (without_return (take c.in-Line.count mid.unread)) parsed parsed_is) (drives_of is_configured c.in-Line.count (without_return (take c.in-Line.count mid.unread)) parsed parsed_is) c.in_ok-count.ensures.within (ap (λ (r : Reading). r.bytes) c.take_up.ensures.line) c.in_ok-count.ensures.comes says
     (λ is. ap (λ (r : Reading). r.lines) c.take_up.ensures.line ∙ ap (λ (n : ℕ). n + 1) c.in_ok-count.ensures.comes.lines)
     (λ is. let most = work_same _ _ c.args.line_reader.now mid c.in_ok-count.ensures.comes in omega (arith, c.take_up.ensures.less, most))
     c.accepted.ensures
@@ -36,7 +36,7 @@ returns-in_ok-parsed-in-Last-clause-ok g c =
     let parsed = c.in_ok-parsed-in-Last.parsed in
     let ends = rw c.in-Last.is at c.in_ok-count.ensures.found in
     let parsed_is : parsed ≡ parsed_line is_configured (length mid.unread) mid.unread = rw c.unread-line.ensures.bytes at c.in_ok-parsed-in-Last.ensures in
-    tells is_configured _ _ c.args.line_reader.now mid mid parsed true (c.lines-number.result + 1) c.accepted-in-Last.result (hosts_of is_configured (length mid.unread) mid.unread parsed parsed_is) c.in_ok-count.ensures.within refl c.in_ok-count.ensures.comes
+    tells is_configured _ _ c.args.line_reader.now mid mid parsed true (c.lines-number.result + 1) c.accepted-in-Last.result (hosts_of is_configured (length mid.unread) mid.unread parsed parsed_is) (drives_of is_configured (length mid.unread) mid.unread parsed parsed_is) c.in_ok-count.ensures.within refl c.in_ok-count.ensures.comes
     (ends.1, rw parsed_is (says_last is_configured mid.unread ends.0)) (λ is. absurd (cc)) (λ is. absurd (cc)) c.accepted-in-Last.ensures
 
 pub returns-in_ok-parsed-in-Last-clause-refused : goal.returns-in_ok-parsed-in-Last-clause-refused

@@ -1,7 +1,7 @@
 use Rattle.std.proofs.Common.{◌≡◌, ◌||◌, true, Err, refl, sym, ap, ◌∙◌}
 use Rattle.std.proofs.lemmas.Result.{err_from_is_err_and}
 use Rattle.vtl.proofs.ReadingLemmas.{err_same}
-use Rattle.vtl.specs.Phases.{is_phase_end}
+use Rattle.vtl.specs.Parsed.{is_phase_end}
 use Rattle.vtl.specs.declared.faults.ScriptFault.TheVariants.{BadLine}
 use Rattle.vtl.proofs.PhaseLemmas.{gathered_none, gathers_on, phase_read, phase_refused, or_last}
 use Rattle.vtl.proofs.phases.read_phase.Goals as goal

@@ -1,4 +1,4 @@
-use Rattle.vtl.specs.Reading.{work_left}
+use Rattle.vtl.specs.Inner.Reading.{work_left}
 use Rattle.vtl.proofs.PhaseLemmas.{IsGathered}
 use Rattle.vtl.proofs.phases.read_phase.Given as goal
 

@@ -1,7 +1,7 @@
 use Rattle.std.proofs.Common.{Err, Ok, refl, ◌∙◌}
 use Rattle.std.proofs.lemmas.Result.{err_from_is_err_and}
-use Rattle.vtl.specs.Reading.{unbegun}
-use Rattle.vtl.proofs.ScriptLemmas.{begin, goes_on, finish_on, follows}
+use Rattle.vtl.specs.Inner.Reading.{unbegun}
+use Rattle.vtl.proofs.ScriptLemmas.{begin, goes_on, finish_on, runs_script}
 use Rattle.vtl.proofs.scripts.run_script.Goals as goal
 
 pub loop-line_reader-init : goal.loop-line_reader-init
@@ -9,33 +9,33 @@ loop-line_reader-init g c =
     let runner = g.P.Runner in
     let laws = g.met.P.Runner in
     rw c.new-line_reader.ensures (record {
-      goes = begin (runner.is_configured c.args.runner.now) runner.answers laws.answers_none laws.answers_on unbegun c.args.runner.now _ _;
+      goes = begin (runner.is_configured c.args.runner.now) runner.answers laws.answers_none laws.answers_empty laws.answers_on unbegun c.args.runner.now _ _;
       same = refl;
     })
 
-pub returns-in_err-run_phase : goal.returns-in_err-run_phase
-returns-in_err-run_phase g c =
+pub returns-in_err-run_item : goal.returns-in_err-run_item
+returns-in_err-run_item g c =
     let runner = g.P.Runner in
     let laws = g.met.P.Runner in
     let exit = err_from_is_err_and c.from_residual.result c.from_residual.ensures.1 in
-    let last = rw c.loop-line_reader.invariant.same at c.in_err-run_phase.ensures.runs in
-    rw (exit.1, exit.2) (follows (runner.is_configured c.args.runner.now) runner.answers laws.answers_none laws.answers_on c.args.runner.now _ _ c.run_phase.new.runner _ (Err c.in_err-run_phase.field-0.0)
-    (finish_on (runner.is_configured c.args.runner.now) runner.answers laws.answers_none laws.answers_on unbegun c.loop-line_reader.line_reader c.args.runner.now c.loop-line_reader.runner c.run_phase.new.runner _ _ _ _ _ (Err c.in_err-run_phase.field-0.0) c.loop-line_reader.invariant.goes last))
+    let last = rw c.loop-line_reader.invariant.same at c.in_err-run_item.ensures.runs in
+    rw (exit.1, exit.2) (runs_script (runner.is_configured c.args.runner.now) runner.answers laws.answers_none laws.answers_empty laws.answers_on c.args.runner.now _ _ c.run_item.new.runner _ (Err c.in_err-run_item.field-0.0)
+    (finish_on (runner.is_configured c.args.runner.now) runner.answers laws.answers_none laws.answers_empty laws.answers_on unbegun c.loop-line_reader.line_reader c.args.runner.now c.loop-line_reader.runner c.run_item.new.runner _ _ _ _ _ (Err c.in_err-run_item.field-0.0) c.loop-line_reader.invariant.goes last))
 
 pub loop-line_reader-preserved : goal.loop-line_reader-preserved
 loop-line_reader-preserved g c =
     let runner = g.P.Runner in
     let laws = g.met.P.Runner in
-    let more = rw (c.if-branch.true, c.loop-line_reader.invariant.same) at c.in_ok-run_phase.ensures.runs in
+    let more = rw (c.if-branch.true, c.loop-line_reader.invariant.same) at c.in_ok-run_item.ensures.runs in
     record {
-      goes = goes_on (runner.is_configured c.args.runner.now) runner.answers laws.answers_none laws.answers_on unbegun c.loop-line_reader.line_reader c.run_phase.new.line_reader c.args.runner.now c.loop-line_reader.runner c.run_phase.new.runner _ _ _ _ _ _ c.loop-line_reader.invariant.goes more;
-      same = c.run_phase.ensures.same ∙ c.loop-line_reader.invariant.same;
+      goes = goes_on (runner.is_configured c.args.runner.now) runner.answers laws.answers_none laws.answers_empty laws.answers_on unbegun c.loop-line_reader.line_reader c.run_item.new.line_reader c.args.runner.now c.loop-line_reader.runner c.run_item.new.runner _ _ _ _ _ _ c.loop-line_reader.invariant.goes more;
+      same = c.run_item.ensures.same ∙ c.loop-line_reader.invariant.same;
     }
 
 pub returns : goal.returns
 returns g c =
     let runner = g.P.Runner in
     let laws = g.met.P.Runner in
-    let last = rw (c.if-branch.false, c.loop-line_reader.invariant.same) at c.in_ok-run_phase.ensures.runs in
-    follows (runner.is_configured c.args.runner.now) runner.answers laws.answers_none laws.answers_on c.args.runner.now _ _ c.run_phase.new.runner _ (Ok tt)
-    (finish_on (runner.is_configured c.args.runner.now) runner.answers laws.answers_none laws.answers_on unbegun c.loop-line_reader.line_reader c.args.runner.now c.loop-line_reader.runner c.run_phase.new.runner _ _ _ _ _ (Ok tt) c.loop-line_reader.invariant.goes last)
+    let last = rw (c.if-branch.false, c.loop-line_reader.invariant.same) at c.in_ok-run_item.ensures.runs in
+    runs_script (runner.is_configured c.args.runner.now) runner.answers laws.answers_none laws.answers_empty laws.answers_on c.args.runner.now _ _ c.run_item.new.runner _ (Ok tt)
+    (finish_on (runner.is_configured c.args.runner.now) runner.answers laws.answers_none laws.answers_empty laws.answers_on unbegun c.loop-line_reader.line_reader c.args.runner.now c.loop-line_reader.runner c.run_item.new.runner _ _ _ _ _ (Ok tt) c.loop-line_reader.invariant.goes last)

@@ -1,4 +1,4 @@
-use Rattle.vtl.specs.Reading.{work_left}
+use Rattle.vtl.specs.Inner.Reading.{work_left}
 use Rattle.vtl.proofs.ScriptLemmas.{IsRunning}
 use Rattle.vtl.proofs.scripts.run_script.Given as goal
 

@@ -1,5 +1,5 @@
 use Rattle.std.proofs.Common.{◌≡◌, ◌+◌, length, vec_len, sym, ap, ◌∙◌, arith, ℕ, Ok}
-use Rattle.vtl.specs.Reading.{Reading, bytes_read}
+use Rattle.vtl.specs.Inner.Reading.{Reading, bytes_read}
 use Rattle.vtl.proofs.ReadingLemmas.{comes_behind}
 use Rattle.vtl.proofs.line_readers.LineReader.fill.Goals as goal
 

@@ -1,7 +1,7 @@
 use Rattle.std.proofs.Common.{◌≡◌, ◌≤◌, map, take, length, vec_len, vec_capacity}
 use Rattle.drive_core.specs.Run.{Serves}
 use Rattle.vtl.specs.Held.{input_of}
-use Rattle.vtl.proofs.drives.HeldDriveRunner.run.Given as goal
+use Rattle.vtl.proofs.drives.HeldDrive.run_lines.Given as goal
 
 -- the lines so far were run and answered, and there is room for all answers
 abbrev pub invariant-loop-line : goal.invariant-loop-line
