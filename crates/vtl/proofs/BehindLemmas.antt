@@ -104,8 +104,8 @@ lines_behind : (is_configured : ℕ → Bool) (is_last : Bool) (text read : List
     (unread : List ℕ) (left : Option (List ℕ))
     → ParsesFirst is_configured is_last (text ++ read) parsed_list unread left
     → (behind : List ParsedLine)
-        × (parsed_lines is_configured (text ++ (read ++ rest_of left)) ≡ parsed_list ++ behind)
-        × (is_last ≡ true → behind ≡ [])
+    × (parsed_lines is_configured (text ++ (read ++ rest_of left)) ≡ parsed_list ++ behind)
+    × (is_last ≡ true → behind ≡ [])
 lines_behind is_configured true text read parsed_list unread left says =
     ([], ap (parsed_lines is_configured) (sym (append_assoc text read (rest_of left)) ∙ ap (λ (xs : List ℕ). (text ++ read) ++ xs) (at_end left says.0) ∙ append-nil (text ++ read)) ∙ says.1 ∙ sym (append-nil parsed_list), λ is. refl)
 lines_behind is_configured false text read parsed_list unread left says =
@@ -114,7 +114,7 @@ lines_behind is_configured false text read parsed_list unread left says =
 pub in_script : (is_configured : ℕ → Bool) (left left' : Option (List ℕ)) (old new : Reading) (is_last : Bool)
     (item : Item) → (reads : ReadsLines is_configured left old left' new is_last item)
     → (rest : List Item)
-        × (items_to_run (parsed_lines is_configured (old.unread ++ (reads.read ++ rest_of left'))) ≡ item ∷ rest)
+    × (items_to_run (parsed_lines is_configured (old.unread ++ (reads.read ++ rest_of left'))) ≡ item ∷ rest)
 in_script is_configured left left' old new is_last item reads =
     let behind = lines_behind is_configured is_last old.unread reads.read reads.parsed_list new.unread left' reads.says in
     first_of_items is_last reads.parsed_list (parsed_lines is_configured (old.unread ++ (reads.read ++ rest_of left'))) behind.0 item behind.1 behind.2 reads.is_item

@@ -28,7 +28,7 @@ AllPass p is_configured =
 
 pass_command : (p : Line → Bool) (o d : Option ℕ) (c s : Option (List ℕ))
     → ((host drive : ℕ) (cdb sent : List ℕ) → o ≡ Some host → d ≡ Some drive
-        → p (record { host = host; drive = drive; cdb = cdb; sent = sent }) ≡ true)
+    → p (record { host = host; drive = drive; cdb = cdb; sent = sent }) ≡ true)
     → list_all p (filter_map line_in (parsed_command o d c s ∷ [])) ≡ true
 pass_command p (Some host) (Some drive) (Some cdb) (Some sent) is = rw (is host drive cdb sent refl refl) refl
 pass_command p None d c s is = refl

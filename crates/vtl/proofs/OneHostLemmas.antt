@@ -27,7 +27,7 @@ use Rattle.vtl.specs.declared.items.Item.{Item}
 use Rattle.vtl.specs.Parsed.{parsed_lines, is_refused, refused_line, line_in}
 use Rattle.vtl.specs.Items.{has_host, by_host, items_after, items_to_run, commands_to_run}
 use Rattle.vtl.specs.Text.{text_of}
-use Rattle.vtl.specs.Held.{input_of, inputs_of}
+use Rattle.vtl.specs.Held.{input_of, inputs_of, HeldAnswers}
 use Rattle.vtl.specs.OneHost.{commands_in, IsOfHost, OneHostInOrder, AnswersOneHost}
 use Rattle.vtl.proofs.PartLemmas.{none_of}
 use Rattle.vtl.proofs.TurnLemmas.{by_host-rising}
@@ -110,7 +110,7 @@ pub one_host_is_answered : {M : Type 0} (tape : M → Tape) (moves : M → List 
 one_host_is_answered tape moves honest number old left before new now text items replies known good items_are serves written =
     let parsed_list = parsed_lines (λ drive. drive == number) text in
     let lines_are : (host : ℕ) → IsOfHost host (commands_in parsed_list) → inputs_of items ≡ map input_of (commands_in parsed_list) = λ host of.
-        ap inputs_of items_are ∙ ap (map input_of) (one_host_in_order host parsed_list of (no_refused parsed_list good)) in
+    ap inputs_of items_are ∙ ap (map input_of) (one_host_in_order host parsed_list of (no_refused parsed_list good)) in
     record {
       text = text;
       known = known;
@@ -130,8 +130,7 @@ pub one_host_of : {M : Type 0} (tape : M → Tape) (moves : M → List Change �
     (old : HeldDrive M) (left before : Option (List ℕ)) (new : HeldDrive M) (now : Option (List ℕ))
     (result : Result (Unit {0}) ScriptFault)
     → RunsScript (λ number. number == old.number)
-        (λ (old : HeldDrive M) items replies new. Serves tape moves honest old.drive (inputs_of items) replies new.drive)
-        old left before new now result
+    (HeldAnswers tape moves honest) old left before new now result
     → OnOk result (AnswersOneHost tape moves honest old.number old.drive left before new.drive now)
 one_host_of {M} tape moves honest old left before new now (Err fault) runs = tt
 one_host_of {M} tape moves honest old left before new now (Ok done) runs =

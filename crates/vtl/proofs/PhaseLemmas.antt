@@ -17,7 +17,8 @@ use Rattle.vtl.specs.declared.items.Item.TheVariants.{Phase}
 use Rattle.vtl.specs.declared.items.NextItem.{NextItem}
 use Rattle.vtl.specs.Parsed.{without_return, parsed_line, parsed_parts, parsed_lines, is_refused, is_phase_end, line_in}
 use Rattle.vtl.specs.Items.{has_host, by_host, items_after, items_to_run}
-use Rattle.vtl.specs.Inner.ReadItem.{rest_of, ReportsRefused, ParsesFirst, ReadsLine, RefusesLine, ReadsPhase, ReadsItem, RefusesItem, IsItem}
+use Rattle.vtl.specs.Inner.ReadItem.{rest_of, ReportsRefused, ParsesFirst, ReadsLine, RefusesLine, ReadsLines, ReadsPhase, ReadsItem, RefusesItem, IsItem}
+use Rattle.vtl.specs.Runs.{TakesWithin}
 use Rattle.vtl.proofs.HostLemmas.{all_by_host}
 use Rattle.vtl.specs.declared.faults.ScriptFault.{ScriptFault}
 use Rattle.vtl.specs.declared.faults.ScriptFault.TheVariants.{BadLine}
@@ -216,8 +217,7 @@ item_ends : (parsed : ParsedLine) (is_last : Bool) (parsed_list : List ParsedLin
     → lines' ≡ lines ++ filter_map line_in (parsed ∷ [])
     → IsItem is_last (parsed_list ++ parsed ∷ []) (Phase (by_host lines'))
 item_ends PhaseEnd true parsed_list lines lines' to_run good ends is =
-    let same : lines ≡ lines' = sym (is ∙ append-nil lines) in
-    (
+    let same : lines ≡ lines' = sym (is ∙ append-nil lines) in (
       Phase [] ∷ [],
       to_run (PhaseEnd ∷ []) ∙ ap (λ (xs : List Line). Phase (by_host xs) ∷ Phase (by_host []) ∷ []) same
           ∙ ap (λ (xs : List Line). Phase (by_host lines') ∷ Phase xs ∷ []) by_host-none,
@@ -275,6 +275,12 @@ phase_refused is_configured a b c old mid lines number so refuses =
           ∙ ap (λ (xs : List ParsedLine). so.parsed_list ++ xs) refuses.says;
       not_run = so.to_run (Refused ∷ refuses.behind);
     }
+
+-- what an item's lines take is within the limit of bytes
+pub takes_lines : (is_configured : ℕ → Bool) (left left' : Option (List ℕ)) (old new : Reading) (is_last : Bool)
+    (item : Item) → ReadsLines is_configured left old left' new is_last item → TakesWithin left old.bytes left'
+takes_lines is_configured left left' old new is_last item reads =
+    (reads.read, reads.taken, omega (arith, reads.bytes, reads.within))
 
 -- a phase that was read is an item, its commands in the order of their turns
 pub item_read : (is_configured : ℕ → Bool) (left left' : Option (List ℕ)) (old new : Reading) (phase : PhaseLines)

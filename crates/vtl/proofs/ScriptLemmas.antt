@@ -27,7 +27,7 @@ module _ {P : Type 0} (is_configured : ℕ → Bool) (answers : P → List Item 
     (nothing : (runner : P) → answers runner [] [] runner)
     (empty : (runner : P) → answers runner (Phase [] ∷ []) [] runner)
     (on : (old mid new : P) (first rest : List Item) (replies others : List Reply) → answers old first replies mid
-        → answers mid rest others new → answers old (first ++ rest) (replies ++ others) new) where
+    → answers mid rest others new → answers old (first ++ rest) (replies ++ others) new) where
   -- an item was not read
   pub finish_unread : (reading : Reading) (old : P) (left before : Option (List ℕ))
       → FinishesScript is_configured answers reading old left before old before (Err ReadFault)

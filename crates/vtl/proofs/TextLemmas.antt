@@ -112,9 +112,8 @@ pub printed_part : (before mid now : Option (List ℕ)) (text : List ℕ) (repli
 printed_part before mid now text replies at so part =
     let front = text_of (take so.count replies) in
     let all : text_of replies ≡ text_of (take at replies) ++ text_of (drop at replies) =
-        ap text_of (sym (take-append-drop at replies)) ∙ flat_map-append reply_text (take at replies) (drop at replies) in
-    let starts = rw so.held at (starts_more front text part.0 part.1) in
-    (
+    ap text_of (sym (take-append-drop at replies)) ∙ flat_map-append reply_text (take at replies) (drop at replies) in
+    let starts = rw so.held at (starts_more front text part.0 part.1) in (
       front ++ part.0,
       rw all (starts_longer (text_of (take at replies)) (text_of (drop at replies)) (front ++ part.0) starts),
       appends_on before mid now front part.0 so.written part.2,

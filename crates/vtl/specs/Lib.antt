@@ -1,3 +1,4 @@
+pub mod BuiltIn
 pub mod Faults
 pub mod Held
 pub mod Inner
@@ -5,5 +6,6 @@ pub mod Items
 pub mod Lines
 pub mod OneHost
 pub mod Parsed
+pub mod Program
 pub mod Runs
 pub mod Text

@@ -1,7 +1,7 @@
 -- How a script is run (own).
-use Rattle.std.specs.Prelude.{◌≡◌, ℕ, ◌≤◌, ◌⊎◌, Bool, List, [], ◌∷◌, ◌++◌, length, take, Option, Some, None, Result, Ok, Err, IfSome}
+use Rattle.std.specs.Prelude.{◌≡◌, ℕ, ◌≤◌, ◌+◌, ◌⊎◌, Bool, List, [], ◌∷◌, ◌++◌, length, take, Option, Some, None, Result, Ok, Err, IfSome}
 use Rattle.std.specs.Io.{StartsWith}
-use Rattle.std.specs.Io.KnownBytes.{Appends}
+use Rattle.std.specs.Io.KnownBytes.{Appends, Consumes}
 use Rattle.vtl_base.specs.declared.limits.TheConstants.{SCRIPT_BYTES}
 use Rattle.scsi_wire.specs.declared.replies.Reply.{Reply}
 use Rattle.vtl.specs.declared.items.Item.{Item}
@@ -86,7 +86,11 @@ ScriptEnds answers size parsed_list items text mid before new now (Err WriteFaul
 ScriptEnds answers size parsed_list items text mid before new now (Err NoMemory) =
     (behind : List Item) × (items_to_run parsed_list ≡ items ++ behind)
     × (Stops text mid before new now
-        ⊎ (RunsPart answers behind text mid before new now ⊎ WritesSome answers behind text mid before new now))
+    ⊎ (RunsPart answers behind text mid before new now ⊎ WritesSome answers behind text mid before new now))
+
+-- what a call took of a reader, behind so many bytes of a script, is within the limit of its bytes (own)
+abbrev pub TakesWithin : Option (List ℕ) → ℕ → Option (List ℕ) → Type 0
+TakesWithin left bytes left' = (read : List ℕ) × Consumes left left' read × (bytes + length read ≤ SCRIPT_BYTES)
 
 -- a script was read, run and answered (own)
 pub record RunsScript {P : Type 0}

@@ -1,10 +1,10 @@
 //! A script that is run by one drive.
-ghost use Rattle.std.specs.Prelude.{◌≡◌, ◌==◌, map, IfOk, OnOk, OnErr, length, vec_len};
+ghost use Rattle.std.specs.Prelude.{◌≡◌, ◌≢◌, ◌==◌, map, IfOk, OnOk, OnErr, Err, length, vec_len};
 ghost use Rattle.drive_core.specs.Run.{Serves};
-ghost use Rattle.vtl.specs.Held.{input_of, inputs_of};
+ghost use Rattle.vtl.specs.Held.{input_of, HeldAnswers};
 ghost use Rattle.vtl.specs.Inner.HeldRuns.{held_on};
 ghost use Rattle.vtl.specs.OneHost.{AnswersOneHost};
-ghost use Rattle.vtl.specs.Runs.{AnswersSome, RunsScript};
+ghost use Rattle.vtl.specs.Runs.{AnswersSome, RunsScript, TakesWithin};
 ghost use Rattle.drive_core.proofs.RunLemmas.{serves_none};
 
 use crate::faults::ScriptFault;
@@ -48,8 +48,7 @@ impl<M: Medium> HeldDrive<M> {
 impl<M: Medium> Runner for HeldDrive<M> {
     ghost is_configured = { λ held number. number == held.number };
 
-    ghost answers = { λ old items replies new.
-        Serves M.tape M.moves M.honest old.drive (inputs_of items) replies new.drive };
+    ghost answers = { HeldAnswers M.tape M.moves M.honest };
 
     fn configured(&self, drive: DriveNo) -> bool {
         drive == self.number
@@ -80,13 +79,13 @@ pub fn run_on_drive<M: Medium, R: Read, W: Write>(
     writer: &mut W,
 ) -> Result<(), ScriptFault>
     ensures runs { RunsScript (λ number. number == held.old.number)
-        (λ old items replies new.
-        Serves M.tape M.moves M.honest old.drive (inputs_of items) replies new.drive)
-        held.old (R.remaining reader.old) (W.contents writer.old)
+        (HeldAnswers M.tape M.moves M.honest) held.old (R.remaining reader.old) (W.contents writer.old)
         held.new (W.contents writer.new) result }
     ensures one_host { OnOk result (AnswersOneHost M.tape M.moves M.honest held.old.number
         held.old.drive (R.remaining reader.old) (W.contents writer.old)
         held.new.drive (W.contents writer.new)) }
+    ensures past { result ≢ Err ScriptFault.ReadFault →
+        TakesWithin (R.remaining reader.old) 0 (R.remaining reader.new) }
 {
     run_script(alloc, held, reader, writer)
 }

@@ -1,5 +1,6 @@
 //! The items of a script, each of which is run at once.
 ghost use Rattle.std.specs.Prelude.{◌≡◌, ◌≢◌, ℕ, IfOk, IfErr, Err};
+ghost use Rattle.vtl.specs.Runs.{TakesWithin};
 ghost use Rattle.vtl.specs.Inner.ReadItem.{ReadsItem, RefusesItem};
 
 use crate::faults::ScriptFault;
@@ -70,6 +71,8 @@ pub fn read_item<P: Runner, R: Read>(
         RefusesItem (P.is_configured runner.now)
         (R.remaining reader.old) line_reader.old (R.remaining reader.new) number }
     ensures fault { IfErr result (λ fault. fault ≢ ScriptFault.WriteFault) }
+    ensures past { IfErr result (λ fault. fault ≢ ScriptFault.ReadFault →
+        TakesWithin (R.remaining reader.old) line_reader.old.bytes (R.remaining reader.new)) }
 {
     let PhaseLines { mut lines, is_last } = read_phase(alloc, runner, line_reader, reader)?;
     sort_by_host(&mut lines)?;

@@ -1,9 +1,10 @@
 //! The bytes of a script, read in line_reader.
-ghost use Rattle.std.specs.Prelude.{◌≡◌, ◌<◌, ◌≤◌, ◌+◌, ◌==◌, ◌++◌, ◌⊎◌, ℕ, length, take, drop, vec_len, position, Some, None, Ok, false, IfOk, IfErr, OnOk, OnErr};
+ghost use Rattle.std.specs.Prelude.{◌≡◌, ◌<◌, ◌≤◌, ◌+◌, ◌==◌, ◌++◌, ◌⊎◌, [], ℕ, length, take, drop, vec_len, position, Some, None, Ok, false, IfOk, IfErr, OnOk, OnErr};
 ghost use Rattle.std.specs.Io.KnownBytes.{Consumes, IsAtEnd};
 ghost use Rattle.vtl.specs.Inner.Reading.{unbegun, bytes_read, Comes, Ends};
 
 use crate::faults::ScriptFault;
+use crate::script_limits::{within_bytes, within_reads};
 use crate::splits::place_of;
 use std::alloc::Global;
 use std::io::{ErrorKind, Read};
@@ -24,6 +25,7 @@ pub struct LineReader {
 }
 
 /// Where the first line ends.
+#[derive(Drop)]
 pub enum Found {
     /// At the line feed behind so many bytes.
     Line(usize),
@@ -35,7 +37,8 @@ pub enum Found {
 
 impl Model for LineReader {
     ghost use Rattle.std.specs.Prelude.{ℕ, ◌≤◌, ◌+◌, ◌-◌, drop, vec_len};
-    ghost use Rattle.vtl_base.specs.declared.limits.TheConstants.{SCRIPT_BYTES, SCRIPT_READS};
+    ghost use Rattle.vtl_base.specs.declared.limits.TheConstants.{LINE_BYTES, SCRIPT_BYTES, SCRIPT_READS};
+    ghost use Rattle.vtl.specs.declared.line_readers.TheConstants.{READ_CHUNK};
     ghost use Rattle.vtl.specs.Inner.Reading.{Reading};
 
     ghost Value = { Reading };
@@ -47,7 +50,7 @@ impl Model for LineReader {
       lines = b.lines;
     } };
 
-    ghost invariant = { λ b. (b.start ≤ vec_len b.buffer)
+    ghost invariant = { λ b. (b.start ≤ vec_len b.buffer) × (vec_len b.buffer ≤ LINE_BYTES + READ_CHUNK)
         × (b.lines + (vec_len b.buffer - b.start) ≤ b.bytes)
         × (b.bytes ≤ SCRIPT_BYTES) × (b.reads ≤ SCRIPT_READS) };
 }
@@ -101,9 +104,11 @@ fn read_chunk<R: Read>(reader: &mut R, buffer: &mut Vec<u8>) -> Result<Option<us
         (drop (vec_len buffer.old) buffer.new.items)) }
     ensures front { OnOk result (take (vec_len buffer.old) buffer.new.items ≡ buffer.old.items) }
     ensures count { vec_len buffer.new ≡ vec_len buffer.old + bytes_read result }
+    ensures most { bytes_read result ≤ READ_CHUNK }
     ensures end { result ≡ Ok (Some 0) → IsAtEnd (R.remaining reader.new) }
-    ensures fault { IfErr result (λ fault.
-        (fault ≡ ScriptFault.ReadFault) ⊎ (fault ≡ ScriptFault.NoMemory)) }
+    ensures fault { IfErr result (λ fault. (fault ≡ ScriptFault.ReadFault)
+        ⊎ ((fault ≡ ScriptFault.NoMemory)
+        × Consumes (R.remaining reader.old) (R.remaining reader.new) [])) }
 {
     let filled = buffer.len();
     buffer.resize(filled + READ_CHUNK, 0)?;
@@ -112,10 +117,24 @@ fn read_chunk<R: Read>(reader: &mut R, buffer: &mut Vec<u8>) -> Result<Option<us
     outcome
 }
 
+// Gives up the room of the bytes before this place.
+fn close_up(buffer: &mut Vec<u8>, start: usize)
+    requires { start ≤ vec_len buffer.old }
+    ensures { buffer.new.items ≡ drop start buffer.old.items }
+{
+    let left = buffer.len() - start;
+    buffer.copy_within(start.., 0);
+    buffer.truncate(left);
+}
+
 impl LineReader {
-    ghost use Rattle.std.specs.Prelude.{◌≡◌, ◌<◌, ◌≤◌, ◌+◌, ◌⊎◌, drop, take, length, Ok, Err, false, IfOk, IfErr, OnOk};
+    ghost use Rattle.std.specs.Prelude.{◌≡◌, ◌<◌, ◌≤◌, ◌+◌, ◌⊎◌, [], drop, take, length, Ok, Err, false, IfOk, IfErr, OnOk};
     ghost use Rattle.vtl_base.specs.declared.limits.TheConstants.{SCRIPT_BYTES, SCRIPT_READS};
-    ghost use Rattle.vtl.specs.Inner.Reading.{unbegun, work_left, Comes, Ends};
+    ghost use Rattle.std.specs.Io.KnownBytes.{Consumes};
+    ghost use Rattle.vtl_base.specs.declared.limits.TheConstants.{LINE_BYTES};
+    ghost use Rattle.vtl.specs.declared.line_readers.TheConstants.{READ_CHUNK};
+    ghost use Rattle.vtl.specs.Inner.Reading.{unbegun, work_left, may_read, Comes, Ends};
+    ghost use Rattle.vtl.specs.Runs.{TakesWithin};
 
     /// Nothing yet.
     pub fn new(alloc: Global) -> Self
@@ -130,19 +149,10 @@ impl LineReader {
         }
     }
 
-    // Gives up the room of the lines that were taken up.
-    fn close_up(&mut self)
-        ensures { self.new ≡ self.old }
-    {
-        let left = self.buffer.len() - self.start;
-        self.buffer.copy_within(self.start.., 0);
-        self.buffer.truncate(left);
-        self.start = 0;
-    }
-
     // One read more. At `false` the text has ended, and at `true` bytes came or the read was
     // interrupted.
     fn fill<R: Read>(&mut self, reader: &mut R) -> Result<bool, ScriptFault>
+        requires { length self.old.unread ≤ LINE_BYTES }
         ensures comes { OnOk result
             (Comes (R.remaining reader.old) self.old (R.remaining reader.new) self.new) }
         ensures within { OnOk result (self.new.bytes ≤ SCRIPT_BYTES) }
@@ -150,20 +160,21 @@ impl LineReader {
             ((self.new.reads ≡ self.old.reads + 1) × (self.new.reads ≤ SCRIPT_READS)) }
         ensures end { result ≡ Ok false →
             IsAtEnd (R.remaining reader.new) × (self.new.unread ≡ self.old.unread) }
-        ensures limit { self.old.reads ≡ SCRIPT_READS → result ≡ Err ScriptFault.ReadFault }
-        ensures fault { IfErr result (λ fault.
-            (fault ≡ ScriptFault.ReadFault) ⊎ (fault ≡ ScriptFault.NoMemory)) }
+        ensures limit { may_read self.old.reads ≡ false → result ≡ Err ScriptFault.ReadFault }
+        ensures fault { IfErr result (λ fault. (fault ≡ ScriptFault.ReadFault)
+            ⊎ ((fault ≡ ScriptFault.NoMemory)
+            × Consumes (R.remaining reader.old) (R.remaining reader.new) [])) }
     {
-        if self.reads >= SCRIPT_READS {
+        if !within_reads(self.reads) {
             return Err(ScriptFault::ReadFault);
         }
         self.reads += 1;
-        self.close_up();
+        close_up(&mut self.buffer, self.start);
+        self.start = 0;
         match read_chunk(reader, &mut self.buffer)? {
             None => Ok(true),
             Some(0) => Ok(false),
-            Some(count) if count as u64 > SCRIPT_BYTES - self.bytes => {
-                self.start = 0;
+            Some(count) if !within_bytes(self.bytes, count) => {
                 self.buffer.clear();
                 Err(ScriptFault::ReadFault)
             }
@@ -181,8 +192,9 @@ impl LineReader {
             (Comes (R.remaining reader.old) self.old (R.remaining reader.new) self.new) }
         ensures within { OnOk result (self.new.bytes ≤ SCRIPT_BYTES) }
         ensures found { IfOk result (λ found. Ends found self.new.unread (R.remaining reader.new)) }
-        ensures fault { IfErr result (λ fault.
-            (fault ≡ ScriptFault.ReadFault) ⊎ (fault ≡ ScriptFault.NoMemory)) }
+        ensures fault { IfErr result (λ fault. (fault ≡ ScriptFault.ReadFault)
+            ⊎ ((fault ≡ ScriptFault.NoMemory)
+            × TakesWithin (R.remaining reader.old) self.old.bytes (R.remaining reader.new))) }
     {
         let mut searched = 0;
         loop {
@@ -208,9 +220,10 @@ impl LineReader {
         &self.buffer[self.start..self.start + count]
     }
 
-    /// All bytes that were not taken up.
+    /// All bytes that were not taken up: those of a line and of a read at most.
     pub fn unread(&self) -> &[u8]
         ensures bytes { result.now ≡ self.now.unread }
+        ensures most { length self.now.unread ≤ LINE_BYTES + READ_CHUNK }
         ensures within { self.now.bytes ≤ SCRIPT_BYTES }
     {
         &self.buffer[self.start..]
@@ -222,6 +235,14 @@ impl LineReader {
         ensures limit { result + length self.now.unread ≤ SCRIPT_BYTES }
     {
         self.lines
+    }
+
+    /// How many reads were asked for.
+    #[cfg(test)]
+    pub fn reads(&self) -> u64
+        ensures { result ≡ self.now.reads }
+    {
+        self.reads
     }
 
     /// Takes up the first line, of so many bytes before its line feed.

@@ -1,10 +1,11 @@
 //! A script, read phase by phase.
 ghost use Rattle.std.specs.Prelude.{◌≡◌, ◌≢◌, ◌++◌, ◌∷◌, [], ℕ, filter_map, IfOk, IfErr, OnOk, Err};
 ghost use Rattle.vtl.specs.Parsed.{without_return, parsed_line, is_phase_end, line_in};
+ghost use Rattle.vtl.specs.Runs.{TakesWithin};
 ghost use Rattle.vtl.specs.Inner.ReadItem.{ReportsRefused, ReadsLine, ReadsPhase, RefusesLine, RefusesItem};
 
-use crate::line_readers::{LineReader, Found};
 use crate::faults::ScriptFault;
+use crate::line_readers::{Found, LineReader};
 use crate::lines::{Line, ParsedLine, parse};
 use crate::runners::Runner;
 use std::alloc::Global;
@@ -75,11 +76,18 @@ fn read_line<P: Runner, R: Read>(
         RefusesLine (P.is_configured runner.now)
         (R.remaining reader.old) line_reader.old (R.remaining reader.new) number }
     ensures fault { IfErr result (λ fault. fault ≢ ScriptFault.WriteFault) }
+    ensures past { IfErr result (λ fault. fault ≢ ScriptFault.ReadFault →
+        TakesWithin (R.remaining reader.old) line_reader.old.bytes (R.remaining reader.new)) }
 {
     let number = line_reader.lines() + 1;
     match line_reader.find(reader)? {
         Found::Line(count) => {
-            let parsed = parsed_line(alloc, runner, count, without_return(line_reader.front(count)))?;
+            let parsed = parsed_line(
+                alloc,
+                runner,
+                count,
+                without_return(line_reader.front(count)),
+            )?;
             line_reader.take_up(count);
             accepted(parsed, false, number)
         }
@@ -122,6 +130,8 @@ pub fn read_phase<P: Runner, R: Read>(
         RefusesItem (P.is_configured runner.now)
         (R.remaining reader.old) line_reader.old (R.remaining reader.new) number }
     ensures fault { IfErr result (λ fault. fault ≢ ScriptFault.WriteFault) }
+    ensures past { IfErr result (λ fault. fault ≢ ScriptFault.ReadFault →
+        TakesWithin (R.remaining reader.old) line_reader.old.bytes (R.remaining reader.new)) }
 {
     let mut lines = Vec::new(alloc);
     loop {

@@ -1,8 +1,8 @@
 //! Scripts: items that are read, run and answered.
-ghost use Rattle.std.specs.Prelude.{◌≡◌, ◌<◌, Ok, true};
+ghost use Rattle.std.specs.Prelude.{◌≡◌, ◌≢◌, ◌<◌, Ok, Err, true};
 ghost use Rattle.vtl.specs.Inner.Reading.{work_left};
 ghost use Rattle.vtl.specs.Inner.RunItem.{RunsItem};
-ghost use Rattle.vtl.specs.Runs.{RunsScript};
+ghost use Rattle.vtl.specs.Runs.{RunsScript, TakesWithin};
 
 use crate::faults::ScriptFault;
 use crate::items::{NextItem, read_item};
@@ -25,6 +25,8 @@ fn run_item<P: Runner, R: Read, W: Write>(
         line_reader.new runner.new (R.remaining reader.new) (W.contents writer.new) result }
     ensures less { result ≡ Ok true → work_left line_reader.new < work_left line_reader.old }
     ensures same { P.is_configured runner.new ≡ P.is_configured runner.old }
+    ensures past { result ≢ Err ScriptFault.ReadFault →
+        TakesWithin (R.remaining reader.old) line_reader.old.bytes (R.remaining reader.new) }
 {
     let NextItem { item, is_last } = read_item(alloc, runner, line_reader, reader)?;
     let replies = runner.run(alloc, &item)?;
@@ -40,9 +42,13 @@ pub fn run_script<P: Runner, R: Read, W: Write>(
     reader: &mut R,
     writer: &mut W,
 ) -> Result<(), ScriptFault>
-    ensures { RunsScript (P.is_configured runner.old) P.answers
+    ensures runs { RunsScript (P.is_configured runner.old) P.answers
         runner.old (R.remaining reader.old) (W.contents writer.old)
         runner.new (W.contents writer.new) result }
+
+    // Past the limit of bytes it is a read fault, and no other.
+    ensures past { result ≢ Err ScriptFault.ReadFault →
+        TakesWithin (R.remaining reader.old) 0 (R.remaining reader.new) }
 {
     let mut line_reader = LineReader::new(alloc);
     while run_item(alloc, runner, &mut line_reader, reader, writer)? {}

@@ -1,7 +1,7 @@
 -- How far a script was read (own).
-use Rattle.std.specs.Prelude.{◌≡◌, ℕ, ◌+◌, ◌-◌, ◌<◌, ◌≤◌, ◌==◌, List, [], ◌++◌, length, position, Option, Some, None, Result, Ok, Err}
+use Rattle.std.specs.Prelude.{◌≡◌, ℕ, ◌+◌, ◌-◌, ◌<◌, ◌≤◌, ◌==◌, nat_le, nat_lt, Bool, List, [], ◌++◌, length, position, Option, Some, None, Result, Ok, Err}
 use Rattle.std.specs.Io.KnownBytes.{Consumes, IsAtEnd}
-use Rattle.vtl_base.specs.declared.limits.TheConstants.{SCRIPT_BYTES, LINE_BYTES}
+use Rattle.vtl_base.specs.declared.limits.TheConstants.{SCRIPT_BYTES, SCRIPT_READS, LINE_BYTES}
 use Rattle.vtl.specs.declared.faults.ScriptFault.{ScriptFault}
 use Rattle.vtl.specs.declared.line_readers.Found.{Found}
 use Rattle.vtl.specs.declared.line_readers.Found.TheVariants.{Line, Last, TooLong}
@@ -20,6 +20,14 @@ unbegun = record { unread = []; bytes = 0; reads = 0; lines = 0 }
 -- the bytes that may still be taken up (own)
 abbrev pub work_left : Reading → ℕ
 work_left reading = (SCRIPT_BYTES + length reading.unread) - reading.bytes
+
+-- whether a script of so many bytes is within its limit (own)
+abbrev pub is_within_bytes : ℕ → Bool
+is_within_bytes bytes = nat_le bytes SCRIPT_BYTES
+
+-- whether a script that took so many reads may take one more (own)
+abbrev pub may_read : ℕ → Bool
+may_read reads = nat_lt reads SCRIPT_READS
 
 -- how many bytes a read gave: none where it failed or was interrupted (own)
 abbrev pub bytes_read : Result (Option ℕ) ScriptFault → ℕ

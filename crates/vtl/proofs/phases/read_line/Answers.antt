@@ -2,6 +2,8 @@ use Rattle.std.proofs.Common.{◌≡◌, ◌+◌, take, false, true, length, ap,
 use Rattle.vtl.specs.Parsed.{parsed_line, without_return}
 use Rattle.vtl.specs.Inner.Reading.{Reading}
 use Rattle.vtl.proofs.PhaseLemmas.{line_says, says_last, tells, refuses, refuses_long, work_same}
+use Rattle.std.proofs.lemmas.Result.{err_from_is_err_and}
+use Rattle.vtl.proofs.ReadingLemmas.{past_of, past_anyway, takes_comes}
 use Rattle.vtl.proofs.HostLemmas.{hosts_of, drives_of}
 use Rattle.vtl.proofs.phases.read_line.Goals as goal
 
@@ -55,3 +57,27 @@ returns-in-TooLong-clause-refused g c told is =
     let number : c.lines-number.result + 1 ≡ told = cc in
     let counted : told ≡ c.args.line_reader.now.lines + 1 = sym number ∙ ap (λ (n : ℕ). n + 1) c.lines-number.ensures.lines in
     refuses_long (g.P.Runner.is_configured c.args.runner.now) _ _ c.args.line_reader.now c.find.new.self told c.in_ok-count.ensures.comes ends.0 ends.1 counted
+
+pub returns-in_err-count-clause-past : goal.returns-in_err-count-clause-past
+returns-in_err-count-clause-past g c =
+    let exit = err_from_is_err_and c.from_residual.result c.from_residual.ensures.1 in
+    rw (exit.1, exit.2) (λ other. past_of _ _ c.args.line_reader.now.bytes c.in_err-count.field-0.0 c.in_err-count.ensures.fault other)
+
+pub returns-in_err-parsed-in-Line-clause-past : goal.returns-in_err-parsed-in-Line-clause-past
+returns-in_err-parsed-in-Line-clause-past g c =
+    past_anyway _ _ c.args.line_reader.now.bytes _ (takes_comes _ _ c.args.line_reader.now c.find.new.self c.in_ok-count.ensures.comes c.in_ok-count.ensures.within)
+
+pub returns-in_ok-parsed-in-Line-clause-past : goal.returns-in_ok-parsed-in-Line-clause-past
+returns-in_ok-parsed-in-Line-clause-past g c =
+    past_anyway _ _ c.args.line_reader.now.bytes _ (takes_comes _ _ c.args.line_reader.now c.find.new.self c.in_ok-count.ensures.comes c.in_ok-count.ensures.within)
+
+pub returns-in_err-parsed-in-Last-clause-past : goal.returns-in_err-parsed-in-Last-clause-past
+returns-in_err-parsed-in-Last-clause-past g c =
+    past_anyway _ _ c.args.line_reader.now.bytes _ (takes_comes _ _ c.args.line_reader.now c.find.new.self c.in_ok-count.ensures.comes c.in_ok-count.ensures.within)
+
+pub returns-in_ok-parsed-in-Last-clause-past : goal.returns-in_ok-parsed-in-Last-clause-past
+returns-in_ok-parsed-in-Last-clause-past g c =
+    past_anyway _ _ c.args.line_reader.now.bytes _ (takes_comes _ _ c.args.line_reader.now c.find.new.self c.in_ok-count.ensures.comes c.in_ok-count.ensures.within)
+
+pub returns-in-TooLong-clause-past : goal.returns-in-TooLong-clause-past
+returns-in-TooLong-clause-past g c = λ other. takes_comes _ _ c.args.line_reader.now c.find.new.self c.in_ok-count.ensures.comes c.in_ok-count.ensures.within

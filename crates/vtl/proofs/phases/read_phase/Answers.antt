@@ -1,6 +1,6 @@
-use Rattle.std.proofs.Common.{◌≡◌, ◌||◌, true, Err, refl, sym, ap, ◌∙◌}
+use Rattle.std.proofs.Common.{◌≡◌, ◌||◌, true, Err, refl, sym, ap, ◌∙◌, arith}
 use Rattle.std.proofs.lemmas.Result.{err_from_is_err_and}
-use Rattle.vtl.proofs.ReadingLemmas.{err_same}
+use Rattle.vtl.proofs.ReadingLemmas.{err_same, takes_on, past_anyway}
 use Rattle.vtl.specs.Parsed.{is_phase_end}
 use Rattle.vtl.specs.declared.faults.ScriptFault.TheVariants.{BadLine}
 use Rattle.vtl.proofs.PhaseLemmas.{gathered_none, gathers_on, phase_read, phase_refused, or_last}
@@ -30,3 +30,16 @@ pub loop-lines-preserved : goal.loop-lines-preserved
 loop-lines-preserved g c =
     gathers_on _ _ _ _ c.args.line_reader.now c.loop-lines.line_reader c.read_line.new.line_reader c.loop-lines.lines.items c.gather.new.lines.items c.in_ok-parsed.field-0 c.loop-lines.invariant
     c.in_ok-parsed.ensures.ok c.if-is_last.false (sym c.in_ok-is_end.ensures.ends ∙ c.if-is_end.false) c.in_ok-is_end.ensures.lines
+
+pub returns-in_err-parsed-clause-past : goal.returns-in_err-parsed-clause-past
+returns-in_err-parsed-clause-past g c =
+    let exit = err_from_is_err_and c.from_residual.result c.from_residual.ensures.1 in
+    let so = c.loop-lines.invariant in
+    rw (exit.1, exit.2) (λ other. takes_on _ _ _ c.args.line_reader.now.bytes c.loop-lines.line_reader.bytes so.read so.taken so.bytes (c.in_err-parsed.ensures.past other))
+
+pub returns-in_err-is_end-clause-past : goal.returns-in_err-is_end-clause-past
+returns-in_err-is_end-clause-past g c =
+    let so = c.loop-lines.invariant in
+    let next = c.in_ok-parsed.ensures.ok in
+    past_anyway _ _ c.args.line_reader.now.bytes _
+    (takes_on _ _ _ c.args.line_reader.now.bytes c.loop-lines.line_reader.bytes so.read so.taken so.bytes (next.read, next.taken, omega (arith, next.bytes, next.within)))

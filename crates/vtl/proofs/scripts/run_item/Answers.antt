@@ -1,6 +1,7 @@
 use Rattle.std.proofs.Common.{Err, ap, ◌∙◌}
 use Rattle.std.proofs.lemmas.Result.{err_from_is_err_and}
 use Rattle.vtl.proofs.ScriptLemmas.{read_failed, finish_part, write_failed, item_done}
+use Rattle.vtl.proofs.PhaseLemmas.{takes_lines}
 use Rattle.vtl.proofs.scripts.run_item.Goals as goal
 
 pub returns-in_err-item-clause-runs : goal.returns-in_err-item-clause-runs
@@ -35,3 +36,17 @@ returns-clause-runs g c =
     let laws = g.met.P.Runner in
     item_done (runner.is_configured c.args.runner.now) runner.answers laws.answers_none laws.answers_empty laws.answers_on c.args.line_reader.now c.read_item.new.line_reader c.args.runner.now _ (g.R.Read.remaining c.read_item.new.reader) _ (g.W.Write.contents c.print_replies.new.writer) c.run.new.self c.in_ok-item.field-0.is_last c.in_ok-item.field-0.item c.in_ok-replies.replies.items
     c.in_ok-item.ensures.ok.reads c.in_ok-replies.ensures.ok (rw c.as_slice.ensures.value at c.in_ok-print_replies.ensures.ok)
+
+pub returns-in_err-item-clause-past : goal.returns-in_err-item-clause-past
+returns-in_err-item-clause-past g c = λ other.
+    let exit = err_from_is_err_and c.from_residual.result c.from_residual.ensures.1 in
+    c.in_err-item.ensures.past (λ is. other (exit.1 ∙ ap Err (exit.2 ∙ is)))
+
+pub returns-in_err-replies-clause-past : goal.returns-in_err-replies-clause-past
+returns-in_err-replies-clause-past g c = λ other. takes_lines _ _ _ c.args.line_reader.now _ _ _ c.in_ok-item.ensures.ok.reads
+
+pub returns-in_err-print_replies-clause-past : goal.returns-in_err-print_replies-clause-past
+returns-in_err-print_replies-clause-past g c = λ other. takes_lines _ _ _ c.args.line_reader.now _ _ _ c.in_ok-item.ensures.ok.reads
+
+pub returns-clause-past : goal.returns-clause-past
+returns-clause-past g c = λ other. takes_lines _ _ _ c.args.line_reader.now _ _ _ c.in_ok-item.ensures.ok.reads

@@ -1,7 +1,8 @@
-use Rattle.std.proofs.Common.{Err, Ok, refl, ◌∙◌}
+use Rattle.std.proofs.Common.{Err, Ok, refl, ap, ◌∙◌}
 use Rattle.std.proofs.lemmas.Result.{err_from_is_err_and}
 use Rattle.vtl.specs.Inner.Reading.{unbegun}
 use Rattle.vtl.proofs.ScriptLemmas.{begin, goes_on, finish_on, runs_script}
+use Rattle.vtl.proofs.ReadingLemmas.{takes_on, err_same, ok_other}
 use Rattle.vtl.proofs.scripts.run_script.Goals as goal
 
 pub loop-line_reader-init : goal.loop-line_reader-init
@@ -13,8 +14,8 @@ loop-line_reader-init g c =
       same = refl;
     })
 
-pub returns-in_err-run_item : goal.returns-in_err-run_item
-returns-in_err-run_item g c =
+pub returns-in_err-run_item-clause-runs : goal.returns-in_err-run_item-clause-runs
+returns-in_err-run_item-clause-runs g c =
     let runner = g.P.Runner in
     let laws = g.met.P.Runner in
     let exit = err_from_is_err_and c.from_residual.result c.from_residual.ensures.1 in
@@ -32,10 +33,23 @@ loop-line_reader-preserved g c =
       same = c.run_item.ensures.same ∙ c.loop-line_reader.invariant.same;
     }
 
-pub returns : goal.returns
-returns g c =
+pub returns-clause-runs : goal.returns-clause-runs
+returns-clause-runs g c =
     let runner = g.P.Runner in
     let laws = g.met.P.Runner in
     let last = rw (c.if-branch.false, c.loop-line_reader.invariant.same) at c.in_ok-run_item.ensures.runs in
     runs_script (runner.is_configured c.args.runner.now) runner.answers laws.answers_none laws.answers_empty laws.answers_on c.args.runner.now _ _ c.run_item.new.runner _ (Ok tt)
     (finish_on (runner.is_configured c.args.runner.now) runner.answers laws.answers_none laws.answers_empty laws.answers_on unbegun c.loop-line_reader.line_reader c.args.runner.now c.loop-line_reader.runner c.run_item.new.runner _ _ _ _ _ (Ok tt) c.loop-line_reader.invariant.goes last)
+
+pub returns-in_err-run_item-clause-past : goal.returns-in_err-run_item-clause-past
+returns-in_err-run_item-clause-past g c = λ other.
+    let exit = err_from_is_err_and c.from_residual.result c.from_residual.ensures.1 in
+    let goes = c.loop-line_reader.invariant.goes in
+    takes_on _ _ _ 0 c.loop-line_reader.line_reader.bytes goes.read goes.taken goes.bytes
+    (c.run_item.ensures.past (λ is. other (exit.1 ∙ ap Err (exit.2 ∙ err_same c.run_item.result _ _ c.in_err-run_item.was is))))
+
+pub returns-clause-past : goal.returns-clause-past
+returns-clause-past g c = λ other.
+    let goes = c.loop-line_reader.invariant.goes in
+    takes_on _ _ _ 0 c.loop-line_reader.line_reader.bytes goes.read goes.taken goes.bytes
+    (c.run_item.ensures.past (λ is. ok_other c.run_item.result _ _ c.in_ok-run_item.was is))
