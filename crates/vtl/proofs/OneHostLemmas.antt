@@ -1,5 +1,5 @@
 -- Scripts of at most one host.
-use Rattle.std.proofs.Common.{◌≡◌, ℕ, ◌+◌, ◌<◌, ◌≤◌, Bool, true, false, cond, ◌&&◌, nat_lt, ◌==◌, List, [], ◌∷◌, ◌++◌, length, get_or, map, filter_map, Some, None, option_map, Ok, refl, sym, ap, ◌∙◌, arith, append_assoc}
+use Rattle.std.proofs.Common.{◌≡◌, ℕ, ◌+◌, ◌<◌, ◌≤◌, Bool, true, false, cond, ◌&&◌, nat_lt, ◌==◌, List, [], ◌∷◌, ◌++◌, length, get_or, map, filter_map, Option, Some, None, IfSome, OnOk, Result, Err, option_map, Ok, refl, sym, ap, ◌∙◌, arith, append_assoc}
 use Rattle.std.proofs.lemmas.Bool.Decides.{nat_tests}
 use Rattle.std.proofs.lemmas.List.{append-nil}
 use Rattle.std.proofs.lemmas.List.Sums.{AllPass-from_list_all}
@@ -10,19 +10,26 @@ use Rattle.scsi_wire.specs.declared.replies.Reply.{Reply}
 use Rattle.volume_core.specs.declared.changes.Change.{Change}
 use Rattle.volume_core.specs.Medium.{Tape}
 use Rattle.drive_core.specs.Faults.{reply_of}
-use Rattle.drive_core.specs.State.{machine_of, medium_in}
+use Rattle.drive_core.specs.State.{DriveState, Kept, machine_of, medium_in}
+use Rattle.drive_core.specs.Run.{Serves}
+use Rattle.std.specs.Io.KnownBytes.{Appends}
 use Rattle.drive_core.specs.Execute.{HonestIn}
 use Rattle.drive_core.specs.Determined.{AllAskAlike}
 use Rattle.drive_core.proofs.DeterminedLemmas.{runs_determined}
 use Rattle.drive_core.proofs.RunLemmas.{run_where}
 use Rattle.vtl.specs.declared.lines.Line.{Line}
-use Rattle.vtl.specs.declared.lines.Meaning.{Meaning}
-use Rattle.vtl.specs.declared.lines.Meaning.TheVariants.{Nothing, PhaseEnd, Command, Refused}
-use Rattle.vtl.specs.Phases.{meanings_of, is_refused, is_phase_end, refused_line, line_in, phases_to_run, by_host, has_host, in_turn}
-use Rattle.vtl.specs.Held.{input_of}
-use Rattle.vtl.specs.OneHost.{commands_in, IsOfHost, OneHostInOrder, OneHostIsAnswered}
+use Rattle.vtl.specs.declared.lines.ParsedLine.{ParsedLine}
+use Rattle.vtl.specs.declared.lines.ParsedLine.TheVariants.{Nothing, PhaseEnd, Command, Refused}
+use Rattle.vtl.specs.declared.drives.HeldDrive.{HeldDrive}
+use Rattle.vtl.specs.declared.faults.ScriptFault.{ScriptFault}
+use Rattle.vtl.specs.Runs.{RunsScript}
+use Rattle.vtl.specs.declared.items.Item.{Item}
+use Rattle.vtl.specs.Parsed.{parsed_lines, is_refused, refused_line, line_in}
+use Rattle.vtl.specs.Items.{has_host, by_host, items_after, items_to_run, commands_to_run}
+use Rattle.vtl.specs.Text.{text_of}
+use Rattle.vtl.specs.Held.{input_of, inputs_of, HeldAnswers}
+use Rattle.vtl.specs.OneHost.{commands_in, IsOfHost, OneHostInOrder, AnswersOneHost}
 use Rattle.vtl.proofs.PartLemmas.{none_of}
-use Rattle.vtl.proofs.PhaseLemmas.{run_phase, run_last, both_none}
 use Rattle.vtl.proofs.TurnLemmas.{by_host-rising}
 
 -- one host's commands are in the order of their turns
@@ -54,46 +61,36 @@ ands false b h = absurd (cc)
 both_of : (host : ℕ) (first rest : List Line) → list_all (λ line. line.host == host) (first ++ rest) ≡ true → (list_all (λ line. line.host == host) first ≡ true) × (list_all (λ line. line.host == host) rest ≡ true)
 both_of host first rest all = ands (list_all (λ line. line.host == host) first) (list_all (λ line. line.host == host) rest) (sym (list_all-append (λ line. line.host == host) first rest) ∙ all)
 
--- one line more of a phase
-one_more : (host : ℕ) → 1 ≤ host → host ≤ 64 → (front said : List Meaning) (meaning : Meaning) → list_any is_refused front ≡ false → list_any is_phase_end front ≡ false → is_refused meaning ≡ false → is_phase_end meaning ≡ false → list_any is_refused said ≡ false → list_all (λ line. line.host == host) (filter_map line_in front ++ filter_map line_in (meaning ∷ said)) ≡ true → ((front' : List Meaning) → list_any is_refused front' ≡ false → list_any is_phase_end front' ≡ false → list_all (λ line. line.host == host) (filter_map line_in front' ++ filter_map line_in said) ≡ true → in_turn (phases_to_run (front' ++ said)) ≡ filter_map line_in front' ++ filter_map line_in said) → in_turn (phases_to_run (front ++ meaning ∷ said)) ≡ filter_map line_in front ++ filter_map line_in (meaning ∷ said)
-one_more host least most front said meaning good within one inside rest all so =
-    let all_is : filter_map line_in (front ++ meaning ∷ []) ++ filter_map line_in said ≡ filter_map line_in front ++ filter_map line_in (meaning ∷ said) =
-    ap (λ (xs : List Line). xs ++ filter_map line_in said) (filter_map-append line_in front (meaning ∷ []))
-    ∙ append_assoc (filter_map line_in front) (filter_map line_in (meaning ∷ [])) (filter_map line_in said)
-    ∙ ap (λ (xs : List Line). filter_map line_in front ++ xs) (sym (filter_map-append line_in (meaning ∷ []) said)) in
-    ap in_turn (ap phases_to_run (sym (append_assoc front (meaning ∷ []) said)))
-    ∙ so (front ++ meaning ∷ []) (both_none is_refused front meaning good one) (both_none is_phase_end front meaning within inside) (ap (list_all (λ line. line.host == host)) all_is ∙ all)
-    ∙ all_is
-
--- some lines of a phase, and the lines behind them
-in_order : (host : ℕ) → 1 ≤ host → host ≤ 64 → (front said : List Meaning) → list_any is_refused front ≡ false → list_any is_phase_end front ≡ false → list_any is_refused said ≡ false → list_all (λ line. line.host == host) (filter_map line_in front ++ filter_map line_in said) ≡ true → in_turn (phases_to_run (front ++ said)) ≡ filter_map line_in front ++ filter_map line_in said
-in_order host least most front [] good within rest all =
-    let alone = ap (list_all (λ line. line.host == host)) (sym (append-nil (filter_map line_in front))) ∙ all in
-    ap in_turn (ap phases_to_run (append-nil front) ∙ run_last front good within)
-    ∙ ap (λ (xs : List Line). xs ++ []) (by_one_host host (filter_map line_in front) (record { least = least; most = most; all = alone }))
-in_order host least most front (PhaseEnd ∷ said) good within rest all =
-    let both = both_of host (filter_map line_in front) (filter_map line_in said) all in
-    ap in_turn (run_phase front said good within)
-    ∙ ap (λ (xs : List Line). xs ++ in_turn (phases_to_run said)) (by_one_host host (filter_map line_in front) (record { least = least; most = most; all = both.0 }))
-    ∙ ap (λ (xs : List Line). filter_map line_in front ++ xs) (in_order host least most [] said refl refl rest both.1)
-in_order host least most front (Refused ∷ said) good within rest all = absurd (cc)
-in_order host least most front (Nothing ∷ said) good within rest all =
-    one_more host least most front said Nothing good within refl refl rest all (λ front' first second all'. in_order host least most front' said first second rest all')
-in_order host least most front (Command line ∷ said) good within rest all =
-    one_more host least most front said (Command line) good within refl refl rest all (λ front' first second all'. in_order host least most front' said first second rest all')
+-- the lines behind some commands of a phase
+in_order : (host : ℕ) → 1 ≤ host → host ≤ 64 → (front : List Line) (parsed_list : List ParsedLine)
+    → list_any is_refused parsed_list ≡ false
+    → list_all (λ line. line.host == host) (front ++ filter_map line_in parsed_list) ≡ true
+    → commands_to_run (items_after front parsed_list) ≡ front ++ filter_map line_in parsed_list
+in_order host least most front [] good all =
+    let alone = ap (list_all (λ line. line.host == host)) (sym (append-nil front)) ∙ all in
+    ap (λ (xs : List Line). xs ++ []) (by_one_host host front (record { least = least; most = most; all = alone }))
+in_order host least most front (PhaseEnd ∷ parsed_list) good all =
+    let both = both_of host front (filter_map line_in parsed_list) all in
+    ap (λ (xs : List Line). xs ++ commands_to_run (items_after [] parsed_list)) (by_one_host host front (record { least = least; most = most; all = both.0 }))
+    ∙ ap (λ (xs : List Line). front ++ xs) (in_order host least most [] parsed_list good both.1)
+in_order host least most front (Refused ∷ parsed_list) good all = absurd (cc)
+in_order host least most front (Nothing ∷ parsed_list) good all = in_order host least most front parsed_list good all
+in_order host least most front (Command line ∷ parsed_list) good all =
+    let same = append_assoc front (line ∷ []) (filter_map line_in parsed_list) in
+    in_order host least most (front ++ line ∷ []) parsed_list good (ap (list_all (λ line. line.host == host)) same ∙ all) ∙ same
 
 pub one_host_in_order : OneHostInOrder
-one_host_in_order host said of good = in_order host of.least of.most [] said refl refl good of.all
+one_host_in_order host parsed_list of good = in_order host of.least of.most [] parsed_list good of.all
 
 -- no line is refused
 none_at : (b : Bool) (place : ℕ) → option_map (λ (n : ℕ). n + 1) (cond b (Some place) None) ≡ None → b ≡ false
 none_at true place is = absurd (cc)
 none_at false place is = refl
 
-no_refused : (said : List Meaning) → refused_line said ≡ None → list_any is_refused said ≡ false
-no_refused said is =
-    let test = none_at (nat_lt (position_or_len is_refused said) (length said)) (position_or_len is_refused said) is in
-    none_of is_refused said (grind (arith, nat_tests))
+no_refused : (parsed_list : List ParsedLine) → refused_line parsed_list ≡ None → list_any is_refused parsed_list ≡ false
+no_refused parsed_list is =
+    let test = none_at (nat_lt (position_or_len is_refused parsed_list) (length parsed_list)) (position_or_len is_refused parsed_list) is in
+    none_of is_refused parsed_list (grind (arith, nat_tests))
 
 alike : (lines : List Line) → AllAskAlike (map input_of lines) (map input_of lines)
 alike [] = tt
@@ -103,12 +100,40 @@ told : (replies : List Reply) → map reply_of (map Ok replies) ≡ replies
 told [] = refl
 told (reply ∷ replies) = ap (λ (rest : List Reply). reply ∷ rest) (told replies)
 
-pub one_host_is_answered : {M : Type 0} (tape : M → Tape) (moves : M → List Change → M → Type 0) (honest : M → Type 0) → OneHostIsAnswered tape moves honest
-one_host_is_answered tape moves honest is_configured old new left before now follows host silent replies made end of is_honest ended run =
-    let said = meanings_of is_configured follows.text in
-    let lines_is : follows.lines ≡ commands_in said = follows.ended.2 ∙ one_host_in_order host said of (no_refused said follows.ended.1) in
-    let ran = rw (lines_is, ended) at follows.answered.run in
-    let same = runs_determined (machine_of tape old) (machine_of tape old) (map input_of (commands_in said)) (map input_of (commands_in said)) silent replies _ made _ end refl (alike (commands_in said))
-    (run_where (Unit {0}) (HonestIn honest (medium_in old.bay)) (λ u. is_honest) (machine_of tape old) (map input_of (commands_in said)) (map Ok silent) _ _ ran) run in
-    let replies_are : follows.replies ≡ replies = follows.answered.told ∙ ap (map reply_of) ended ∙ told silent ∙ same.replies in
-    rw (← replies_are) follows.ended.3
+pub one_host_is_answered : {M : Type 0} (tape : M → Tape) (moves : M → List Change → M → Type 0) (honest : M → Type 0)
+    (number : ℕ) (old : DriveState M Kept) (left before : Option (List ℕ)) (new : DriveState M Kept) (now : Option (List ℕ))
+    (text : List ℕ) (items : List Item) (replies : List Reply) → IfSome left (λ all. text ≡ all)
+    → refused_line (parsed_lines (λ drive. drive == number) text) ≡ None
+    → items ≡ items_to_run (parsed_lines (λ drive. drive == number) text)
+    → Serves tape moves honest old (inputs_of items) replies new → Appends before now (text_of replies)
+    → AnswersOneHost tape moves honest number old left before new now
+one_host_is_answered tape moves honest number old left before new now text items replies known good items_are serves written =
+    let parsed_list = parsed_lines (λ drive. drive == number) text in
+    let lines_are : (host : ℕ) → IsOfHost host (commands_in parsed_list) → inputs_of items ≡ map input_of (commands_in parsed_list) = λ host of.
+    ap inputs_of items_are ∙ ap (map input_of) (one_host_in_order host parsed_list of (no_refused parsed_list good)) in
+    record {
+      text = text;
+      known = known;
+      answers = serves.answers;
+      made = serves.made;
+      run = λ host of. rw (lines_are host of) at serves.run;
+      written = rw serves.told at written;
+      sole = λ host of is_honest silent ended replies' others end run.
+          let ran = rw (lines_are host of, ended) at serves.run in
+          let same = runs_determined (machine_of tape old) (machine_of tape old) (map input_of (commands_in parsed_list)) (map input_of (commands_in parsed_list)) silent replies' _ others _ end refl (alike (commands_in parsed_list))
+          (run_where (Unit {0}) (HonestIn honest (medium_in old.bay)) (λ u. is_honest) (machine_of tape old) (map input_of (commands_in parsed_list)) (map Ok silent) _ _ ran) run in
+          let replies_are : replies ≡ replies' = serves.told ∙ ap (map reply_of) ended ∙ told silent ∙ same.replies in
+          rw replies_are at written;
+    }
+
+pub one_host_of : {M : Type 0} (tape : M → Tape) (moves : M → List Change → M → Type 0) (honest : M → Type 0)
+    (old : HeldDrive M) (left before : Option (List ℕ)) (new : HeldDrive M) (now : Option (List ℕ))
+    (result : Result (Unit {0}) ScriptFault)
+    → RunsScript (λ number. number == old.number)
+    (HeldAnswers tape moves honest) old left before new now result
+    → OnOk result (AnswersOneHost tape moves honest old.number old.drive left before new.drive now)
+one_host_of {M} tape moves honest old left before new now (Err fault) runs = tt
+one_host_of {M} tape moves honest old left before new now (Ok done) runs =
+    let serves = rw (sym runs.ended.3.0) at runs.answered in
+    one_host_is_answered tape moves honest old.number old.drive left before new.drive now runs.text runs.items runs.replies
+    runs.known runs.ended.1 runs.ended.2 serves runs.ended.3.1

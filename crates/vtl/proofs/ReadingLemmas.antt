@@ -1,8 +1,11 @@
 -- Bytes that come from a reader.
-use Rattle.std.proofs.Common.{◌≡◌, ℕ, ◌+◌, ◌≤◌, List, [], ◌++◌, length, take, drop, Option, Some, None, Result, Ok, Err, OnOk, OnErr, position, refl, sym, ap, ◌∙◌, subst, arith, append_assoc, length-drop, ◌==◌}
+use Rattle.std.proofs.Common.{◌≡◌, ℕ, ◌+◌, ◌≤◌, List, [], ◌++◌, length, take, drop, Option, Some, None, Result, Ok, Err, OnOk, OnErr, IfErr, ◌⊎◌, inl, inr, position, refl, sym, ap, ◌∙◌, subst, arith, append_assoc, length-drop, ◌==◌}
 use Rattle.std.proofs.lemmas.List.{drop_at, take-append-drop, take-append-le, take_all, append-nil, drop-append-le, length-append}
 use Rattle.std.specs.Io.KnownBytes.{Consumes}
-use Rattle.vtl.specs.Reading.{Reading, Comes}
+use Rattle.vtl.specs.declared.faults.ScriptFault.{ScriptFault}
+use Rattle.vtl.specs.declared.faults.ScriptFault.TheVariants.{ReadFault, NoMemory}
+use Rattle.vtl.specs.Runs.{TakesWithin}
+use Rattle.vtl.specs.Inner.Reading.{Reading, Comes}
 
 -- what holds anyway holds at Ok
 pub on_ok : {T E : Type 0} (r : Result T E) (P : Type 0) → P → OnOk r P
@@ -16,6 +19,10 @@ on_err (Err e) P p = p
 -- an error is one
 pub err_same : {T E : Type 0} (r : Result T E) (a b : E) → r ≡ Err a → r ≡ Err b → a ≡ b
 err_same r a b h k = cc
+
+-- a result is one
+pub ok_other : {T E : Type 0} (r : Result T E) (x : T) (e : E) → r ≡ Ok x → r ≡ Err e → ⊥
+ok_other r x e h k = absurd (cc)
 
 pub consumes_in_place : (left left' : Option (List ℕ)) (n : ℕ) (front part rest : List ℕ) (at : ℕ) → length front ≡ at → n ≤ length part → Consumes left left' (take n part) → Consumes left left' (take n (drop at (front ++ (part ++ rest))))
 consumes_in_place left left' n front part rest at long fits read =
@@ -74,3 +81,29 @@ searched_on a b c old mid new s first none all second = record {
   within = omega (arith, all, ap length second.unread, length-append mid.unread second.read);
   none = rw (second.unread, all, take-append-le (length mid.unread) mid.unread second.read (omega arith), take_all (length mid.unread) mid.unread (omega arith)) none;
 }
+
+-- what came is within the limit of bytes
+pub takes_comes : (left left' : Option (List ℕ)) (old new : Reading) → Comes left old left' new
+    → new.bytes ≤ 2147483648 → TakesWithin left old.bytes left'
+takes_comes left left' old new comes within = (comes.read, comes.taken, omega (arith, comes.bytes, within))
+
+-- a fault that is none of reading
+pub past_of : (left left' : Option (List ℕ)) (bytes : ℕ) (fault : ScriptFault)
+    → (fault ≡ ReadFault) ⊎ ((fault ≡ NoMemory) × TakesWithin left bytes left') → (fault ≡ ReadFault → ⊥)
+    → TakesWithin left bytes left'
+past_of left left' bytes fault (inl is) other = absurd (other is)
+past_of left left' bytes fault (inr (is, takes)) other = takes
+
+pub past_anyway : {T : Type 0} (left left' : Option (List ℕ)) (bytes : ℕ) (result : Result T ScriptFault)
+    → TakesWithin left bytes left' → IfErr result (λ fault. (fault ≡ ReadFault → ⊥) → TakesWithin left bytes left')
+past_anyway left left' bytes (Ok done) takes = tt
+past_anyway left left' bytes (Err fault) takes = λ other. takes
+
+-- what was taken, and then more
+pub takes_on : (a b c : Option (List ℕ)) (bytes mid : ℕ) (read : List ℕ) → Consumes a b read → mid ≡ bytes + length read
+    → TakesWithin b mid c → TakesWithin a bytes c
+takes_on a b c bytes mid read taken is more = (
+  read ++ more.0,
+  consumes_on a b c read more.0 taken more.1,
+  let within = more.2 in omega (arith, is, within, length-append read more.0),
+)

@@ -7,7 +7,7 @@ use Rattle.std.specs.List.{list_all, range_with_len}
 use Rattle.std.specs.List.Sorted.{IsNonDecreasingBy, IsPermutation, IsStableByKey, ties}
 use Rattle.std.specs.Ordering.{nat_cmp, is_lt}
 use Rattle.vtl.specs.declared.lines.Line.{Line}
-use Rattle.vtl.specs.Phases.{by_host, has_host}
+use Rattle.vtl.specs.Items.{by_host, has_host}
 
 abbrev of_host : ℕ → List Line → List Line
 of_host host lines = filter (λ line. line.host == host) lines

@@ -1,10 +1,11 @@
+pub mod BuiltIn
 pub mod Faults
 pub mod Held
+pub mod Inner
+pub mod Items
 pub mod Lines
 pub mod OneHost
-pub mod Phases
-pub mod ReadPhase
-pub mod Reading
-pub mod RunPhase
+pub mod Parsed
+pub mod Program
 pub mod Runs
 pub mod Text

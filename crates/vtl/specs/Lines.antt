@@ -4,15 +4,15 @@ use Rattle.std.specs.List.{slice_split, list_all}
 use Rattle.std.specs.Char.{is_ascii_digit}
 use Rattle.std.specs.Result.{result_ok}
 use Rattle.hex.specs.Hex.{decode_of}
-use Rattle.vtl.specs.declared.lines.Meaning.{Meaning}
-use Rattle.vtl.specs.declared.lines.Meaning.TheVariants.{Nothing, PhaseEnd, Command, Refused}
+use Rattle.vtl.specs.declared.lines.ParsedLine.{ParsedLine}
+use Rattle.vtl.specs.declared.lines.ParsedLine.TheVariants.{Nothing, PhaseEnd, Command, Refused}
 
 abbrev pub is_some_byte : List ℕ → Bool
 is_some_byte part = nat_lt 0 (length part)
 
 -- the fields of a line: its parts between spaces, but for those of no byte (own)
-abbrev pub fields_of : List ℕ → List (List ℕ)
-fields_of line = filter is_some_byte (slice_split (λ byte. byte == 32) line)
+abbrev pub line_fields : List ℕ → List (List ℕ)
+line_fields line = filter is_some_byte (slice_split (λ byte. byte == 32) line)
 
 -- the number that decimal digits spell (own)
 abbrev pub number_of : List ℕ → ℕ
@@ -41,10 +41,10 @@ abbrev pub bytes_of : List ℕ → Option (List ℕ)
 bytes_of field = result_ok (decode_of field)
 
 -- a command, where all its fields are good (own)
-abbrev pub command_of : Option ℕ → Option ℕ → Option (List ℕ) → Option (List ℕ) → Meaning
-command_of (Some host) (Some drive) (Some cdb) (Some sent) =
+abbrev pub parsed_command : Option ℕ → Option ℕ → Option (List ℕ) → Option (List ℕ) → ParsedLine
+parsed_command (Some host) (Some drive) (Some cdb) (Some sent) =
     Command (record { host = host; drive = drive; cdb = cdb; sent = sent })
-command_of host drive cdb sent = Refused
+parsed_command host drive cdb sent = Refused
 
 -- the data of a command: no field, or one (own)
 abbrev pub data_of : List (List ℕ) → Option (List ℕ)
@@ -53,19 +53,19 @@ data_of (field ∷ []) = Some field
 data_of (field ∷ other ∷ fields) = None
 
 -- HOST DRIVE CDB [DATA] (own)
-abbrev pub command_in : (ℕ → Bool) → List ℕ → List ℕ → List ℕ → Option (List ℕ) → Meaning
+abbrev pub command_in : (ℕ → Bool) → List ℕ → List ℕ → List ℕ → Option (List ℕ) → ParsedLine
 command_in is_configured host drive cdb None = Refused
 command_in is_configured host drive cdb (Some sent) =
-    command_of (host_of host) (drive_of is_configured drive) (bytes_of cdb) (bytes_of sent)
+    parsed_command (host_of host) (drive_of is_configured drive) (bytes_of cdb) (bytes_of sent)
 
 -- what the fields of a line say, the first of them apart: `--`, or a command (own)
-abbrev pub said_with : (ℕ → Bool) → List ℕ → List (List ℕ) → Meaning
-said_with is_configured first [] = if bytes_eq first (codes "--") then PhaseEnd else Refused
-said_with is_configured first (drive ∷ []) = Refused
-said_with is_configured first (drive ∷ cdb ∷ rest) = command_in is_configured first drive cdb (data_of rest)
+abbrev pub parse_command : (ℕ → Bool) → List ℕ → List (List ℕ) → ParsedLine
+parse_command is_configured first [] = if bytes_eq first (codes "--") then PhaseEnd else Refused
+parse_command is_configured first (drive ∷ []) = Refused
+parse_command is_configured first (drive ∷ cdb ∷ rest) = command_in is_configured first drive cdb (data_of rest)
 
 -- what the fields of a line say: nothing where there is none, or where the first begins with `#` (own)
-abbrev pub said_by : (ℕ → Bool) → List (List ℕ) → Meaning
-said_by is_configured [] = Nothing
-said_by is_configured (first ∷ rest) =
-    if slice_index first 0 == 35 then Nothing else said_with is_configured first rest
+abbrev pub parse_fields : (ℕ → Bool) → List (List ℕ) → ParsedLine
+parse_fields is_configured [] = Nothing
+parse_fields is_configured (first ∷ rest) =
+    if slice_index first 0 == 35 then Nothing else parse_command is_configured first rest

@@ -1,23 +1,25 @@
 -- Scripts of at most one host (own).
-use Rattle.std.specs.Prelude.{◌≡◌, ℕ, ◌==◌, ◌≤◌, Bool, false, true, List, map, filter_map, Option, Ok}
+use Rattle.std.specs.Prelude.{◌≡◌, ℕ, ◌==◌, ◌≤◌, Bool, false, true, List, map, filter_map, Option, Result, Ok, IfSome}
 use Rattle.std.specs.List.{list_all, list_any}
 use Rattle.std.specs.Io.KnownBytes.{Appends}
 use Rattle.scsi_wire.specs.declared.replies.Reply.{Reply}
 use Rattle.volume_core.specs.declared.changes.Change.{Change}
 use Rattle.volume_core.specs.Medium.{Tape}
+use Rattle.drive_core.specs.declared.faults.Fault.{Fault}
+use Rattle.drive_core.specs.Faults.{reply_of}
 use Rattle.drive_core.specs.State.{DriveState, Kept, Machine, machine_of, medium_in}
 use Rattle.drive_core.specs.Execute.{HonestIn}
-use Rattle.drive_core.specs.Run.{Run, Serves}
+use Rattle.drive_core.specs.Run.{Run}
 use Rattle.vtl.specs.declared.lines.Line.{Line}
-use Rattle.vtl.specs.declared.lines.Meaning.{Meaning}
-use Rattle.vtl.specs.Phases.{meanings_of, is_refused, line_in, phases_to_run, in_turn}
+use Rattle.vtl.specs.declared.lines.ParsedLine.{ParsedLine}
+use Rattle.vtl.specs.Parsed.{parsed_lines, is_refused, line_in}
+use Rattle.vtl.specs.Items.{items_to_run, commands_to_run}
 use Rattle.vtl.specs.Text.{text_of}
 use Rattle.vtl.specs.Held.{input_of}
-use Rattle.vtl.specs.Runs.{Follows}
 
 -- the commands of a script, in the order of its lines (own)
-abbrev pub commands_in : List Meaning → List Line
-commands_in said = filter_map line_in said
+abbrev pub commands_in : List ParsedLine → List Line
+commands_in parsed_list = filter_map line_in parsed_list
 
 -- all commands are of one host (own)
 pub record IsOfHost (host : ℕ) (lines : List Line) : Type 0 where
@@ -28,19 +30,30 @@ pub record IsOfHost (host : ℕ) (lines : List Line) : Type 0 where
 -- a script of one host is run line by line (own)
 abbrev pub OneHostInOrder : Type 0
 OneHostInOrder =
-    (host : ℕ) (said : List Meaning) → IsOfHost host (commands_in said) → list_any is_refused said ≡ false
-    → in_turn (phases_to_run said) ≡ commands_in said
+    (host : ℕ) (parsed_list : List ParsedLine) → IsOfHost host (commands_in parsed_list)
+    → list_any is_refused parsed_list ≡ false → commands_to_run (items_to_run parsed_list) ≡ commands_in parsed_list
 
--- a script of one host that is run to its end by a drive whose medium is honest, and in which no fault, want of
--- memory or full side came: what is written is the text of the replies that the machine gives to the lines that were
--- read, where it gives any in such a run, and nothing else (own)
-abbrev pub OneHostIsAnswered : {M : Type 0} → (M → Tape) → (M → List Change → M → Type 0) → (M → Type 0) → Type 0
-OneHostIsAnswered {M} tape moves honest =
-    (is_configured : ℕ → Bool) (old new : DriveState M Kept) (left before now : Option (List ℕ))
-    (follows : Follows is_configured (λ old lines replies new. Serves tape moves honest old (map input_of lines) replies new) old left before new now (Ok tt))
-    (host : ℕ) (silent replies : List Reply) (made : List Change) (end : Machine)
-    → IsOfHost host (commands_in (meanings_of is_configured follows.text))
-    → HonestIn honest (medium_in old.bay)
-    → follows.answered.answers ≡ map Ok silent
-    → Run (Unit {0}) (machine_of tape old) (map input_of (commands_in (meanings_of is_configured follows.text))) (map Ok replies) made end
-    → Appends before now (text_of replies)
+-- a script of one host that was run to its end by the drive of this number: it was answered by a run of the drive's
+-- machine over the commands in the order of the lines, and the text of those answers was written, and nothing else;
+-- over an honest medium, and where no answer is a fault, want of memory or a full side, no other run of the machine
+-- has another text (own)
+pub record AnswersOneHost {M : Type 0}
+    (tape : M → Tape) (moves : M → List Change → M → Type 0) (honest : M → Type 0) (number : ℕ)
+    (old : DriveState M Kept) (left before : Option (List ℕ)) (new : DriveState M Kept) (now : Option (List ℕ)) : Type 0 where
+  -- the text of the script: all that the reader has, where that is known
+  pub text : List ℕ
+  pub known : IfSome left (λ all. text ≡ all)
+  pub answers : List (Result Reply Fault)
+  pub made : List Change
+  pub run :
+      (host : ℕ) → IsOfHost host (commands_in (parsed_lines (λ drive. drive == number) text))
+      → Run (HonestIn honest (medium_in old.bay)) (machine_of tape old)
+      (map input_of (commands_in (parsed_lines (λ drive. drive == number) text))) answers made (machine_of tape new)
+  pub written : Appends before now (text_of (map reply_of answers))
+  pub sole :
+      (host : ℕ) → IsOfHost host (commands_in (parsed_lines (λ drive. drive == number) text))
+      → HonestIn honest (medium_in old.bay) → (silent : List Reply) → answers ≡ map Ok silent
+      → (replies : List Reply) (others : List Change) (end : Machine)
+      → Run (Unit {0}) (machine_of tape old)
+      (map input_of (commands_in (parsed_lines (λ drive. drive == number) text))) (map Ok replies) others end
+      → Appends before now (text_of replies)

@@ -1,46 +1,109 @@
 -- How a script is run (own).
-use Rattle.std.specs.Prelude.{◌≡◌, ℕ, ◌≤◌, Bool, List, length, take, Option, Some, None, Result, Ok, Err, IfSome}
-use Rattle.std.specs.Io.KnownBytes.{Appends}
+use Rattle.std.specs.Prelude.{◌≡◌, ℕ, ◌≤◌, ◌+◌, ◌⊎◌, Bool, List, [], ◌∷◌, ◌++◌, length, take, Option, Some, None, Result, Ok, Err, IfSome}
+use Rattle.std.specs.Io.{StartsWith}
+use Rattle.std.specs.Io.KnownBytes.{Appends, Consumes}
 use Rattle.vtl_base.specs.declared.limits.TheConstants.{SCRIPT_BYTES}
 use Rattle.scsi_wire.specs.declared.replies.Reply.{Reply}
-use Rattle.vtl.specs.declared.lines.Line.{Line}
-use Rattle.vtl.specs.declared.lines.Meaning.{Meaning}
+use Rattle.vtl.specs.declared.items.Item.{Item}
+use Rattle.vtl.specs.declared.items.Item.TheVariants.{Phase}
+use Rattle.vtl.specs.declared.lines.ParsedLine.{ParsedLine}
 use Rattle.vtl.specs.declared.faults.ScriptFault.{ScriptFault}
 use Rattle.vtl.specs.declared.faults.ScriptFault.TheVariants.{BadLine, ReadFault, WriteFault, NoMemory}
-use Rattle.vtl.specs.Phases.{meanings_of, refused_line, phases_to_run, in_turn}
+use Rattle.vtl.specs.Parsed.{parsed_lines, refused_line}
+use Rattle.vtl.specs.Items.{items_to_run}
 use Rattle.vtl.specs.Text.{text_of}
 
--- some of the lines were answered, from the first on (own)
-pub record AnswersSome {P : Type 0} (answers : P → List Line → List Reply → P → Type 0) (old : P) (lines : List Line) (new : P) : Type 0 where
-  pub count : ℕ
-  pub replies : List Reply
-  pub answered : answers old (take count lines) replies new
+-- an item, or its first commands alone (own)
+abbrev pub IsBeginningOf : Item → Item → Type 0
+IsBeginningOf (Phase lines) part = (count : ℕ) × (part ≡ Phase (take count lines))
 
--- how far a script was run, and what was written: `size` are its bytes, `said` is what its lines say (own)
-abbrev pub EndsWith : ℕ → List Meaning → List Line → List Reply → Option (List ℕ) → Option (List ℕ) → Result (Unit {0}) ScriptFault → Type 0
--- to its end, and no line was refused
-EndsWith size said lines replies before now (Ok done) =
-    (size ≤ SCRIPT_BYTES) × (refused_line said ≡ None) × (lines ≡ in_turn (phases_to_run said)) × Appends before now (text_of replies)
--- up to the phase of the first line that is refused, and this is its number
-EndsWith size said lines replies before now (Err (BadLine number)) =
-    (refused_line said ≡ Some number) × (lines ≡ in_turn (phases_to_run said)) × Appends before now (text_of replies)
--- some phases, from the first on
-EndsWith size said lines replies before now (Err ReadFault) =
-    (count : ℕ) × (lines ≡ in_turn (take count (phases_to_run said))) × Appends before now (text_of replies)
--- the same, but the last phase's answers were written in part
-EndsWith size said lines replies before now (Err WriteFault) =
-    (count : ℕ) × (lines ≡ in_turn (take count (phases_to_run said)))
--- some commands, from the first on, and the first of their answers were written
-EndsWith size said lines replies before now (Err NoMemory) =
-    (count : ℕ) × (written : ℕ) × (lines ≡ take count (in_turn (phases_to_run said))) × Appends before now (text_of (take written replies))
+-- some of an item's commands were answered, from the first on (own)
+pub record AnswersSome {P : Type 0}
+    (answers : P → List Item → List Reply → P → Type 0) (old : P) (item : Item) (new : P) : Type 0 where
+  pub part : Item
+  pub begins : IsBeginningOf item part
+  pub replies : List Reply
+  pub answered : answers old (part ∷ []) replies new
+
+-- nothing more was run, and this text was written (own)
+abbrev pub Stops : {P : Type 0} → List ℕ → P → Option (List ℕ) → P → Option (List ℕ) → Type 0
+Stops text mid before new now = (new ≡ mid) × Appends before now text
+
+-- behind this text, the first of these items was run, and a beginning of its replies' text was written (own)
+pub record WritesPart {P : Type 0}
+    (answers : P → List Item → List Reply → P → Type 0) (behind : List Item) (text : List ℕ)
+    (mid : P) (before : Option (List ℕ)) (new : P) (now : Option (List ℕ)) : Type 0 where
+  pub item : Item
+  pub rest : List Item
+  pub is : behind ≡ item ∷ rest
+  pub replies : List Reply
+  pub answered : answers mid (item ∷ []) replies new
+  pub part : List ℕ
+  pub begins : StartsWith (text_of replies) part
+  pub written : Appends before now (text ++ part)
+
+-- behind this text, the first of these items was run in part, and nothing was written of its replies (own)
+pub record RunsPart {P : Type 0}
+    (answers : P → List Item → List Reply → P → Type 0) (behind : List Item) (text : List ℕ)
+    (mid : P) (before : Option (List ℕ)) (new : P) (now : Option (List ℕ)) : Type 0 where
+  pub item : Item
+  pub rest : List Item
+  pub is : behind ≡ item ∷ rest
+  pub some : AnswersSome answers mid item new
+  pub written : Appends before now text
+
+-- behind this text, the first of these items was run, and the first of its replies were written (own)
+pub record WritesSome {P : Type 0}
+    (answers : P → List Item → List Reply → P → Type 0) (behind : List Item) (text : List ℕ)
+    (mid : P) (before : Option (List ℕ)) (new : P) (now : Option (List ℕ)) : Type 0 where
+  pub item : Item
+  pub rest : List Item
+  pub is : behind ≡ item ∷ rest
+  pub replies : List Reply
+  pub answered : answers mid (item ∷ []) replies new
+  pub count : ℕ
+  pub written : Appends before now (text ++ text_of (take count replies))
+
+-- how the run of a script ends behind some items that were run, answered and written whole: `size` are the bytes of
+-- the script, `parsed_list` its lines, `text` is that of the replies to the items, which left `mid` (own)
+abbrev pub ScriptEnds : {P : Type 0} → (P → List Item → List Reply → P → Type 0) → ℕ → List ParsedLine → List Item
+    → List ℕ → P → Option (List ℕ) → P → Option (List ℕ) → Result (Unit {0}) ScriptFault → Type 0
+-- they are all items, and no line is refused
+ScriptEnds answers size parsed_list items text mid before new now (Ok done) =
+    (size ≤ SCRIPT_BYTES) × (refused_line parsed_list ≡ None) × (items ≡ items_to_run parsed_list)
+    × Stops text mid before new now
+-- they are all before the item of the first line that is refused, and this is its number
+ScriptEnds answers size parsed_list items text mid before new now (Err (BadLine number)) =
+    (refused_line parsed_list ≡ Some number) × (items ≡ items_to_run parsed_list) × Stops text mid before new now
+-- they are the first of the items
+ScriptEnds answers size parsed_list items text mid before new now (Err ReadFault) =
+    (behind : List Item) × (items_to_run parsed_list ≡ items ++ behind) × Stops text mid before new now
+-- they are the first of the items, and the next was run, and its replies written in part
+ScriptEnds answers size parsed_list items text mid before new now (Err WriteFault) =
+    (behind : List Item) × (items_to_run parsed_list ≡ items ++ behind)
+    × WritesPart answers behind text mid before new now
+-- they are the first of the items, and the next may have been run and its replies written, each in part
+ScriptEnds answers size parsed_list items text mid before new now (Err NoMemory) =
+    (behind : List Item) × (items_to_run parsed_list ≡ items ++ behind)
+    × (Stops text mid before new now
+    ⊎ (RunsPart answers behind text mid before new now ⊎ WritesSome answers behind text mid before new now))
+
+-- what a call took of a reader, behind so many bytes of a script, is within the limit of its bytes (own)
+abbrev pub TakesWithin : Option (List ℕ) → ℕ → Option (List ℕ) → Type 0
+TakesWithin left bytes left' = (read : List ℕ) × Consumes left left' read × (bytes + length read ≤ SCRIPT_BYTES)
 
 -- a script was read, run and answered (own)
-pub record Follows {P : Type 0} (is_configured : ℕ → Bool) (answers : P → List Line → List Reply → P → Type 0) (old : P) (left before : Option (List ℕ)) (new : P) (now : Option (List ℕ)) (result : Result (Unit {0}) ScriptFault) : Type 0 where
+pub record RunsScript {P : Type 0}
+    (is_configured : ℕ → Bool) (answers : P → List Item → List Reply → P → Type 0)
+    (old : P) (left before : Option (List ℕ)) (new : P) (now : Option (List ℕ))
+    (result : Result (Unit {0}) ScriptFault) : Type 0 where
   -- the text of the script: all that the reader has, where that is known
   pub text : List ℕ
   pub known : IfSome left (λ all. text ≡ all)
-  -- the commands that were run, one after another, and their answers
-  pub lines : List Line
+  -- the items that were run, answered and written whole, and their replies
+  pub items : List Item
   pub replies : List Reply
-  pub answered : answers old lines replies new
-  pub ended : EndsWith (length text) (meanings_of is_configured text) lines replies before now result
+  pub mid : P
+  pub answered : answers old items replies mid
+  pub ended :
+      ScriptEnds answers (length text) (parsed_lines is_configured text) items (text_of replies) mid before new now result

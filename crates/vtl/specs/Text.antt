@@ -1,5 +1,7 @@
 -- The text of an answer.
 use Rattle.std.specs.Prelude.{ℕ, List, [], ◌∷◌, ◌++◌, Option, None, Some, flat_map, codes}
+use Rattle.std.specs.Io.{StartsWith}
+use Rattle.std.specs.Io.KnownBytes.{Appends}
 use Rattle.hex.specs.Hex.{encode_lower}
 use Rattle.scsi_wire.specs.declared.replies.Reply.{Reply}
 use Rattle.scsi_wire.specs.declared.sense_data.Sense.{Sense}
@@ -30,3 +32,7 @@ reply_text reply = status_text reply.status ++ sense_text reply.sense ++ hex_wor
 -- the lines of some answers, in order (own)
 abbrev pub text_of : List Reply → List ℕ
 text_of replies = flat_map reply_text replies
+
+-- a beginning of a text was written (own)
+abbrev pub AppendsPart : Option (List ℕ) → Option (List ℕ) → List ℕ → Type 0
+AppendsPart before now text = (written : List ℕ) × StartsWith text written × Appends before now written

@@ -1,36 +1,39 @@
 //! A script that is run by one drive.
-ghost use Rattle.std.specs.Prelude.{◌≡◌, ◌==◌, map, IfOk, OnErr, length, vec_len};
+ghost use Rattle.std.specs.Prelude.{◌≡◌, ◌≢◌, ◌==◌, map, IfOk, OnOk, OnErr, Err, length, vec_len};
 ghost use Rattle.drive_core.specs.Run.{Serves};
-ghost use Rattle.vtl.specs.Held.{input_of, held_on};
-ghost use Rattle.vtl.specs.Runs.{AnswersSome};
+ghost use Rattle.vtl.specs.Held.{input_of, HeldAnswers};
+ghost use Rattle.vtl.specs.Inner.HeldRuns.{held_on};
+ghost use Rattle.vtl.specs.OneHost.{AnswersOneHost};
+ghost use Rattle.vtl.specs.Runs.{AnswersSome, RunsScript, TakesWithin};
 ghost use Rattle.drive_core.proofs.RunLemmas.{serves_none};
 
+use crate::faults::ScriptFault;
+use crate::items::Item;
 use crate::lines::Line;
 use crate::runners::Runner;
+use crate::scripts::run_script;
 use drive_core::Drive;
 use scsi_wire::Reply;
 use std::alloc::Global;
+use std::io::{Read, Write};
 use volume_core::Medium;
 use vtl_base::{DriveNo, NoMemory};
 
-/// One drive, which runs the lines of a phase one after another.
+/// One drive, which runs the commands of a phase one after another.
 #[derive(Drop)]
 pub struct HeldDrive<M: Medium> {
     pub number: DriveNo,
     pub drive: Drive<M>,
 }
 
-impl<M: Medium> Runner for HeldDrive<M> {
-    ghost is_configured = { λ held number. number == held.number };
-
-    ghost answers = { λ old lines replies new.
-        Serves M.tape M.moves M.honest old.drive (map input_of lines) replies new.drive };
-
-    fn configured(&self, drive: DriveNo) -> bool {
-        drive == self.number
-    }
-
-    fn run(&mut self, alloc: Global, lines: &[Line]) -> Result<Vec<Reply>, NoMemory> {
+impl<M: Medium> HeldDrive<M> {
+    // Carries the commands of these lines out, in order.
+    fn run_lines(&mut self, alloc: Global, lines: &[Line]) -> Result<Vec<Reply>, NoMemory>
+        ensures ok { IfOk result (λ replies. Serves M.tape M.moves M.honest self.old.drive
+            (map input_of lines.now) replies.items self.new.drive) }
+        ensures err { OnErr result (self.new ≡ self.old) }
+        ensures same { self.new.number ≡ self.old.number }
+    {
         let mut replies = Vec::with_capacity(alloc, lines.len())?;
         for line in lines {
             let reply = self
@@ -40,10 +43,49 @@ impl<M: Medium> Runner for HeldDrive<M> {
         }
         Ok(replies)
     }
+}
+
+impl<M: Medium> Runner for HeldDrive<M> {
+    ghost is_configured = { λ held number. number == held.number };
+
+    ghost answers = { HeldAnswers M.tape M.moves M.honest };
+
+    fn configured(&self, drive: DriveNo) -> bool {
+        drive == self.number
+    }
+
+    fn run(&mut self, alloc: Global, item: &Item) -> Result<Vec<Reply>, NoMemory> {
+        match item {
+            Item::Phase(commands) => self.run_lines(alloc, commands.as_slice()),
+        }
+    }
 
     ghost answers_none = { λ held. serves_none M.tape M.moves M.honest M.moves_nowhere held.drive };
+
+    ghost answers_empty = { λ held. serves_none M.tape M.moves M.honest M.moves_nowhere held.drive };
 
     ghost answers_on = { λ old mid new first rest replies others one two.
         held_on M.tape M.moves M.honest M.moves_on old.drive mid.drive new.drive
         first rest replies others one two };
+}
+
+/// Runs a script by one drive. Where it is of one host, and was run to its end with no fault, want of
+/// memory or full side over an honest medium, what is written is the text of the machine's replies
+/// to its lines, and nothing else.
+pub fn run_on_drive<M: Medium, R: Read, W: Write>(
+    alloc: Global,
+    held: &mut HeldDrive<M>,
+    reader: &mut R,
+    writer: &mut W,
+) -> Result<(), ScriptFault>
+    ensures runs { RunsScript (λ number. number == held.old.number)
+        (HeldAnswers M.tape M.moves M.honest) held.old (R.remaining reader.old) (W.contents writer.old)
+        held.new (W.contents writer.new) result }
+    ensures one_host { OnOk result (AnswersOneHost M.tape M.moves M.honest held.old.number
+        held.old.drive (R.remaining reader.old) (W.contents writer.old)
+        held.new.drive (W.contents writer.new)) }
+    ensures past { result ≢ Err ScriptFault.ReadFault →
+        TakesWithin (R.remaining reader.old) 0 (R.remaining reader.new) }
+{
+    run_script(alloc, held, reader, writer)
 }

@@ -1,7 +1,7 @@
 //! One line of a script: its fields, and what it says.
 ghost use Rattle.std.specs.Prelude.{◌≡◌, ℕ, ◌<◌, ◌==◌, ◌∷◌, [], length, filter, MatchOption, Some, IfOk, IfSome};
 ghost use Rattle.std.specs.List.{slice_split};
-ghost use Rattle.vtl.specs.Lines.{fields_of, is_some_byte, decimal_of, host_of, drive_of, bytes_of, command_of, command_in, data_of, said_with, said_by};
+ghost use Rattle.vtl.specs.Lines.{line_fields, is_some_byte, decimal_of, host_of, drive_of, bytes_of, parsed_command, command_in, data_of, parse_command, parse_fields};
 
 use crate::runners::Runner;
 use crate::splits::place_of;
@@ -19,7 +19,7 @@ pub struct Line {
 
 /// What a line of a script says.
 #[derive(Drop)]
-pub enum Meaning {
+pub enum ParsedLine {
     /// Nothing: it has no field, or is a remark.
     Nothing,
     /// The phase ends.
@@ -33,7 +33,7 @@ pub enum Meaning {
 // What stands before the first space, and what behind it.
 fn cut(text: &[u8]) -> (&[u8], &[u8])
     requires { 0 < length text.now }
-    ensures fields { fields_of text.now ≡
+    ensures fields { line_fields text.now ≡
         filter is_some_byte (result.0.now ∷ slice_split (λ byte. byte == 32) result.1.now) }
     ensures shorter { length result.1.now < length text.now }
 {
@@ -45,8 +45,8 @@ fn cut(text: &[u8]) -> (&[u8], &[u8])
 
 // The first field, and what is behind it.
 fn next_field(text: &[u8]) -> Option<(&[u8], &[u8])>
-    ensures fields { MatchOption result (fields_of text.now ≡ [])
-        (λ found. fields_of text.now ≡ found.0.now ∷ fields_of found.1.now) }
+    ensures fields { MatchOption result (line_fields text.now ≡ [])
+        (λ found. line_fields text.now ≡ found.0.now ∷ line_fields found.1.now) }
     ensures some { IfSome result (λ found. 0 < length found.0.now) }
 {
     let mut rest = text;
@@ -107,8 +107,8 @@ fn bytes(alloc: Global, field: &[u8]) -> Result<Option<Bytes>, NoMemory>
 
 // The data of a command: no field, or one.
 fn data(text: &[u8]) -> Option<&[u8]>
-    ensures { MatchOption result (data_of (fields_of text.now) ≡ None)
-        (λ field. data_of (fields_of text.now) ≡ Some field.now) }
+    ensures { MatchOption result (data_of (line_fields text.now) ≡ None)
+        (λ field. data_of (line_fields text.now) ≡ Some field.now) }
 {
     let Some((field, rest)) = next_field(text) else {
         return Some(&[]);
@@ -127,23 +127,23 @@ fn command<P: Runner>(
     to: &[u8],
     cdb: &[u8],
     sent: &[u8],
-) -> Result<Meaning, NoMemory>
-    ensures { IfOk result (λ meaning. meaning ≡ command_of (host_of from.now)
+) -> Result<ParsedLine, NoMemory>
+    ensures { IfOk result (λ parsed. parsed ≡ parsed_command (host_of from.now)
         (drive_of (P.is_configured runner.now) to.now) (bytes_of cdb.now) (bytes_of sent.now)) }
 {
     let Some(host) = host(from) else {
-        return Ok(Meaning::Refused);
+        return Ok(ParsedLine::Refused);
     };
     let Some(drive) = drive(runner, to) else {
-        return Ok(Meaning::Refused);
+        return Ok(ParsedLine::Refused);
     };
     let Some(cdb) = bytes(alloc, cdb)? else {
-        return Ok(Meaning::Refused);
+        return Ok(ParsedLine::Refused);
     };
     let Some(sent) = bytes(alloc, sent)? else {
-        return Ok(Meaning::Refused);
+        return Ok(ParsedLine::Refused);
     };
-    Ok(Meaning::Command(Line {
+    Ok(ParsedLine::Command(Line {
         host,
         drive,
         cdb,
@@ -152,41 +152,41 @@ fn command<P: Runner>(
 }
 
 // What the fields of a line say, the first of them apart.
-fn said_with<P: Runner>(
+fn parse_command<P: Runner>(
     alloc: Global,
     runner: &P,
     first: &[u8],
     rest: &[u8],
-) -> Result<Meaning, NoMemory>
-    ensures { IfOk result (λ meaning.
-        meaning ≡ said_with (P.is_configured runner.now) first.now (fields_of rest.now)) }
+) -> Result<ParsedLine, NoMemory>
+    ensures { IfOk result (λ parsed.
+        parsed ≡ parse_command (P.is_configured runner.now) first.now (line_fields rest.now)) }
 {
     let Some((drive, rest)) = next_field(rest) else {
         return Ok(if first == b"--".as_slice() {
-            Meaning::PhaseEnd
+            ParsedLine::PhaseEnd
         } else {
-            Meaning::Refused
+            ParsedLine::Refused
         });
     };
     let Some((cdb, rest)) = next_field(rest) else {
-        return Ok(Meaning::Refused);
+        return Ok(ParsedLine::Refused);
     };
     match data(rest) {
         Some(sent) => command(alloc, runner, first, drive, cdb, sent),
-        None => Ok(Meaning::Refused),
+        None => Ok(ParsedLine::Refused),
     }
 }
 
 /// What a line of these bytes says, its line feed and the carriage return before it left out.
-pub fn said_by<P: Runner>(alloc: Global, runner: &P, line: &[u8]) -> Result<Meaning, NoMemory>
-    ensures { IfOk result (λ meaning.
-        meaning ≡ said_by (P.is_configured runner.now) (fields_of line.now)) }
+pub fn parse<P: Runner>(alloc: Global, runner: &P, line: &[u8]) -> Result<ParsedLine, NoMemory>
+    ensures { IfOk result (λ parsed.
+        parsed ≡ parse_fields (P.is_configured runner.now) (line_fields line.now)) }
 {
     let Some((first, rest)) = next_field(line) else {
-        return Ok(Meaning::Nothing);
+        return Ok(ParsedLine::Nothing);
     };
     if first[0] == b'#' {
-        return Ok(Meaning::Nothing);
+        return Ok(ParsedLine::Nothing);
     }
-    said_with(alloc, runner, first, rest)
+    parse_command(alloc, runner, first, rest)
 }

@@ -1,31 +1,32 @@
 //! A virtual tape library: runs a script against a drive in memory.
 #![tactic(auto)]
 
-mod blocks;
 mod drives;
 mod faults;
+mod hosts;
+mod items;
 pub mod laws;
+mod line_readers;
 mod lines;
 mod phases;
 mod programs;
 mod runners;
+mod script_limits;
 mod scripts;
 mod splits;
 #[cfg(test)]
 mod tests;
 mod texts;
-mod turns;
 
-use programs::{fault_line, run};
+use programs::{built_in_drive, run};
+use std::io;
 use std::process::ExitCode;
 
 fn main(rt: HostRuntime) -> ExitCode {
-    match run(&rt) {
-        Ok(()) => ExitCode::from(0),
-        Err(fault) => {
-            let (status, line) = fault_line(&fault);
-            let _ = eprintln!(rt; "{line}");
-            ExitCode::from(status)
-        }
-    }
+    let mut reader = rt.reader();
+    let (stdout, stderr) = (rt.stdout(), rt.stderr());
+    let mut writer = io::writer(&stdout);
+    let mut errors = io::writer(&stderr);
+    let drive = built_in_drive(rt.alloc());
+    ExitCode::from(run(rt.alloc(), drive, &mut reader, &mut writer, &mut errors).status)
 }

@@ -1,11 +1,12 @@
 //! A script, read phase by phase.
 ghost use Rattle.std.specs.Prelude.{◌≡◌, ◌≢◌, ◌++◌, ◌∷◌, [], ℕ, filter_map, IfOk, IfErr, OnOk, Err};
-ghost use Rattle.vtl.specs.Phases.{without_return, meaning_of, is_phase_end, line_in};
-ghost use Rattle.vtl.specs.ReadPhase.{Accepts, TellsNext, ReadsPhase, RefusesNext, RefusesPhase};
+ghost use Rattle.vtl.specs.Parsed.{without_return, parsed_line, is_phase_end, line_in};
+ghost use Rattle.vtl.specs.Runs.{TakesWithin};
+ghost use Rattle.vtl.specs.Inner.ReadItem.{ReportsRefused, ReadsLine, ReadsPhase, RefusesLine, RefusesItem};
 
-use crate::blocks::{Blocks, Found};
 use crate::faults::ScriptFault;
-use crate::lines::{Line, Meaning, said_by};
+use crate::line_readers::{Found, LineReader};
+use crate::lines::{Line, ParsedLine, parse};
 use crate::runners::Runner;
 use std::alloc::Global;
 use std::io::Read;
@@ -14,14 +15,14 @@ use vtl_base::limits::LINE_BYTES;
 
 /// What the next line says, and whether the text has ended with it.
 #[derive(Drop)]
-pub struct Next {
-    pub meaning: Meaning,
+pub struct NextLine {
+    pub parsed: ParsedLine,
     pub is_last: bool,
 }
 
-/// The commands of a phase, and whether the text has ended with it.
+/// The commands of a phase in the order of their lines, and whether the text has ended with it.
 #[derive(Drop)]
-pub struct Phase {
+pub struct PhaseLines {
     pub lines: Vec<Line>,
     pub is_last: bool,
 }
@@ -37,28 +38,28 @@ fn without_return(line: &[u8]) -> &[u8]
 }
 
 // What a line says that has so many bytes before its line feed, and these that count.
-fn meaning_of<P: Runner>(
+fn parsed_line<P: Runner>(
     alloc: Global,
     runner: &P,
     count: usize,
     line: &[u8],
-) -> Result<Meaning, NoMemory>
-    ensures { IfOk result (λ meaning.
-        meaning ≡ meaning_of (P.is_configured runner.now) count line.now) }
+) -> Result<ParsedLine, NoMemory>
+    ensures { IfOk result (λ parsed.
+        parsed ≡ parsed_line (P.is_configured runner.now) count line.now) }
 {
     if count > LINE_BYTES {
-        return Ok(Meaning::Refused);
+        return Ok(ParsedLine::Refused);
     }
-    said_by(alloc, runner, line)
+    parse(alloc, runner, line)
 }
 
 // A line that is refused ends the reading.
-fn accepted(meaning: Meaning, is_last: bool, line: u64) -> Result<Next, ScriptFault>
-    ensures { Accepts meaning is_last line result }
+fn accepted(parsed: ParsedLine, is_last: bool, line: u64) -> Result<NextLine, ScriptFault>
+    ensures { ReportsRefused parsed is_last line result }
 {
-    match meaning {
-        Meaning::Refused => Err(ScriptFault::BadLine { line }),
-        meaning => Ok(Next { meaning, is_last }),
+    match parsed {
+        ParsedLine::Refused => Err(ScriptFault::BadLine { line }),
+        parsed => Ok(NextLine { parsed, is_last }),
     }
 }
 
@@ -66,46 +67,53 @@ fn accepted(meaning: Meaning, is_last: bool, line: u64) -> Result<Next, ScriptFa
 fn read_line<P: Runner, R: Read>(
     alloc: Global,
     runner: &P,
-    blocks: &mut Blocks,
+    line_reader: &mut LineReader,
     reader: &mut R,
-) -> Result<Next, ScriptFault>
-    ensures ok { IfOk result (TellsNext (P.is_configured runner.now)
-        (R.remaining reader.old) blocks.old (R.remaining reader.new) blocks.new) }
+) -> Result<NextLine, ScriptFault>
+    ensures ok { IfOk result (ReadsLine (P.is_configured runner.now)
+        (R.remaining reader.old) line_reader.old (R.remaining reader.new) line_reader.new) }
     ensures refused { (number : ℕ) → result ≡ Err (ScriptFault.BadLine number) →
-        RefusesNext (P.is_configured runner.now)
-        (R.remaining reader.old) blocks.old (R.remaining reader.new) number }
+        RefusesLine (P.is_configured runner.now)
+        (R.remaining reader.old) line_reader.old (R.remaining reader.new) number }
     ensures fault { IfErr result (λ fault. fault ≢ ScriptFault.WriteFault) }
+    ensures past { IfErr result (λ fault. fault ≢ ScriptFault.ReadFault →
+        TakesWithin (R.remaining reader.old) line_reader.old.bytes (R.remaining reader.new)) }
 {
-    let number = blocks.lines() + 1;
-    match blocks.find(reader)? {
+    let number = line_reader.lines() + 1;
+    match line_reader.find(reader)? {
         Found::Line(count) => {
-            let meaning = meaning_of(alloc, runner, count, without_return(blocks.front(count)))?;
-            blocks.take_up(count);
-            accepted(meaning, false, number)
+            let parsed = parsed_line(
+                alloc,
+                runner,
+                count,
+                without_return(line_reader.front(count)),
+            )?;
+            line_reader.take_up(count);
+            accepted(parsed, false, number)
         }
         Found::Last => {
-            let line = blocks.unread();
-            let meaning = meaning_of(alloc, runner, line.len(), line)?;
-            accepted(meaning, true, number)
+            let line = line_reader.unread();
+            let parsed = parsed_line(alloc, runner, line.len(), line)?;
+            accepted(parsed, true, number)
         }
         Found::TooLong => Err(ScriptFault::BadLine { line: number }),
     }
 }
 
 // Adds the command of a line, and answers whether the phase ends with it.
-fn gather(lines: &mut Vec<Line>, meaning: Meaning) -> Result<bool, ScriptFault>
-    ensures ends { IfOk result (λ is_end. is_end ≡ is_phase_end meaning) }
+fn gather(lines: &mut Vec<Line>, parsed: ParsedLine) -> Result<bool, ScriptFault>
+    ensures ends { IfOk result (λ is_end. is_end ≡ is_phase_end parsed) }
     ensures lines { OnOk result
-        (lines.new.items ≡ lines.old.items ++ filter_map line_in (meaning ∷ [])) }
+        (lines.new.items ≡ lines.old.items ++ filter_map line_in (parsed ∷ [])) }
     ensures fault { IfErr result (λ fault. fault ≡ ScriptFault.NoMemory) }
 {
-    match meaning {
-        Meaning::Command(line) => {
+    match parsed {
+        ParsedLine::Command(line) => {
             lines.push(line)?;
             Ok(false)
         }
-        Meaning::PhaseEnd => Ok(true),
-        Meaning::Nothing | Meaning::Refused => Ok(false),
+        ParsedLine::PhaseEnd => Ok(true),
+        ParsedLine::Nothing | ParsedLine::Refused => Ok(false),
     }
 }
 
@@ -113,22 +121,24 @@ fn gather(lines: &mut Vec<Line>, meaning: Meaning) -> Result<bool, ScriptFault>
 pub fn read_phase<P: Runner, R: Read>(
     alloc: Global,
     runner: &P,
-    blocks: &mut Blocks,
+    line_reader: &mut LineReader,
     reader: &mut R,
-) -> Result<Phase, ScriptFault>
+) -> Result<PhaseLines, ScriptFault>
     ensures ok { IfOk result (ReadsPhase (P.is_configured runner.now)
-        (R.remaining reader.old) blocks.old (R.remaining reader.new) blocks.new) }
+        (R.remaining reader.old) line_reader.old (R.remaining reader.new) line_reader.new) }
     ensures refused { (number : ℕ) → result ≡ Err (ScriptFault.BadLine number) →
-        RefusesPhase (P.is_configured runner.now)
-        (R.remaining reader.old) blocks.old (R.remaining reader.new) number }
+        RefusesItem (P.is_configured runner.now)
+        (R.remaining reader.old) line_reader.old (R.remaining reader.new) number }
     ensures fault { IfErr result (λ fault. fault ≢ ScriptFault.WriteFault) }
+    ensures past { IfErr result (λ fault. fault ≢ ScriptFault.ReadFault →
+        TakesWithin (R.remaining reader.old) line_reader.old.bytes (R.remaining reader.new)) }
 {
     let mut lines = Vec::new(alloc);
     loop {
-        let Next { meaning, is_last } = read_line(alloc, runner, blocks, reader)?;
-        let is_end = gather(&mut lines, meaning)?;
+        let NextLine { parsed, is_last } = read_line(alloc, runner, line_reader, reader)?;
+        let is_end = gather(&mut lines, parsed)?;
         if is_end || is_last {
-            return Ok(Phase { lines, is_last });
+            return Ok(PhaseLines { lines, is_last });
         }
     }
 }

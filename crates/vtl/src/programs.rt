@@ -1,16 +1,18 @@
-//! The program: the built-in configuration, and how a fault is told.
-ghost use Rattle.std.specs.Prelude.{◌≡◌, ◌∷◌, [], Some, IfOk, IfErr};
+//! The program: the built-in configuration, and how a fault is reported.
+ghost use Rattle.std.specs.Prelude.{◌≡◌, ◌==◌, ◌∷◌, [], IfOk, IfErr};
 ghost use Rattle.volume_core.specs.Volume.{empty_volume};
-ghost use Rattle.drive_core.specs.State.{powered_on};
+ghost use Rattle.vtl.specs.BuiltIn.{IsBuiltIn};
 ghost use Rattle.vtl.specs.Faults.{status_of};
+ghost use Rattle.vtl.specs.Held.{HeldAnswers};
+ghost use Rattle.vtl.specs.Program.{RunsFrom, RunsProgram};
 
-use crate::drives::HeldDrive;
+use crate::drives::{HeldDrive, run_on_drive};
 use crate::faults::ScriptFault;
-use crate::scripts::run_script;
 use drive_core::Drive;
 use std::alloc::Global;
-use std::{fmt, io};
-use volume_core::PlainMedium;
+use std::fmt;
+use std::io::{Read, Write};
+use volume_core::{Medium, PlainMedium};
 use vtl_base::{DriveNo, NoMemory};
 
 // The drive and the capacity of the built-in configuration.
@@ -59,7 +61,7 @@ impl From<NoMemory> for VtlFault {
     }
 }
 
-/// The line on standard error that tells a fault. It takes no memory.
+/// The line on standard error that reports a fault. It takes no memory.
 #[derive(Clone, Copy, PartialEq, Eq, Debug)]
 pub struct FaultLine {
     pub fault: VtlFault,
@@ -82,7 +84,7 @@ impl fmt::Display for FaultLine {
     }
 }
 
-/// The status that the program ends with at a fault, and the line that tells it.
+/// The status that the program ends with at a fault, and the line that reports it.
 pub fn fault_line(fault: &VtlFault) -> (u8, FaultLine)
     ensures status { result.0 ≡ status_of fault.now }
     ensures line { result.1.fault ≡ fault.now }
@@ -98,8 +100,7 @@ pub fn fault_line(fault: &VtlFault) -> (u8, FaultLine)
 /// The drive of the built-in configuration: drive 1, in which a cartridge of one partition of
 /// 16,777,216 bytes is loaded.
 pub fn built_in_drive(alloc: Global) -> Result<HeldDrive<PlainMedium>, VtlFault>
-    ensures ok { IfOk result (λ held. (held.number ≡ DRIVE)
-        × (held.drive ≡ powered_on (Some (empty_volume (CAPACITY ∷ []))))) }
+    ensures ok { IfOk result (λ held. IsBuiltIn (empty_volume (16777216 ∷ [])) held) }
     ensures fault { IfErr result (λ fault. fault ≡ VtlFault.NoMemory) }
 {
     let Some(number) = DriveNo::new(DRIVE) else {
@@ -112,13 +113,54 @@ pub fn built_in_drive(alloc: Global) -> Result<HeldDrive<PlainMedium>, VtlFault>
     }
 }
 
-/// Runs the script on standard input against the built-in configuration, and writes the answers on
-/// standard output.
-pub fn run(rt: &(impl Input + Print + AllocGlobal)) -> Result<(), VtlFault> {
-    let alloc = rt.alloc();
-    let mut drive = built_in_drive(alloc)?;
-    let mut reader = rt.reader();
-    let mut writer = io::writer(rt);
-    run_script(alloc, &mut drive, &mut reader, &mut writer)?;
+// Runs a script by this drive, where there is one.
+fn run_started<M: Medium + Drop, R: Read, W: Write>(
+    alloc: Global,
+    start: Result<HeldDrive<M>, VtlFault>,
+    reader: &mut R,
+    writer: &mut W,
+) -> Result<(), VtlFault>
+    ensures { RunsFrom (λ held number. number == held.number)
+        (HeldAnswers M.tape M.moves M.honest) start
+        (R.remaining reader.old) (W.contents writer.old) (W.contents writer.new) result }
+{
+    let mut held = start?;
+    run_on_drive(alloc, &mut held, reader, writer)?;
     Ok(())
+}
+
+/// How the program ends: its status, and whether no fault is left without its line.
+#[derive(Clone, Copy, PartialEq, Eq, Debug)]
+pub struct Ended {
+    pub status: u8,
+    pub is_reported: bool,
+}
+
+/// The program over its three streams: it runs the script that the reader gives by this drive, writes
+/// the replies, and reports a fault by one line on the third stream and by its status.
+pub fn run<M: Medium + Drop, R: Read, W: Write, E: Write>(
+    alloc: Global,
+    start: Result<HeldDrive<M>, VtlFault>,
+    reader: &mut R,
+    writer: &mut W,
+    errors: &mut E,
+) -> Ended
+    ensures { RunsProgram (λ held number. number == held.number)
+        (HeldAnswers M.tape M.moves M.honest) start
+        (R.remaining reader.old) (W.contents writer.old) (W.contents writer.new)
+        (E.contents errors.old) (E.contents errors.new) result }
+{
+    match run_started(alloc, start, reader, writer) {
+        Ok(()) => Ended {
+            status: 0,
+            is_reported: true,
+        },
+        Err(fault) => {
+            let (status, line) = fault_line(&fault);
+            Ended {
+                status,
+                is_reported: writeln!(errors, "{line}").is_ok(),
+            }
+        }
+    }
 }

@@ -1,10 +1,11 @@
-//! The worked scripts, the turns of hosts, and how a fault is told.
+//! The worked scripts, and the turns of hosts.
 mod borders;
 mod failing;
+mod programs;
 mod wires;
 
 use crate::faults::ScriptFault;
-use crate::programs::{VtlFault, built_in_drive, fault_line};
+use crate::programs::built_in_drive;
 use crate::scripts::run_script;
 use std::alloc::{AllocError, Global};
 use std::process::Abort;
@@ -24,12 +25,14 @@ fn bad(line: u64) -> Result<(), ScriptFault> {
     Err(ScriptFault::BadLine { line })
 }
 
-// What a script writes, how it ends, and whether a read came while answers were not flushed.
+// What a script writes, how it ends, whether a read came while replies were not flushed, and how many
+// reads there were.
 #[derive(Drop)]
 struct Outcome {
     text: Vec<u8>,
     end: Result<(), ScriptFault>,
     read_early: bool,
+    reads: u32,
 }
 
 fn answered(alloc: Global, script: &[u8], plan: Plan) -> Result<Outcome, Fail> {
@@ -42,6 +45,7 @@ fn answered(alloc: Global, script: &[u8], plan: Plan) -> Result<Outcome, Fail> {
         text: writer.into_text(),
         end,
         read_early: wire.read_early(),
+        reads: reader.calls(),
     })
 }
 
@@ -208,46 +212,5 @@ fn many_phases(rt: HostRuntime) -> Result<(), Fail> {
     assert_eq!(rt; outcome.end, DONE);
     assert!(rt; !outcome.read_early);
     assert_eq!(rt; outcome.text.as_slice(), wanted.as_slice());
-    Ok(())
-}
-
-#[test]
-fn fault_lines(rt: HostRuntime) -> Result<(), Fail> {
-    let rows = [
-        (VtlFault::Words, 1, "vtl: command line refused"),
-        (VtlFault::Config, 1, "vtl: configuration refused"),
-        (
-            VtlFault::Script { line: 12 },
-            1,
-            "vtl: script line 12 refused",
-        ),
-        (VtlFault::Device, 2, "vtl: device fault"),
-        (VtlFault::NoMemory, 3, "vtl: out of memory"),
-        (
-            VtlFault::from(ScriptFault::BadLine { line: 1 }),
-            1,
-            "vtl: script line 1 refused",
-        ),
-        (
-            VtlFault::from(ScriptFault::ReadFault),
-            2,
-            "vtl: device fault",
-        ),
-        (
-            VtlFault::from(ScriptFault::WriteFault),
-            2,
-            "vtl: device fault",
-        ),
-        (
-            VtlFault::from(ScriptFault::NoMemory),
-            3,
-            "vtl: out of memory",
-        ),
-    ];
-    for (fault, status, text) in rows {
-        let (told, line) = fault_line(&fault);
-        assert_eq!(rt; told, status, "{text}");
-        assert_eq!(rt; format!(in rt.alloc(); "{line}")?.as_str(), text);
-    }
     Ok(())
 }

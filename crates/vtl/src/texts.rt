@@ -1,15 +1,15 @@
 //! The text of answers.
-ghost use Rattle.std.specs.Prelude.{◌≡◌, ◌++◌, ◌⊎◌, [], ℕ, take, OnOk, IfErr, Err};
+ghost use Rattle.std.specs.Prelude.{◌≡◌, ◌++◌, ◌⊎◌, [], ℕ, take, OnOk, OnErr, IfErr, Err};
 ghost use Rattle.std.specs.Io.KnownBytes.{Appends};
-ghost use Rattle.vtl.specs.Text.{hex_word, reply_text, text_of};
+ghost use Rattle.vtl.specs.Text.{hex_word, reply_text, text_of, AppendsPart};
 
 use crate::faults::ScriptFault;
 use scsi_wire::{Reply, Status};
 use std::alloc::{AllocError, Global};
-use std::io::Write;
+use std::io::{ErrorKind, Write};
 
 // The bytes that are written at once, but for one answer more.
-const CHUNK: usize = 65_536;
+const WRITE_CHUNK: usize = 65_536;
 
 // Adds a space and these bytes in hex, where there are any.
 fn add_hex(alloc: Global, text: &mut Vec<u8>, bytes: &[u8]) -> Result<(), AllocError>
@@ -40,22 +40,44 @@ fn add_reply(alloc: Global, text: &mut Vec<u8>, reply: &Reply) -> Result<(), All
     Ok(())
 }
 
+// Writes a text. Where a write fails, a beginning of it is written. An interrupted write is made again.
+fn write_text<W: Write>(writer: &mut W, text: &[u8]) -> Result<(), ScriptFault>
+    ensures ok { OnOk result (Appends (W.contents writer.old) (W.contents writer.new) text.now) }
+    ensures err { OnErr result
+        (AppendsPart (W.contents writer.old) (W.contents writer.new) text.now) }
+    ensures fault { IfErr result (λ fault. fault ≡ ScriptFault.WriteFault) }
+{
+    let mut written = 0;
+    for _ in 0..u64::MAX {
+        if written == text.len() {
+            return Ok(());
+        }
+        match writer.write(&text[written..]) {
+            Ok(0) => return Err(ScriptFault::WriteFault),
+            Ok(count) => written += count,
+            Err(e) if e.kind() == ErrorKind::Interrupted => {}
+            Err(_) => return Err(ScriptFault::WriteFault),
+        }
+    }
+    Err(ScriptFault::WriteFault)
+}
+
 // Writes a text, and leaves it empty.
 fn put<W: Write>(writer: &mut W, text: &mut Vec<u8>) -> Result<(), ScriptFault>
-    ensures written { OnOk result
+    ensures ok { OnOk result
         (Appends (W.contents writer.old) (W.contents writer.new) text.old.items) }
+    ensures err { OnErr result
+        (AppendsPart (W.contents writer.old) (W.contents writer.new) text.old.items) }
     ensures empty { OnOk result (text.new.items ≡ []) }
     ensures fault { IfErr result (λ fault. fault ≡ ScriptFault.WriteFault) }
 {
-    if writer.write_all(text.as_slice()).is_err() {
-        return Err(ScriptFault::WriteFault);
-    }
+    write_text(writer, text.as_slice())?;
     text.clear();
     Ok(())
 }
 
-/// Writes the lines of answers, in order, and flushes them. Where memory is wanting, those of the
-/// first are written.
+/// Writes the lines of replies, in order, and flushes them. Where memory runs out, those of the first
+/// are written; where a write fails, a beginning of their text.
 pub fn print_replies<W: Write>(
     alloc: Global,
     writer: &mut W,
@@ -65,13 +87,15 @@ pub fn print_replies<W: Write>(
         (Appends (W.contents writer.old) (W.contents writer.new) (text_of replies.now)) }
     ensures some { result ≡ Err ScriptFault.NoMemory → (count : ℕ) × Appends
         (W.contents writer.old) (W.contents writer.new) (text_of (take count replies.now)) }
+    ensures part { result ≡ Err ScriptFault.WriteFault →
+        AppendsPart (W.contents writer.old) (W.contents writer.new) (text_of replies.now) }
     ensures fault { IfErr result (λ fault.
         (fault ≡ ScriptFault.WriteFault) ⊎ (fault ≡ ScriptFault.NoMemory)) }
 {
     let mut text = Vec::new(alloc);
     for reply in replies {
         add_reply(alloc, &mut text, reply)?;
-        if text.len() >= CHUNK {
+        if text.len() >= WRITE_CHUNK {
             put(writer, &mut text)?;
         }
     }

@@ -4,19 +4,21 @@ use std::cell::Cell;
 use std::io;
 use std::io::{ErrorKind, Read, Write};
 
-/// How a reader and a writer behave: the bytes of a read at most, and the call of either that
-/// fails, if any.
+/// How a reader and a writer behave: the bytes of a read and of a write at most, and the call of
+/// either that fails, if any.
 #[derive(Clone, Copy)]
 pub struct Plan {
     pub piece: usize,
+    pub taken: usize,
     pub bad_read: Option<(u32, ErrorKind)>,
-    pub bad_write: Option<u32>,
+    pub bad_write: Option<(u32, ErrorKind)>,
 }
 
 impl Plan {
     pub fn whole() -> Self {
         Plan {
             piece: usize::MAX,
+            taken: usize::MAX,
             bad_read: None,
             bad_write: None,
         }
@@ -59,6 +61,11 @@ impl<'a> WireReader<'a> {
             calls: 0,
             wire,
         }
+    }
+
+    /// How many reads were asked for.
+    pub fn calls(&self) -> u32 {
+        self.calls
     }
 }
 
@@ -103,22 +110,28 @@ impl<'a> WireWriter<'a> {
     }
 }
 
+impl WireWriter<'_> {
+    // Counts a call, and fails where it is the one that is to fail.
+    fn call(&mut self) -> io::Result<()> {
+        self.calls = self.calls.saturating_add(1);
+        match self.plan.bad_write {
+            Some((call, kind)) if call == self.calls => Err(io::Error::from(kind)),
+            _ => Ok(()),
+        }
+    }
+}
+
 impl Write for WireWriter<'_> {
     fn write(&mut self, buf: &[u8]) -> io::Result<usize> {
-        self.calls = self.calls.saturating_add(1);
-        if self.plan.bad_write == Some(self.calls) {
-            return Err(io::Error::from(ErrorKind::Other));
-        }
-        self.text.extend_from_slice(buf)?;
+        self.call()?;
+        let count = self.plan.taken.min(buf.len());
+        self.text.extend_from_slice(&buf[..count])?;
         self.wire.held.set(true);
-        Ok(buf.len())
+        Ok(count)
     }
 
     fn flush(&mut self) -> io::Result<()> {
-        self.calls = self.calls.saturating_add(1);
-        if self.plan.bad_write == Some(self.calls) {
-            return Err(io::Error::from(ErrorKind::Other));
-        }
+        self.call()?;
         self.wire.held.set(false);
         Ok(())
     }

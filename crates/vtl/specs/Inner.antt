@@ -1,0 +1,4 @@
+pub mod HeldRuns
+pub mod ReadItem
+pub mod Reading
+pub mod RunItem
