@@ -18,41 +18,63 @@ one_further : (objects : List Object) (from limit marks at left : ℕ) → from 
     → (end : ℕ) × (rest : ℕ) × WalksForward objects from (limit + 1) marks end rest
 one_further objects from limit marks at left ahead inside walk =
     elim walk.stops [
-      inr found ↦ (at, left, record {
-        ahead = walk.ahead; within = omega (arith, walk.within); counted = walk.counted; stops = inr found })
-    | inl short ↦
-        let counted : marks_between objects from limit + left ≡ marks = rw short.0 at walk.counted in
-        let here : IsBlockAt objects limit ⊎ IsMarkAt objects limit = block_or_mark objects limit inside in
-        elim here [
-          inl block ↦ (limit + 1, left, record {
-            ahead = omega arith;
-            within = omega arith;
-            counted = omega (arith, counted, block_behind objects from limit ahead block);
-            stops = inl (refl, short.1) })
-        | inr mark ↦ (limit + 1, left - 1, record {
-            ahead = omega arith;
-            within = omega arith;
-            counted = omega (arith, counted, short.1, mark_behind objects from limit ahead mark);
-            stops =
-              let more : (1 < left) ⊎ (left ≤ 1) = cases_lt 1 left in
-              elim more [
-                inl some ↦ inl (refl, omega arith)
-              | inr none ↦ inr ((limit, refl, mark), omega arith)
-              ] })
-        ]
+      | inr found ↦ (
+        at,
+        left,
+        record {
+          ahead = walk.ahead;
+          within = omega (arith, walk.within);
+          counted = walk.counted;
+          stops = inr found;
+        },
+      )
+      | inl short ↦
+          let counted : marks_between objects from limit + left ≡ marks = rw short.0 at walk.counted in
+          let here : IsBlockAt objects limit ⊎ IsMarkAt objects limit = block_or_mark objects limit inside in
+          elim here [
+            | inl block ↦ (
+              limit + 1,
+              left,
+              record {
+                ahead = omega arith;
+                within = omega arith;
+                counted = omega (arith, counted, block_behind objects from limit ahead block);
+                stops = inl (refl, short.1);
+              },
+            )
+            | inr mark ↦ (
+              limit + 1,
+              left - 1,
+              record {
+                ahead = omega arith;
+                within = omega arith;
+                counted = omega (arith, counted, short.1, mark_behind objects from limit ahead mark);
+                stops =
+                    let more : (1 < left) ⊎ (left ≤ 1) = cases_lt 1 left in
+                    elim more [
+                      | inl some ↦ inl (refl, omega arith)
+                      | inr none ↦ inr ((limit, refl, mark), omega arith)
+                    ];
+              },
+            )
+          ]
     ]
 
 some_walk : (objects : List Object) (from far limit marks : ℕ) → limit ≡ from + far → limit ≤ length objects → 1 ≤ marks
     → (at : ℕ) × (left : ℕ) × WalksForward objects from limit marks at left
-some_walk objects from zero limit marks sum inside some =
-    (from, marks, record {
-      ahead = omega arith;
-      within = omega arith;
-      counted = omega (arith, none_between objects from);
-      stops = inl (omega arith, some) })
+some_walk objects from zero limit marks sum inside some = (
+  from,
+  marks,
+  record {
+    ahead = omega arith;
+    within = omega arith;
+    counted = omega (arith, none_between objects from);
+    stops = inl (omega arith, some);
+  },
+)
 some_walk objects from (suc far) limit marks sum inside some =
     let before : (at : ℕ) × (left : ℕ) × WalksForward objects from (from + far) marks at left =
-      some_walk objects from far (from + far) marks refl (omega arith) some in
+    some_walk objects from far (from + far) marks refl (omega arith) some in
     let last : limit ≡ from + far + 1 = omega arith in
     rw last (one_further objects from (from + far) marks before.0 before.1 (omega arith) (omega arith) before.2)
 
@@ -61,41 +83,63 @@ one_further_back : (objects : List Object) (from limit marks at left : ℕ) → 
     → (end : ℕ) × (rest : ℕ) × WalksBackward objects from limit marks end rest
 one_further_back objects from limit marks at left behind inside walk =
     elim walk.stops [
-      inr found ↦ (at, left, record {
-        behind = walk.behind; within = omega (arith, walk.within); counted = walk.counted; stops = inr found })
-    | inl short ↦
-        let counted : marks_between objects (limit + 1) from + left ≡ marks = rw short.0 at walk.counted in
-        let here : IsBlockAt objects limit ⊎ IsMarkAt objects limit = block_or_mark objects limit (omega arith) in
-        elim here [
-          inl block ↦ (limit, left, record {
-            behind = omega arith;
-            within = omega arith;
-            counted = omega (arith, counted, block_before objects limit from behind block);
-            stops = inl (refl, short.1) })
-        | inr mark ↦ (limit, left - 1, record {
-            behind = omega arith;
-            within = omega arith;
-            counted = omega (arith, counted, short.1, mark_before objects limit from behind mark);
-            stops =
-              let more : (1 < left) ⊎ (left ≤ 1) = cases_lt 1 left in
-              elim more [
-                inl some ↦ inl (refl, omega arith)
-              | inr none ↦ inr (mark, omega arith)
-              ] })
-        ]
+      | inr found ↦ (
+        at,
+        left,
+        record {
+          behind = walk.behind;
+          within = omega (arith, walk.within);
+          counted = walk.counted;
+          stops = inr found;
+        },
+      )
+      | inl short ↦
+          let counted : marks_between objects (limit + 1) from + left ≡ marks = rw short.0 at walk.counted in
+          let here : IsBlockAt objects limit ⊎ IsMarkAt objects limit = block_or_mark objects limit (omega arith) in
+          elim here [
+            | inl block ↦ (
+              limit,
+              left,
+              record {
+                behind = omega arith;
+                within = omega arith;
+                counted = omega (arith, counted, block_before objects limit from behind block);
+                stops = inl (refl, short.1);
+              },
+            )
+            | inr mark ↦ (
+              limit,
+              left - 1,
+              record {
+                behind = omega arith;
+                within = omega arith;
+                counted = omega (arith, counted, short.1, mark_before objects limit from behind mark);
+                stops =
+                    let more : (1 < left) ⊎ (left ≤ 1) = cases_lt 1 left in
+                    elim more [
+                      | inl some ↦ inl (refl, omega arith)
+                      | inr none ↦ inr (mark, omega arith)
+                    ];
+              },
+            )
+          ]
     ]
 
 some_walk_back : (objects : List Object) (from far limit marks : ℕ) → limit + far ≡ from → from ≤ length objects → 1 ≤ marks
     → (at : ℕ) × (left : ℕ) × WalksBackward objects from limit marks at left
-some_walk_back objects from zero limit marks sum inside some =
-    (from, marks, record {
-      behind = omega arith;
-      within = omega arith;
-      counted = omega (arith, none_between objects from);
-      stops = inl (omega arith, some) })
+some_walk_back objects from zero limit marks sum inside some = (
+  from,
+  marks,
+  record {
+    behind = omega arith;
+    within = omega arith;
+    counted = omega (arith, none_between objects from);
+    stops = inl (omega arith, some);
+  },
+)
 some_walk_back objects from (suc far) limit marks sum inside some =
     let before : (at : ℕ) × (left : ℕ) × WalksBackward objects from (limit + 1) marks at left =
-      some_walk_back objects from far (limit + 1) marks (omega arith) inside some in
+    some_walk_back objects from far (limit + 1) marks (omega arith) inside some in
     one_further_back objects from limit marks before.0 before.1 (omega arith) inside before.2
 
 -- over blocks, forward and backward
@@ -104,18 +148,30 @@ some_blocks : (objects : List Object) (from count most : ℕ) → most ≤ count
     → (end : ℕ) × (stop : Stop) × (left : ℕ) × BlocksForward objects from count end stop left
 some_blocks objects from count most fits inside why =
     let walk : (at : ℕ) × (left : ℕ) × WalksForward objects from (from + most) 1 at left =
-      some_walk objects from most (from + most) 1 refl inside (omega arith) in
+    some_walk objects from most (from + most) 1 refl inside (omega arith) in
     elim walk.2.stops [
-      inr found ↦ (walk.0, AtMark, count - (walk.0 - from - 1),
-        walk_to_mark objects from count most walk.0 walk.1 walk.0 AtMark _ walk.2 fits found.1 refl refl refl)
-    | inl limit ↦
-        let none_met : ¬ (walk.1 ≡ 0) = λ met. omega (arith, met, limit.1) in
-        elim why [
-          inl all ↦ (walk.0, Done, 0,
-            walk_of_all objects from count most walk.0 walk.1 walk.0 Done 0 walk.2 inside none_met all refl refl refl)
-        | inr short ↦ (walk.0, AtEnd, count - most,
-            walk_to_end objects from count most walk.0 walk.1 walk.0 AtEnd _ walk.2 short.1 none_met short.0 refl refl refl)
-        ]
+      | inr found ↦ (
+        walk.0,
+        AtMark,
+        count - (walk.0 - from - 1),
+        walk_to_mark objects from count most walk.0 walk.1 walk.0 AtMark _ walk.2 fits found.1 refl refl refl,
+      )
+      | inl limit ↦
+          let none_met : ¬ (walk.1 ≡ 0) = λ met. omega (arith, met, limit.1) in
+          elim why [
+            | inl all ↦ (
+              walk.0,
+              Done,
+              0,
+              walk_of_all objects from count most walk.0 walk.1 walk.0 Done 0 walk.2 inside none_met all refl refl refl,
+            )
+            | inr short ↦ (
+              walk.0,
+              AtEnd,
+              count - most,
+              walk_to_end objects from count most walk.0 walk.1 walk.0 AtEnd _ walk.2 short.1 none_met short.0 refl refl refl,
+            )
+          ]
     ]
 
 some_blocks_back : (objects : List Object) (from count most : ℕ) → from ≤ length objects → most ≤ from → most ≤ count
@@ -123,18 +179,30 @@ some_blocks_back : (objects : List Object) (from count most : ℕ) → from ≤ 
     → (end : ℕ) × (stop : Stop) × (left : ℕ) × BlocksBackward objects from count end stop left
 some_blocks_back objects from count most inside low fits why =
     let walk : (at : ℕ) × (left : ℕ) × WalksBackward objects from (from - most) 1 at left =
-      some_walk_back objects from most (from - most) 1 (omega arith) inside (omega arith) in
+    some_walk_back objects from most (from - most) 1 (omega arith) inside (omega arith) in
     elim walk.2.stops [
-      inr found ↦ (walk.0, AtMark, count - (from - walk.0 - 1),
-        walk_back_to_mark objects from count most walk.0 walk.1 walk.0 AtMark _ walk.2 inside low fits found.1 refl refl refl)
-    | inl limit ↦
-        let none_met : ¬ (walk.1 ≡ 0) = λ met. omega (arith, met, limit.1) in
-        elim why [
-          inl all ↦ (walk.0, Done, 0,
-            walk_back_of_all objects from count most walk.0 walk.1 walk.0 Done 0 walk.2 inside low none_met all refl refl refl)
-        | inr short ↦ (walk.0, AtStart, count - most,
-            walk_back_to_start objects from count most walk.0 walk.1 walk.0 AtStart _ walk.2 inside short.1 none_met short.0 refl refl refl)
-        ]
+      | inr found ↦ (
+        walk.0,
+        AtMark,
+        count - (from - walk.0 - 1),
+        walk_back_to_mark objects from count most walk.0 walk.1 walk.0 AtMark _ walk.2 inside low fits found.1 refl refl refl,
+      )
+      | inl limit ↦
+          let none_met : ¬ (walk.1 ≡ 0) = λ met. omega (arith, met, limit.1) in
+          elim why [
+            | inl all ↦ (
+              walk.0,
+              Done,
+              0,
+              walk_back_of_all objects from count most walk.0 walk.1 walk.0 Done 0 walk.2 inside low none_met all refl refl refl,
+            )
+            | inr short ↦ (
+              walk.0,
+              AtStart,
+              count - most,
+              walk_back_to_start objects from count most walk.0 walk.1 walk.0 AtStart _ walk.2 inside short.1 none_met short.0 refl refl refl,
+            )
+          ]
     ]
 
 blocks_end : (objects : List Object) (from count : ℕ) → from ≤ length objects
@@ -142,8 +210,8 @@ blocks_end : (objects : List Object) (from count : ℕ) → from ≤ length obje
 blocks_end objects from count inside =
     let which : (length objects - from < count) ⊎ (count ≤ length objects - from) = cases_lt (length objects - from) count in
     elim which [
-      inl short ↦ some_blocks objects from count (length objects - from) (omega arith) (omega arith) (inr (short, omega arith))
-    | inr fits ↦ some_blocks objects from count count (omega arith) (omega arith) (inl refl)
+      | inl short ↦ some_blocks objects from count (length objects - from) (omega arith) (omega arith) (inr (short, omega arith))
+      | inr fits ↦ some_blocks objects from count count (omega arith) (omega arith) (inl refl)
     ]
 
 blocks_end_back : (objects : List Object) (from count : ℕ) → from ≤ length objects
@@ -151,8 +219,8 @@ blocks_end_back : (objects : List Object) (from count : ℕ) → from ≤ length
 blocks_end_back objects from count inside =
     let which : (from < count) ⊎ (count ≤ from) = cases_lt from count in
     elim which [
-      inl short ↦ some_blocks_back objects from count from inside (omega arith) (omega arith) (inr (short, refl))
-    | inr fits ↦ some_blocks_back objects from count count inside fits (omega arith) (inl refl)
+      | inl short ↦ some_blocks_back objects from count from inside (omega arith) (omega arith) (inr (short, refl))
+      | inr fits ↦ some_blocks_back objects from count count inside fits (omega arith) (inl refl)
     ]
 
 -- over filemarks
@@ -160,20 +228,20 @@ marks_end : (objects : List Object) (from count : ℕ) → from ≤ length objec
     → (end : ℕ) × (stop : Stop) × (left : ℕ) × MarksForward objects from count end stop left
 marks_end objects from count inside some =
     let walk : (at : ℕ) × (left : ℕ) × WalksForward objects from (length objects) count at left =
-      some_walk objects from (length objects - from) (length objects) count (omega arith) (omega arith) some in
+    some_walk objects from (length objects - from) (length objects) count (omega arith) (omega arith) some in
     elim walk.2.stops [
-      inr found ↦ (walk.0, Done, 0, (found.0, omega (arith, walk.2.counted, found.1), refl))
-    | inl limit ↦ (walk.0, AtEnd, walk.1, (limit.0, walk.2.counted, limit.1))
+      | inr found ↦ (walk.0, Done, 0, (found.0, omega (arith, walk.2.counted, found.1), refl))
+      | inl limit ↦ (walk.0, AtEnd, walk.1, (limit.0, walk.2.counted, limit.1))
     ]
 
 marks_end_back : (objects : List Object) (from count : ℕ) → from ≤ length objects → 1 ≤ count
     → (end : ℕ) × (stop : Stop) × (left : ℕ) × MarksBackward objects from count end stop left
 marks_end_back objects from count inside some =
     let walk : (at : ℕ) × (left : ℕ) × WalksBackward objects from 0 count at left =
-      some_walk_back objects from from 0 count (omega arith) inside some in
+    some_walk_back objects from from 0 count (omega arith) inside some in
     elim walk.2.stops [
-      inr found ↦ (walk.0, Done, 0, (found.0, omega (arith, walk.2.counted, found.1), refl))
-    | inl limit ↦ (walk.0, AtStart, walk.1, (limit.0, walk.2.counted, limit.1))
+      | inr found ↦ (walk.0, Done, 0, (found.0, omega (arith, walk.2.counted, found.1), refl))
+      | inl limit ↦ (walk.0, AtStart, walk.1, (limit.0, walk.2.counted, limit.1))
     ]
 
 pub each_ends : EachSpaceEnds
@@ -238,40 +306,50 @@ more_behind objects from near far count ahead less behind a b =
     let mark : ℕ = behind.0 in
     let place : far ≡ mark + 1 = behind.1 in
     let counted : marks_between objects from (mark + 1) ≡ count = rw place at b in
-    omega (arith, a, counted, mark_behind objects from mark (omega arith) behind.2,
-      marks_split objects from near mark ahead (omega arith))
+    omega (
+      arith,
+      a,
+      counted,
+      mark_behind objects from mark (omega arith) behind.2,
+      marks_split objects from near mark ahead (omega arith),
+    )
 
 more_before : (objects : List Object) (from near far count : ℕ) → near ≤ from → far < near → IsMarkAt objects far
     → marks_between objects near from ≡ count → marks_between objects far from ≡ count → ⊥
 more_before objects from near far count ahead less mark a b =
-    omega (arith, a, b, mark_before objects far from (omega arith) mark,
-      marks_split objects (far + 1) near from (omega arith) ahead)
+    omega (
+      arith,
+      a,
+      b,
+      mark_before objects far from (omega arith) mark,
+      marks_split objects (far + 1) near from (omega arith) ahead,
+    )
 
 -- a place that so many filemarks lie before is ahead
 ahead_of : (objects : List Object) (from to count : ℕ) → marks_between objects from to ≡ count → 1 ≤ count → from ≤ to
 ahead_of objects from to count counted some =
     let which : (to < from) ⊎ (from ≤ to) = cases_lt to from in
     elim which [
-      inl back ↦ absurd (omega (arith, counted, none_back objects from to (omega arith)))
-    | inr ahead ↦ ahead
+      | inl back ↦ absurd (omega (arith, counted, none_back objects from to (omega arith)))
+      | inr ahead ↦ ahead
     ]
 
 one_behind : (objects : List Object) (from a b count : ℕ) → 1 ≤ count → IsBehindMark objects a → IsBehindMark objects b
     → marks_between objects from a ≡ count → marks_between objects from b ≡ count → a ≡ b
 one_behind objects from a b count some first second counted again =
     let less : a < b → ⊥ =
-      λ h. more_behind objects from a b count (ahead_of objects from a count counted some) h second counted again in
+    λ h. more_behind objects from a b count (ahead_of objects from a count counted some) h second counted again in
     let more : b < a → ⊥ =
-      λ h. more_behind objects from b a count (ahead_of objects from b count again some) h first again counted in
+    λ h. more_behind objects from b a count (ahead_of objects from b count again some) h first again counted in
     omega (arith, less, more)
 
 one_before : (objects : List Object) (from a b count : ℕ) → 1 ≤ count → IsMarkAt objects a → IsMarkAt objects b
     → marks_between objects a from ≡ count → marks_between objects b from ≡ count → a ≡ b
 one_before objects from a b count some first second counted again =
     let less : a < b → ⊥ =
-      λ h. more_before objects from b a count (ahead_of objects b from count again some) h first again counted in
+    λ h. more_before objects from b a count (ahead_of objects b from count again some) h first again counted in
     let more : b < a → ⊥ =
-      λ h. more_before objects from a b count (ahead_of objects a from count counted some) h second counted again in
+    λ h. more_before objects from a b count (ahead_of objects a from count counted some) h second counted again in
     omega (arith, less, more)
 
 -- where so many filemarks lie before a place, no fewer lie before the end of data, or behind the start
@@ -279,8 +357,13 @@ enough_ahead : (objects : List Object) (from a count left : ℕ) → 1 ≤ count
     → marks_between objects from a ≡ count → marks_between objects from (length objects) + left ≡ count → ⊥
 enough_ahead objects from a count left some rest behind counted short =
     let inside : behind.0 < length objects = mark_inside objects behind.0 behind.2 in
-    omega (arith, counted, short, behind.1,
-      marks_split objects from a (length objects) (ahead_of objects from a count counted some) (omega (arith, behind.1)))
+    omega (
+      arith,
+      counted,
+      short,
+      behind.1,
+      marks_split objects from a (length objects) (ahead_of objects from a count counted some) (omega (arith, behind.1)),
+    )
 
 enough_before : (objects : List Object) (from a count left : ℕ) → 1 ≤ count → 1 ≤ left
     → marks_between objects a from ≡ count → marks_between objects 0 from + left ≡ count → ⊥
@@ -338,10 +421,10 @@ no_second_end objects from Blocks (pos zero) end stop left other cause rest a b 
     same_place from end stop left other cause rest a b
 no_second_end objects from Blocks (pos (suc n)) end stop left other cause rest a b =
     same_forward objects from (n + 1) a.0 b.0 end stop left other cause rest
-      (one_greatest (n + 1) (BlocksOn objects from) a.0 b.0 a.1 b.1) a.2 b.2
+    (one_greatest (n + 1) (BlocksOn objects from) a.0 b.0 a.1 b.1) a.2 b.2
 no_second_end objects from Blocks (negsuc n) end stop left other cause rest a b =
     same_backward objects from (n + 1) a.0 b.0 end stop left other cause rest
-      (one_greatest (n + 1) (BlocksBefore objects from) a.0 b.0 a.1 b.1) a.2 b.2
+    (one_greatest (n + 1) (BlocksBefore objects from) a.0 b.0 a.1 b.1) a.2 b.2
 no_second_end objects from Filemarks (pos zero) end stop left other cause rest a b =
     same_place from end stop left other cause rest a b
 no_second_end objects from Filemarks (pos (suc n)) end stop left other cause rest a b =

@@ -72,7 +72,7 @@ marks_split objects from mid to before behind =
     ∙ ap (count_by is_mark) (take-add (mid - from) (to - mid) (drop from objects))
     ∙ sum_by-append _ (take (mid - from) (drop from objects)) (take (to - mid) (drop (mid - from) (drop from objects)))
     ∙ ap (λ (l : List Object). marks_between objects from mid + count_by is_mark (take (to - mid) l))
-        (drop-drop (mid - from) from objects ∙ ap (λ (n : ℕ). drop n objects) place)
+    (drop-drop (mid - from) from objects ∙ ap (λ (n : ℕ). drop n objects) place)
 
 -- one step on, or one step back
 pub mark_behind : (objects : List Object) (from at : ℕ) → from ≤ at → IsMarkAt objects at
@@ -101,7 +101,11 @@ pub are_blocks : (objects : List Object) (from to : ℕ) → to ≤ length objec
 are_blocks objects from to inside none at ahead before =
     let here : IsBlockAt objects at ⊎ IsMarkAt objects at = block_or_mark objects at (omega arith) in
     elim here [
-      inl block ↦ block
-    | inr mark ↦ absurd (omega (arith, none, marks_split objects from at to ahead (omega arith),
-        mark_before objects at to (omega arith) mark))
+      | inl block ↦ block
+      | inr mark ↦ absurd (omega (
+        arith,
+        none,
+        marks_split objects from at to ahead (omega arith),
+        mark_before objects at to (omega arith) mark,
+      ))
     ]

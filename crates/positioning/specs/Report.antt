@@ -13,7 +13,7 @@ is_beginning position = position.obj == 0
 abbrev pub is_near_end : List Part → Pos → Bool
 is_near_end volume position =
     is_in_early_zone (capacity_of volume position.part)
-      (used_up_to volume position.part position.obj)
+    (used_up_to volume position.part position.obj)
 
 -- byte 0: bit 7 is BOP, bit 6 EOP; no other is set, since the buffer is empty and its numbers are known
 -- (SSC-4, READ POSITION)

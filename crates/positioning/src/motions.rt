@@ -71,7 +71,11 @@ fn marks_forward<C: Catalog>(catalog: &C, pos: Pos, count: u32) -> Moved
     ensures on_tape { result.pos.obj ≤ count_of (volume_of (C.tape catalog.now)) pos.part }
 {
     let walk = forward(catalog, pos.part, pos.obj, catalog.count(pos.part), count);
-    let stop = if walk.left == 0 { Stop::Done } else { Stop::AtEnd };
+    let stop = if walk.left == 0 {
+        Stop::Done
+    } else {
+        Stop::AtEnd
+    };
     moved(pos, walk.at, stop, walk.left)
 }
 
@@ -85,7 +89,11 @@ fn marks_backward<C: Catalog>(catalog: &C, pos: Pos, count: u32) -> Moved
     ensures on_tape { result.pos.obj ≤ count_of (volume_of (C.tape catalog.now)) pos.part }
 {
     let walk = backward(catalog, pos.part, pos.obj, 0, count);
-    let stop = if walk.left == 0 { Stop::Done } else { Stop::AtStart };
+    let stop = if walk.left == 0 {
+        Stop::Done
+    } else {
+        Stop::AtStart
+    };
     moved(pos, walk.at, stop, walk.left)
 }
 

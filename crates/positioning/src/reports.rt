@@ -22,6 +22,25 @@ pub fn report<C: Catalog>(catalog: &C, pos: Pos) -> [u8; 20]
     };
     let [a, b, c, d] = pos.obj.to_be_bytes();
     [
-        beginning + near_end, pos.part, 0, 0, a, b, c, d, a, b, c, d, 0, 0, 0, 0, 0, 0, 0, 0,
+        beginning + near_end,
+        pos.part,
+        0,
+        0,
+        a,
+        b,
+        c,
+        d,
+        a,
+        b,
+        c,
+        d,
+        0,
+        0,
+        0,
+        0,
+        0,
+        0,
+        0,
+        0,
     ]
 }
