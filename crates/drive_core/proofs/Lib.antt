@@ -1,6 +1,1 @@
-pub mod AddLemmas
-pub mod StepLemmas
-pub mod SettledLemmas
-pub mod RunLemmas
-pub mod CommandLemmas
-pub mod DeterminedLemmas
+pub mod TakesLemmas

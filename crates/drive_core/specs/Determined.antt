@@ -1,31 +1,45 @@
 -- Where no outcome came between, an input has one answer.
-use Rattle.std.specs.Prelude.{◌≡◌, List, [], ◌∷◌, map, Result, Ok, Bool}
+use Rattle.std.specs.Prelude.{◌≡◌, ◌⊎◌, List, [], ◌∷◌, filter, All, Option, None, Some, Result, Ok, Err, Bool, true, false}
 use Rattle.scsi_wire.specs.declared.replies.Reply.{Reply}
 use Rattle.volume_core.specs.declared.changes.Change.{Change}
 use Rattle.volume_core.specs.Volume.{Part}
-use Rattle.volume_core.specs.Medium.{Tape, volume_of}
-use Rattle.drive_core.specs.declared.faults.Fault.{Fault}
+use Rattle.volume_core.specs.Medium.{MediumState, volume_of}
 use Rattle.drive_core.specs.State.{Machine, DriveState, Kept, bay_of}
-use Rattle.drive_core.specs.Step.{Input, Execute, Load, Step}
+use Rattle.drive_core.specs.Relations.{Made}
+use Rattle.drive_core.specs.Step.{Input, Execute, FlushTurn, Load, PowerOn, Output, Answered, Unanswered, Step, replies_of}
 use Rattle.drive_core.specs.Run.{Run}
 
--- over an honest medium, a step in which the bytes of a block hang on its honesty is a step of the
--- machine (own)
+-- over an honest medium, a step that hangs on its honesty is a step of the machine (own)
 abbrev pub HonestStepsAreSteps : {M : Type 0} → (M → Type 0) → Type 0
 HonestStepsAreSteps {M} honest =
-    (medium : M) (old : Machine) (input : Input) (answer : Result Reply Fault) (made : List Change) (new : Machine)
-    → honest medium → Step (honest medium) old input answer made new
-    → Step (Unit {0}) old input answer made new
+    (medium : M) (old : Machine) (input : Input) (output : Output) (made : Made) (new : Machine)
+    → honest medium → Step (honest medium) old input output made new → Step (Unit {0}) old input output made new
 
--- a tape, but for how its volume is split into what is stored and what is pending, and for the room
+-- what the side of a parked medium gives: its volume, if any, and with it none or all of some changes (own)
+pub record SideSight : Type 0 where
+  pub stored : Option (List Part)
+  pub torn : List Change
+
+abbrev pub side_sight : Bool → MediumState → Option SideSight
+side_sight true medium = None
+side_sight false medium = Some (record { stored = medium.stored; torn = medium.torn })
+
+-- a medium, but for how its volume is split into what is stored and what is pending while it is awake, and for the room
 -- of its side (own)
 pub record Sight : Type 0 where
   pub awake : Bool
   pub volume : List Part
   pub failed : Bool
+  pub side : Option SideSight
 
-abbrev pub sight_of : Tape → Sight
-sight_of tape = record { awake = tape.awake; volume = volume_of tape; failed = tape.failed }
+abbrev pub sight_of : MediumState → Sight
+sight_of medium =
+    record {
+      awake = medium.awake;
+      volume = volume_of medium;
+      failed = medium.failed;
+      side = side_sight medium.awake medium;
+    }
 
 -- a drive as it is seen from outside (own)
 abbrev pub seen_of : Machine → DriveState Sight Kept
@@ -39,43 +53,69 @@ seen_of machine = record {
   keeper = machine.keeper;
 }
 
--- two inputs ask the same, and load tapes that are seen alike (own)
+-- of a parked medium it is sure what its side gives: no frame was under way when a device failed (own)
+abbrev pub IsSure : MediumState → Type 0
+IsSure medium = (medium.awake ≡ true) ⊎ (medium.torn ≡ [])
+
+-- two media are seen alike, and it is sure what they give (own)
+abbrev pub AreSureAlike : MediumState → MediumState → Type 0
+AreSureAlike medium other = IsSure medium × (sight_of medium ≡ sight_of other)
+
+abbrev pub AreAllSureAlike : Option MediumState → Option MediumState → Type 0
+AreAllSureAlike (Some medium) (Some other) = AreSureAlike medium other
+AreAllSureAlike None None = Unit {0}
+AreAllSureAlike _ _ = ⊥
+
+-- two inputs ask the same, and take in media that are seen alike (own)
 abbrev pub AskAlike : Input → Input → Type 0
 AskAlike (Execute request) (Execute other) = request ≡ other
-AskAlike (Load tape) (Load other) = sight_of tape ≡ sight_of other
-AskAlike (Execute request) (Load other) = ⊥
-AskAlike (Load tape) (Execute other) = ⊥
+AskAlike (Load medium) (Load other) = AreSureAlike medium other
+AskAlike (PowerOn medium) (PowerOn other) = AreAllSureAlike medium other
+AskAlike FlushTurn FlushTurn = Unit {0}
+AskAlike _ _ = ⊥
 
 abbrev pub AllAskAlike : List Input → List Input → Type 0
 AllAskAlike [] [] = Unit {0}
 AllAskAlike (input ∷ inputs) (other ∷ others) = AskAlike input other × AllAskAlike inputs others
-AllAskAlike [] (other ∷ others) = ⊥
-AllAskAlike (input ∷ inputs) [] = ⊥
+AllAskAlike _ _ = ⊥
 
--- one reply, one list of changes, and drives that are seen alike (own)
-pub record AreAlike {R : Type 0}
-    (reply other : R) (made others : List Change) (new beside : Machine) : Type 0 where
-  pub replies : reply ≡ other
+abbrev pub is_no_turn : Input → Bool
+is_no_turn FlushTurn = false
+is_no_turn _ = true
+
+-- the inputs but for the flusher's turns (own)
+abbrev pub without_turns : List Input → List Input
+without_turns inputs = filter is_no_turn inputs
+
+-- no fault, want of memory or full side came of it (own)
+abbrev pub IsCalm : Output → Type 0
+IsCalm (Answered (Ok reply)) = Unit {0}
+IsCalm (Answered (Err fault)) = ⊥
+IsCalm (Unanswered (Ok done)) = Unit {0}
+IsCalm (Unanswered (Err fault)) = ⊥
+
+-- the same came of both, they made the same, and the drives are seen alike (own)
+pub record AreAlike {R : Type 0} (out other : R) (made others : Made) (new beside : Machine) : Type 0 where
+  pub outputs : out ≡ other
   pub changes : made ≡ others
   pub drives : seen_of new ≡ seen_of beside
 
--- two steps in which no fault, want of memory or full side came, by inputs that ask alike, from drives
--- that are seen alike: they come out alike (own)
+-- two steps of which no fault, want of memory or full side came, by inputs that ask alike, from drives that are seen
+-- alike: they come out alike (own)
 abbrev pub StepsAreDetermined : Type 0
 StepsAreDetermined =
-    (old beside : Machine) (input other : Input) (reply reply' : Reply) (made made' : List Change)
-    (new new' : Machine)
-    → seen_of old ≡ seen_of beside → AskAlike input other
-    → Step (Unit {0}) old input (Ok reply) made new → Step (Unit {0}) beside other (Ok reply') made' new'
-    → AreAlike reply reply' made made' new new'
+    (old beside : Machine) (input other : Input) (output output' : Output) (made made' : Made) (new new' : Machine)
+    → seen_of old ≡ seen_of beside → AskAlike input other → IsCalm output → IsCalm output'
+    → Step (Unit {0}) old input output made new → Step (Unit {0}) beside other output' made' new'
+    → AreAlike output output' made made' new new'
 
--- two runs in which none of these came, by inputs that ask alike, from drives that are seen alike:
--- they come out alike (own)
+-- two runs of which none of these came, by inputs that ask alike but for flusher's turns, which may stand at different
+-- places, from drives that are seen alike: the replies are the same, and they come out alike (own)
 abbrev pub RunsAreDetermined : Type 0
 RunsAreDetermined =
-    (old beside : Machine) (inputs others : List Input) (replies replies' : List Reply)
-    (made made' : List Change) (new new' : Machine)
-    → seen_of old ≡ seen_of beside → AllAskAlike inputs others
-    → Run (Unit {0}) old inputs (map Ok replies) made new
-    → Run (Unit {0}) beside others (map Ok replies') made' new'
-    → AreAlike replies replies' made made' new new'
+    (old beside : Machine) (inputs others : List Input) (outputs outputs' : List Output) (made made' : Made)
+    (new new' : Machine)
+    → seen_of old ≡ seen_of beside → AllAskAlike (without_turns inputs) (without_turns others)
+    → All IsCalm outputs → All IsCalm outputs'
+    → Run (Unit {0}) old inputs outputs made new → Run (Unit {0}) beside others outputs' made' new'
+    → AreAlike (replies_of outputs) (replies_of outputs') made made' new new'

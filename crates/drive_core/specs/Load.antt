@@ -1,29 +1,60 @@
--- The loading of a medium into an empty drive.
-use Rattle.std.specs.Prelude.{◌≡◌, [], Bool, true, false, Result, Ok, Err}
+-- The loading of a medium into an empty drive, and the power on.
+use Rattle.std.specs.Prelude.{◌≡◌, [], Option, None, Some, Result, Ok, Err}
 use Rattle.scsi_wire.specs.declared.replies.Reply.{Reply}
-use Rattle.scsi_wire.specs.Replies.{good_with}
-use Rattle.scsi_wire.specs.Senses.{medium_failed}
-use Rattle.volume_core.specs.Medium.{Tape}
+use Rattle.scsi_wire.specs.Replies.{good_with, check_with}
+use Rattle.scsi_wire.specs.Senses.{medium_failed, read_error}
+use Rattle.volume_core.specs.declared.media.MediumError.{MediumError}
+use Rattle.volume_core.specs.declared.media.MediumError.TheVariants as Errors
+use Rattle.volume_core.specs.Medium.{MediumState, Wakes}
 use Rattle.drive_core.specs.declared.bays.Bay.{Bay}
-use Rattle.drive_core.specs.declared.bays.Bay.TheVariants.{Empty}
-use Rattle.drive_core.specs.State.{loaded}
-use Rattle.drive_core.specs.Relations.{MachineRelation, Refuses}
+use Rattle.drive_core.specs.declared.bays.Bay.TheVariants.{Empty, Unloaded, Loaded}
+use Rattle.drive_core.specs.declared.faults.Fault.{Fault}
+use Rattle.drive_core.specs.declared.faults.Fault.TheVariants.{NoMemory, Reading}
+use Rattle.drive_core.specs.State.{Machine, loaded, powered_on}
+use Rattle.drive_core.specs.Relations.{Made, made_nothing, MachineRelation}
 
--- a medium that has failed is refused (own)
-abbrev pub LoadsWhere : Bool → Tape → MachineRelation
-LoadsWhere true tape old answer made new = Refuses medium_failed old answer made new
-LoadsWhere false tape old answer made new =
-    (answer ≡ Ok (good_with [])) × (made ≡ []) × (new ≡ loaded old tape)
+-- what a host is answered where a medium can't be opened: a side that gives no volume is a read error, as a device
+-- fault is, though nothing failed (own)
+abbrev pub wake_answer : MediumError → Result Reply Fault
+wake_answer Errors.NoMemory = Err NoMemory
+wake_answer Errors.Device = Err Reading
+wake_answer Errors.Unreadable = Ok (check_with read_error [])
+wake_answer _ = Ok (check_with medium_failed [])
 
-abbrev pub LoadsInto : Bay Tape → Tape → MachineRelation
-LoadsInto Empty tape old answer made new = LoadsWhere tape.failed tape old answer made new
-LoadsInto _ tape old answer made new = ⊥
+-- a medium that was asked to open is loaded, or comes back and nothing changes (SSC-4, LOAD UNLOAD; the rest own)
+abbrev pub LoadsAs : Result Unit MediumError → MediumState → Machine → Result Reply Fault → Machine → Type 0
+LoadsAs (Ok done) opened old answer new = (answer ≡ Ok (good_with [])) × (new ≡ loaded old opened)
+LoadsAs (Err error) opened old answer new = (answer ≡ wake_answer error) × (new ≡ old)
 
--- a tape is loaded into an empty drive, and into no other (SSC-4, SMC-3)
-abbrev pub Loads : Tape → MachineRelation
-Loads tape old answer made new = LoadsInto old.bay tape old answer made new
+abbrev pub LoadsInto : Type 0 → Bay MediumState → MediumState → MachineRelation
+LoadsInto honest Empty medium old answer made new =
+    (woke : Result Unit MediumError) × (opened : MediumState) × Wakes honest medium woke opened
+    × LoadsAs woke opened old answer new × (made ≡ made_nothing)
+LoadsInto honest _ medium old answer made new = ⊥
 
--- what a loading is answered: GOOD, or the reply that came back with the medium (own)
-abbrev pub load_reply : {M : Type 0} → Result Unit (M × Reply) → Reply
-load_reply (Ok done) = good_with []
-load_reply (Err back) = back.1
+-- A medium, awake or parked, is opened, and then loaded into an empty drive, and into no other; what stands on it is
+-- known where it is honest (SSC-4, SMC-3; honesty own).
+abbrev pub Loads : Type 0 → MediumState → MachineRelation
+Loads honest medium old answer made new = LoadsInto honest old.bay medium old answer made new
+
+-- Where a medium stands that was asked to open when the power came on: loaded where it is awake, one that has failed
+-- too, else unloaded. Only where memory runs out the drive is not switched on (own).
+abbrev pub bay_when_on : {M : Type 0} → Result Unit MediumError → M → Option (Bay M)
+bay_when_on (Ok done) opened = Some (Loaded opened)
+bay_when_on (Err Errors.Failed) opened = Some (Loaded opened)
+bay_when_on (Err Errors.Unreadable) opened = Some (Unloaded opened)
+bay_when_on (Err Errors.Device) opened = Some (Unloaded opened)
+bay_when_on (Err _) opened = None
+
+-- what came of a power on: it was done, or the device failed (own)
+abbrev pub power_on_outcome : Result Unit MediumError → Result Unit Fault
+power_on_outcome (Err Errors.Device) = Err Reading
+power_on_outcome _ = Ok tt
+
+-- a drive is switched on with this medium in it, if any (SPC-4, power on; SSC-4)
+abbrev pub PowersOn : Type 0 → Option MediumState → Result Unit Fault → Made → Machine → Type 0
+PowersOn honest None outcome made new = (outcome ≡ Ok tt) × (made ≡ made_nothing) × (new ≡ powered_on Empty)
+PowersOn honest (Some medium) outcome made new =
+    (woke : Result Unit MediumError) × (opened : MediumState) × (bay : Bay MediumState)
+    × Wakes honest medium woke opened × (bay_when_on woke opened ≡ Some bay)
+    × (outcome ≡ power_on_outcome woke) × (made ≡ made_nothing) × (new ≡ powered_on bay)

@@ -3,18 +3,18 @@ use Rattle.std.specs.Prelude.{ℕ, zero, suc, Bool, true, false, not}
 use Rattle.volume_core.specs.declared.changes.Change.{Change}
 use Rattle.volume_core.specs.declared.changes.Change.TheVariants.{Marks}
 use Rattle.drive_core.specs.declared.bays.Position.{Position}
-use Rattle.drive_core.specs.Relations.{TapeRelation, Idles}
-use Rattle.drive_core.specs.WriteOut.{WritesOutTo}
-use Rattle.drive_core.specs.Add.{AddWork}
+use Rattle.drive_core.specs.Relations.{MediumRelation, Idles}
+use Rattle.drive_core.specs.StoredFirst.{StoredFirst}
+use Rattle.drive_core.specs.Append.{AppendWork}
 
 -- filemarks at a position (SSC-4, logical position)
 abbrev pub marks_at : Position → ℕ → Change
 marks_at position count = Marks position.part position.object count
 
--- filemarks are put at the position, and unless the answer is to be immediate it settles; of none
--- the settling is all (SSC-4, WRITE FILEMARKS(6))
-abbrev pub MarksWork : ℕ → Bool → TapeRelation
+-- filemarks are put at the position, and unless the answer is to be immediate it settles; of none the settling is all
+-- (SSC-4, WRITE FILEMARKS(6))
+abbrev pub MarksWork : ℕ → Bool → MediumRelation
 MarksWork zero true old answer made new = Idles old answer made new
-MarksWork zero false old answer made new = WritesOutTo old.position old answer made new
+MarksWork zero false old answer made new = StoredFirst Idles old answer made new
 MarksWork (suc n) immediate old answer made new =
-    AddWork (not immediate) (marks_at old.position (suc n)) old answer made new
+    AppendWork (not immediate) (marks_at old.position (suc n)) old answer made new

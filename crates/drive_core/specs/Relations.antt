@@ -1,5 +1,5 @@
--- What the work of a command is: a relation. Nothing done, refusals, and what stays where a command fails.
-use Rattle.std.specs.Prelude.{◌≡◌, List, [], Result, Ok}
+-- What the work of a command is: a relation. What a step makes; nothing done; refusals; what stays where a command fails.
+use Rattle.std.specs.Prelude.{◌≡◌, ◌≤◌, ◌++◌, List, [], length, Result, Ok}
 use Rattle.scsi_wire.specs.declared.replies.Reply.{Reply}
 use Rattle.scsi_wire.specs.declared.sense_data.Sense.{Sense}
 use Rattle.scsi_wire.specs.Replies.{good_with, check_with}
@@ -8,31 +8,43 @@ use Rattle.volume_core.specs.Medium.{Works, Breaks}
 use Rattle.drive_core.specs.declared.faults.Fault.{Fault}
 use Rattle.drive_core.specs.State.{Machine, Mounted, contents_of}
 
--- from the first, a command may be answered so (or a fault come), make these changes, and leave
--- the last: of a loaded tape and the position, or of the whole drive (own)
-abbrev pub TapeRelation : Type 1
-TapeRelation = Mounted → Result Reply Fault → List Change → Mounted → Type 0
+-- what a step makes: the changes that the medium is to accept (own)
+pub record Made : Type 0 where
+  pub changes : List Change
 
+abbrev pub made_nothing : Made
+made_nothing = record { changes = [] }
+
+-- what two steps in a row make (own)
+abbrev pub made_after : Made → Made → Made
+made_after first second = record { changes = first.changes ++ second.changes }
+
+-- from the first, a command may be answered so (or a fault come), make these changes, and leave the last: of a loaded
+-- medium and the position (own)
+abbrev pub MediumRelation : Type 1
+MediumRelation = Mounted → Result Reply Fault → List Change → Mounted → Type 0
+
+-- the same of the whole drive, and of all that it makes (own)
 abbrev pub MachineRelation : Type 1
-MachineRelation = Machine → Result Reply Fault → List Change → Machine → Type 0
+MachineRelation = Machine → Result Reply Fault → Made → Machine → Type 0
 
 -- GOOD, and nothing is done (SSC-4)
-abbrev pub Idles : TapeRelation
+abbrev pub Idles : MediumRelation
 Idles old answer made new = (answer ≡ Ok (good_with [])) × (made ≡ []) × (new ≡ old)
 
--- CHECK CONDITION with no data, and nothing is carried out; what is left is the drive as it was, or
--- less what the host was just told (SAM-5, SPC-4)
+-- CHECK CONDITION with no data, and nothing is carried out; what is left is the drive as it was, or less the condition
+-- that was just reported (SAM-5, SPC-4)
 abbrev pub Refuses : Sense → MachineRelation
 Refuses sense left answer made new =
-    (answer ≡ Ok (check_with sense [])) × (made ≡ []) × (new ≡ left)
+    (answer ≡ Ok (check_with sense [])) × (made ≡ made_nothing) × (new ≡ left)
 
--- volume and position are as they were, and the medium works; what was pending may have been
--- stored (own)
+-- volume and position are as they were, and the medium works; what was pending may have been stored (own)
 pub record Stays (old new : Mounted) : Type 0 where
-  pub tape : Works (contents_of old) new.tape
+  pub medium : Works (contents_of old) new.medium
   pub position : new.position ≡ old.position
 
--- the medium has failed; volume and position are as they were (own)
-pub record Fails (old new : Mounted) : Type 0 where
-  pub tape : Breaks old.tape new.tape
+-- the device failed while what was pending was stored: volume and position are as they were (own)
+pub record FailsToStore (old new : Mounted) : Type 0 where
+  pub some_pending : 1 ≤ length old.medium.pending
+  pub medium : Breaks old.medium new.medium
   pub position : new.position ≡ old.position

@@ -1,9 +1,13 @@
 -- REWIND.
-use Rattle.drive_core.specs.Relations.{TapeRelation}
-use Rattle.drive_core.specs.WriteOut.{WritesOutTo}
+use Rattle.drive_core.specs.declared.bays.Position.{Position}
+use Rattle.drive_core.specs.State.{Mounted}
+use Rattle.drive_core.specs.Relations.{MediumRelation}
+use Rattle.drive_core.specs.StoredFirst.{StoredFirst, GoesTo}
 
--- what is pending is stored, and the position is object 0 of its partition (SSC-4, REWIND; that the
--- partition stays, own)
-abbrev pub RewindWork : TapeRelation
-RewindWork old answer made new =
-    WritesOutTo (record old.position { object = 0 }) old answer made new
+-- object 0 of the partition (SSC-4, REWIND; that the partition stays, own)
+abbrev pub partition_start : Mounted → Position
+partition_start m = record m.position { object = 0 }
+
+-- what is pending is stored, and the position is object 0 of its partition (SSC-4, REWIND)
+abbrev pub RewindWork : MediumRelation
+RewindWork = StoredFirst (GoesTo partition_start)

@@ -1,42 +1,71 @@
--- Runs of the machine: one input after another.
-use Rattle.std.specs.Prelude.{◌≡◌, ◌↔◌, ◌++◌, List, [], ◌∷◌, map, Result}
+-- Runs of the machine, and of a drive: one input after another.
+use Rattle.std.specs.Prelude.{◌≡◌, ◌++◌, List, [], ◌∷◌, map, Result, refl}
+use Rattle.std.proofs.Common.{subst}
+use Rattle.vtl_base.specs.Below.{Below}
 use Rattle.scsi_wire.specs.declared.replies.Reply.{Reply}
 use Rattle.volume_core.specs.declared.changes.Change.{Change}
-use Rattle.volume_core.specs.Medium.{Tape}
+use Rattle.volume_core.specs.Medium.{MediumState}
 use Rattle.drive_core.specs.declared.faults.Fault.{Fault}
 use Rattle.drive_core.specs.Faults.{reply_of}
 use Rattle.drive_core.specs.State.{Machine, DriveState, Kept, machine_of, medium_in}
-use Rattle.drive_core.specs.Step.{Input, Step}
-use Rattle.drive_core.specs.Execute.{MovesIn, HonestIn}
+use Rattle.drive_core.specs.Relations.{Made, made_nothing, made_after}
+use Rattle.drive_core.specs.Work.{Request}
+use Rattle.drive_core.specs.Step.{Input, Execute, Output, Answered, Step}
+use Rattle.drive_core.specs.Execute.{Answers, HonestIn}
 
--- from old, these inputs may be answered so one after another, make these changes and leave new (own)
-abbrev pub Run :
-    Type 0 → Machine → List Input → List (Result Reply Fault) → List Change → Machine → Type 0
-Run honest old [] [] made new = (made ≡ []) × (new ≡ old)
-Run honest old (input ∷ inputs) (answer ∷ answers) made new =
-    (mid : Machine) × (first : List Change) × (rest : List Change)
-    × Step honest old input answer first mid × Run honest mid inputs answers rest new
-    × (made ≡ first ++ rest)
-Run honest old [] (answer ∷ answers) made new = ⊥
+-- from old, this may come of these inputs one after another, make this and leave new (own)
+abbrev pub Run : Type 0 → Machine → List Input → List Output → Made → Machine → Type 0
+Run honest old [] [] made new = (made ≡ made_nothing) × (new ≡ old)
+Run honest old (input ∷ inputs) (output ∷ outputs) made new =
+    (mid : Machine) × (first : Made) × (rest : Made)
+    × Step honest old input output first mid × Run honest mid inputs outputs rest new
+    × (made ≡ made_after first rest)
+Run honest old [] (output ∷ outputs) made new = ⊥
 Run honest old (input ∷ inputs) [] made new = ⊥
-
--- hosts are answered by a run of the machine, and the medium in the drive accepts just the changes
--- that the run makes; its honesty stays (own)
-pub record Serves {M : Type 0}
-    (tape : M → Tape) (moves : M → List Change → M → Type 0) (honest : M → Type 0)
-    (old : DriveState M Kept) (inputs : List Input) (replies : List Reply) (new : DriveState M Kept) : Type 0 where
-  pub answers : List (Result Reply Fault)
-  pub told : replies ≡ map reply_of answers
-  pub made : List Change
-  pub run :
-      Run (HonestIn honest (medium_in old.bay)) (machine_of tape old) inputs answers made (machine_of tape new)
-  pub moved : MovesIn moves (medium_in old.bay) made (medium_in new.bay)
-  pub honesty : HonestIn honest (medium_in old.bay) ↔ HonestIn honest (medium_in new.bay)
 
 -- a run and one that goes on from it are one run (own)
 abbrev pub RunsAppend : Type 0
 RunsAppend =
-    (old mid new : Machine) (first rest : List Input) (answers others : List (Result Reply Fault))
-    (made more : List Change)
-    → Run (Unit {0}) old first answers made mid → Run (Unit {0}) mid rest others more new
-    → Run (Unit {0}) old (first ++ rest) (answers ++ others) (made ++ more) new
+    (old mid new : Machine) (first rest : List Input) (outputs others : List Output) (made more : Made)
+    → Run (Unit {0}) old first outputs made mid → Run (Unit {0}) mid rest others more new
+    → Run (Unit {0}) old (first ++ rest) (outputs ++ others) (made_after made more) new
+
+module _ {M : Type 0} (state : M → MediumState) (below : Below M Change) where
+  -- hosts are answered one after another by one drive, each from where the one before left it (own)
+  abbrev pub Serves : DriveState M Kept → List Request → List Reply → DriveState M Kept → Type 0
+  Serves old [] [] new = new ≡ old
+  Serves old (request ∷ requests) (reply ∷ replies) new =
+      (mid : DriveState M Kept) × Answers state below old request reply mid × Serves mid requests replies new
+  Serves old [] (reply ∷ replies) new = ⊥
+  Serves old (request ∷ requests) [] new = ⊥
+
+  -- what a drive answers to hosts is a run of its machine, over a medium that is honest where it was at its start (own)
+  pub record IsRun
+      (old : DriveState M Kept) (requests : List Request) (replies : List Reply) (new : DriveState M Kept) : Type 0 where
+    pub answers : List (Result Reply Fault)
+    pub replied : replies ≡ map reply_of answers
+    pub made : Made
+    pub run :
+        Run (HonestIn below (medium_in old.bay)) (machine_of state old)
+        (map Execute requests) (map Answered answers) made (machine_of state new)
+
+  -- hosts that are served are answered by a run of the machine (own)
+  abbrev pub ServedByRuns : Type 0
+  ServedByRuns =
+      (old new : DriveState M Kept) (requests : List Request) (replies : List Reply)
+      → Serves old requests replies new → IsRun old requests replies new
+
+  -- no request is answered by standing still
+  pub serves_none : (drive : DriveState M Kept) → Serves drive [] [] drive
+  serves_none drive = refl
+
+  -- what was served goes on by what is served from there
+  pub serves_append :
+      (old mid new : DriveState M Kept) (first rest : List Request) (replies others : List Reply)
+      → Serves old first replies mid → Serves mid rest others new
+      → Serves old (first ++ rest) (replies ++ others) new
+  serves_append old mid new [] rest [] others one two = subst (λ (drive : DriveState M Kept). Serves drive rest others new) one two
+  serves_append old mid new (request ∷ first) rest (reply ∷ replies) others one two =
+      (one.0, one.1, serves_append one.0 mid new first rest replies others one.2 two)
+  serves_append old mid new [] rest (reply ∷ replies) others one two = absurd one
+  serves_append old mid new (request ∷ first) rest [] others one two = absurd one

@@ -1,112 +1,44 @@
--- The drive machine: an input, the checks in their order, and then the command's work.
-use Rattle.std.specs.Prelude.{◌≡◌, ℕ, List, [], length, Option, None, Some, Bool, true, false, ◌==◌, if◌then◌else◌, Result, Ok}
-use Rattle.scsi_wire.specs.declared.attention_sets.Attention.{Attention}
+-- The drive machine: what it is asked, and what comes of it.
+use Rattle.std.specs.Prelude.{◌≡◌, List, filter_map, Option, None, Some, Result, Ok}
 use Rattle.scsi_wire.specs.declared.replies.Reply.{Reply}
-use Rattle.scsi_wire.specs.declared.opcodes.Opcode.{Opcode}
-use Rattle.scsi_wire.specs.declared.commands.Command.{Command}
-use Rattle.scsi_wire.specs.declared.commands.Command.TheVariants.{WriteFilemarks}
-use Rattle.scsi_wire.specs.Attentions.{attention_of, cleared}
-use Rattle.scsi_wire.specs.Senses.{invalid_operation_code, invalid_field, medium_not_present, medium_failed, deferred_write_error, attention_sense}
-use Rattle.scsi_wire.specs.Replies.{conflict}
-use Rattle.scsi_wire.specs.Opcodes.{opcode_of, is_exempt, is_stopped_by_reservation, needs_medium}
-use Rattle.scsi_wire.specs.Commands.{command_of, sent_length}
-use Rattle.volume_core.specs.declared.changes.Change.{Change}
-use Rattle.volume_core.specs.Medium.{Tape}
-use Rattle.drive_core.specs.declared.bays.Bay.{Bay}
-use Rattle.drive_core.specs.declared.bays.Bay.TheVariants.{Loaded}
+use Rattle.volume_core.specs.Medium.{MediumState}
 use Rattle.drive_core.specs.declared.faults.Fault.{Fault}
-use Rattle.drive_core.specs.State.{Machine, Reservations}
-use Rattle.drive_core.specs.Relations.{Refuses}
-use Rattle.drive_core.specs.Work.{Request, Work}
-use Rattle.drive_core.specs.Load.{Loads}
+use Rattle.drive_core.specs.State.{Machine}
+use Rattle.drive_core.specs.Faults.{reply_of}
+use Rattle.drive_core.specs.Relations.{Made}
+use Rattle.drive_core.specs.Work.{Request}
+use Rattle.drive_core.specs.Checks.{Executes}
+use Rattle.drive_core.specs.Turn.{FlushTurns}
+use Rattle.drive_core.specs.Load.{Loads, PowersOn}
 
--- what a drive is asked: to carry a command out, to take a medium in (SAM-5; SMC-3)
+-- what a drive is asked: to carry a command out, to take a flusher's turn, to take a medium in, to switch on with this
+-- medium in it, if any (SAM-5; SMC-3; SPC-4; the turn own)
 pub data Input : Type 0 where
   Execute : (request : Request) → Input
-  Load : (tape : Tape) → Input
+  FlushTurn : Input
+  Load : (medium : MediumState) → Input
+  PowerOn : (medium : Option MediumState) → Input
 
--- whether a reservation keeps a nexus out; where there is none, none does
--- (SPC-4, persistent reservations)
-abbrev pub keeps_out : Reservations → ℕ → Bool
-keeps_out reservations nexus = false
+-- what comes of an input: a command and a loading are answered, by a reply or a fault; all else has no reply, and is
+-- done or meets a fault (own)
+pub data Output : Type 0 where
+  Answered : (answer : Result Reply Fault) → Output
+  Unanswered : (outcome : Result Unit Fault) → Output
 
--- whether the fields suit the mode: an answer that does not wait needs the buffered mode (own)
-abbrev pub suits_mode : Bool → Command → Bool
-suits_mode buffered (WriteFilemarks count immediate) = if immediate then buffered else true
-suits_mode buffered _ = true
+-- From old, this may come of the input, make this and leave new (SSC-4, SPC-4; faults own). `honest` is that the medium
+-- gives what stands on it: where that is not known, the bytes of a block and the volume of a side are open, and nothing
+-- else. The machine itself is the one with `Unit {0}`, which holds.
+abbrev pub Step : Type 0 → Machine → Input → Output → Made → Machine → Type 0
+Step honest old (Execute request) (Answered answer) made new = Executes honest old request answer made new
+Step honest old FlushTurn (Unanswered outcome) made new = FlushTurns old outcome made new
+Step honest old (Load medium) (Answered answer) made new = Loads honest medium old answer made new
+Step honest old (PowerOn medium) (Unanswered outcome) made new = PowersOn honest medium outcome made new
+Step honest old _ _ made new = ⊥
 
--- the checks in their order, each named for what it looks at; read them from the last one up
-module _
-    (honest : Type 0) (old : Machine) (request : Request) (answer : Result Reply Fault) (made : List Change)
-    (new : Machine) where
-  -- check 6, last: as many bytes were sent as the block says; then the work (own)
-  abbrev pub AtSent : Bool → Command → Type 0
-  AtSent false command = Refuses invalid_field old answer made new
-  AtSent true command = Work honest command request old answer made new
+abbrev pub reply_in : Output → Option Reply
+reply_in (Answered answer) = Some (reply_of answer)
+reply_in (Unanswered outcome) = None
 
-  -- check 6, then: the fields suit the mode (own)
-  abbrev pub AtMode : Bool → Command → Type 0
-  AtMode false command = Refuses invalid_field old answer made new
-  AtMode true command = AtSent (length request.sent == sent_length command) command
-
-  -- check 6, first: the block's length and its fields (own)
-  abbrev pub AtFields : Option Command → Type 0
-  AtFields None = Refuses invalid_field old answer made new
-  AtFields (Some command) = AtMode (suits_mode old.buffered command) command
-
-  -- check 5, then: the medium has not failed (own)
-  abbrev pub AtMedium : Bool → Opcode → Type 0
-  AtMedium true opcode = Refuses medium_failed old answer made new
-  AtMedium false opcode = AtFields (command_of opcode request.cdb)
-
-  -- check 5, first: a cartridge is loaded (own)
-  abbrev pub AtBay : Bay Tape → Opcode → Type 0
-  AtBay (Loaded tape) opcode = AtMedium tape.failed opcode
-  AtBay _ opcode = Refuses medium_not_present old answer made new
-
-  -- check 5 is for commands that need a tape (own)
-  abbrev pub AtTape : Bool → Opcode → Type 0
-  AtTape false opcode = AtFields (command_of opcode request.cdb)
-  AtTape true opcode = AtBay old.bay opcode
-
-  -- check 4: no reservation keeps the nexus out of this command (own, one rule for all types)
-  abbrev pub AtReservation : Bool → Opcode → Type 0
-  AtReservation true opcode = (answer ≡ Ok conflict) × (made ≡ []) × (new ≡ old)
-  AtReservation false opcode = AtTape (needs_medium opcode) opcode
-
-  -- check 3: no attention is pending for the nexus; one is told, and is then no longer pending
-  -- (SPC-4, unit attention conditions)
-  abbrev pub AtAttention : Option Attention → Opcode → Type 0
-  AtAttention (Some attention) opcode =
-      Refuses (attention_sense attention)
-      (record old { attentions = cleared old.attentions request.nexus attention }) answer made new
-  AtAttention None opcode =
-      AtReservation (if keeps_out old.reservations request.nexus then is_stopped_by_reservation opcode else false) opcode
-
-  -- check 2: no deferred error is to be told; it is told once, to whoever comes first
-  -- (SPC-4, deferred errors; to any nexus, own)
-  abbrev pub AtDeferred : Bool → Opcode → Type 0
-  AtDeferred true opcode = Refuses deferred_write_error (record old { deferred = false }) answer made new
-  AtDeferred false opcode = AtAttention (attention_of old.attentions request.nexus) opcode
-
-  -- checks 2 to 5 are not for exempt commands (SPC-4, INQUIRY, REQUEST SENSE)
-  abbrev pub AtExempt : Bool → Opcode → Type 0
-  AtExempt true opcode = AtFields (command_of opcode request.cdb)
-  AtExempt false opcode = AtDeferred old.deferred opcode
-
-  -- check 1: the code is known (SPC-4, operation code)
-  abbrev pub AtCode : Option Opcode → Type 0
-  AtCode None = Refuses invalid_operation_code old answer made new
-  AtCode (Some opcode) = AtExempt (is_exempt opcode) opcode
-
-  -- a request is checked, and carried out where no check stops it; the first that does answers
-  -- (own, the order of checks)
-  abbrev pub Executes : Type 0
-  Executes = AtCode (opcode_of request.cdb)
-
--- From old, this input may be answered so, make these changes and leave new (SSC-4, SPC-4; faults own).
--- `honest` is that the medium gives the bytes that stand on it: where that is not known, the bytes of
--- a block are open, and nothing else. The machine itself is the one with `Unit {0}`, which holds.
-abbrev pub Step : Type 0 → Machine → Input → Result Reply Fault → List Change → Machine → Type 0
-Step honest old (Execute request) answer made new = Executes honest old request answer made new
-Step honest old (Load tape) answer made new = Loads tape old answer made new
+-- the replies among what came of some inputs (own)
+abbrev pub replies_of : List Output → List Reply
+replies_of outputs = filter_map reply_in outputs

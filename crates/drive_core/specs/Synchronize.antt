@@ -9,18 +9,18 @@ use Rattle.scsi_wire.specs.declared.sense_data.SenseKey.TheVariants.{NoSense}
 use Rattle.scsi_wire.specs.Commands.{decoded}
 use Rattle.drive_core.specs.State.{Machine, medium_in}
 
--- whether a command synchronizes: REWIND; WRITE FILEMARKS without IMMED, of none too; a READ of some
--- bytes; an unbuffered WRITE of some (SSC-4, buffered mode; READ and REWIND own)
-abbrev pub synchronizes : Bool → Command → Bool
-synchronizes buffered TestUnitReady = false
-synchronizes buffered Rewind = true
-synchronizes buffered (Read length suppress) = nat_lt 0 length
-synchronizes buffered (Write length) = not buffered && nat_lt 0 length
-synchronizes buffered (WriteFilemarks count immediate) = not immediate
+-- whether a command synchronizes at a drive: REWIND; WRITE FILEMARKS without IMMED, of none too; a READ of some bytes; an
+-- unbuffered WRITE of some (SSC-4, buffered mode; READ and REWIND own)
+abbrev pub synchronizes : Machine → Command → Bool
+synchronizes machine TestUnitReady = false
+synchronizes machine Rewind = true
+synchronizes machine (Read length suppress) = nat_lt 0 length
+synchronizes machine (Write length) = not machine.buffered && nat_lt 0 length
+synchronizes machine (WriteFilemarks count immediate) = not immediate
 
--- a command block of a synchronizing command (own)
-abbrev pub IsSynchronizing : Bool → List ℕ → Type 0
-IsSynchronizing buffered cdb = IsOkAnd (decoded cdb) (λ command. synchronizes buffered command ≡ true)
+-- a command block of a command that synchronizes at this drive (own)
+abbrev pub IsSynchronizing : Machine → List ℕ → Type 0
+IsSynchronizing machine cdb = IsOkAnd (decoded cdb) (λ command. synchronizes machine command ≡ true)
 
 -- what was written is there, and the end is near: key 0, EOM, 00/02 (SSC-4, early warning)
 abbrev pub IsEarlyWarning : Sense → Type 0
@@ -32,6 +32,7 @@ abbrev pub Acknowledges : Reply → Type 0
 Acknowledges reply =
     (reply.status ≡ Good) ⊎ ((reply.status ≡ Check) × IsSomeAnd reply.sense IsEarlyWarning)
 
--- the medium in the drive, if there is one, has nothing pending (own)
+-- the medium in the drive, if there is one, has not failed, and has nothing pending (own)
 abbrev pub NothingPending : Machine → Type 0
-NothingPending machine = IfSome (medium_in machine.bay) (λ tape. tape.pending ≡ [])
+NothingPending machine =
+    IfSome (medium_in machine.bay) (λ medium. (medium.failed ≡ false) × (medium.pending ≡ []))

@@ -1,28 +1,25 @@
 //! Drives.
-ghost use Rattle.std.specs.Prelude.{◌≡◌, ◌↔◌, [], true, IsTrue, IfSome, IfErr, OnOk, OnErr, option_copied};
-ghost use Rattle.scsi_wire.specs.Replies.{check_with};
+ghost use Rattle.std.specs.Prelude.{◌≡◌, ◌↔◌, IsTrue, IfOk, option_copied};
 ghost use Rattle.drive_core.specs.declared.bays.Bay.TheVariants as Bays;
-ghost use Rattle.drive_core.specs.State.{machine_of, medium_in, powered_on, loaded, start, IsOn};
-ghost use Rattle.drive_core.specs.Load.{load_reply};
-ghost use Rattle.drive_core.specs.Step.{Load, Step, Executes, AtBay, suits_mode};
+ghost use Rattle.drive_core.specs.State.{Machine, machine_of, medium_in, IsBayPositioned};
+ghost use Rattle.drive_core.specs.Checks.{Executes, AtBay, suits};
 ghost use Rattle.drive_core.specs.Synchronize.{IsSynchronizing, Acknowledges, NothingPending};
 ghost use Rattle.drive_core.specs.Execute.{Answers, Takes, HonestIn, asked};
+ghost use Rattle.drive_core.specs.Media.{TakesTurn, TakesIn, LoadSteps, SwitchesOn, PowerOnSteps};
 
 use crate::bays::{Bay, Position};
+use crate::dispatch::carry_out;
 use crate::faults::Fault;
-use crate::works::work;
+use crate::opening::{START, check, open, start_of, wake_reply};
 use scsi_wire::{Attention, Attentions, AttnSet, Command, Opcode, Reply, Sense};
 use std::alloc::Global;
 use std::marker::Model;
 use std::mem;
-use volume_core::{Catalog, Medium};
-use vtl_base::{Bytes, Nexus, NoMemory};
-
-// The beginning of the medium (SSC-4).
-const START: Position = Position { part: 0, object: 0 };
+use volume_core::{Medium, Turn};
+use vtl_base::{Nexus, NoMemory};
 
 /// A drive over any medium (SSC-4). To a contract it is a `DriveState` that holds the medium
-/// itself; `machine_of` makes the machine of it, which knows the medium as a tape.
+/// itself; `machine_of` makes the machine of it, which knows of the medium its state alone.
 #[derive(Drop)]
 pub struct Drive<M: Medium> {
     alloc: Global,
@@ -34,7 +31,7 @@ pub struct Drive<M: Medium> {
 }
 
 impl<M: Medium> Model for Drive<M> {
-    ghost use Rattle.drive_core.specs.State.{DriveState, Kept, IsWithin};
+    ghost use Rattle.drive_core.specs.State.{DriveState, Kept, IsBayPositioned};
 
     ghost Value = { DriveState M Kept };
 
@@ -48,32 +45,33 @@ impl<M: Medium> Model for Drive<M> {
       keeper = tt;
     } };
 
-    ghost invariant = { λ d. IsWithin M.tape d.bay d.position };
+    ghost invariant = { λ d. IsBayPositioned M.state d.bay d.position };
 }
 
 impl<M: Medium> Drive<M> {
-    /// A drive that was just switched on, with this medium loaded, if any. Where memory is wanting,
-    /// the medium comes back; an awake one needs none.
+    /// A drive that was just switched on, with this medium in it, if any, awake or parked: opened
+    /// and loaded, or unloaded where its side is refused. Where memory runs out, the medium comes
+    /// back; one that is awake needs none.
     pub fn power_on(alloc: Global, medium: Option<M>) -> Result<Self, (Option<M>, NoMemory)>
-        requires { IfSome medium (λ m. (M.tape m).awake ≡ true) }
-        ensures { result ≡ Ok (powered_on medium) }
+        ensures switched { SwitchesOn M.state M.below medium result }
+        ensures step { IfOk result (λ drive. PowerOnSteps M.state M.below medium drive) }
     {
-        let (bay, position) = match medium {
-            Some(medium) => {
-                let position = start_of(&medium);
-                (Bay::Loaded(medium), position)
-            }
-            None => (Bay::Empty, START),
+        let bay = match medium {
+            Some(medium) => match open(medium) {
+                Ok(bay) => bay,
+                Err(medium) => return Err((Some(medium), NoMemory)),
+            },
+            None => Bay::Empty,
         };
-        let mut told = AttnSet::empty();
-        told.insert(Attention::PowerOn);
+        let mut pending = AttnSet::empty();
+        pending.insert(Attention::PowerOn);
         Ok(Drive {
             alloc,
             bay,
-            position,
+            position: START,
             buffered: true,
             deferred: false,
-            attentions: Attentions::all(told),
+            attentions: Attentions::all(pending),
         })
     }
 
@@ -87,9 +85,11 @@ impl<M: Medium> Drive<M> {
         }
     }
 
-    /// The medium in it, for tests.
+    /// The medium in it, for tests. A loaded one is awake, and the position is on it; one that is
+    /// not loaded is parked.
     pub fn medium(&self) -> Option<&M>
-        ensures { option_copied result ≡ medium_in self.now.bay }
+        ensures medium { option_copied result ≡ medium_in self.now.bay }
+        ensures on { IsBayPositioned M.state self.now.bay self.now.position }
     {
         match &self.bay {
             Bay::Empty => None,
@@ -97,22 +97,18 @@ impl<M: Medium> Drive<M> {
         }
     }
 
-    /// Loads a medium into an empty drive: it stands at its start, and every nexus is to be told
-    /// that the medium may have changed. One that has failed comes back with the reply.
+    /// Opens a medium, awake or parked, and loads it into an empty drive: it stands at its start,
+    /// and for every nexus it is established that the medium may have changed. One that can't be
+    /// opened comes back with the reply: 4, 44/00 where it has failed, 3, 11/00 where its side is
+    /// refused or the device fails, Bh, 55/03 where memory runs out.
     pub fn load(&mut self, medium: M) -> Result<(), (M, Reply)>
         requires empty { self.old.bay ≡ Bays.Empty }
-        requires awake { (M.tape medium).awake ≡ true }
-        ensures ok { OnOk result (self.new ≡ loaded self.old medium) }
-        ensures refused { IfErr result (λ back. back.0 ≡ medium) }
-        ensures same { OnErr result (self.new ≡ self.old) }
-
-        // GOOD, or 4, 44/00 for a medium that has failed.
-        ensures step { Step (Unit {0}) (machine_of M.tape self.old) (Load (M.tape medium))
-            (Ok (load_reply result)) [] (machine_of M.tape self.new) }
+        ensures taken { TakesIn M.state M.below self.old medium result self.new }
+        ensures step { LoadSteps M.state M.below self.old medium result self.new }
     {
-        if medium.has_failed() {
-            let reply = Reply::check(Sense::medium_failed(), Bytes::new(self.alloc));
-            return Err((medium, reply));
+        let mut medium = medium;
+        if let Err(error) = medium.wake() {
+            return Err((medium, wake_reply(self.alloc, error)));
         }
         self.position = start_of(&medium);
         match mem::replace(&mut self.bay, Bay::Loaded(medium)) {
@@ -123,15 +119,33 @@ impl<M: Medium> Drive<M> {
         Ok(())
     }
 
+    /// A flusher's turn: stores what is pending. A fault establishes a deferred error, which the
+    /// next command reports. It takes no memory.
+    pub fn turn(&mut self) -> Turn
+        ensures { TakesTurn M.state M.below self.old result self.new }
+    {
+        let Bay::Loaded(medium) = &mut self.bay else {
+            return Turn::Idle;
+        };
+        match medium.flush_turn() {
+            Turn::Idle => Turn::Idle,
+            Turn::Stored(count) => Turn::Stored(count),
+            Turn::Faulted => {
+                self.deferred = true;
+                Turn::Faulted
+            }
+        }
+    }
+
     /// Answers a command: a command block of a host, and the data that were sent with it. Each
     /// refusal is a reply.
     pub fn execute(&mut self, nexus: Nexus, cdb: &[u8], sent: &[u8]) -> Reply
-        ensures step { Answers M.tape M.moves M.failures M.honest
+        ensures step { Answers M.state M.below
             self.old (asked nexus cdb.now sent.now) result self.new }
 
         // All is stored before a synchronizing command is acknowledged.
-        ensures settled { IsSynchronizing self.old.buffered cdb.now → Acknowledges result
-            → NothingPending (machine_of M.tape self.new) }
+        ensures settled { IsSynchronizing (machine_of M.state self.old) cdb.now
+            → Acknowledges result → NothingPending (machine_of M.state self.new) }
     {
         let alloc = self.alloc;
         match self.check(nexus, cdb, sent) {
@@ -140,22 +154,22 @@ impl<M: Medium> Drive<M> {
         }
     }
 
-    // Code, deferred error and attentions, and then the rest.
+    // Code, deferred error and unit attentions, and then the rest.
     fn check(&mut self, nexus: Nexus, cdb: &[u8], sent: &[u8]) -> Result<Reply, Fault>
-        ensures { Takes M.tape M.moves M.failures M.honest
-            (Executes (HonestIn M.honest (medium_in self.old.bay)) (machine_of M.tape self.old)
+        ensures { Takes M.state M.below
+            (Executes (HonestIn M.below (medium_in self.old.bay)) (machine_of M.state self.old)
             (asked nexus cdb.now sent.now))
             self.old result self.new }
     {
         let Some(opcode) = Opcode::of(cdb) else {
-            return Ok(refuse(self.alloc, Sense::invalid_operation_code()));
+            return Ok(check(self.alloc, Sense::invalid_operation_code()));
         };
         if self.deferred {
             self.deferred = false;
-            return Ok(refuse(self.alloc, Sense::deferred_write_error()));
+            return Ok(check(self.alloc, Sense::deferred_write_error()));
         }
         if let Some(attention) = self.attentions.take(nexus) {
-            return Ok(refuse(self.alloc, Sense::attention(attention)));
+            return Ok(check(self.alloc, Sense::attention(attention)));
         }
         self.perform(nexus, opcode, cdb, sent)
     }
@@ -168,28 +182,28 @@ impl<M: Medium> Drive<M> {
         cdb: &[u8],
         sent: &[u8],
     ) -> Result<Reply, Fault>
-        ensures { Takes M.tape M.moves M.failures M.honest
-            (λ answer made new. AtBay (HonestIn M.honest (medium_in self.old.bay))
-            (machine_of M.tape self.old) (asked nexus cdb.now sent.now)
-            answer made new (machine_of M.tape self.old).bay opcode)
+        ensures { Takes M.state M.below
+            (λ answer made new. AtBay (HonestIn M.below (medium_in self.old.bay))
+            (machine_of M.state self.old) (asked nexus cdb.now sent.now)
+            answer made new (machine_of M.state self.old).bay opcode)
             self.old result self.new }
     {
         let Bay::Loaded(medium) = &mut self.bay else {
-            return Ok(refuse(self.alloc, Sense::medium_not_present()));
+            return Ok(check(self.alloc, Sense::medium_not_present()));
         };
         if medium.has_failed() {
-            return Ok(refuse(self.alloc, Sense::medium_failed()));
+            return Ok(check(self.alloc, Sense::medium_failed()));
         }
         let Some(command) = Command::of(opcode, cdb) else {
-            return Ok(refuse(self.alloc, Sense::invalid_field()));
+            return Ok(check(self.alloc, Sense::invalid_field()));
         };
-        if !suits_mode(command, self.buffered) {
-            return Ok(refuse(self.alloc, Sense::invalid_field()));
+        if !suits(command, self.buffered) {
+            return Ok(check(self.alloc, Sense::invalid_field()));
         }
         if sent.len() != command.sent_length() as usize {
-            return Ok(refuse(self.alloc, Sense::invalid_field()));
+            return Ok(check(self.alloc, Sense::invalid_field()));
         }
-        work(
+        carry_out(
             self.alloc,
             medium,
             &mut self.position,
@@ -200,16 +214,9 @@ impl<M: Medium> Drive<M> {
     }
 }
 
-// CHECK CONDITION with no data.
-fn refuse(alloc: Global, sense: Sense) -> Reply
-    ensures { result ≡ check_with sense [] }
-{
-    Reply::check(sense, Bytes::new(alloc))
-}
-
 // A command whose answer does not wait needs the buffered mode.
-fn suits_mode(command: Command, buffered: bool) -> bool
-    ensures { result ≡ suits_mode buffered command }
+fn suits(command: Command, buffered: bool) -> bool
+    ensures { (machine : Machine) → machine.buffered ≡ buffered → result ≡ suits machine command }
 {
     match command {
         Command::WriteFilemarks {
@@ -218,14 +225,4 @@ fn suits_mode(command: Command, buffered: bool) -> bool
         } => buffered,
         _ => true,
     }
-}
-
-// Where a tape is loaded: it has at least one partition, so its start is on it.
-fn start_of<M: Catalog>(medium: &M) -> Position
-    requires { (M.tape medium.now).awake ≡ true }
-    ensures start { result ≡ start }
-    ensures on { IsOn (M.tape medium.now) result }
-{
-    let _ = medium.parts();
-    START
 }

@@ -1,17 +1,17 @@
 //! Laws of the drive machine.
 ghost use Rattle.drive_core.specs.Determined.{HonestStepsAreSteps, StepsAreDetermined, RunsAreDetermined};
-ghost use Rattle.drive_core.specs.Run.{RunsAppend};
+ghost use Rattle.drive_core.specs.Run.{RunsAppend, ServedByRuns};
 
 use volume_core::Medium;
 
 /// Over an honest medium, what `execute` does is a step of the machine itself.
 pub fn honest_steps<M: Medium>()
-    ensures { HonestStepsAreSteps M.honest }
+    ensures { HonestStepsAreSteps M.below.honest }
 {}
 
 /// Where no fault, want of memory or full side came, an input has one answer, makes one list of
 /// changes and leaves one drive, however its volume is split into what is stored and what is
-/// pending; and so have the inputs of a run.
+/// pending; and so have the inputs of a run, wherever flusher's turns stand in it.
 pub fn answers_are_determined()
     ensures step { StepsAreDetermined }
     ensures run { RunsAreDetermined }
@@ -20,4 +20,9 @@ pub fn answers_are_determined()
 /// A run, and one that goes on from where it ended, are one run.
 pub fn runs_append()
     ensures { RunsAppend }
+{}
+
+/// What one drive answers to hosts, one after another, is a run of its machine.
+pub fn served_hosts_run<M: Medium>()
+    ensures { ServedByRuns M.state M.below }
 {}

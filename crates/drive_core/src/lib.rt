@@ -1,18 +1,19 @@
 //! The drive: what it answers to each command, over any medium.
 #![tactic(auto)]
 
-mod adds;
+mod appends;
 pub mod bays;
+mod dispatch;
 pub mod drives;
 pub mod faults;
 pub mod laws;
 mod marks;
+mod opening;
 mod reads;
 mod rewinds;
-mod settles;
+mod storing;
 #[cfg(test)]
 mod tests;
-mod works;
 mod writes;
 
 pub use bays::{Bay, Position};

@@ -1,13 +1,13 @@
 //! WRITE FILEMARKS.
 ghost use Rattle.std.specs.Prelude.{◌≡◌};
-ghost use Rattle.drive_core.specs.State.{IsOn, IsReady, mounted};
+ghost use Rattle.drive_core.specs.State.{IsPositioned, mounted};
 ghost use Rattle.drive_core.specs.Marks.{MarksWork};
-ghost use Rattle.drive_core.specs.Execute.{Carries};
+ghost use Rattle.drive_core.specs.Inner.Carries.{Carries, IsReady};
 
-use crate::adds::add;
+use crate::appends::append;
 use crate::bays::Position;
 use crate::faults::Fault;
-use crate::settles::write_out;
+use crate::storing::store_pending;
 use scsi_wire::Reply;
 use std::alloc::Global;
 use volume_core::{Change, Medium};
@@ -22,11 +22,11 @@ pub fn write_marks<M: Medium>(
     count: u32,
     immediate: bool,
 ) -> Result<Reply, Fault>
-    requires { IsReady (mounted (M.tape medium.old) position.old) }
-    ensures carries { Carries M.tape M.moves M.failures M.honest
+    requires { IsReady (mounted (M.state medium.old) position.old) }
+    ensures carries { Carries M.state M.below
         (MarksWork count immediate)
         medium.old position.old result medium.new position.new }
-    ensures on { IsOn (M.tape medium.new) position.new }
+    ensures on { IsPositioned (M.state medium.new) position.new }
 {
     if count == 0 {
         return write_none(alloc, medium, position, immediate);
@@ -36,7 +36,7 @@ pub fn write_marks<M: Medium>(
         at: position.object,
         count,
     };
-    add(alloc, medium, position, change, count, !immediate)
+    append(alloc, medium, position, change, count, !immediate)
 }
 
 // No marks: stores what is pending, unless the answer is to be immediate.
@@ -46,15 +46,15 @@ fn write_none<M: Medium>(
     position: &Position,
     immediate: bool,
 ) -> Result<Reply, Fault>
-    requires { IsReady (mounted (M.tape medium.old) position.now) }
-    ensures carries { Carries M.tape M.moves M.failures M.honest
+    requires { IsReady (mounted (M.state medium.old) position.now) }
+    ensures carries { Carries M.state M.below
         (MarksWork 0 immediate)
         medium.old position.now result medium.new position.now }
-    ensures on { IsOn (M.tape medium.new) position.now }
+    ensures on { IsPositioned (M.state medium.new) position.now }
 {
     if immediate {
         return Ok(Reply::good(Bytes::new(alloc)));
     }
-    write_out(medium)?;
+    store_pending(medium)?;
     Ok(Reply::good(Bytes::new(alloc)))
 }

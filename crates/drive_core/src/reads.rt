@@ -1,16 +1,20 @@
 //! READ.
-ghost use Rattle.std.specs.Prelude.{◌≡◌, ◌≤◌, ◌↔◌, [], false, true, Some, length, IfOk};
+ghost use Rattle.std.specs.Prelude.{◌≡◌, ◌≤◌, [], false, true, Some, length, IfOk};
 ghost use Rattle.vtl_base.specs.declared.limits.TheConstants.{MAX_BLOCK};
 ghost use Rattle.volume_core.specs.declared.objects.Kind.TheVariants as Kinds;
 ghost use Rattle.volume_core.specs.Volume.{kind_at, block_at};
+ghost use Rattle.vtl_base.specs.Below.{Advances};
 ghost use Rattle.volume_core.specs.Medium.{volume_of};
-ghost use Rattle.drive_core.specs.State.{IsOn, IsReady, mounted};
-ghost use Rattle.drive_core.specs.Read.{ReadWork, Gives, FetchesBlock, block_reply};
-ghost use Rattle.drive_core.specs.Execute.{FaultHasCause};
+ghost use Rattle.volume_core.specs.Stores.{Stores};
+ghost use Rattle.drive_core.specs.State.{IsPositioned, mounted};
+ghost use Rattle.drive_core.specs.Read.{ReadWork, GivesObject, block_reply};
+ghost use Rattle.drive_core.specs.Execute.{is_device_fault};
+ghost use Rattle.drive_core.specs.Inner.Carries.{Carries, IsReady};
+ghost use Rattle.drive_core.specs.Inner.Fetching.{FetchesBlock};
 
 use crate::bays::Position;
 use crate::faults::Fault;
-use crate::settles::write_out;
+use crate::storing::store_pending;
 use scsi_wire::{Reply, Sense};
 use std::alloc::Global;
 use volume_core::{Kind, Medium, MediumError};
@@ -25,19 +29,16 @@ pub fn read<M: Medium>(
     length: u32,
     suppress_length: bool,
 ) -> Result<Reply, Fault>
-    requires { IsReady (mounted (M.tape medium.old) position.old) }
-    ensures work { ReadWork (M.honest medium.old) suppress_length length
-        (mounted (M.tape medium.old) position.old) result []
-        (mounted (M.tape medium.new) position.new) }
-    ensures on { IsOn (M.tape medium.new) position.new }
-    ensures moved { M.moves medium.old [] medium.new }
-    ensures cause { FaultHasCause result (M.failures medium.old) (M.failures medium.new) }
-    ensures honesty { M.honest medium.old ↔ M.honest medium.new }
+    requires { IsReady (mounted (M.state medium.old) position.old) }
+    ensures carries { Carries M.state M.below
+        (ReadWork (M.below.honest medium.old) suppress_length length)
+        medium.old position.old result medium.new position.new }
+    ensures on { IsPositioned (M.state medium.new) position.new }
 {
     if length == 0 {
         return Ok(Reply::good(Bytes::new(alloc)));
     }
-    write_out(medium)?;
+    store_pending(medium)?;
     give(alloc, medium, position, length, suppress_length)
 }
 
@@ -49,14 +50,11 @@ fn give<M: Medium>(
     length: u32,
     suppress_length: bool,
 ) -> Result<Reply, Fault>
-    requires { IsReady (mounted (M.tape medium.old) position.old) }
-    ensures answer { Gives (M.honest medium.old) suppress_length length
-        (mounted (M.tape medium.old) position.old) result
-        (mounted (M.tape medium.new) position.new) }
-    ensures on { IsOn (M.tape medium.new) position.new }
-    ensures moved { M.moves medium.old [] medium.new }
-    ensures cause { FaultHasCause result (M.failures medium.old) (M.failures medium.new) }
-    ensures honesty { M.honest medium.old ↔ M.honest medium.new }
+    requires { IsReady (mounted (M.state medium.old) position.old) }
+    ensures carries { Carries M.state M.below
+        (GivesObject (M.below.honest medium.old) suppress_length length)
+        medium.old position.old result medium.new position.new }
+    ensures on { IsPositioned (M.state medium.new) position.new }
 {
     if position.object >= medium.count(position.part) {
         return Ok(Reply::check(Sense::end_of_data(Some(length)), Bytes::new(alloc)));
@@ -82,17 +80,16 @@ fn fetch<M: Medium>(
     part: PartNo,
     at: ObjNo,
 ) -> Result<Vec<u8>, Fault>
-    requires awake { (M.tape medium.old).awake ≡ true }
-    requires works { (M.tape medium.old).failed ≡ false }
-    requires block { kind_at (volume_of (M.tape medium.old)) part at ≡ Some Kinds.Block }
-    ensures bytes { M.honest medium.old
+    requires awake { (M.state medium.old).awake ≡ true }
+    requires works { (M.state medium.old).failed ≡ false }
+    requires block { kind_at (volume_of (M.state medium.old)) part at ≡ Some Kinds.Block }
+    ensures bytes { M.below.honest medium.old
         → IfOk result (λ block.
-        block_at (volume_of (M.tape medium.old)) part at ≡ Some block.items) }
+        block_at (volume_of (M.state medium.old)) part at ≡ Some block.items) }
     ensures bound { IfOk result (λ block. length block.items ≤ MAX_BLOCK) }
-    ensures answer { FetchesBlock (M.tape medium.old) result (M.tape medium.new) }
-    ensures moved { M.moves medium.old [] medium.new }
-    ensures cause { FaultHasCause result (M.failures medium.old) (M.failures medium.new) }
-    ensures honesty { M.honest medium.old ↔ M.honest medium.new }
+    ensures answer { FetchesBlock (M.state medium.old) result (M.state medium.new) }
+    ensures stores { Stores (M.state medium.old) [] (M.state medium.new) }
+    ensures advances { Advances M.below medium.old [] (is_device_fault result) medium.new }
 {
     let mut block = Vec::new(alloc);
     match medium.fetch(part, at, &mut block) {

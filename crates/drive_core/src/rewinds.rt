@@ -1,12 +1,12 @@
 //! REWIND.
 ghost use Rattle.std.specs.Prelude.{◌≡◌};
-ghost use Rattle.drive_core.specs.State.{IsOn, IsReady, mounted};
+ghost use Rattle.drive_core.specs.State.{IsPositioned, mounted};
 ghost use Rattle.drive_core.specs.Rewind.{RewindWork};
-ghost use Rattle.drive_core.specs.Execute.{Carries};
+ghost use Rattle.drive_core.specs.Inner.Carries.{Carries, IsReady};
 
 use crate::bays::Position;
 use crate::faults::Fault;
-use crate::settles::write_out;
+use crate::storing::store_pending;
 use scsi_wire::Reply;
 use std::alloc::Global;
 use volume_core::Medium;
@@ -18,13 +18,13 @@ pub fn rewind<M: Medium>(
     medium: &mut M,
     position: &mut Position,
 ) -> Result<Reply, Fault>
-    requires { IsReady (mounted (M.tape medium.old) position.old) }
-    ensures carries { Carries M.tape M.moves M.failures M.honest
+    requires { IsReady (mounted (M.state medium.old) position.old) }
+    ensures carries { Carries M.state M.below
         RewindWork
         medium.old position.old result medium.new position.new }
-    ensures on { IsOn (M.tape medium.new) position.new }
+    ensures on { IsPositioned (M.state medium.new) position.new }
 {
-    write_out(medium)?;
+    store_pending(medium)?;
     position.object = 0;
     Ok(Reply::good(Bytes::new(alloc)))
 }

@@ -1,20 +1,24 @@
 //! WRITE.
-ghost use Rattle.std.specs.Prelude.{◌≡◌, ◌≤◌, length};
+ghost use Rattle.std.specs.Prelude.{◌≡◌, ◌≤◌, length, None, Some, if◌then◌else◌};
 ghost use Rattle.vtl_base.specs.declared.limits.TheConstants.{MAX_BLOCK};
-ghost use Rattle.drive_core.specs.State.{IsOn, IsReady, mounted};
-ghost use Rattle.drive_core.specs.Write.{WriteWork};
-ghost use Rattle.drive_core.specs.Execute.{Carries};
+ghost use Rattle.volume_core.specs.declared.changes.Refusal.TheVariants as Refusals;
+ghost use Rattle.volume_core.specs.Volume.{refusal_of};
+ghost use Rattle.volume_core.specs.Medium.{volume_of};
+ghost use Rattle.drive_core.specs.State.{IsPositioned, mounted};
+ghost use Rattle.drive_core.specs.Write.{WriteWork, put_at};
+ghost use Rattle.drive_core.specs.Inner.Carries.{Carries, IsReady};
 
-use crate::adds::add;
+use crate::appends::append;
 use crate::bays::Position;
 use crate::faults::Fault;
-use scsi_wire::Reply;
+use scsi_wire::{Reply, Sense};
 use std::alloc::Global;
-use volume_core::{Change, Medium};
+use volume_core::{Catalog, Change, Medium};
 use vtl_base::Bytes;
+use vtl_base::limits::{MAX_OBJECTS, OBJECT_COST};
 
 /// Puts what was sent as a block at the position, which is then behind it and the end of data
-/// (SSC-4, WRITE(6)). Of no bytes nothing is done.
+/// (SSC-4, WRITE(6)). Of no bytes nothing is done. A block that does not fit is not copied.
 pub fn write<M: Medium>(
     alloc: Global,
     medium: &mut M,
@@ -22,15 +26,22 @@ pub fn write<M: Medium>(
     buffered: bool,
     sent: &[u8],
 ) -> Result<Reply, Fault>
-    requires ready { IsReady (mounted (M.tape medium.old) position.old) }
+    requires ready { IsReady (mounted (M.state medium.old) position.old) }
     requires short { length sent.now ≤ MAX_BLOCK }
-    ensures carries { Carries M.tape M.moves M.failures M.honest
+    ensures carries { Carries M.state M.below
         (WriteWork buffered sent.now)
         medium.old position.old result medium.new position.new }
-    ensures on { IsOn (M.tape medium.new) position.new }
+    ensures on { IsPositioned (M.state medium.new) position.new }
 {
     if sent.is_empty() {
         return Ok(Reply::good(Bytes::new(alloc)));
+    }
+    let amount = sent.len() as u32;
+    if !has_room(medium, *position, sent) {
+        return Ok(Reply::check(
+            Sense::volume_overflow(Some(amount)),
+            Bytes::new(alloc),
+        ));
     }
     let block = Bytes::from_slice(alloc, sent)?;
     let change = Change::Put {
@@ -38,12 +49,18 @@ pub fn write<M: Medium>(
         at: position.object,
         block,
     };
-    add(
-        alloc,
-        medium,
-        position,
-        change,
-        sent.len() as u32,
-        !buffered,
-    )
+    append(alloc, medium, position, change, amount, !buffered)
+}
+
+// Whether these bytes fit as a block at the position.
+fn has_room<C: Catalog>(medium: &C, position: Position, sent: &[u8]) -> bool
+    requires on { IsPositioned (C.state medium.now) position }
+    requires some { 1 ≤ length sent.now }
+    requires short { length sent.now ≤ MAX_BLOCK }
+    ensures { refusal_of (volume_of (C.state medium.now)) (put_at position sent.now)
+        ≡ (if result then None else Some Refusals.NoRoom) }
+{
+    let before = medium.used(position.part, position.object);
+    let cost = sent.len() as u64 + OBJECT_COST;
+    position.object < MAX_OBJECTS && before + cost <= medium.capacity(position.part)
 }

@@ -1,3 +1,5 @@
 pub mod Volume
 pub mod Medium
-pub mod Stock
+pub mod Stores
+pub mod Plain
+pub mod Inner

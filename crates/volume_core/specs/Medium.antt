@@ -1,49 +1,37 @@
--- What a medium holds, and how it answers.
-use Rattle.std.specs.Prelude.{◌≡◌, ◌<◌, ◌≤◌, ◌+◌, ◌++◌, ℕ, Option, None, Some, Result, Ok, Err, List, [], ◌∷◌, length, sum_by, Bool, true, false, refl}
-use Rattle.std.proofs.Common.{subst}
+-- The state of a medium, and how a medium answers.
+use Rattle.std.specs.Prelude.{◌≡◌, ◌⊎◌, ◌<◌, ◌≤◌, ◌+◌, ◌++◌, ℕ, Option, None, Some, Result, Ok, Err, List, [], ◌∷◌, length, sum_by, Bool, true, false, if◌then◌else◌}
 use Rattle.volume_core.specs.declared.changes.Change.{Change}
 use Rattle.volume_core.specs.declared.changes.Change.TheVariants.{Put, Marks, Erase}
 use Rattle.volume_core.specs.declared.media.MediumError.{MediumError}
-use Rattle.volume_core.specs.declared.media.MediumError.TheVariants.{Refused, NoMemory, SideFull, Device, Failed}
-use Rattle.volume_core.specs.Volume.{Part, AllApply, refusal_of, changed, after}
+use Rattle.volume_core.specs.declared.media.MediumError.TheVariants.{Refused, NoMemory, SideFull, Device, Failed, Unreadable}
+use Rattle.volume_core.specs.declared.media.Turn.{Turn}
+use Rattle.volume_core.specs.declared.media.Turn.TheVariants.{Idle, Stored, Faulted}
+use Rattle.volume_core.specs.Volume.{Part, refusal_of, changed, after}
 
 -- what a medium holds (own)
-pub record Tape : Type 0 where
+pub record MediumState : Type 0 where
   -- open; a parked medium has what its side gives
   pub awake : Bool
   -- the volume that its side gives; None is a side with no volume, a parked medium's alone
   pub stored : Option (List Part)
   -- the changes that were accepted and are not stored yet, in order; of a parked medium none
   pub pending : List Change
-  -- the changes of the frame that was under way when the device failed: the side gives `stored`
-  -- with none or all of them
+  -- of a medium that has failed, and of one that was parked then: the changes of the frame that was under way when
+  -- the device failed. The side gives `stored` with none or all of them.
   pub torn : List Change
   pub failed : Bool
   -- the bytes that may still be added to the side; None is no bound, as in memory
   pub room : Option ℕ
 
-abbrev pub volume_or_none : Option (List Part) → List Part
-volume_or_none None = []
-volume_or_none (Some volume) = volume
+abbrev pub volume_or_empty : Option (List Part) → List Part
+volume_or_empty None = []
+volume_or_empty (Some volume) = volume
 
 -- the volume that a medium is seen as: what is stored, with what is pending carried out (own)
-abbrev pub volume_of : Tape → List Part
-volume_of tape = after (volume_or_none tape.stored) tape.pending
+abbrev pub volume_of : MediumState → List Part
+volume_of state = after (volume_or_empty state.stored) state.pending
 
--- the tape of a medium that keeps all in memory: stored at once, with no bound (own)
-abbrev pub plain_tape : List Part → Tape
-plain_tape volume =
-    record {
-      awake = true;
-      stored = Some volume;
-      pending = [];
-      torn = [];
-      failed = false;
-      room = None;
-    }
-
--- what a change takes of a side as a frame of its own: gate, length and record, 15 bytes, and the
--- block's own (own)
+-- what a change takes of a side as a frame of its own: gate, length and record, 15 bytes, and the block's own (own)
 abbrev pub frame_size : Change → ℕ
 frame_size (Put part at block) = 15 + length block
 frame_size (Marks part at count) = 15
@@ -55,75 +43,132 @@ IsFull None changes = ⊥
 IsFull (Some room) changes = room < sum_by frame_size changes
 
 -- the volume is now this one, and the medium is awake and works (own)
-pub record Works (volume : List Part) (new : Tape) : Type 0 where
+pub record Works (volume : List Part) (new : MediumState) : Type 0 where
   pub volume_is : volume_of new ≡ volume
   pub works : new.failed ≡ false
   pub awake : new.awake ≡ true
 
--- the volume is as it was, and the medium has failed (own)
-pub record Breaks (old new : Tape) : Type 0 where
+-- The device failed while something was stored: the medium has failed, and the volume is as it was. What did not get
+-- stored is pending still, and of it the frame that was under way is none or all (own).
+pub record Breaks (old new : MediumState) : Type 0 where
   pub volume_is : volume_of new ≡ volume_of old
   pub broken : new.failed ≡ true
   pub awake : new.awake ≡ true
+  pub some_pending : 1 ≤ length new.pending
+  pub torn : (new.torn ≡ []) ⊎ (new.torn ≡ new.pending)
 
--- A medium is asked for a change, and answers so. What was pending may have been stored on the way.
--- A failed medium takes none, and only a device fault makes it fail (own).
-abbrev pub Accepts : Tape → Change → Result Unit MediumError → Tape → Type 0
+-- the device failed while a block was read: the medium has failed, no frame was under way, and nothing else has
+-- changed (own)
+abbrev pub after_failed_read : MediumState → MediumState
+after_failed_read state = record state { failed = true; torn = [] }
+
+-- A medium is asked for a change, and answers so. What was pending may have been stored on the way. A failed medium
+-- takes none, and only a device fault makes it fail (own).
+abbrev pub Accepts : MediumState → Change → Result Unit MediumError → MediumState → Type 0
 Accepts old change (Ok done) new =
     (refusal_of (volume_of old) change ≡ None) × (old.failed ≡ false)
     × Works (changed (volume_of old) change) new
 Accepts old change (Err (Refused cause)) new =
-    (refusal_of (volume_of old) change ≡ Some cause) × (new ≡ old)
+    (refusal_of (volume_of old) change ≡ Some cause) × (old.failed ≡ false) × (new ≡ old)
 Accepts old change (Err NoMemory) new =
     (refusal_of (volume_of old) change ≡ None) × (old.failed ≡ false) × Works (volume_of old) new
 Accepts old change (Err SideFull) new =
     (refusal_of (volume_of old) change ≡ None) × IsFull old.room (old.pending ++ change ∷ [])
     × (new ≡ old) × (old.failed ≡ false)
 Accepts old change (Err Device) new =
-    (refusal_of (volume_of old) change ≡ None) × (old.failed ≡ false) × Breaks old new
+    (refusal_of (volume_of old) change ≡ None) × (old.failed ≡ false) × (1 ≤ length old.pending)
+    × Breaks old new
 Accepts old change (Err Failed) new = (old.failed ≡ true) × (new ≡ old)
+Accepts old change (Err Unreadable) new = ⊥
 
 -- the changes that an answer accepts (own)
 abbrev pub accepted_by : Result Unit MediumError → Change → List Change
 accepted_by (Ok done) change = change ∷ []
 accepted_by (Err error) change = []
 
+-- the device failed in the call (own)
+abbrev pub met_fault : Result Unit MediumError → Bool
+met_fault (Err Device) = true
+met_fault _ = false
+
 -- A medium is asked to store what is pending, and answers so (own).
-abbrev pub Settles : Tape → Result Unit MediumError → Tape → Type 0
+abbrev pub Settles : MediumState → Result Unit MediumError → MediumState → Type 0
 Settles old (Ok done) new = (old.failed ≡ false) × (new.pending ≡ []) × Works (volume_of old) new
-Settles old (Err Device) new = (old.failed ≡ false) × Breaks old new
+Settles old (Err Device) new = (old.failed ≡ false) × (1 ≤ length old.pending) × Breaks old new
 Settles old (Err Failed) new = (old.failed ≡ true) × (new ≡ old)
-Settles old (Err NoMemory) new = ⊥
-Settles old (Err SideFull) new = ⊥
-Settles old (Err (Refused cause)) new = ⊥
+Settles old (Err _) new = ⊥
 
 -- A medium is asked for the bytes of a block, and answers so (own).
-abbrev pub Fetches : Tape → Result Unit MediumError → Tape → Type 0
+abbrev pub Fetches : MediumState → Result Unit MediumError → MediumState → Type 0
 Fetches old (Ok done) new = (old.failed ≡ false) × (new ≡ old)
 Fetches old (Err NoMemory) new = (old.failed ≡ false) × (new ≡ old)
-Fetches old (Err Device) new = (old.failed ≡ false) × Breaks old new
+Fetches old (Err Device) new = (old.failed ≡ false) × (new ≡ after_failed_read old)
 Fetches old (Err Failed) new = (old.failed ≡ true) × (new ≡ old)
-Fetches old (Err SideFull) new = ⊥
-Fetches old (Err (Refused cause)) new = ⊥
+Fetches old (Err _) new = ⊥
 
--- the count of failures never falls, and a device fault is answered only where it rose (own)
-abbrev pub HasCause : Result Unit MediumError → ℕ → ℕ → Type 0
-HasCause (Err Device) before now = before < now
-HasCause other before now = before ≤ now
+-- A flusher's turn is answered so: nothing is pending or the medium has failed; all that was pending was stored; or
+-- the device failed while it was (own).
+abbrev pub Turns : MediumState → Turn → MediumState → Type 0
+Turns old Idle new = ((old.pending ≡ []) ⊎ (old.failed ≡ true)) × (new ≡ old)
+Turns old (Stored n) new =
+    (old.failed ≡ false) × (1 ≤ n) × (n ≡ length old.pending) × (new.pending ≡ [])
+    × Works (volume_of old) new
+Turns old Faulted new = (old.failed ≡ false) × (1 ≤ length old.pending) × Breaks old new
 
--- the changes apply in order, and lead from one volume to the other (own)
-abbrev pub MovesByChanges : List Part → List Change → List Part → Type 0
-MovesByChanges old changes new = AllApply old changes × (new ≡ after old changes)
+-- the device failed in the turn (own)
+abbrev pub turn_met_fault : Turn → Bool
+turn_met_fault Faulted = true
+turn_met_fault _ = false
 
--- nothing done is the empty list
-pub moves_nowhere_by_changes : (volume : List Part) → MovesByChanges volume [] volume
-moves_nowhere_by_changes volume = (tt, refl)
+-- a parked medium; where it is honest, its side gives this volume, with none or all of these changes (own)
+pub record IsParked (honest : Type 0) (stored : Option (List Part)) (torn : List Change) (new : MediumState) : Type 0 where
+  pub parked : new.awake ≡ false
+  pub works : new.failed ≡ false
+  pub nothing_pending : new.pending ≡ []
+  pub gives : honest → (new.stored ≡ stored) × (new.torn ≡ torn)
 
--- two in a row append their lists
-pub moves_on_by_changes : (a b c : List Part) (first second : List Change)
-    → MovesByChanges a first b → MovesByChanges b second c → MovesByChanges a (first ++ second) c
-moves_on_by_changes a b c [] second one two =
-    subst (λ volume. MovesByChanges volume second c) one.1 two
-moves_on_by_changes a b c (change ∷ changes) second one two =
-    let rest = moves_on_by_changes (changed a change) b c changes second (one.0.1, one.1) two in
-    ((one.0.0, rest.0), rest.1)
+-- what the side of a medium gives once it is parked: all that was accepted, or of one that has failed what was stored,
+-- with none or all of the frame that was under way (own)
+abbrev pub IsParkedFrom : Type 0 → Bool → MediumState → MediumState → Type 0
+IsParkedFrom honest false old new = IsParked honest (Some (volume_of old)) [] new
+IsParkedFrom honest true old new = IsParked honest old.stored old.torn new
+
+-- A medium is parked, once what is pending is stored, and answers so. One that has failed gives up what is pending
+-- (own).
+abbrev pub Parks : Type 0 → MediumState → Result Unit MediumError → MediumState → Type 0
+Parks honest old (Ok done) new = IsParkedFrom honest old.failed old new
+Parks honest old (Err Device) new = (old.failed ≡ false) × (1 ≤ length old.pending) × Breaks old new
+Parks honest old (Err _) new = ⊥
+
+-- the volume that a side gives, or that with all changes of the frame that was under way (own)
+abbrev pub GivenBy : MediumState → Option (List Part) → Type 0
+GivenBy old volume =
+    (volume ≡ old.stored) ⊎ (volume ≡ Some (after (volume_or_empty old.stored) old.torn))
+
+-- a medium that was just opened: awake, with nothing pending (own)
+pub record IsFresh (new : MediumState) : Type 0 where
+  pub awake : new.awake ≡ true
+  pub works : new.failed ≡ false
+  pub nothing_pending : new.pending ≡ []
+
+-- a medium is opened by what its side gave, which is a volume (own)
+pub record Opens (old new : MediumState) : Type 0 where
+  pub volume : GivenBy old new.stored
+  pub readable : old.stored ≡ None → ⊥
+
+-- A medium that is awake stays as it is. A parked one is opened, or stays parked: its side gives no volume, the device
+-- failed, or memory ran out. What its side gives is known where it is honest (own).
+abbrev pub WakesFrom : Type 0 → Bool → MediumState → Result Unit MediumError → MediumState → Type 0
+WakesFrom honest true old (Ok done) new = (old.failed ≡ false) × (new ≡ old)
+WakesFrom honest true old (Err Failed) new = (old.failed ≡ true) × (new ≡ old)
+WakesFrom honest true old (Err _) new = ⊥
+WakesFrom honest false old (Ok done) new = IsFresh new × (honest → Opens old new)
+WakesFrom honest false old (Err NoMemory) new = IsParked honest old.stored old.torn new
+WakesFrom honest false old (Err Device) new = IsParked honest old.stored old.torn new
+WakesFrom honest false old (Err Unreadable) new =
+    IsParked honest old.stored old.torn new × (honest → old.stored ≡ None)
+WakesFrom honest false old (Err _) new = ⊥
+
+-- A medium is opened, and answers so (own).
+abbrev pub Wakes : Type 0 → MediumState → Result Unit MediumError → MediumState → Type 0
+Wakes honest old result new = WakesFrom honest old.awake old result new

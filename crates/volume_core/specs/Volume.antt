@@ -185,11 +185,11 @@ AllApply volume (change ∷ changes) =
 
 -- The answer to a change that is refused for the first of these causes, or else leads from old to
 -- changed. After a refusal nothing has changed, and want of memory comes last (own).
-abbrev pub Answers : {V : Type 0} → Option Refusal → V → V → Result Unit ApplyError → V → Type 0
-Answers refusal old changed (Ok done) new = (refusal ≡ None) × (new ≡ changed)
-Answers refusal old changed (Err (Refused cause)) new = (refusal ≡ Some cause) × (new ≡ old)
-Answers refusal old changed (Err NoMemory) new = (refusal ≡ None) × (new ≡ old)
+abbrev pub AppliesUnless : {V : Type 0} → Option Refusal → V → V → Result Unit ApplyError → V → Type 0
+AppliesUnless refusal old changed (Ok done) new = (refusal ≡ None) × (new ≡ changed)
+AppliesUnless refusal old changed (Err (Refused cause)) new = (refusal ≡ Some cause) × (new ≡ old)
+AppliesUnless refusal old changed (Err NoMemory) new = (refusal ≡ None) × (new ≡ old)
 
 -- a volume is asked for a change, and answers so (own)
 abbrev pub Applies : List Part → Change → Result Unit ApplyError → List Part → Type 0
-Applies old change result new = Answers (refusal_of old change) old (changed old change) result new
+Applies old change result new = AppliesUnless (refusal_of old change) old (changed old change) result new

@@ -3,16 +3,16 @@
 
 pub mod changes;
 pub mod media;
+mod object_list;
 pub mod objects;
 mod partitions;
 pub mod plain;
-mod stock;
 #[cfg(test)]
 mod tests;
 pub mod volumes;
 
 pub use changes::{Change, Refusal};
-pub use media::{Catalog, Medium, MediumError};
+pub use media::{Catalog, Medium, MediumError, Turn};
 pub use objects::{Kind, Object};
 pub use plain::PlainMedium;
 pub use volumes::{ApplyError, Volume, are_capacities, is_in_early_zone};

@@ -2,11 +2,11 @@
 ghost use Rattle.std.specs.Prelude.{◌≡◌, ◌≤◌, IsTrue, Some, slice_get, take, length};
 ghost use Rattle.std.specs.Option.{option_copied};
 ghost use Rattle.vtl_base.specs.declared.limits.TheConstants.{MAX_CAPACITY, MAX_OBJECTS};
-ghost use Rattle.volume_core.specs.Volume.{IsPart, empty_part, is_capacity, used_of, kind_in, block_in, refusal_in, part_after, Answers};
+ghost use Rattle.volume_core.specs.Volume.{IsPart, empty_part, is_capacity, used_of, kind_in, block_in, refusal_in, part_after, AppliesUnless};
 
 use crate::changes::{Change, Refusal};
+use crate::object_list::ObjectList;
 use crate::objects::{Kind, Object};
-use crate::stock::Stock;
 use crate::volumes::ApplyError;
 use std::alloc::Global;
 use std::marker::Model;
@@ -16,7 +16,7 @@ use vtl_base::limits::MAX_OBJECTS;
 #[derive(Drop)]
 pub(crate) struct Partition {
     capacity: u64,
-    stock: Stock,
+    stock: ObjectList,
 }
 
 impl Model for Partition {
@@ -37,7 +37,7 @@ impl Partition {
     {
         Partition {
             capacity,
-            stock: Stock::new(alloc),
+            stock: ObjectList::new(alloc),
         }
     }
 
@@ -75,7 +75,7 @@ impl Partition {
 
     // Carries a change out that is meant for this partition, or refuses it.
     pub(crate) fn apply(&mut self, change: Change) -> Result<(), ApplyError>
-        ensures answer { Answers (refusal_in (Some self.old) change) self.old
+        ensures answer { AppliesUnless (refusal_in (Some self.old) change) self.old
             (part_after self.old change) result self.new }
         ensures limits { IsPart self.new }
     {

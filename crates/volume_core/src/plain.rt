@@ -1,62 +1,54 @@
 //! A medium that keeps all in memory.
-ghost use Rattle.std.specs.Prelude.{◌≡◌, IsTrue, IfOk};
+ghost use Rattle.std.specs.Prelude.{◌≡◌, IsTrue, IfOk, true, false};
+ghost use Rattle.vtl_base.specs.Below.{Advances};
 ghost use Rattle.volume_core.specs.Volume.{are_capacities, empty_volume};
-ghost use Rattle.volume_core.specs.Medium.{Accepts, HasCause, MovesByChanges, accepted_by, plain_tape};
+ghost use Rattle.volume_core.specs.Medium.{Accepts, accepted_by, met_fault};
+ghost use Rattle.volume_core.specs.Stores.{Stores};
+ghost use Rattle.volume_core.specs.Plain.{plain_state, plain_below};
 
 use crate::changes::Change;
-use crate::media::{Catalog, Medium, MediumError};
+use crate::media::{Catalog, Medium, MediumError, Turn};
 use crate::objects::Kind;
 use crate::volumes::{ApplyError, Volume};
 use std::alloc::Global;
 use std::marker::Model;
-use vtl_base::{Bytes, NoMemory, ObjNo, PartNo};
+use vtl_base::{NoMemory, ObjNo, PartNo};
 
-/// A cartridge in memory, which never fails and has nothing pending. To a contract it is its
-/// volume.
+/// A cartridge in memory, which never fails and has nothing pending. To a contract it is its volume,
+/// and whether it is awake.
 #[derive(Drop)]
 pub struct PlainMedium {
     volume: Volume,
+    awake: bool,
 }
 
 impl Model for PlainMedium {
-    ghost use Rattle.std.specs.Prelude.{List};
-    ghost use Rattle.volume_core.specs.Volume.{Part};
+    ghost use Rattle.volume_core.specs.Plain.{Plain};
 
-    ghost Value = { List Part };
+    ghost Value = { Plain };
 
-    ghost view = { λ m. m.volume };
+    ghost view = { λ m. record { volume = m.volume; awake = m.awake } };
 }
 
 impl PlainMedium {
-    /// An empty cartridge of partitions with these capacities in bytes. `are_capacities` tests the
-    /// condition.
+    /// An empty cartridge, awake, of partitions with these capacities in bytes. `are_capacities`
+    /// tests the condition.
     pub fn new(alloc: Global, capacities: &[u64]) -> Result<Self, NoMemory>
         requires { IsTrue (are_capacities capacities.now) }
-        ensures { IfOk result (λ medium. medium ≡ empty_volume capacities.now) }
+        ensures { IfOk result (λ medium.
+            medium ≡ record { volume = empty_volume capacities.now; awake = true }) }
     {
         Ok(PlainMedium {
             volume: Volume::new(alloc, capacities)?,
+            awake: true,
         })
-    }
-
-    // What the volume answers, a medium answers.
-    fn change(&mut self, change: Change) -> Result<(), MediumError>
-        ensures answer { Accepts (plain_tape self.old) change result (plain_tape self.new) }
-        ensures moves { MovesByChanges self.old (accepted_by result change) self.new }
-        ensures cause { HasCause result 0 0 }
-    {
-        match self.volume.apply(change) {
-            Ok(()) => Ok(()),
-            Err(ApplyError::Refused(cause)) => Err(MediumError::Refused(cause)),
-            Err(ApplyError::NoMemory) => Err(MediumError::NoMemory),
-        }
     }
 }
 
 impl Catalog for PlainMedium {
-    ghost use Rattle.volume_core.specs.Medium.{plain_tape};
+    ghost use Rattle.volume_core.specs.Plain.{plain_state};
 
-    ghost tape = { plain_tape };
+    ghost state = { plain_state };
 
     fn parts(&self) -> PartNo {
         self.volume.parts()
@@ -80,24 +72,18 @@ impl Catalog for PlainMedium {
 }
 
 impl Medium for PlainMedium {
-    ghost use Rattle.volume_core.specs.Medium.{MovesByChanges, moves_nowhere_by_changes, moves_on_by_changes};
+    ghost use Rattle.vtl_base.specs.Below.{advances_nowhere};
+    ghost use Rattle.volume_core.specs.Stores.{stores_nowhere};
+    ghost use Rattle.volume_core.specs.Plain.{Plain, plain_state, plain_below, moves_nowhere_by_changes, moves_on_by_changes};
 
-    ghost failures = { λ _. 0 };
+    ghost below = { plain_below };
 
-    ghost honest = { λ _. Unit {0} };
-
-    ghost moves = { MovesByChanges };
-
-    fn put(&mut self, part: PartNo, at: ObjNo, block: Bytes) -> Result<(), MediumError> {
-        self.change(Change::Put { part, at, block })
-    }
-
-    fn marks(&mut self, part: PartNo, at: ObjNo, count: u32) -> Result<(), MediumError> {
-        self.change(Change::Marks { part, at, count })
-    }
-
-    fn erase(&mut self, part: PartNo, at: ObjNo) -> Result<(), MediumError> {
-        self.change(Change::Erase { part, at })
+    fn accept(&mut self, change: Change) -> Result<(), MediumError> {
+        match self.volume.apply(change) {
+            Ok(()) => Ok(()),
+            Err(ApplyError::Refused(cause)) => Err(MediumError::Refused(cause)),
+            Err(ApplyError::NoMemory) => Err(MediumError::NoMemory),
+        }
     }
 
     fn fetch(&mut self, part: PartNo, at: ObjNo, into: &mut Vec<u8>) -> Result<(), MediumError> {
@@ -117,6 +103,20 @@ impl Medium for PlainMedium {
         Ok(())
     }
 
+    fn flush_turn(&mut self) -> Turn {
+        Turn::Idle
+    }
+
+    fn park(&mut self) -> Result<(), MediumError> {
+        self.awake = false;
+        Ok(())
+    }
+
+    fn wake(&mut self) -> Result<(), MediumError> {
+        self.awake = true;
+        Ok(())
+    }
+
     fn pending(&self) -> usize {
         0
     }
@@ -125,7 +125,11 @@ impl Medium for PlainMedium {
         false
     }
 
-    ghost moves_nowhere = { moves_nowhere_by_changes };
+    ghost advances_nowhere = { λ medium. advances_nowhere plain_below
+        (λ (m : Plain). moves_nowhere_by_changes m.volume) medium };
 
-    ghost moves_on = { moves_on_by_changes };
+    ghost stores_nowhere = { λ medium. stores_nowhere (plain_state medium) };
+
+    ghost moves_on = { λ a b c first second one two.
+        moves_on_by_changes a.volume b.volume c.volume first second one two };
 }

@@ -1,5 +1,6 @@
 -- What a contract sees below a medium or a keeper.
-use Rattle.std.specs.Prelude.{ℕ, List}
+use Rattle.std.specs.Prelude.{◌≡◌, ◌<◌, ◌↔◌, ◌++◌, ℕ, Bool, true, false, List, [], refl}
+use Rattle.std.proofs.Common.{subst}
 
 -- What a contract sees below an M that takes Cs, as a medium takes changes: how often the device has failed; whether
 -- it keeps to what a disk promises; and by accepting just which Cs, in order, one value became another (own).
@@ -7,3 +8,40 @@ pub record Below (M C : Type 0) : Type 1 where
   pub failures : M → ℕ
   pub honest : M → Type 0
   pub moves : M → List C → M → Type 0
+
+-- the count of failures rose where the device failed in a call, and else it stayed (own)
+abbrev pub Counts : Bool → ℕ → ℕ → Type 0
+Counts true before now = before < now
+Counts false before now = now ≡ before
+
+-- What holds of a call, whatever it answers: just these were accepted, in order; the count of failures rose where the
+-- device failed in it, and else stayed; honesty is as it was (own).
+pub record Advances {M C : Type 0} (below : Below M C) (old : M) (made : List C) (fault : Bool) (new : M) : Type 0 where
+  pub moved : below.moves old made new
+  pub counted : Counts fault (below.failures old) (below.failures new)
+  pub honesty : below.honest old ↔ below.honest new
+
+module _ {M C : Type 0} (below : Below M C) where
+  -- nothing done is the empty list, and no fault
+  pub advances_nowhere :
+      ((value : M) → below.moves value [] value) → (value : M) → Advances below value [] false value
+  advances_nowhere nowhere value =
+      record { moved = nowhere value; counted = refl; honesty = (λ honest. honest, λ honest. honest) }
+
+  -- two calls in a row, the first without a fault, append what they accepted
+  pub advances_on :
+      ((a b c : M) (first second : List C) → below.moves a first b → below.moves b second c
+          → below.moves a (first ++ second) c)
+      → (a b c : M) (first second : List C) (fault : Bool)
+      → Advances below a first false b → Advances below b second fault c
+      → Advances below a (first ++ second) fault c
+  advances_on on a b c first second fault one two =
+      record {
+        moved = on a b c first second one.moved two.moved;
+        counted =
+            subst (λ (before : ℕ). Counts fault before (below.failures c)) one.counted two.counted;
+        honesty = (
+          λ honest. two.honesty.0 (one.honesty.0 honest),
+          λ honest. one.honesty.1 (two.honesty.1 honest),
+        );
+      }

@@ -13,15 +13,15 @@ use vtl_base::limits::OBJECT_COST;
 // Objects in order. To a contract they are a list. Beside each stands what the objects up to it
 // take, itself included, so that no call walks over them.
 #[derive(Drop)]
-pub(crate) struct Stock {
+pub(crate) struct ObjectList {
     objects: Vec<Object>,
     costs: Vec<u64>,
 }
 
-impl Model for Stock {
+impl Model for ObjectList {
     ghost use Rattle.std.specs.Prelude.{List};
     ghost use Rattle.volume_core.specs.declared.objects.Object.{Object};
-    ghost use Rattle.volume_core.specs.Stock.{IsTally};
+    ghost use Rattle.volume_core.specs.Inner.ObjectList.{IsTally};
 
     ghost Value = { List Object };
 
@@ -30,11 +30,11 @@ impl Model for Stock {
     ghost invariant = { λ s. IsTally s.objects.items s.costs.items };
 }
 
-impl Stock {
+impl ObjectList {
     pub(crate) fn new(alloc: Global) -> Self
         ensures { result ≡ [] }
     {
-        Stock {
+        ObjectList {
             objects: Vec::new(alloc),
             costs: Vec::new(alloc),
         }

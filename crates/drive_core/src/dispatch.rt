@@ -1,10 +1,10 @@
-//! The work of each command on a tape.
+//! The work of each command.
 ghost use Rattle.std.specs.Prelude.{◌≡◌, ◌≤◌, length};
 ghost use Rattle.vtl_base.specs.declared.limits.TheConstants.{MAX_BLOCK};
 ghost use Rattle.scsi_wire.specs.Commands.{sent_length};
-ghost use Rattle.drive_core.specs.State.{IsOn, IsReady, mounted};
-ghost use Rattle.drive_core.specs.Execute.{Carries};
-ghost use Rattle.drive_core.specs.Work.{TapeWork};
+ghost use Rattle.drive_core.specs.State.{IsPositioned, mounted};
+ghost use Rattle.drive_core.specs.Inner.Carries.{Carries, IsReady};
+ghost use Rattle.drive_core.specs.Work.{MediumWork};
 
 use crate::bays::Position;
 use crate::faults::Fault;
@@ -17,8 +17,8 @@ use std::alloc::Global;
 use volume_core::Medium;
 use vtl_base::Bytes;
 
-/// Carries a command out on a tape that is ready.
-pub fn work<M: Medium>(
+/// Carries a command out on a medium that is ready.
+pub fn carry_out<M: Medium>(
     alloc: Global,
     medium: &mut M,
     position: &mut Position,
@@ -26,13 +26,13 @@ pub fn work<M: Medium>(
     command: Command,
     sent: &[u8],
 ) -> Result<Reply, Fault>
-    requires ready { IsReady (mounted (M.tape medium.old) position.old) }
+    requires ready { IsReady (mounted (M.state medium.old) position.old) }
     requires sent { length sent.now ≡ sent_length command }
     requires short { sent_length command ≤ MAX_BLOCK }
-    ensures carries { Carries M.tape M.moves M.failures M.honest
-        (TapeWork (M.honest medium.old) command buffered sent.now)
+    ensures carries { Carries M.state M.below
+        (MediumWork (M.below.honest medium.old) command buffered sent.now)
         medium.old position.old result medium.new position.new }
-    ensures on { IsOn (M.tape medium.new) position.new }
+    ensures on { IsPositioned (M.state medium.new) position.new }
 {
     match command {
         Command::TestUnitReady => Ok(Reply::good(Bytes::new(alloc))),

@@ -1,8 +1,8 @@
 use Rattle.std.proofs.Common.{◌≡◌, ◌+◌, ◌-◌, ◌≤◌, ◌++◌, take, replicate, vec_len, vec_capacity}
 use Rattle.volume_core.specs.declared.objects.Object.TheVariants.{Mark}
 use Rattle.volume_core.specs.Volume.{used_of}
-use Rattle.volume_core.specs.Stock.{IsTally}
-use Rattle.volume_core.proofs.stock.Stock.marks.Given as goal
+use Rattle.volume_core.specs.Inner.ObjectList.{IsTally}
+use Rattle.volume_core.proofs.object_list.ObjectList.marks.Given as goal
 
 -- the marks so far, what they take, and room for the others
 abbrev pub invariant-loop : goal.invariant-loop

@@ -1,8 +1,0 @@
-use Rattle.drive_core.proofs.DeterminedLemmas.{steps_determined, runs_determined}
-use Rattle.drive_core.proofs.laws.answers_are_determined.Goals as goal
-
-pub returns-clause-step : goal.returns-clause-step
-returns-clause-step c = steps_determined
-
-pub returns-clause-run : goal.returns-clause-run
-returns-clause-run c = runs_determined

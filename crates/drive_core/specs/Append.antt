@@ -1,0 +1,66 @@
+-- A change at the position, which adds objects there: WRITE and WRITE FILEMARKS.
+use Rattle.std.specs.Prelude.{◌≡◌, ◌≤◌, ◌+◌, ◌++◌, ◌⊎◌, ℕ, List, [], ◌∷◌, length, Option, None, Some, Bool, true, false, Result, Ok, Err}
+use Rattle.scsi_wire.specs.declared.replies.Reply.{Reply}
+use Rattle.scsi_wire.specs.Replies.{good_with, check_with}
+use Rattle.scsi_wire.specs.Senses.{volume_overflow}
+use Rattle.volume_core.specs.declared.changes.Change.{Change}
+use Rattle.volume_core.specs.declared.changes.Change.TheVariants.{Put, Marks, Erase}
+use Rattle.volume_core.specs.declared.changes.Refusal.{Refusal}
+use Rattle.volume_core.specs.declared.changes.Refusal.TheVariants.{NoRoom}
+use Rattle.volume_core.specs.Volume.{refusal_of, changed, added_by}
+use Rattle.volume_core.specs.Medium.{MediumState, IsFull, Works, Breaks}
+use Rattle.drive_core.specs.declared.bays.Position.{Position}
+use Rattle.drive_core.specs.declared.faults.Fault.{Fault}
+use Rattle.drive_core.specs.declared.faults.Fault.TheVariants.{NoMemory, Writing, Reading, SideFull}
+use Rattle.drive_core.specs.State.{Mounted, contents_of}
+use Rattle.drive_core.specs.Relations.{MediumRelation, Stays, FailsToStore}
+
+-- what INFORMATION tells of a change that does not fit: the bytes of its block, the number of its marks
+-- (SSC-4, WRITE(6), WRITE FILEMARKS(6); all of them, own)
+abbrev pub amount_of : Change → ℕ
+amount_of (Put part at block) = length block
+amount_of (Marks part at count) = count
+amount_of (Erase part at) = 0
+
+-- the position behind what a change adds at a position (SSC-4, logical position)
+abbrev pub behind : Change → Position → Position
+behind change position = record position { object = position.object + length (added_by change) }
+
+-- the change stands on a medium that works, and the position is behind it (SSC-4, WRITE(6), WRITE FILEMARKS(6))
+pub record IsAppended (change : Change) (old : Mounted) (medium : MediumState) (position : Position) : Type 0 where
+  pub medium_is : Works (changed (contents_of old) change) medium
+  pub position_is : position ≡ behind change old.position
+
+-- where no fault came, by whether the volume refuses the change; one that settles leaves nothing pending (SSC-4; GOOD
+-- in the early zone too, and nothing written that does not fit whole, own)
+abbrev pub AppendAnswer :
+    Option Refusal → Bool → Change → Mounted → Reply → List Change → Mounted → Type 0
+AppendAnswer None settles change old reply made new =
+    (reply ≡ good_with []) × (made ≡ change ∷ []) × IsAppended change old new.medium new.position
+    × (settles ≡ true → new.medium.pending ≡ [])
+AppendAnswer (Some NoRoom) settles change old reply made new =
+    (reply ≡ check_with (volume_overflow (Some (amount_of change))) []) × (made ≡ []) × (new ≡ old)
+AppendAnswer (Some _) settles change old reply made new = ⊥
+
+-- the device failed: while room was made in the buffer, before the change was accepted; or once it was, and then only
+-- where it settles (own)
+abbrev pub AppendFails : Bool → Change → Mounted → List Change → Mounted → Type 0
+AppendFails settles change old made new =
+    ((made ≡ []) × FailsToStore old new)
+    ⊎ ((settles ≡ true) × (made ≡ change ∷ [])
+      × (between : MediumState) × IsAppended change old between new.position × Breaks between new.medium)
+
+-- A change is made at the position, or nothing is changed. Memory runs out, the side is full and the device fails only
+-- for a change that the volume does not refuse; a side is full only where what is pending and the change exceed its
+-- room (SSC-4; faults own).
+abbrev pub AppendWork : Bool → Change → MediumRelation
+AppendWork settles change old (Ok reply) made new =
+    AppendAnswer (refusal_of (contents_of old) change) settles change old reply made new
+AppendWork settles change old (Err NoMemory) made new =
+    (refusal_of (contents_of old) change ≡ None) × (made ≡ []) × Stays old new
+AppendWork settles change old (Err (SideFull residue)) made new =
+    (refusal_of (contents_of old) change ≡ None) × (residue ≡ Some (amount_of change)) × (made ≡ [])
+    × (new ≡ old) × IsFull old.medium.room (old.medium.pending ++ change ∷ [])
+AppendWork settles change old (Err Writing) made new =
+    (refusal_of (contents_of old) change ≡ None) × AppendFails settles change old made new
+AppendWork settles change old (Err Reading) made new = ⊥

@@ -1,0 +1,26 @@
+-- What the work of a command owes, over any medium and the position on it.
+use Rattle.std.specs.Prelude.{◌≡◌, List, Result, true, false, Bool}
+use Rattle.vtl_base.specs.Below.{Below, Advances}
+use Rattle.scsi_wire.specs.declared.replies.Reply.{Reply}
+use Rattle.volume_core.specs.declared.changes.Change.{Change}
+use Rattle.volume_core.specs.Medium.{MediumState}
+use Rattle.volume_core.specs.Stores.{Stores}
+use Rattle.drive_core.specs.declared.bays.Position.{Position}
+use Rattle.drive_core.specs.declared.faults.Fault.{Fault}
+use Rattle.drive_core.specs.State.{Mounted, mounted, IsPositioned}
+use Rattle.drive_core.specs.Relations.{MediumRelation}
+use Rattle.drive_core.specs.Execute.{is_device_fault}
+
+-- the position is on a medium that has not failed
+pub record IsReady (m : Mounted) : Type 0 where
+  pub on : IsPositioned m.medium m.position
+  pub works : m.medium.failed ≡ false
+
+-- a medium and the position on it go through such work, and the medium accepts just the changes that it makes
+pub record Carries {M : Type 0}
+    (state : M → MediumState) (below : Below M Change)
+    (W : MediumRelation) (old : M) (before : Position) (answer : Result Reply Fault) (new : M) (now : Position) : Type 0 where
+  pub made : List Change
+  pub work : W (mounted (state old) before) answer made (mounted (state new) now)
+  pub advances : Advances below old made (is_device_fault answer) new
+  pub stores : Stores (state old) made (state new)

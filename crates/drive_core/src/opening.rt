@@ -1,0 +1,79 @@
+//! Opening a medium that comes into a drive.
+ghost use Rattle.std.specs.Prelude.{◌≡◌, [], true, IfOk};
+ghost use Rattle.scsi_wire.specs.Replies.{check_with};
+
+ghost use Rattle.drive_core.specs.declared.bays.Bay.TheVariants as Bays;
+ghost use Rattle.drive_core.specs.State.{start, IsPositioned, IsBayPositioned};
+ghost use Rattle.drive_core.specs.Faults.{reply_of};
+ghost use Rattle.drive_core.specs.Load.{wake_answer};
+ghost use Rattle.drive_core.specs.Inner.Opening.{OpensInto};
+
+use crate::bays::{Bay, Position};
+use crate::faults::Fault;
+use scsi_wire::{Reply, Sense};
+use std::alloc::Global;
+use volume_core::{Catalog, Medium, MediumError};
+use vtl_base::Bytes;
+
+// The beginning of the medium (SSC-4).
+pub const START: Position = Position { part: 0, object: 0 };
+
+/// Where a medium stands once the power is on: opened and loaded, or unloaded where its side is
+/// refused. It comes back where memory runs out.
+pub fn open<M: Medium>(medium: M) -> Result<Bay<M>, M>
+    ensures opens { OpensInto M.state M.below medium result }
+    ensures on { IfOk result (λ bay. IsBayPositioned M.state bay start) }
+{
+    let mut medium = medium;
+    match medium.wake() {
+        Ok(()) => Ok(loaded(medium)),
+        Err(MediumError::Failed) => Ok(loaded(medium)),
+        Err(MediumError::Unreadable) => Ok(Bay::Unloaded(medium)),
+        Err(MediumError::Device) => Ok(Bay::Unloaded(medium)),
+        Err(MediumError::NoMemory) => Err(medium),
+        Err(MediumError::SideFull) => unreachable!(),
+        Err(MediumError::Refused(_)) => unreachable!(),
+    }
+}
+
+// A medium that is awake, at its start.
+fn loaded<M: Medium>(medium: M) -> Bay<M>
+    requires { (M.state medium).awake ≡ true }
+    ensures bay { result ≡ Bays.Loaded medium }
+    ensures on { IsPositioned (M.state medium) start }
+{
+    let _ = start_of(&medium);
+    Bay::Loaded(medium)
+}
+
+/// Where a medium is loaded: its start, which is on it, since it has at least one partition. The
+/// count of partitions is asked for the proof's sake alone.
+pub fn start_of<M: Catalog>(medium: &M) -> Position
+    requires { (M.state medium.now).awake ≡ true }
+    ensures start { result ≡ start }
+    ensures on { IsPositioned (M.state medium.now) result }
+{
+    let _ = medium.parts();
+    START
+}
+
+/// What a host is told of a medium that could not be opened. It takes no memory.
+pub fn wake_reply(alloc: Global, error: MediumError) -> Reply
+    ensures { result ≡ reply_of (wake_answer error) }
+{
+    match error {
+        MediumError::NoMemory => Fault::NoMemory.reply(alloc),
+        MediumError::Device => Fault::Reading.reply(alloc),
+        MediumError::Unreadable => check(alloc, Sense::read_error()),
+        MediumError::Failed => check(alloc, Sense::medium_failed()),
+        MediumError::SideFull => check(alloc, Sense::medium_failed()),
+        MediumError::Refused(_) => check(alloc, Sense::medium_failed()),
+    }
+}
+
+/// CHECK CONDITION with no data.
+pub fn check(alloc: Global, sense: Sense) -> Reply
+    ensures { result ≡ check_with sense [] }
+{
+    Reply::check(sense, Bytes::new(alloc))
+}
