@@ -23,12 +23,12 @@ fn moved(from: Pos, obj: ObjNo, stop: Stop, left: u32) -> Moved
 }
 
 fn blocks_forward<C: Catalog>(catalog: &C, pos: Pos, count: u32) -> Moved
-    requires awake { (C.tape catalog.now).awake ≡ true }
-    requires on_tape { IsOnTape (volume_of (C.tape catalog.now)) pos }
+    requires awake { (C.state catalog.now).awake ≡ true }
+    requires on_tape { IsOnTape (volume_of (C.state catalog.now)) pos }
     ensures part { result.pos.part ≡ pos.part }
-    ensures moves { BlocksForward (objects_of (volume_of (C.tape catalog.now)) pos.part) pos.obj count
+    ensures moves { BlocksForward (objects_of (volume_of (C.state catalog.now)) pos.part) pos.obj count
         result.pos.obj result.stop result.left }
-    ensures on_tape { result.pos.obj ≤ count_of (volume_of (C.tape catalog.now)) pos.part }
+    ensures on_tape { result.pos.obj ≤ count_of (volume_of (C.state catalog.now)) pos.part }
 {
     let ahead = catalog.count(pos.part) - pos.obj;
     let most = count.min(ahead);
@@ -43,12 +43,12 @@ fn blocks_forward<C: Catalog>(catalog: &C, pos: Pos, count: u32) -> Moved
 }
 
 fn blocks_backward<C: Catalog>(catalog: &C, pos: Pos, count: u32) -> Moved
-    requires awake { (C.tape catalog.now).awake ≡ true }
-    requires on_tape { IsOnTape (volume_of (C.tape catalog.now)) pos }
+    requires awake { (C.state catalog.now).awake ≡ true }
+    requires on_tape { IsOnTape (volume_of (C.state catalog.now)) pos }
     ensures part { result.pos.part ≡ pos.part }
-    ensures moves { BlocksBackward (objects_of (volume_of (C.tape catalog.now)) pos.part) pos.obj
+    ensures moves { BlocksBackward (objects_of (volume_of (C.state catalog.now)) pos.part) pos.obj
         count result.pos.obj result.stop result.left }
-    ensures on_tape { result.pos.obj ≤ count_of (volume_of (C.tape catalog.now)) pos.part }
+    ensures on_tape { result.pos.obj ≤ count_of (volume_of (C.state catalog.now)) pos.part }
 {
     let most = count.min(pos.obj);
     let walk = backward(catalog, pos.part, pos.obj, pos.obj - most, 1);
@@ -62,13 +62,13 @@ fn blocks_backward<C: Catalog>(catalog: &C, pos: Pos, count: u32) -> Moved
 }
 
 fn marks_forward<C: Catalog>(catalog: &C, pos: Pos, count: u32) -> Moved
-    requires awake { (C.tape catalog.now).awake ≡ true }
-    requires on_tape { IsOnTape (volume_of (C.tape catalog.now)) pos }
+    requires awake { (C.state catalog.now).awake ≡ true }
+    requires on_tape { IsOnTape (volume_of (C.state catalog.now)) pos }
     requires some { 1 ≤ count }
     ensures part { result.pos.part ≡ pos.part }
-    ensures moves { MarksForward (objects_of (volume_of (C.tape catalog.now)) pos.part) pos.obj count
+    ensures moves { MarksForward (objects_of (volume_of (C.state catalog.now)) pos.part) pos.obj count
         result.pos.obj result.stop result.left }
-    ensures on_tape { result.pos.obj ≤ count_of (volume_of (C.tape catalog.now)) pos.part }
+    ensures on_tape { result.pos.obj ≤ count_of (volume_of (C.state catalog.now)) pos.part }
 {
     let walk = forward(catalog, pos.part, pos.obj, catalog.count(pos.part), count);
     let stop = if walk.left == 0 {
@@ -80,13 +80,13 @@ fn marks_forward<C: Catalog>(catalog: &C, pos: Pos, count: u32) -> Moved
 }
 
 fn marks_backward<C: Catalog>(catalog: &C, pos: Pos, count: u32) -> Moved
-    requires awake { (C.tape catalog.now).awake ≡ true }
-    requires on_tape { IsOnTape (volume_of (C.tape catalog.now)) pos }
+    requires awake { (C.state catalog.now).awake ≡ true }
+    requires on_tape { IsOnTape (volume_of (C.state catalog.now)) pos }
     requires some { 1 ≤ count }
     ensures part { result.pos.part ≡ pos.part }
-    ensures moves { MarksBackward (objects_of (volume_of (C.tape catalog.now)) pos.part) pos.obj
+    ensures moves { MarksBackward (objects_of (volume_of (C.state catalog.now)) pos.part) pos.obj
         count result.pos.obj result.stop result.left }
-    ensures on_tape { result.pos.obj ≤ count_of (volume_of (C.tape catalog.now)) pos.part }
+    ensures on_tape { result.pos.obj ≤ count_of (volume_of (C.state catalog.now)) pos.part }
 {
     let walk = backward(catalog, pos.part, pos.obj, 0, count);
     let stop = if walk.left == 0 {
@@ -100,12 +100,12 @@ fn marks_backward<C: Catalog>(catalog: &C, pos: Pos, count: u32) -> Moved
 /// Goes over so many blocks or filemarks, backward where the count is below 0, or to the end of data.
 /// It always succeeds, and looks at no more objects than the partition has.
 pub fn space<C: Catalog>(catalog: &C, pos: Pos, code: SpaceCode, count: i32) -> Moved
-    requires awake { (C.tape catalog.now).awake ≡ true }
-    requires on_tape { IsOnTape (volume_of (C.tape catalog.now)) pos }
+    requires awake { (C.state catalog.now).awake ≡ true }
+    requires on_tape { IsOnTape (volume_of (C.state catalog.now)) pos }
     ensures part { result.pos.part ≡ pos.part }
-    ensures moves { SpacesTo (objects_of (volume_of (C.tape catalog.now)) pos.part) pos.obj code count
+    ensures moves { SpacesTo (objects_of (volume_of (C.state catalog.now)) pos.part) pos.obj code count
         result.pos.obj result.stop result.left }
-    ensures on_tape { IsOnTape (volume_of (C.tape catalog.now)) result.pos }
+    ensures on_tape { IsOnTape (volume_of (C.state catalog.now)) result.pos }
 {
     let size = count.unsigned_abs();
     match code {
@@ -121,12 +121,12 @@ pub fn space<C: Catalog>(catalog: &C, pos: Pos, code: SpaceCode, count: i32) -> 
 /// Goes to an object of the partition that the position is in, or to the end of data where there are
 /// fewer. It always succeeds, and looks at no object.
 pub fn locate<C: Catalog>(catalog: &C, pos: Pos, to: ObjNo) -> Moved
-    requires awake { (C.tape catalog.now).awake ≡ true }
-    requires on_tape { IsOnTape (volume_of (C.tape catalog.now)) pos }
+    requires awake { (C.state catalog.now).awake ≡ true }
+    requires on_tape { IsOnTape (volume_of (C.state catalog.now)) pos }
     ensures part { result.pos.part ≡ pos.part }
-    ensures moves { LocatesTo (objects_of (volume_of (C.tape catalog.now)) pos.part) to
+    ensures moves { LocatesTo (objects_of (volume_of (C.state catalog.now)) pos.part) to
         result.pos.obj result.stop result.left }
-    ensures on_tape { IsOnTape (volume_of (C.tape catalog.now)) result.pos }
+    ensures on_tape { IsOnTape (volume_of (C.state catalog.now)) result.pos }
 {
     let end = catalog.count(pos.part);
     if to <= end {

@@ -9,9 +9,9 @@ use volume_core::{Catalog, is_in_early_zone};
 
 /// The 20 bytes of READ POSITION's short form for a position, where nothing is pending (SSC-4).
 pub fn report<C: Catalog>(catalog: &C, pos: Pos) -> [u8; 20]
-    requires awake { (C.tape catalog.now).awake ≡ true }
-    requires on_tape { IsOnTape (volume_of (C.tape catalog.now)) pos }
-    ensures { result ≡ report_of (volume_of (C.tape catalog.now)) pos }
+    requires awake { (C.state catalog.now).awake ≡ true }
+    requires on_tape { IsOnTape (volume_of (C.state catalog.now)) pos }
+    ensures { result ≡ report_of (volume_of (C.state catalog.now)) pos }
 {
     let used = catalog.used(pos.part, pos.obj);
     let beginning = if pos.obj == 0 { 0x80 } else { 0 };
@@ -20,27 +20,9 @@ pub fn report<C: Catalog>(catalog: &C, pos: Pos) -> [u8; 20]
     } else {
         0
     };
+    let flags = beginning + near_end;
     let [a, b, c, d] = pos.obj.to_be_bytes();
     [
-        beginning + near_end,
-        pos.part,
-        0,
-        0,
-        a,
-        b,
-        c,
-        d,
-        a,
-        b,
-        c,
-        d,
-        0,
-        0,
-        0,
-        0,
-        0,
-        0,
-        0,
-        0,
+        flags, pos.part, 0, 0, a, b, c, d, a, b, c, d, 0, 0, 0, 0, 0, 0, 0, 0,
     ]
 }

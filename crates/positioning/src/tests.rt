@@ -1,5 +1,5 @@
 //! Motions against a plain program, by rows worked by hand, and by the objects that they look at.
-ghost use Rattle.std.specs.Prelude.{◌≡◌, true};
+ghost use Rattle.std.specs.Prelude.{◌≡◌, true, IfOk};
 
 mod counting;
 mod plain;
@@ -16,7 +16,9 @@ use vtl_base::Bytes;
 
 // A cartridge of two partitions. The first has these objects: a block of one byte for a `b`, else a
 // filemark.
-fn tape(alloc: Global, objects: &str) -> Result<PlainMedium, Fail> {
+fn tape(alloc: Global, objects: &str) -> Result<PlainMedium, Fail>
+    ensures { IfOk result (λ medium. medium.awake ≡ true) }
+{
     let mut medium = PlainMedium::new(alloc, &[4_096, 4_111])?;
     let mut at = 0u32;
     for object in objects.bytes() {
@@ -31,7 +33,7 @@ fn tape(alloc: Global, objects: &str) -> Result<PlainMedium, Fail> {
 }
 
 fn spaced<C: Catalog>(catalog: &C, pos: Pos, code: SpaceCode, count: i32) -> Option<Moved>
-    requires { (C.tape catalog.now).awake ≡ true }
+    requires { (C.state catalog.now).awake ≡ true }
 {
     if pos.part < catalog.parts() && pos.obj <= catalog.count(pos.part) {
         Some(space(catalog, pos, code, count))
@@ -41,7 +43,7 @@ fn spaced<C: Catalog>(catalog: &C, pos: Pos, code: SpaceCode, count: i32) -> Opt
 }
 
 fn located<C: Catalog>(catalog: &C, pos: Pos, to: u32) -> Option<Moved>
-    requires { (C.tape catalog.now).awake ≡ true }
+    requires { (C.state catalog.now).awake ≡ true }
 {
     if pos.part < catalog.parts() && pos.obj <= catalog.count(pos.part) {
         Some(locate(catalog, pos, to))
@@ -58,45 +60,27 @@ fn ended(part: u8, obj: u32, stop: Stop, left: u32) -> Option<Moved> {
     })
 }
 
+const CODES: [SpaceCode; 3] = [
+    SpaceCode::Blocks,
+    SpaceCode::Filemarks,
+    SpaceCode::EndOfData,
+];
+
+const COUNTS: [i32; 21] = [
+    -8_388_608, -9, -8, -7, -6, -5, -4, -3, -2, -1, 0, 1, 2, 3, 4, 5, 6, 7, 8, 9, 8_388_607,
+];
+
 // From each position of these objects, with each code, both ways.
-fn steps_as_the_plain_program(rt: &impl Abort, alloc: Global, objects: &str) -> Result<(), Fail> {
+fn goes_as_the_plain_program(rt: &impl Abort, alloc: Global, objects: &str) -> Result<(), Fail> {
     let medium = tape(alloc, objects)?;
-    let objects = objects.as_bytes();
-    for obj in 0..objects.len() as u32 + 1 {
-        for code in [
-            SpaceCode::Blocks,
-            SpaceCode::Filemarks,
-            SpaceCode::EndOfData,
-        ] {
-            for count in [
-                -8_388_608,
-                -9,
-                -8,
-                -7,
-                -6,
-                -5,
-                -4,
-                -3,
-                -2,
-                -1,
-                0,
-                1,
-                2,
-                3,
-                4,
-                5,
-                6,
-                7,
-                8,
-                9,
-                8_388_607,
-                i32::MIN,
-                i32::MAX,
-            ] {
-                let (end, stop, left) = stepped(objects, obj, code, count);
+    let end = medium.count(0);
+    for obj in 0..end + 1 {
+        for code in CODES {
+            for count in COUNTS {
+                let (to, stop, left) = stepped(objects.as_bytes(), end, obj, code, count);
                 assert_eq!(rt;
                     spaced(&medium, Pos { part: 0, obj }, code, count),
-                    ended(0, end, stop, left),
+                    ended(0, to, stop, left),
                     "{count} from {obj}"
                 );
             }
@@ -109,7 +93,7 @@ fn steps_as_the_plain_program(rt: &impl Abort, alloc: Global, objects: &str) -> 
 fn space_goes_as_the_plain_program(rt: HostRuntime) -> Result<(), Fail> {
     let alloc = rt.alloc();
     for objects in ["", "b", "m", "bbb", "mmm", "bbmbmmbb", "mbbmmbbm"] {
-        steps_as_the_plain_program(&rt, alloc, objects)?;
+        goes_as_the_plain_program(&rt, alloc, objects)?;
     }
     Ok(())
 }

@@ -1,4 +1,4 @@
-//! Steps from object to object. Every motion that has to look at objects takes its steps here.
+//! Walks from object to object. A motion that has to look at objects looks at them here, and nowhere else.
 ghost use Rattle.std.specs.Prelude.{◌≡◌, ◌≤◌, ◌<◌, true};
 ghost use Rattle.std.specs.Bool.{MatchBool};
 ghost use Rattle.volume_core.specs.Volume.{count_of, objects_of};
@@ -17,16 +17,13 @@ pub(crate) struct Walk {
 }
 
 // Whether a filemark stands at a place, or else a block.
-fn stands_mark<C: Catalog>(catalog: &C, part: PartNo, at: ObjNo) -> bool
-    requires awake { (C.tape catalog.now).awake ≡ true }
-    requires object { at < count_of (volume_of (C.tape catalog.now)) part }
-    ensures { MatchBool result (IsMarkAt (objects_of (volume_of (C.tape catalog.now)) part) at)
-        (IsBlockAt (objects_of (volume_of (C.tape catalog.now)) part) at) }
+fn is_mark_at<C: Catalog>(catalog: &C, part: PartNo, at: ObjNo) -> bool
+    requires awake { (C.state catalog.now).awake ≡ true }
+    requires object { at < count_of (volume_of (C.state catalog.now)) part }
+    ensures { MatchBool result (IsMarkAt (objects_of (volume_of (C.state catalog.now)) part) at)
+        (IsBlockAt (objects_of (volume_of (C.state catalog.now)) part) at) }
 {
-    match catalog.kind_at(part, at) {
-        Some(Kind::Mark) => true,
-        _ => false,
-    }
+    matches!(catalog.kind_at(part, at), Some(Kind::Mark))
 }
 
 // Walks on until so many filemarks were passed, but no further than the limit.
@@ -38,16 +35,16 @@ pub(crate) fn forward<C: Catalog>(
     limit: ObjNo,
     marks: u32,
 ) -> Walk
-    requires awake { (C.tape catalog.now).awake ≡ true }
+    requires awake { (C.state catalog.now).awake ≡ true }
     requires range { from ≤ limit }
-    requires limit { limit ≤ count_of (volume_of (C.tape catalog.now)) part }
+    requires limit { limit ≤ count_of (volume_of (C.state catalog.now)) part }
     requires some { 1 ≤ marks }
-    ensures { WalksForward (objects_of (volume_of (C.tape catalog.now)) part) from limit marks
+    ensures { WalksForward (objects_of (volume_of (C.state catalog.now)) part) from limit marks
         result.at result.left }
 {
     let mut left = marks;
     for at in from..limit {
-        if stands_mark(catalog, part, at) {
+        if is_mark_at(catalog, part, at) {
             left -= 1;
             if left == 0 {
                 return Walk { at: at + 1, left };
@@ -66,16 +63,16 @@ pub(crate) fn backward<C: Catalog>(
     limit: ObjNo,
     marks: u32,
 ) -> Walk
-    requires awake { (C.tape catalog.now).awake ≡ true }
+    requires awake { (C.state catalog.now).awake ≡ true }
     requires range { limit ≤ from }
-    requires on_tape { from ≤ count_of (volume_of (C.tape catalog.now)) part }
+    requires on_tape { from ≤ count_of (volume_of (C.state catalog.now)) part }
     requires some { 1 ≤ marks }
-    ensures { WalksBackward (objects_of (volume_of (C.tape catalog.now)) part) from limit marks
+    ensures { WalksBackward (objects_of (volume_of (C.state catalog.now)) part) from limit marks
         result.at result.left }
 {
     let mut left = marks;
     for at in (limit..from).rev() {
-        if stands_mark(catalog, part, at) {
+        if is_mark_at(catalog, part, at) {
             left -= 1;
             if left == 0 {
                 return Walk { at, left };

@@ -1,4 +1,6 @@
 //! A catalog that counts the objects that are looked at.
+ghost use Rattle.std.specs.Prelude.{◌≡◌};
+
 use std::cell::Cell;
 use volume_core::{Catalog, Kind, PlainMedium};
 use vtl_base::{ObjNo, PartNo};
@@ -10,7 +12,9 @@ pub(crate) struct Counting<'a> {
 }
 
 impl<'a> Counting<'a> {
-    pub(crate) fn new(medium: &'a PlainMedium) -> Self {
+    pub(crate) fn new(medium: &'a PlainMedium) -> Self
+        ensures { result.medium.now ≡ medium.now }
+    {
         Counting {
             medium,
             looks: Cell::new(0),
@@ -23,9 +27,9 @@ impl<'a> Counting<'a> {
 }
 
 impl<'a> Catalog for Counting<'a> {
-    ghost use Rattle.volume_core.specs.Medium.{plain_tape};
+    ghost use Rattle.volume_core.specs.Plain.{plain_state};
 
-    ghost tape = { λ c. plain_tape c.medium.now };
+    ghost state = { λ c. plain_state c.medium.now };
 
     fn parts(&self) -> PartNo {
         self.medium.parts()

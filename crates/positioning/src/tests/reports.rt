@@ -4,11 +4,11 @@ ghost use Rattle.std.specs.Prelude.{◌≡◌, true};
 use crate::{Pos, report};
 use std::alloc::Global;
 use std::test::Fail;
-use volume_core::{Catalog, Medium, PlainMedium};
+use volume_core::{Catalog, Medium, PlainMedium, are_capacities};
 use vtl_base::Bytes;
 
 pub(crate) fn reported<C: Catalog>(catalog: &C, pos: Pos) -> Option<[u8; 20]>
-    requires { (C.tape catalog.now).awake ≡ true }
+    requires { (C.state catalog.now).awake ≡ true }
 {
     if pos.part < catalog.parts() && pos.obj <= catalog.count(pos.part) {
         Some(report(catalog, pos))
@@ -38,9 +38,14 @@ fn reports_by_rows(rt: HostRuntime) -> Result<(), Fail> {
     Ok(())
 }
 
-// One block in each of two partitions; the first is the second's capacity away.
+// The first byte at an object of the second partition, which has this capacity, one block of this length
+// and a filemark.
 fn flags(alloc: Global, capacity: u64, length: usize, obj: u32) -> Result<Option<u8>, Fail> {
-    let mut medium = PlainMedium::new(alloc, &[1_099_511_627_776, capacity])?;
+    let capacities = [1_099_511_627_776, capacity];
+    if !are_capacities(&capacities) {
+        return Ok(None);
+    }
+    let mut medium = PlainMedium::new(alloc, &capacities)?;
     medium.put(1, 0, Bytes::from_vec(vec![in alloc; 7u8; length]?))?;
     medium.marks(1, 1, 1)?;
     Ok(reported(&medium, Pos { part: 1, obj }).map(|bytes| bytes[0]))

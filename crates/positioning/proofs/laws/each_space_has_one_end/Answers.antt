@@ -1,4 +1,5 @@
-use Rattle.positioning.proofs.LawLemmas.{each_ends, no_second_end}
+use Rattle.positioning.proofs.WalkLemmas.{each_ends}
+use Rattle.positioning.proofs.LawLemmas.{no_second_end}
 use Rattle.positioning.proofs.laws.each_space_has_one_end.Goals as goal
 
 pub returns : goal.returns

@@ -6,5 +6,5 @@ use Rattle.positioning.proofs.walks.forward.Given as goal
 
 abbrev pub invariant-loop-at : goal.invariant-loop-at
 invariant-loop-at g l =
-    let objects = objects_of (volume_of (g.C.Catalog.tape l.catalog)) l.part in
+    let objects = objects_of (volume_of (g.C.Catalog.state l.catalog)) l.part in
     (marks_between objects l.from l.at + l.left ≡ l.marks) × (1 ≤ l.left)
