@@ -27,7 +27,10 @@ most_before objects from count passed within blocks last = record {
   has = blocks;
   greatest = λ other below has.
       let no_more : passed < other → ⊥ =
-      λ more. last (omega arith) (omega (arith, has.0)) (has.1 (from - passed - 1) (omega arith) (omega (arith, has.0))) in
+      λ more.
+      let next : IsBlockAt objects (from - passed - 1) =
+      has.1 (from - passed - 1) (omega arith) (omega (arith, has.0)) in
+      last (omega arith) (omega (arith, has.0)) next in
       omega (arith, no_more);
 }
 
@@ -41,7 +44,8 @@ forward_mark objects from count mark ahead within here none =
     rw place (are_blocks objects from mark (omega (arith, mark_inside objects mark here)) none) in
     let met : IsMarkAt objects (from + (mark - from)) = rw place here in (
       mark - from,
-      most_on objects from count (mark - from) (omega arith) blocks (λ more block. not_both objects (from + (mark - from)) block met),
+      most_on objects from count (mark - from) (omega arith) blocks
+          (λ more block. not_both objects (from + (mark - from)) block met),
       (omega arith, met, omega arith, refl),
     )
 
@@ -50,7 +54,8 @@ forward_all : (objects : List Object) (from count : ℕ) → from + count ≤ le
     → BlocksForward objects from count (from + count) Done 0
 forward_all objects from count inside none = (
   count,
-  most_on objects from count count (omega arith) (are_blocks objects from (from + count) inside none) (λ more block. omega arith),
+  most_on objects from count count (omega arith) (are_blocks objects from (from + count) inside none)
+      (λ more block. omega arith),
   (refl, refl, refl),
 )
 
@@ -117,9 +122,13 @@ walk_to_mark objects from count most at left end stop rest walk fits met e s r =
           let here : IsMarkAt objects mark = found.0.2 in
           let counted : marks_between objects from (mark + 1) + left ≡ 1 = rw behind at walk.counted in
           let apart : from ≡ mark + 1 → ⊥ =
-          λ same. omega (arith, counted, ap (λ (f : ℕ). marks_between objects f (mark + 1)) same ∙ none_between objects (mark + 1)) in
+          λ same.
+          let none : marks_between objects from (mark + 1) ≡ 0 =
+          ap (λ (f : ℕ). marks_between objects f (mark + 1)) same ∙ none_between objects (mark + 1) in
+          omega (arith, counted, none) in
           let ahead : from ≤ mark = omega (arith, apart, walk.ahead) in
-          let none : marks_between objects from mark ≡ 0 = omega (arith, counted, mark_behind objects from mark ahead here) in
+          let none : marks_between objects from mark ≡ 0 =
+          omega (arith, counted, mark_behind objects from mark ahead here) in
           let ends : end ≡ mark + 1 = e ∙ behind in
           let left_over : rest ≡ count - (mark - from) = omega (arith, r, behind) in
           rw (ends, s, left_over) (forward_mark objects from count mark ahead (omega (arith, walk.within)) here none)
@@ -165,11 +174,15 @@ walk_back_to_mark objects from count most at left end stop rest walk inside low 
       | inl limit ↦ absurd (omega (arith, limit.1))
       | inr found ↦
           let apart : from ≡ at → ⊥ =
-          λ same. omega (arith, walk.counted, ap (λ (f : ℕ). marks_between objects at f) same ∙ none_between objects at) in
+          λ same.
+          let none : marks_between objects at from ≡ 0 =
+          ap (λ (f : ℕ). marks_between objects at f) same ∙ none_between objects at in
+          omega (arith, walk.counted, none) in
           let behind : at + 1 ≤ from = omega (arith, apart, walk.behind) in
           let none : marks_between objects (at + 1) from ≡ 0 =
           omega (arith, walk.counted, mark_before objects at from behind found.0) in
-          rw (e, s, r) (backward_mark objects from count at inside (omega arith) (omega (arith, walk.within)) found.0 none)
+          rw (e, s, r)
+          (backward_mark objects from count at inside (omega arith) (omega (arith, walk.within)) found.0 none)
     ]
 
 pub walk_back_of_all : (objects : List Object) (from count most at left end : ℕ) (stop : Stop) (rest : ℕ)
@@ -197,6 +210,7 @@ walk_back_to_start objects from count most at left end stop rest walk inside all
           let ends : end ≡ 0 = e ∙ place in
           let counted : marks_between objects 0 from + left ≡ 1 = rw place at walk.counted in
           let left_over : rest ≡ count - from = omega arith in
-          rw (ends, s, left_over) (backward_start objects from count inside (omega arith) (omega (arith, counted, limit.1)))
+          rw (ends, s, left_over)
+          (backward_start objects from count inside (omega arith) (omega (arith, counted, limit.1)))
       | inr found ↦ absurd (none_met found.1)
     ]

@@ -20,7 +20,8 @@ one_greatest bound Has m n first second =
 same_forward : (objects : List Object) (from count m n end : ℕ) (stop : Stop) (left other : ℕ) (cause : Stop) (rest : ℕ)
     → m ≡ n → EndsForward objects from count m end stop left → EndsForward objects from count n other cause rest
     → (end ≡ other) × (stop ≡ cause) × (left ≡ rest)
-same_forward objects from count m n end Done left other Done rest e a b = (omega (arith, a, b), refl, omega (arith, a, b))
+same_forward objects from count m n end Done left other Done rest e a b =
+    (omega (arith, a, b), refl, omega (arith, a, b))
 same_forward objects from count m n end Done left other AtEnd rest e a b = absurd (omega (arith, a.0, b.0))
 same_forward objects from count m n end Done left other AtMark rest e a b = absurd (omega (arith, a.0, b.0))
 same_forward objects from count m n end AtEnd left other Done rest e a b = absurd (omega (arith, a.0, b.0))
@@ -36,10 +37,12 @@ same_forward objects from count m n end AtMark left other AtMark rest e a b =
 same_forward objects from count m n end AtStart left other cause rest e a b = absurd a
 same_forward objects from count m n end stop left other AtStart rest e a b = absurd b
 
-same_backward : (objects : List Object) (from count m n end : ℕ) (stop : Stop) (left other : ℕ) (cause : Stop) (rest : ℕ)
+same_backward : (objects : List Object) (from count m n end : ℕ) (stop : Stop) (left other : ℕ) (cause : Stop)
+    (rest : ℕ)
     → m ≡ n → EndsBackward objects from count m end stop left → EndsBackward objects from count n other cause rest
     → (end ≡ other) × (stop ≡ cause) × (left ≡ rest)
-same_backward objects from count m n end Done left other Done rest e a b = (omega (arith, a, b), refl, omega (arith, a, b))
+same_backward objects from count m n end Done left other Done rest e a b =
+    (omega (arith, a, b), refl, omega (arith, a, b))
 same_backward objects from count m n end Done left other AtStart rest e a b = absurd (omega (arith, a.0, b.0))
 same_backward objects from count m n end Done left other AtMark rest e a b = absurd (omega (arith, a.0, b.0))
 same_backward objects from count m n end AtStart left other Done rest e a b = absurd (omega (arith, a.0, b.0))
@@ -121,13 +124,19 @@ enough_ahead objects from a count left some rest behind counted short =
       counted,
       short,
       behind.1,
-      marks_split objects from a (length objects) (ahead_of objects from a count counted some) (omega (arith, behind.1)),
+      marks_split objects from a (length objects) (ahead_of objects from a count counted some)
+          (omega (arith, behind.1)),
     )
 
 enough_before : (objects : List Object) (from a count left : ℕ) → 1 ≤ count → 1 ≤ left
     → marks_between objects a from ≡ count → marks_between objects 0 from + left ≡ count → ⊥
 enough_before objects from a count left some rest counted short =
-    omega (arith, counted, short, marks_split objects 0 a from (omega arith) (ahead_of objects a from count counted some))
+    omega (
+      arith,
+      counted,
+      short,
+      marks_split objects 0 a from (omega arith) (ahead_of objects a from count counted some),
+    )
 
 same_marks : (objects : List Object) (from count end : ℕ) (stop : Stop) (left other : ℕ) (cause : Stop) (rest : ℕ)
     → 1 ≤ count → MarksForward objects from count end stop left → MarksForward objects from count other cause rest

@@ -125,7 +125,8 @@ one_further_back objects from limit marks at left behind inside walk =
           ]
     ]
 
-some_walk_back : (objects : List Object) (from far limit marks : ℕ) → limit + far ≡ from → from ≤ length objects → 1 ≤ marks
+some_walk_back : (objects : List Object) (from far limit marks : ℕ) → limit + far ≡ from → from ≤ length objects
+    → 1 ≤ marks
     → (at : ℕ) × (left : ℕ) × WalksBackward objects from limit marks at left
 some_walk_back objects from zero limit marks sum inside some = (
   from,
@@ -169,7 +170,8 @@ some_blocks objects from count most fits inside why =
               walk.0,
               AtEnd,
               count - most,
-              walk_to_end objects from count most walk.0 walk.1 walk.0 AtEnd _ walk.2 short.1 none_met short.0 refl refl refl,
+              walk_to_end objects from count most walk.0 walk.1 walk.0 AtEnd _ walk.2
+                  short.1 none_met short.0 refl refl refl,
             )
           ]
     ]
@@ -185,7 +187,8 @@ some_blocks_back objects from count most inside low fits why =
         walk.0,
         AtMark,
         count - (from - walk.0 - 1),
-        walk_back_to_mark objects from count most walk.0 walk.1 walk.0 AtMark _ walk.2 inside low fits found.1 refl refl refl,
+        walk_back_to_mark objects from count most walk.0 walk.1 walk.0 AtMark _ walk.2
+            inside low fits found.1 refl refl refl,
       )
       | inl limit ↦
           let none_met : ¬ (walk.1 ≡ 0) = λ met. omega (arith, met, limit.1) in
@@ -194,13 +197,15 @@ some_blocks_back objects from count most inside low fits why =
               walk.0,
               Done,
               0,
-              walk_back_of_all objects from count most walk.0 walk.1 walk.0 Done 0 walk.2 inside low none_met all refl refl refl,
+              walk_back_of_all objects from count most walk.0 walk.1 walk.0 Done 0 walk.2
+                  inside low none_met all refl refl refl,
             )
             | inr short ↦ (
               walk.0,
               AtStart,
               count - most,
-              walk_back_to_start objects from count most walk.0 walk.1 walk.0 AtStart _ walk.2 inside short.1 none_met short.0 refl refl refl,
+              walk_back_to_start objects from count most walk.0 walk.1 walk.0 AtStart _ walk.2
+                  inside short.1 none_met short.0 refl refl refl,
             )
           ]
     ]
@@ -208,9 +213,12 @@ some_blocks_back objects from count most inside low fits why =
 blocks_end : (objects : List Object) (from count : ℕ) → from ≤ length objects
     → (end : ℕ) × (stop : Stop) × (left : ℕ) × BlocksForward objects from count end stop left
 blocks_end objects from count inside =
-    let which : (length objects - from < count) ⊎ (count ≤ length objects - from) = cases_lt (length objects - from) count in
+    let which : (length objects - from < count) ⊎ (count ≤ length objects - from) =
+    cases_lt (length objects - from) count in
     elim which [
-      | inl short ↦ some_blocks objects from count (length objects - from) (omega arith) (omega arith) (inr (short, omega arith))
+      | inl short ↦
+          some_blocks objects from count (length objects - from) (omega arith) (omega arith)
+          (inr (short, omega arith))
       | inr fits ↦ some_blocks objects from count count (omega arith) (omega arith) (inl refl)
     ]
 

@@ -28,6 +28,7 @@ IsMarkAt objects at = kind_in (slice_get objects at) ≡ Some Kinds.Mark
 abbrev pub AreBlocks : List Object → ℕ → ℕ → Type 0
 AreBlocks objects from to = (at : ℕ) → from ≤ at → at < to → IsBlockAt objects at
 
+-- whether an object is a filemark (SSC-4, logical objects)
 abbrev pub is_mark : Object → Bool
 is_mark Mark = true
 is_mark (Block bytes) = false
@@ -98,13 +99,15 @@ MarksBackward objects from count end AtStart left =
 MarksBackward objects from count end AtMark left = ⊥
 MarksBackward objects from count end AtEnd left = ⊥
 
--- a motion over blocks passes the greatest number of them that lie in its way, up to the count
--- (SSC-4, SPACE(6))
+-- forward over blocks a motion passes the greatest number of objects, up to the count, that from the place
+-- on exist and are blocks (SSC-4, SPACE(6))
 abbrev pub BlocksForward : List Object → ℕ → ℕ → ℕ → Stop → ℕ → Type 0
 BlocksForward objects from count end stop left =
     (passed : ℕ) × IsGreatest count (BlocksOn objects from) passed
     × EndsForward objects from count passed end stop left
 
+-- backward over blocks it passes the greatest number of objects, up to the count, that before the place
+-- exist and are blocks (SSC-4, SPACE(6))
 abbrev pub BlocksBackward : List Object → ℕ → ℕ → ℕ → Stop → ℕ → Type 0
 BlocksBackward objects from count end stop left =
     (passed : ℕ) × IsGreatest count (BlocksBefore objects from) passed

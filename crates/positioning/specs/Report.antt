@@ -15,8 +15,7 @@ is_near_end volume position =
     is_in_early_zone (capacity_of volume position.part)
     (used_up_to volume position.part position.obj)
 
--- byte 0: bit 7 is BOP, bit 6 EOP; no other is set, since the buffer is empty and its numbers are known
--- (SSC-4, READ POSITION)
+-- byte 0: bit 7 is BOP, bit 6 EOP; no other is set, since nothing is buffered (SSC-4, READ POSITION)
 abbrev pub flags_of : List Part → Pos → ℕ
 flags_of volume position =
     (if is_beginning position then 0x80 else 0) + (if is_near_end volume position then 0x40 else 0)
@@ -25,8 +24,8 @@ flags_of volume position =
 abbrev pub object_number : Pos → List ℕ
 object_number position = to_be_bytes w32 position.obj
 
--- the 20 bytes: flags, partition, 2 reserved; the object that the host is at, and the one that the tape
--- is at; a reserved byte, 3 and 4 that count what is in the buffer (SSC-4, READ POSITION short form)
+-- the 20 bytes: flags, partition, 2 reserved; first and last logical object location, which are one where
+-- nothing is buffered; a reserved byte, and the objects and bytes in the buffer (SSC-4, READ POSITION)
 abbrev pub report_of : List Part → Pos → List ℕ
 report_of volume position =
     flags_of volume position ∷ position.part ∷ 0 ∷ 0 ∷ []

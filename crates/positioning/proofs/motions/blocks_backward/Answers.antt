@@ -10,9 +10,11 @@ returns-then-walk-eq0-clause-moves g c =
 pub returns-then-most-count-clause-moves : goal.returns-then-most-count-clause-moves
 returns-then-most-count-clause-moves g c =
     walk_back_of_all _ _ _ _ _ _ _ _ _ c.backward-walk.ensures c.requires.on_tape.object (omega arith)
-    c.if-walk-eq0.false c.if-most-count.true c.moved-then-most-count.ensures.obj c.moved-then-most-count.ensures.stop c.moved-then-most-count.ensures.left
+    c.if-walk-eq0.false c.if-most-count.true
+    c.moved-then-most-count.ensures.obj c.moved-then-most-count.ensures.stop c.moved-then-most-count.ensures.left
 
 pub returns-else-most-count-clause-moves : goal.returns-else-most-count-clause-moves
 returns-else-most-count-clause-moves g c =
     walk_back_to_start _ _ _ _ _ _ _ _ _ c.backward-walk.ensures c.requires.on_tape.object (omega arith)
-    c.if-walk-eq0.false (omega arith) c.moved-else-most-count.ensures.obj c.moved-else-most-count.ensures.stop c.moved-else-most-count.ensures.left
+    c.if-walk-eq0.false (omega arith)
+    c.moved-else-most-count.ensures.obj c.moved-else-most-count.ensures.stop c.moved-else-most-count.ensures.left
