@@ -3,14 +3,14 @@ use Rattle.std.proofs.Common.{◌≡◌, ◌≤◌, ◌<◌, ◌+◌, ◌-◌, �
 use Rattle.volume_core.specs.declared.objects.Object.{Object}
 use Rattle.positioning.specs.declared.positions.Stop.{Stop}
 use Rattle.positioning.specs.declared.positions.Stop.TheVariants.{Done, AtMark, AtEnd, AtStart}
-use Rattle.positioning.specs.Motion.{IsBlockAt, IsMarkAt, AreBlocks, BlocksOn, BlocksBefore, IsGreatest, EndsForward, EndsBackward, BlocksForward, BlocksBackward, marks_between}
+use Rattle.positioning.specs.Motion.{IsBlockAt, IsMarkAt, AreBlocks, AreBlocksFrom, AreBlocksBefore, IsGreatest, EndsForward, EndsBackward, ForwardOverBlocks, BackwardOverBlocks, marks_between}
 use Rattle.positioning.specs.Inner.Walks.{WalksForward, WalksBackward}
 use Rattle.positioning.proofs.MarkLemmas.{not_both, block_inside, none_between, mark_behind, mark_before, are_blocks, mark_inside}
 
 -- blocks that no further block follows are the most
-most_on : (objects : List Object) (from count passed : ℕ) → passed ≤ count → BlocksOn objects from passed
+most_on : (objects : List Object) (from count passed : ℕ) → passed ≤ count → AreBlocksFrom objects from passed
     → (passed < count → IsBlockAt objects (from + passed) → ⊥)
-    → IsGreatest count (BlocksOn objects from) passed
+    → IsGreatest count (AreBlocksFrom objects from) passed
 most_on objects from count passed within blocks last = record {
   within = within;
   has = blocks;
@@ -19,9 +19,9 @@ most_on objects from count passed within blocks last = record {
       omega (arith, no_more);
 }
 
-most_before : (objects : List Object) (from count passed : ℕ) → passed ≤ count → BlocksBefore objects from passed
+most_before : (objects : List Object) (from count passed : ℕ) → passed ≤ count → AreBlocksBefore objects from passed
     → (passed < count → passed < from → IsBlockAt objects (from - passed - 1) → ⊥)
-    → IsGreatest count (BlocksBefore objects from) passed
+    → IsGreatest count (AreBlocksBefore objects from) passed
 most_before objects from count passed within blocks last = record {
   within = within;
   has = blocks;
@@ -37,10 +37,10 @@ most_before objects from count passed within blocks last = record {
 -- forward, the blocks up to a filemark; all that were to be passed; or those up to the end of data
 forward_mark : (objects : List Object) (from count mark : ℕ) → from ≤ mark → mark < from + count
     → IsMarkAt objects mark → marks_between objects from mark ≡ 0
-    → BlocksForward objects from count (mark + 1) AtMark (count - (mark - from))
+    → ForwardOverBlocks objects from count (mark + 1) AtMark (count - (mark - from))
 forward_mark objects from count mark ahead within here none =
     let place : from + (mark - from) ≡ mark = omega arith in
-    let blocks : BlocksOn objects from (mark - from) =
+    let blocks : AreBlocksFrom objects from (mark - from) =
     rw place (are_blocks objects from mark (omega (arith, mark_inside objects mark here)) none) in
     let met : IsMarkAt objects (from + (mark - from)) = rw place here in (
       mark - from,
@@ -51,7 +51,7 @@ forward_mark objects from count mark ahead within here none =
 
 forward_all : (objects : List Object) (from count : ℕ) → from + count ≤ length objects
     → marks_between objects from (from + count) ≡ 0
-    → BlocksForward objects from count (from + count) Done 0
+    → ForwardOverBlocks objects from count (from + count) Done 0
 forward_all objects from count inside none = (
   count,
   most_on objects from count count (omega arith) (are_blocks objects from (from + count) inside none)
@@ -61,10 +61,10 @@ forward_all objects from count inside none = (
 
 forward_end : (objects : List Object) (from count : ℕ) → from ≤ length objects → length objects < from + count
     → marks_between objects from (length objects) ≡ 0
-    → BlocksForward objects from count (length objects) AtEnd (count - (length objects - from))
+    → ForwardOverBlocks objects from count (length objects) AtEnd (count - (length objects - from))
 forward_end objects from count inside short none =
     let place : from + (length objects - from) ≡ length objects = omega arith in
-    let blocks : BlocksOn objects from (length objects - from) =
+    let blocks : AreBlocksFrom objects from (length objects - from) =
     rw place (are_blocks objects from (length objects) (omega arith) none) in (
       length objects - from,
       most_on objects from count (length objects - from) (omega arith) blocks
@@ -75,11 +75,11 @@ forward_end objects from count inside short none =
 -- the same backward
 backward_mark : (objects : List Object) (from count mark : ℕ) → from ≤ length objects → mark < from
     → from ≤ mark + count → IsMarkAt objects mark → marks_between objects (mark + 1) from ≡ 0
-    → BlocksBackward objects from count mark AtMark (count - (from - mark - 1))
+    → BackwardOverBlocks objects from count mark AtMark (count - (from - mark - 1))
 backward_mark objects from count mark inside behind within here none =
     let place : from - (from - mark - 1) ≡ mark + 1 = omega arith in
     let last : from - (from - mark - 1) - 1 ≡ mark = omega arith in
-    let blocks : BlocksBefore objects from (from - mark - 1) =
+    let blocks : AreBlocksBefore objects from (from - mark - 1) =
     (omega arith, rw place (are_blocks objects (mark + 1) from inside none)) in (
       from - mark - 1,
       most_before objects from count (from - mark - 1) (omega arith) blocks
@@ -89,7 +89,7 @@ backward_mark objects from count mark inside behind within here none =
 
 backward_all : (objects : List Object) (from count : ℕ) → from ≤ length objects → count ≤ from
     → marks_between objects (from - count) from ≡ 0
-    → BlocksBackward objects from count (from - count) Done 0
+    → BackwardOverBlocks objects from count (from - count) Done 0
 backward_all objects from count inside fits none = (
   count,
   most_before objects from count count (omega arith) (fits, are_blocks objects (from - count) from inside none)
@@ -99,10 +99,11 @@ backward_all objects from count inside fits none = (
 
 backward_start : (objects : List Object) (from count : ℕ) → from ≤ length objects → from < count
     → marks_between objects 0 from ≡ 0
-    → BlocksBackward objects from count 0 AtStart (count - from)
+    → BackwardOverBlocks objects from count 0 AtStart (count - from)
 backward_start objects from count inside short none =
     let place : from - from ≡ 0 = omega arith in
-    let blocks : BlocksBefore objects from from = (omega arith, rw place (are_blocks objects 0 from inside none)) in (
+    let blocks : AreBlocksBefore objects from from =
+    (omega arith, rw place (are_blocks objects 0 from inside none)) in (
       from,
       most_before objects from count from (omega arith) blocks (λ more some block. omega arith),
       (short, refl, refl, refl),
@@ -112,7 +113,7 @@ backward_start objects from count inside short none =
 pub walk_to_mark : (objects : List Object) (from count most at left end : ℕ) (stop : Stop) (rest : ℕ)
     → WalksForward objects from (from + most) 1 at left → most ≤ count → left ≡ 0
     → end ≡ at → stop ≡ AtMark → rest ≡ count - (at - from - 1)
-    → BlocksForward objects from count end stop rest
+    → ForwardOverBlocks objects from count end stop rest
 walk_to_mark objects from count most at left end stop rest walk fits met e s r =
     elim walk.stops [
       | inl limit ↦ absurd (omega (arith, limit.1))
@@ -137,7 +138,7 @@ walk_to_mark objects from count most at left end stop rest walk fits met e s r =
 pub walk_of_all : (objects : List Object) (from count most at left end : ℕ) (stop : Stop) (rest : ℕ)
     → WalksForward objects from (from + most) 1 at left → from + most ≤ length objects → ¬ (left ≡ 0) → most ≡ count
     → end ≡ at → stop ≡ Done → rest ≡ 0
-    → BlocksForward objects from count end stop rest
+    → ForwardOverBlocks objects from count end stop rest
 walk_of_all objects from count most at left end stop rest walk inside none_met all e s r =
     elim walk.stops [
       | inl limit ↦
@@ -151,7 +152,7 @@ walk_of_all objects from count most at left end stop rest walk inside none_met a
 pub walk_to_end : (objects : List Object) (from count most at left end : ℕ) (stop : Stop) (rest : ℕ)
     → WalksForward objects from (from + most) 1 at left → from + most ≡ length objects → ¬ (left ≡ 0) → most < count
     → end ≡ at → stop ≡ AtEnd → rest ≡ count - most
-    → BlocksForward objects from count end stop rest
+    → ForwardOverBlocks objects from count end stop rest
 walk_to_end objects from count most at left end stop rest walk inside none_met short e s r =
     elim walk.stops [
       | inl limit ↦
@@ -168,7 +169,7 @@ walk_to_end objects from count most at left end stop rest walk inside none_met s
 pub walk_back_to_mark : (objects : List Object) (from count most at left end : ℕ) (stop : Stop) (rest : ℕ)
     → WalksBackward objects from (from - most) 1 at left → from ≤ length objects → most ≤ from → most ≤ count → left ≡ 0
     → end ≡ at → stop ≡ AtMark → rest ≡ count - (from - at - 1)
-    → BlocksBackward objects from count end stop rest
+    → BackwardOverBlocks objects from count end stop rest
 walk_back_to_mark objects from count most at left end stop rest walk inside low fits met e s r =
     elim walk.stops [
       | inl limit ↦ absurd (omega (arith, limit.1))
@@ -188,7 +189,7 @@ walk_back_to_mark objects from count most at left end stop rest walk inside low 
 pub walk_back_of_all : (objects : List Object) (from count most at left end : ℕ) (stop : Stop) (rest : ℕ)
     → WalksBackward objects from (from - most) 1 at left → from ≤ length objects → most ≤ from → ¬ (left ≡ 0)
     → most ≡ count → end ≡ at → stop ≡ Done → rest ≡ 0
-    → BlocksBackward objects from count end stop rest
+    → BackwardOverBlocks objects from count end stop rest
 walk_back_of_all objects from count most at left end stop rest walk inside low none_met all e s r =
     elim walk.stops [
       | inl limit ↦
@@ -202,7 +203,7 @@ walk_back_of_all objects from count most at left end stop rest walk inside low n
 pub walk_back_to_start : (objects : List Object) (from count most at left end : ℕ) (stop : Stop) (rest : ℕ)
     → WalksBackward objects from (from - most) 1 at left → from ≤ length objects → most ≡ from → ¬ (left ≡ 0)
     → most < count → end ≡ at → stop ≡ AtStart → rest ≡ count - most
-    → BlocksBackward objects from count end stop rest
+    → BackwardOverBlocks objects from count end stop rest
 walk_back_to_start objects from count most at left end stop rest walk inside all none_met short e s r =
     elim walk.stops [
       | inl limit ↦

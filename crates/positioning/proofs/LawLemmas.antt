@@ -6,7 +6,7 @@ use Rattle.positioning.specs.declared.positions.SpaceCode.{SpaceCode}
 use Rattle.positioning.specs.declared.positions.SpaceCode.TheVariants.{Blocks, Filemarks, EndOfData}
 use Rattle.positioning.specs.declared.positions.Stop.{Stop}
 use Rattle.positioning.specs.declared.positions.Stop.TheVariants.{Done, AtMark, AtEnd, AtStart}
-use Rattle.positioning.specs.Motion.{IsBlockAt, IsMarkAt, IsBehindMark, AreBlocks, BlocksOn, BlocksBefore, IsGreatest, EndsForward, EndsBackward, BlocksForward, BlocksBackward, MarksForward, MarksBackward, Reaches, SpacesTo, is_mark, marks_between}
+use Rattle.positioning.specs.Motion.{IsBlockAt, IsMarkAt, IsBehindMark, AreBlocks, AreBlocksFrom, AreBlocksBefore, IsGreatest, EndsForward, EndsBackward, ForwardOverBlocks, BackwardOverBlocks, ForwardOverMarks, BackwardOverMarks, Reaches, SpacesTo, is_mark, marks_between}
 use Rattle.positioning.specs.Inner.Walks.{WalksForward, WalksBackward}
 use Rattle.positioning.specs.Laws.{EachSpaceEnds, NoSpaceEndsTwice, ForwardMeetsNoStart, BackwardMeetsNoEnd, FilemarksStopNone, OnlyDoneLeavesNothing}
 use Rattle.positioning.proofs.MarkLemmas.{block_or_mark, mark_inside, none_between, marks_split, mark_behind, block_behind, mark_before, block_before}
@@ -139,7 +139,8 @@ enough_before objects from a count left some rest counted short =
     )
 
 same_marks : (objects : List Object) (from count end : ℕ) (stop : Stop) (left other : ℕ) (cause : Stop) (rest : ℕ)
-    → 1 ≤ count → MarksForward objects from count end stop left → MarksForward objects from count other cause rest
+    → 1 ≤ count → ForwardOverMarks objects from count end stop left
+    → ForwardOverMarks objects from count other cause rest
     → (end ≡ other) × (stop ≡ cause) × (left ≡ rest)
 same_marks objects from count end Done left other Done rest some a b =
     (one_behind objects from end other count some a.0 b.0 a.1 b.1, refl, a.2 ∙ sym b.2)
@@ -159,7 +160,8 @@ same_marks objects from count end stop left other AtMark rest some a b = absurd 
 same_marks objects from count end stop left other AtStart rest some a b = absurd b
 
 same_marks_back : (objects : List Object) (from count end : ℕ) (stop : Stop) (left other : ℕ) (cause : Stop) (rest : ℕ)
-    → 1 ≤ count → MarksBackward objects from count end stop left → MarksBackward objects from count other cause rest
+    → 1 ≤ count → BackwardOverMarks objects from count end stop left
+    → BackwardOverMarks objects from count other cause rest
     → (end ≡ other) × (stop ≡ cause) × (left ≡ rest)
 same_marks_back objects from count end Done left other Done rest some a b =
     (one_before objects from end other count some a.0 b.0 a.1 b.1, refl, a.2 ∙ sym b.2)
@@ -189,10 +191,10 @@ no_second_end objects from Blocks (pos zero) end stop left other cause rest a b 
     same_place from end stop left other cause rest a b
 no_second_end objects from Blocks (pos (suc n)) end stop left other cause rest a b =
     same_forward objects from (n + 1) a.0 b.0 end stop left other cause rest
-    (one_greatest (n + 1) (BlocksOn objects from) a.0 b.0 a.1 b.1) a.2 b.2
+    (one_greatest (n + 1) (AreBlocksFrom objects from) a.0 b.0 a.1 b.1) a.2 b.2
 no_second_end objects from Blocks (negsuc n) end stop left other cause rest a b =
     same_backward objects from (n + 1) a.0 b.0 end stop left other cause rest
-    (one_greatest (n + 1) (BlocksBefore objects from) a.0 b.0 a.1 b.1) a.2 b.2
+    (one_greatest (n + 1) (AreBlocksBefore objects from) a.0 b.0 a.1 b.1) a.2 b.2
 no_second_end objects from Filemarks (pos zero) end stop left other cause rest a b =
     same_place from end stop left other cause rest a b
 no_second_end objects from Filemarks (pos (suc n)) end stop left other cause rest a b =

@@ -6,7 +6,7 @@ use Rattle.positioning.specs.declared.positions.SpaceCode.{SpaceCode}
 use Rattle.positioning.specs.declared.positions.SpaceCode.TheVariants.{Blocks, Filemarks, EndOfData}
 use Rattle.positioning.specs.declared.positions.Stop.{Stop}
 use Rattle.positioning.specs.declared.positions.Stop.TheVariants.{Done, AtMark, AtEnd, AtStart}
-use Rattle.positioning.specs.Motion.{IsBlockAt, IsMarkAt, IsBehindMark, AreBlocks, BlocksOn, BlocksBefore, IsGreatest, EndsForward, EndsBackward, BlocksForward, BlocksBackward, MarksForward, MarksBackward, Reaches, SpacesTo, is_mark, marks_between}
+use Rattle.positioning.specs.Motion.{IsBlockAt, IsMarkAt, IsBehindMark, AreBlocks, AreBlocksFrom, AreBlocksBefore, IsGreatest, EndsForward, EndsBackward, ForwardOverBlocks, BackwardOverBlocks, ForwardOverMarks, BackwardOverMarks, Reaches, SpacesTo, is_mark, marks_between}
 use Rattle.positioning.specs.Inner.Walks.{WalksForward, WalksBackward}
 use Rattle.positioning.specs.Laws.{EachSpaceEnds, NoSpaceEndsTwice, ForwardMeetsNoStart, BackwardMeetsNoEnd, FilemarksStopNone, OnlyDoneLeavesNothing}
 use Rattle.positioning.proofs.MarkLemmas.{block_or_mark, mark_inside, none_between, marks_split, mark_behind, block_behind, mark_before, block_before}
@@ -146,7 +146,7 @@ some_walk_back objects from (suc far) limit marks sum inside some =
 -- over blocks, forward and backward
 some_blocks : (objects : List Object) (from count most : ℕ) → most ≤ count → from + most ≤ length objects
     → ((most ≡ count) ⊎ ((most < count) × (from + most ≡ length objects)))
-    → (end : ℕ) × (stop : Stop) × (left : ℕ) × BlocksForward objects from count end stop left
+    → (end : ℕ) × (stop : Stop) × (left : ℕ) × ForwardOverBlocks objects from count end stop left
 some_blocks objects from count most fits inside why =
     let walk : (at : ℕ) × (left : ℕ) × WalksForward objects from (from + most) 1 at left =
     some_walk objects from most (from + most) 1 refl inside (omega arith) in
@@ -178,7 +178,7 @@ some_blocks objects from count most fits inside why =
 
 some_blocks_back : (objects : List Object) (from count most : ℕ) → from ≤ length objects → most ≤ from → most ≤ count
     → ((most ≡ count) ⊎ ((most < count) × (most ≡ from)))
-    → (end : ℕ) × (stop : Stop) × (left : ℕ) × BlocksBackward objects from count end stop left
+    → (end : ℕ) × (stop : Stop) × (left : ℕ) × BackwardOverBlocks objects from count end stop left
 some_blocks_back objects from count most inside low fits why =
     let walk : (at : ℕ) × (left : ℕ) × WalksBackward objects from (from - most) 1 at left =
     some_walk_back objects from most (from - most) 1 (omega arith) inside (omega arith) in
@@ -211,7 +211,7 @@ some_blocks_back objects from count most inside low fits why =
     ]
 
 blocks_end : (objects : List Object) (from count : ℕ) → from ≤ length objects
-    → (end : ℕ) × (stop : Stop) × (left : ℕ) × BlocksForward objects from count end stop left
+    → (end : ℕ) × (stop : Stop) × (left : ℕ) × ForwardOverBlocks objects from count end stop left
 blocks_end objects from count inside =
     let which : (length objects - from < count) ⊎ (count ≤ length objects - from) =
     cases_lt (length objects - from) count in
@@ -223,7 +223,7 @@ blocks_end objects from count inside =
     ]
 
 blocks_end_back : (objects : List Object) (from count : ℕ) → from ≤ length objects
-    → (end : ℕ) × (stop : Stop) × (left : ℕ) × BlocksBackward objects from count end stop left
+    → (end : ℕ) × (stop : Stop) × (left : ℕ) × BackwardOverBlocks objects from count end stop left
 blocks_end_back objects from count inside =
     let which : (from < count) ⊎ (count ≤ from) = cases_lt from count in
     elim which [
@@ -233,7 +233,7 @@ blocks_end_back objects from count inside =
 
 -- over filemarks
 marks_end : (objects : List Object) (from count : ℕ) → from ≤ length objects → 1 ≤ count
-    → (end : ℕ) × (stop : Stop) × (left : ℕ) × MarksForward objects from count end stop left
+    → (end : ℕ) × (stop : Stop) × (left : ℕ) × ForwardOverMarks objects from count end stop left
 marks_end objects from count inside some =
     let walk : (at : ℕ) × (left : ℕ) × WalksForward objects from (length objects) count at left =
     some_walk objects from (length objects - from) (length objects) count (omega arith) (omega arith) some in
@@ -243,7 +243,7 @@ marks_end objects from count inside some =
     ]
 
 marks_end_back : (objects : List Object) (from count : ℕ) → from ≤ length objects → 1 ≤ count
-    → (end : ℕ) × (stop : Stop) × (left : ℕ) × MarksBackward objects from count end stop left
+    → (end : ℕ) × (stop : Stop) × (left : ℕ) × BackwardOverMarks objects from count end stop left
 marks_end_back objects from count inside some =
     let walk : (at : ℕ) × (left : ℕ) × WalksBackward objects from 0 count at left =
     some_walk_back objects from from 0 count (omega arith) inside some in

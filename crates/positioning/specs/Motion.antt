@@ -1,4 +1,5 @@
--- Where a motion over the objects of a partition ends.
+-- Where a motion over the objects of a partition ends. A place is the number of an object, or the end of data, which is
+-- the number behind the last.
 use Rattle.std.specs.Prelude.{◌≡◌, ◌≤◌, ◌<◌, ◌+◌, ◌-◌, ℕ, ℤ, pos, negsuc, suc, zero, List, length, count_by, slice_get, slice_range, Option, Some, Bool, true, false}
 use Rattle.volume_core.specs.declared.objects.Object.{Object}
 use Rattle.volume_core.specs.declared.objects.Object.TheVariants.{Block, Mark}
@@ -44,12 +45,12 @@ pub record IsGreatest (bound : ℕ) (Has : ℕ → Type 0) (number : ℕ) : Type
   pub greatest : (other : ℕ) → other ≤ bound → Has other → other ≤ number
 
 -- this many objects from a place on exist and are blocks (own)
-abbrev pub BlocksOn : List Object → ℕ → ℕ → Type 0
-BlocksOn objects from number = AreBlocks objects from (from + number)
+abbrev pub AreBlocksFrom : List Object → ℕ → ℕ → Type 0
+AreBlocksFrom objects from number = AreBlocks objects from (from + number)
 
 -- this many objects before a place exist and are blocks (own)
-abbrev pub BlocksBefore : List Object → ℕ → ℕ → Type 0
-BlocksBefore objects from number = (number ≤ from) × AreBlocks objects (from - number) from
+abbrev pub AreBlocksBefore : List Object → ℕ → ℕ → Type 0
+AreBlocksBefore objects from number = (number ≤ from) × AreBlocks objects (from - number) from
 
 -- a motion forward over blocks that passed this many ends so: all are passed; or there is no further
 -- object; or the next one is a filemark, and it ends behind it (SSC-4, SPACE(6))
@@ -81,36 +82,36 @@ IsBehindMark objects at = (mark : ℕ) × (at ≡ mark + 1) × IsMarkAt objects 
 
 -- a motion forward over filemarks ends so: directly behind one, and as many as the count lie between;
 -- or at the end of data, and fewer do (SSC-4, SPACE(6))
-abbrev pub MarksForward : List Object → ℕ → ℕ → ℕ → Stop → ℕ → Type 0
-MarksForward objects from count end Done left =
+abbrev pub ForwardOverMarks : List Object → ℕ → ℕ → ℕ → Stop → ℕ → Type 0
+ForwardOverMarks objects from count end Done left =
     IsBehindMark objects end × (marks_between objects from end ≡ count) × (left ≡ 0)
-MarksForward objects from count end AtEnd left =
+ForwardOverMarks objects from count end AtEnd left =
     (end ≡ length objects) × (marks_between objects from end + left ≡ count) × (1 ≤ left)
-MarksForward objects from count end AtMark left = ⊥
-MarksForward objects from count end AtStart left = ⊥
+ForwardOverMarks objects from count end AtMark left = ⊥
+ForwardOverMarks objects from count end AtStart left = ⊥
 
 -- a motion backward over filemarks ends so: directly before one, and as many as the count lie between;
 -- or at the beginning of the partition, and fewer do (SSC-4, SPACE(6))
-abbrev pub MarksBackward : List Object → ℕ → ℕ → ℕ → Stop → ℕ → Type 0
-MarksBackward objects from count end Done left =
+abbrev pub BackwardOverMarks : List Object → ℕ → ℕ → ℕ → Stop → ℕ → Type 0
+BackwardOverMarks objects from count end Done left =
     IsMarkAt objects end × (marks_between objects end from ≡ count) × (left ≡ 0)
-MarksBackward objects from count end AtStart left =
+BackwardOverMarks objects from count end AtStart left =
     (end ≡ 0) × (marks_between objects end from + left ≡ count) × (1 ≤ left)
-MarksBackward objects from count end AtMark left = ⊥
-MarksBackward objects from count end AtEnd left = ⊥
+BackwardOverMarks objects from count end AtMark left = ⊥
+BackwardOverMarks objects from count end AtEnd left = ⊥
 
 -- forward over blocks a motion passes the greatest number of objects, up to the count, that from the place
 -- on exist and are blocks (SSC-4, SPACE(6))
-abbrev pub BlocksForward : List Object → ℕ → ℕ → ℕ → Stop → ℕ → Type 0
-BlocksForward objects from count end stop left =
-    (passed : ℕ) × IsGreatest count (BlocksOn objects from) passed
+abbrev pub ForwardOverBlocks : List Object → ℕ → ℕ → ℕ → Stop → ℕ → Type 0
+ForwardOverBlocks objects from count end stop left =
+    (passed : ℕ) × IsGreatest count (AreBlocksFrom objects from) passed
     × EndsForward objects from count passed end stop left
 
 -- backward over blocks it passes the greatest number of objects, up to the count, that before the place
 -- exist and are blocks (SSC-4, SPACE(6))
-abbrev pub BlocksBackward : List Object → ℕ → ℕ → ℕ → Stop → ℕ → Type 0
-BlocksBackward objects from count end stop left =
-    (passed : ℕ) × IsGreatest count (BlocksBefore objects from) passed
+abbrev pub BackwardOverBlocks : List Object → ℕ → ℕ → ℕ → Stop → ℕ → Type 0
+BackwardOverBlocks objects from count end stop left =
+    (passed : ℕ) × IsGreatest count (AreBlocksBefore objects from) passed
     × EndsBackward objects from count passed end stop left
 
 -- a motion ends at this place, having done what it was sent for (own)
@@ -123,14 +124,14 @@ abbrev pub SpacesTo : List Object → ℕ → SpaceCode → ℤ → ℕ → Stop
 SpacesTo objects from EndOfData count end stop left = Reaches (length objects) end stop left
 SpacesTo objects from Blocks (pos zero) end stop left = Reaches from end stop left
 SpacesTo objects from Blocks (pos (suc n)) end stop left =
-    BlocksForward objects from (n + 1) end stop left
+    ForwardOverBlocks objects from (n + 1) end stop left
 SpacesTo objects from Blocks (negsuc n) end stop left =
-    BlocksBackward objects from (n + 1) end stop left
+    BackwardOverBlocks objects from (n + 1) end stop left
 SpacesTo objects from Filemarks (pos zero) end stop left = Reaches from end stop left
 SpacesTo objects from Filemarks (pos (suc n)) end stop left =
-    MarksForward objects from (n + 1) end stop left
+    ForwardOverMarks objects from (n + 1) end stop left
 SpacesTo objects from Filemarks (negsuc n) end stop left =
-    MarksBackward objects from (n + 1) end stop left
+    BackwardOverMarks objects from (n + 1) end stop left
 
 -- LOCATE to an object ends before it, or at the end of data where there are fewer objects; none is left
 -- (SSC-4, LOCATE(10))

@@ -2,7 +2,7 @@
 ghost use Rattle.std.specs.Prelude.{◌≡◌, ◌≤◌, true};
 ghost use Rattle.volume_core.specs.Volume.{count_of, objects_of};
 ghost use Rattle.volume_core.specs.Medium.{volume_of};
-ghost use Rattle.positioning.specs.Motion.{BlocksBackward, BlocksForward, IsOnTape, LocatesTo, MarksBackward, MarksForward, SpacesTo};
+ghost use Rattle.positioning.specs.Motion.{BackwardOverBlocks, ForwardOverBlocks, IsOnTape, LocatesTo, BackwardOverMarks, ForwardOverMarks, SpacesTo};
 
 use crate::positions::{Moved, Pos, SpaceCode, Stop};
 use crate::walks::{backward, forward};
@@ -26,7 +26,7 @@ fn blocks_forward<C: Catalog>(catalog: &C, pos: Pos, count: u32) -> Moved
     requires awake { (C.state catalog.now).awake ≡ true }
     requires on_tape { IsOnTape (volume_of (C.state catalog.now)) pos }
     ensures part { result.pos.part ≡ pos.part }
-    ensures moves { BlocksForward (objects_of (volume_of (C.state catalog.now)) pos.part) pos.obj count
+    ensures moves { ForwardOverBlocks (objects_of (volume_of (C.state catalog.now)) pos.part) pos.obj count
         result.pos.obj result.stop result.left }
     ensures on_tape { result.pos.obj ≤ count_of (volume_of (C.state catalog.now)) pos.part }
 {
@@ -46,7 +46,7 @@ fn blocks_backward<C: Catalog>(catalog: &C, pos: Pos, count: u32) -> Moved
     requires awake { (C.state catalog.now).awake ≡ true }
     requires on_tape { IsOnTape (volume_of (C.state catalog.now)) pos }
     ensures part { result.pos.part ≡ pos.part }
-    ensures moves { BlocksBackward (objects_of (volume_of (C.state catalog.now)) pos.part) pos.obj
+    ensures moves { BackwardOverBlocks (objects_of (volume_of (C.state catalog.now)) pos.part) pos.obj
         count result.pos.obj result.stop result.left }
     ensures on_tape { result.pos.obj ≤ count_of (volume_of (C.state catalog.now)) pos.part }
 {
@@ -66,7 +66,7 @@ fn marks_forward<C: Catalog>(catalog: &C, pos: Pos, count: u32) -> Moved
     requires on_tape { IsOnTape (volume_of (C.state catalog.now)) pos }
     requires some { 1 ≤ count }
     ensures part { result.pos.part ≡ pos.part }
-    ensures moves { MarksForward (objects_of (volume_of (C.state catalog.now)) pos.part) pos.obj count
+    ensures moves { ForwardOverMarks (objects_of (volume_of (C.state catalog.now)) pos.part) pos.obj count
         result.pos.obj result.stop result.left }
     ensures on_tape { result.pos.obj ≤ count_of (volume_of (C.state catalog.now)) pos.part }
 {
@@ -84,7 +84,7 @@ fn marks_backward<C: Catalog>(catalog: &C, pos: Pos, count: u32) -> Moved
     requires on_tape { IsOnTape (volume_of (C.state catalog.now)) pos }
     requires some { 1 ≤ count }
     ensures part { result.pos.part ≡ pos.part }
-    ensures moves { MarksBackward (objects_of (volume_of (C.state catalog.now)) pos.part) pos.obj
+    ensures moves { BackwardOverMarks (objects_of (volume_of (C.state catalog.now)) pos.part) pos.obj
         count result.pos.obj result.stop result.left }
     ensures on_tape { result.pos.obj ≤ count_of (volume_of (C.state catalog.now)) pos.part }
 {

@@ -160,7 +160,7 @@ fn locate_by_rows(rt: HostRuntime) -> Result<(), Fail> {
 #[test]
 fn no_motion_looks_at_more_than_there_is(rt: HostRuntime) -> Result<(), Fail> {
     let medium = tape(rt.alloc(), "bbmbmmbb")?;
-    for (obj, code, count, looks) in [
+    for (obj, code, count, most) in [
         (0, SpaceCode::Blocks, 8_388_607, 3),
         (6, SpaceCode::Blocks, 8_388_607, 2),
         (8, SpaceCode::Blocks, 8_388_607, 0),
@@ -178,13 +178,16 @@ fn no_motion_looks_at_more_than_there_is(rt: HostRuntime) -> Result<(), Fail> {
         let counting = Counting::new(&medium);
         let moved = spaced(&counting, Pos { part: 0, obj }, code, count);
         assert!(rt; moved.is_some(), "{count} from {obj}");
-        assert_eq!(rt; counting.looks(), looks, "{count} from {obj}");
+        assert!(rt; counting.looks() <= most, "{count} from {obj}");
     }
     let counting = Counting::new(&medium);
     let there = located(&counting, Pos { part: 0, obj: 1 }, 7);
     let report = reports::reported(&counting, Pos { part: 0, obj: 7 });
     assert!(rt; there.is_some() && report.is_some());
     assert_eq!(rt; counting.looks(), 0);
-    assert_eq!(rt; counting.kind_at(0, 2), Some(Kind::Mark));
+    assert_eq!(rt;
+        (counting.kind_at(0, 2), counting.looks()),
+        (Some(Kind::Mark), 1)
+    );
     Ok(())
 }
