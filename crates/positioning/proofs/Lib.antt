@@ -1,0 +1,4 @@
+pub mod MarkLemmas
+pub mod EndLemmas
+pub mod WalkLemmas
+pub mod LawLemmas

@@ -1,0 +1,4 @@
+pub mod Motion
+pub mod Report
+pub mod Laws
+pub mod Inner

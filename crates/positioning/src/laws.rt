@@ -1,0 +1,17 @@
+//! Laws of motions. Each is a function that does nothing, and its contract is the law.
+ghost use Rattle.positioning.specs.Laws.{BackwardMeetsNoEnd, EachSpaceEnds, FilemarksStopNone, ForwardMeetsNoStart, NoSpaceEndsTwice, OnlyDoneLeavesNothing};
+
+/// From each place on a tape, with any code and count, SPACE has an end, and no second one.
+pub fn each_space_has_one_end()
+    ensures some { EachSpaceEnds }
+    ensures one { NoSpaceEndsTwice }
+{}
+
+/// Forward it never stops at the beginning, backward never at the end of data, over filemarks never at
+/// one; and it leaves nothing of the count exactly where it came to what it was sent for.
+pub fn each_stop_suits()
+    ensures forward { ForwardMeetsNoStart }
+    ensures backward { BackwardMeetsNoEnd }
+    ensures filemarks { FilemarksStopNone }
+    ensures left { OnlyDoneLeavesNothing }
+{}

@@ -1,0 +1,41 @@
+//! Positions, and the words of a motion.
+use vtl_base::{ObjNo, PartNo};
+
+/// Where the next command works: a partition, and the number of the object in it that the position
+/// stands before (SSC-4, logical position).
+#[derive(Clone, Copy, PartialEq, Eq, Debug)]
+pub struct Pos {
+    pub part: PartNo,
+    pub obj: ObjNo,
+}
+
+/// What SPACE counts (SSC-4, SPACE(6)).
+#[derive(Clone, Copy, PartialEq, Eq, Debug)]
+pub enum SpaceCode {
+    Blocks,
+    Filemarks,
+    /// Nothing: it goes to the end of data.
+    EndOfData,
+}
+
+/// Why a motion ended where it did (SSC-4, SPACE(6) and LOCATE(10)).
+#[derive(Clone, Copy, PartialEq, Eq, Debug)]
+pub enum Stop {
+    /// It came to where it was sent.
+    Done,
+    /// It met a filemark on its way over blocks.
+    AtMark,
+    /// It met the end of data.
+    AtEnd,
+    /// It met the beginning of the partition.
+    AtStart,
+}
+
+/// How a motion ended.
+#[derive(Clone, Copy, PartialEq, Eq, Debug)]
+pub struct Moved {
+    pub pos: Pos,
+    pub stop: Stop,
+    /// The size of the count without what was passed (SSC-4, INFORMATION of SPACE(6)).
+    pub left: u32,
+}

@@ -1,0 +1,28 @@
+//! What READ POSITION says.
+ghost use Rattle.std.specs.Prelude.{◌≡◌, true};
+ghost use Rattle.volume_core.specs.Medium.{volume_of};
+ghost use Rattle.positioning.specs.Motion.{IsOnTape};
+ghost use Rattle.positioning.specs.Report.{report_of};
+
+use crate::positions::Pos;
+use volume_core::{Catalog, is_in_early_zone};
+
+/// The 20 bytes of READ POSITION's short form for a position, where nothing is pending (SSC-4).
+pub fn report<C: Catalog>(catalog: &C, pos: Pos) -> [u8; 20]
+    requires awake { (C.state catalog.now).awake ≡ true }
+    requires on_tape { IsOnTape (volume_of (C.state catalog.now)) pos }
+    ensures { result ≡ report_of (volume_of (C.state catalog.now)) pos }
+{
+    let used = catalog.used(pos.part, pos.obj);
+    let beginning = if pos.obj == 0 { 0x80 } else { 0 };
+    let near_end = if is_in_early_zone(catalog.capacity(pos.part), used) {
+        0x40
+    } else {
+        0
+    };
+    let flags = beginning + near_end;
+    let [a, b, c, d] = pos.obj.to_be_bytes();
+    [
+        flags, pos.part, 0, 0, a, b, c, d, a, b, c, d, 0, 0, 0, 0, 0, 0, 0, 0,
+    ]
+}

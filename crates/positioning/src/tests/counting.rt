@@ -1,0 +1,54 @@
+//! A catalog that counts the objects that are looked at.
+ghost use Rattle.std.specs.Prelude.{◌≡◌};
+
+use std::cell::Cell;
+use volume_core::{Catalog, Kind, PlainMedium};
+use vtl_base::{ObjNo, PartNo};
+
+#[derive(Drop)]
+pub(crate) struct Counting<'a> {
+    medium: &'a PlainMedium,
+    looks: Cell<u32>,
+}
+
+impl<'a> Counting<'a> {
+    pub(crate) fn new(medium: &'a PlainMedium) -> Self
+        ensures { result.medium.now ≡ medium.now }
+    {
+        Counting {
+            medium,
+            looks: Cell::new(0),
+        }
+    }
+
+    pub(crate) fn looks(&self) -> u32 {
+        self.looks.get()
+    }
+}
+
+impl<'a> Catalog for Counting<'a> {
+    ghost use Rattle.volume_core.specs.Plain.{plain_state};
+
+    ghost state = { λ c. plain_state c.medium.now };
+
+    fn parts(&self) -> PartNo {
+        self.medium.parts()
+    }
+
+    fn capacity(&self, part: PartNo) -> u64 {
+        self.medium.capacity(part)
+    }
+
+    fn count(&self, part: PartNo) -> u32 {
+        self.medium.count(part)
+    }
+
+    fn kind_at(&self, part: PartNo, at: ObjNo) -> Option<Kind> {
+        self.looks.set(self.looks.get().saturating_add(1));
+        self.medium.kind_at(part, at)
+    }
+
+    fn used(&self, part: PartNo, n: ObjNo) -> u64 {
+        self.medium.used(part, n)
+    }
+}
