@@ -183,13 +183,21 @@ def unreached():
                 if is_public:
                     seeds |= names(line)
         for path in specification(crate):
-            for part in re.split(r"\n(?=--|\S)", read(path)):
+            # what stands in a module is read as if it stood alone
+            inside, lines = False, []
+            for line in read(path).splitlines():
+                inside = line.startswith("module ") or inside and (not line or line.startswith(" "))
+                lines.append(line.removeprefix("  ") if inside else line)
+            text = "\n".join(lines)
+            for part in re.split(r"\n(?=--|\S)", text):
                 named = DEFINED.match(part)
                 if part.startswith(("use ", "--")):
                     continue
                 head = re.match(r"\S+", part)
                 name = named[3] if named else head[0] if head else ""
                 bodies[name] = bodies.get(name, "") + "\n" + part
+                # a law that stands in specs/ itself
+                seeds |= {name} if named and named[2].strip() == "pub" else set()
     reached, left = set(), list(seeds & set(bodies))
     while left:
         name = left.pop()
