@@ -86,7 +86,8 @@ def fault_in(crate, edit):
 def claimed_edits():
     """The names in the column of edits of the table in docs/CLAIMS.md."""
     rows = [line.split("|") for line in read(TOP, "docs", "CLAIMS.md").splitlines() if line.startswith("|")]
-    return {name for row in rows if len(row) > 3 for name in re.findall(r"`(\w+)`", row[3])}
+    cells = [re.sub(r"\([^)]*\)", "", row[3]) for row in rows if len(row) > 3]
+    return {name for cell in cells for name in re.findall(r"`(\w+)`", cell)}
 
 
 def lint():
