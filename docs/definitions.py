@@ -27,7 +27,118 @@ One word for one thing, in code, contracts and documents: *tape* (a medium's par
 status RESERVATION CONFLICT), *room* (bytes left).
 """
 # what people look for, and the definitions, limits and laws that say it
-WORDS = {}
+WORDS = {
+    "acknowledge": ["Acknowledges", "NothingPending"],
+    "additional sense code, qualifier (ASC, ASCQ)": ["plain_sense", "sense_bytes"],
+    "append a frame": ["Appended", "WithOrWithout"],
+    "awake": ["MediumState", "Wakes", "IsFresh"],
+    "BadLine, bad line": ["ScriptEnds", "refused_line"],
+    "barcode": ["IsBarcode", "MAX_BARCODE"],
+    "block": ["block_at", "GivesBlock", "MAX_BLOCK"],
+    "body of a frame": ["IsBody", "IsBodyPart", "MAX_BODY"],
+    "BOP, beginning of partition": ["partition_start", "beginning"],
+    "buffer": ["BUFFER_RECORDS", "BUFFER_BYTES"],
+    "buffered mode": ["DriveState", "suits", "synchronizes"],
+    "capacity": ["is_capacity", "capacity_of", "MIN_CAPACITY", "MAX_CAPACITY"],
+    "CDB, command block": ["decoded", "command_of", "opcode_of", "block_length"],
+    "change": ["changed", "Applies", "after"],
+    "CHECK CONDITION": ["check_with"],
+    "checks, their order": ["Executes", "AtCode"],
+    "clear": ["cleared", "reported"],
+    "crash": ["DiskState", "LeavesOnly", "IsImage"],
+    "cut": ["Cut", "Cuts"],
+    "damaged": ["IsDamagedAt", "IsBroken"],
+    "data-in": ["good_with", "GivesBlock"],
+    "data-out": ["sent_length", "AtSent"],
+    "deferred error": ["deferred_write_error", "AtDeferred", "after_turn"],
+    "device fault": ["is_device_fault", "Breaks", "IsFault"],
+    "disk model": ["DiskState", "Writes", "Cuts", "Syncs", "IsDisk"],
+    "drive": ["DriveState", "Machine", "Step"],
+    "early warning": ["is_in_early_zone", "early_warning", "IsEarlyWarning"],
+    "element address": ["FIRST_SLOT", "SLOTS"],
+    "EOD, end of data": ["end_of_data", "object_at"],
+    "EOM, end of medium": ["key_byte"],
+    "EOP, end of partition": ["has_room", "volume_overflow"],
+    "ERASE": ["objects_after"],
+    "error line": ["fault_text"],
+    "establish": ["established_for_all", "with_attention"],
+    "extent": ["extents_from", "IsExtent"],
+    "failed": ["medium_failed", "Breaks", "MediumState"],
+    "failures, their count": ["Below", "Advances", "Passes"],
+    "fault": ["fault_sense", "fault_reply", "met_fault"],
+    "fence": ["keeps_out", "AtReservation"],
+    "filemark": ["MarksWork", "filemark_detected", "IsMarkAt"],
+    "FIXED": ["is_fixed"],
+    "flush, flusher": ["Turns", "FlushTurns"],
+    "frame": ["frame", "IsBroken", "frame_size"],
+    "full side": ["IsFull", "room_behind"],
+    "gate": ["OPEN", "CLOSED"],
+    "GOOD": ["good_with"],
+    "header": ["Heading", "IsHeading", "spell_heading"],
+    "honest": ["Below", "HonestIn", "HonestStepsAreSteps", "DiskState"],
+    "host": ["host_of", "NEXUSES"],
+    "ILI, incorrect length": ["incorrect_length", "block_reply"],
+    "image": ["DiskState", "Each", "StandsFor"],
+    "IMMED": ["is_immediate"],
+    "INFORMATION": ["sense_bytes", "residue_of"],
+    "journal": ["OpenSide", "StoresSide"],
+    "keeper": ["Kept"],
+    "limits": ["LimitsInNumbers"],
+    "line of a script": ["parsed_line", "LINE_BYTES"],
+    "load": ["Loads", "LoadsInto", "loaded"],
+    "LOCATE": ["LocatesTo"],
+    "medium": ["MediumState", "Accepts", "volume_of"],
+    "memory runs out": ["insufficient_resources", "MatchWrite", "ScriptEnds"],
+    "moment": ["LeavesOnly", "Elapses"],
+    "nexus": ["NEXUSES", "attention_of"],
+    "not ours": ["IsNotOurs"],
+    "object": ["Part", "IsObject", "cost_of", "MAX_OBJECTS"],
+    "open a side": ["NotOpened", "IsDecided"],
+    "operation code": ["opcode_of", "row_of"],
+    "park": ["Parks", "IsParked"],
+    "partition": ["Part", "IsPart", "MAX_PARTITIONS"],
+    "pending": ["MediumState", "Stores", "NothingPending"],
+    "phase": ["items_to_run", "by_host"],
+    "position": ["IsPositioned", "next", "report_of"],
+    "power on": ["PowersOn", "powered_on"],
+    "PRGENERATION, persistent reservations": "to come",
+    "READ": ["ReadWork", "ReadAnswer", "read_error"],
+    "read fault of a script": ["ScriptEnds", "SCRIPT_BYTES", "SCRIPT_READS"],
+    "READ POSITION": ["report_of"],
+    "refusal": ["refusal_of", "Refuses", "AppliesUnless"],
+    "reply": ["reply_of", "reply_text"],
+    "report a condition": ["reported", "AtAttention"],
+    "reservation": ["Reservations", "keeps_out", "is_stopped_by_reservation", "conflict"],
+    "reserve memory for appends": ["OpenSide"],
+    "residue": ["residue_of", "amount_of"],
+    "REWIND": ["RewindWork"],
+    "room": ["room_behind", "IsFull", "has_room"],
+    "run": ["Run", "Serves"],
+    "script": ["RunsScript", "parsed_lines", "SCRIPT_BYTES"],
+    "sense data": ["sense_bytes", "attention_sense"],
+    "sense key": ["key_number"],
+    "settle": ["Settles", "IsStored"],
+    "side": ["IsSide", "StandsFor", "spell", "MAX_SIDE"],
+    "SILI": ["suppresses_length", "block_reply"],
+    "slot": ["SLOTS"],
+    "SPACE": ["SpacesTo", "Reaches"],
+    "status of a reply": ["status_text", "good_with"],
+    "status of the program": ["status_of"],
+    "stored": ["Stores", "StoredFirst", "stored_after"],
+    "sync": ["Syncs", "syncs_of"],
+    "synchronize": ["synchronizes", "StoredFirst"],
+    "torn": ["Breaks", "Opens"],
+    "TRANSFER LENGTH": ["transfer_length"],
+    "turn": ["Turns", "FlushTurns"],
+    "unit attention": ["AttentionSet", "attention_of", "attention_sense", "in_order"],
+    "unknown code": ["invalid_operation_code", "AtCode"],
+    "VALID": ["response_byte"],
+    "volume": ["IsVolume", "volume_of"],
+    "wake": ["Wakes"],
+    "WRITE": ["WriteWork", "AppendAnswer", "write_error"],
+    "WRITE FILEMARKS": ["MarksWork", "AppendAnswer"],
+    "write fault of a script": ["ScriptEnds"],
+}
 SOURCE = re.compile(r"\s*\(([^()]*(?:\([^()]*\)[^()]*)*)\)\.?\s*$")
 DEFINED = re.compile(r"( *)((?:(?:pub|abbrev|unfoldable|opaque|data|record)\s+)+)([^\s:(){},;]+)")
 
@@ -67,12 +178,12 @@ def definitions(path):
     comment, indent = [], 0
     for line in read(path).splitlines():
         said, named = re.match(r"\s*-- ?(.*)", line), DEFINED.match(line)
-        if re.match(r"module _ .*where$", line):
+        if line.startswith("module _"):
             indent = 2
         elif line and not line.startswith(" ") and not said:
             indent = 0
-        # a field of a record or a case is further in, or has no word but pub
-        is_one = named and (named[1] == "" or len(named[1]) <= indent and named[2].strip() != "pub")
+        # a field of a record, or a case, is further in
+        is_one = named and len(named[1]) <= indent
         if said:
             comment.append(said[1].strip())
         elif is_one and named[3] != "mod" and named[3] != "use":
@@ -142,9 +253,10 @@ def whole():
     listed = {name: file for row in rows.values() for name, _, _, file in row}
     listed |= {name: file for name, _, _, file in limits()} | {name: file for name, _, file in laws()}
     for word in sorted(WORDS, key=str.lower):
-        missing = [name for name in WORDS[word] if name not in listed]
-        faults += [f"the word '{word}' leads to {name}, which is no definition, limit or law" for name in missing]
-        text.append(f"| {word} | {', '.join(f'`{name}` ({listed.get(name)})' for name in WORDS[word])} |\n")
+        names = [] if isinstance(WORDS[word], str) else WORDS[word]
+        faults += [f"the word '{word}' leads to {name}, which is no definition, limit or law" for name in names if name not in listed]
+        see = ", ".join(f"`{name}` ({listed.get(name)})" for name in names) or WORDS[word]
+        text.append(f"| {word} | {see} |\n")
     text.append("\n## Limits\n\n| Name | In words | Value | File |\n|---|---|---|---|\n")
     text += [f"| `{name}` | {cell(words)} | {value} | {file} |\n" for name, words, value, file in limits()]
     text.append("\n## Laws\n\nEach is a public function that does nothing, and its contract is the law.\n\n")
