@@ -1,10 +1,11 @@
 # demo: runs the stored script, unproved    vtl: proves and builds the program    check: the gate
 # wrong: the edits of wrong/, which the prover must refuse too (CRATE=name, EDIT=name: of one crate, that one)
-# faults: refuses each growth in turn       bench: measures speed and memory of the built program
-# gate: what each crate costs the gate      definitions: writes docs/DEFINITIONS.md
+# faults: refuses each growth in turn       endings: the built program at each of its endings
+# bench: measures speed and memory          gate: what each crate costs the gate
+# definitions: writes docs/DEFINITIONS.md
 RT := $(shell command -v rt)
 
-.PHONY: demo vtl check wrong faults bench gate definitions need-rt
+.PHONY: demo vtl check wrong faults endings bench gate definitions need-rt
 .DEFAULT_GOAL := demo
 
 need-rt:
@@ -30,6 +31,9 @@ wrong: need-rt
 
 faults: need-rt
 	python3 bench/faults.py
+
+endings: vtl
+	python3 bench/endings.py
 
 bench: need-rt
 	python3 bench/script.py
