@@ -83,11 +83,43 @@ def fault_in(crate, edit):
     return None if pairs else "it has no pair of old and new"
 
 
-def claimed_edits():
-    """The names in the column of edits of the table in docs/CLAIMS.md."""
-    rows = [line.split("|") for line in read(TOP, "docs", "CLAIMS.md").splitlines() if line.startswith("|")]
-    cells = [re.sub(r"\([^)]*\)", "", row[3]) for row in rows if len(row) > 3]
-    return {name for cell in cells for name in re.findall(r"`(\w+)`", cell)}
+def claims():
+    """The rows of the table in docs/CLAIMS.md: the columns of contract, edits and tests."""
+    rows = [re.split(r"(?<!\\)\|", line) for line in read(TOP, "docs", "CLAIMS.md").splitlines() if line.startswith("| ")]
+    return [row[2:5] for row in rows if len(row) == 6 and row[1].strip() != "Claim, in plain words"]
+
+
+def names_in(cell):
+    """The names of a cell; what stands in brackets is a remark."""
+    return re.findall(r"`(\w+)`", re.sub(r"\([^)]*\)", "", cell))
+
+
+def text_of(crate):
+    """What stands in the crate's sources and specifications."""
+    found = []
+    for part in ("src", "specs"):
+        for folder, _, files in os.walk(os.path.join(TOP, "crates", crate, part)):
+            found += [read(folder, file) for file in sorted(files)]
+    return "\n".join(found)
+
+
+def false_claims(rows, guarded):
+    """What docs/CLAIMS.md names that is not there: an edit, a contract, a test."""
+    texts = {crate: text_of(crate) for crate in crates()}
+    every = "\n".join(texts.values())
+    for contract, edits, tests in rows:
+        crate = None
+        for name in re.findall(r"`([\w:]+)`", contract):
+            if name in texts:
+                crate = name
+            elif crate is None or not re.search(rf"\b{name.split('::')[-1]}\b", texts[crate]):
+                yield f"docs/CLAIMS.md names a contract {name}, which does not stand in {crate}"
+        for name in names_in(edits):
+            if name not in guarded:
+                yield f"docs/CLAIMS.md names {name}, which is no edit of a must-fail/"
+        for name in names_in(tests):
+            if name not in texts and not re.search(rf"\bfn {name}\b", every):
+                yield f"docs/CLAIMS.md names {name}, which is no test"
 
 
 def lint():
@@ -104,9 +136,10 @@ def lint():
             for name, edit in edits.items():
                 why = fault_in(crate, edit)
                 said += [f"crates/{crate}/{folder}/{name}.edit: {why}"] if why else []
-    claimed = claimed_edits()
+    rows = claims()
+    claimed = {name for _, edits, _ in rows for name in names_in(edits)}
     said += [f"docs/CLAIMS.md names no claim for the edit {name}" for name in sorted(guarded - claimed)]
-    said += [f"docs/CLAIMS.md names {name}, which is no edit of a must-fail/" for name in sorted(claimed - guarded)]
+    said += false_claims(rows, guarded)
     print("\n".join([*said, f"edits: {every} looked at, {len(said)} faults"]))
     return 1 if said else 0
 
