@@ -128,7 +128,9 @@ def main(words):
         # what was spent until here is not the gate's
         before = resource.getrusage(resource.RUSAGE_CHILDREN)
         spent, whole, seconds, said, status = measured(place, log)
-    print("\n".join(line for line in said if re.search(r"NOT PROVED|NOT REFUSED|BAD EDIT|FAILED", line)), end="")
+    for line in said:
+        if re.search(r"NOT PROVED|NOT REFUSED|BAD EDIT|FAILED", line):
+            print(line)
     table(names, spent, whole - before.ru_utime - before.ru_stime)
     print(f"\n{said[-1] if said else ''}; {seconds / 60:.1f} minutes on {len(os.sched_getaffinity(0))} processors")
     return status
