@@ -43,6 +43,11 @@ def lowest_first(names, known):
     return found
 
 
+def libraries_below(names, known):
+    below = {it for name in names for it in lowest_first([name], known)[:-1]}
+    return [it for it in lowest_first([*names], known) if it in below]
+
+
 def edits_in(crate, folder):
     """The edits of the crate in must-fail/ or wrong/, by name."""
     place = os.path.join(TOP, "crates", crate, folder)
@@ -151,11 +156,11 @@ def copied(room, chosen, known):
     leave = shutil.ignore_patterns("out", "must-fail", "wrong")
     for crate in known:
         shutil.copytree(os.path.join(TOP, "crates", crate), os.path.join(room, "crates", crate), ignore=leave)
-    # built libraries are kept by the text that they were made from: one that is stale is built again
-    for crate in lowest_first([*chosen], known):
-        built = os.path.join(TOP, "crates", crate, "out", "rlib")
-        if os.path.isdir(built):
-            shutil.copytree(built, os.path.join(room, "crates", crate, "out", "rlib"))
+    # what earlier checks kept of the libraries below: one whose text has changed since is proved again
+    for crate in libraries_below(chosen, known):
+        kept = os.path.join(TOP, "crates", crate, "out")
+        if os.path.isdir(kept):
+            shutil.copytree(kept, os.path.join(room, "crates", crate, "out"), symlinks=True)
     for crate, edits in chosen.items():
         folder = os.path.join(room, "crates", crate, "must-fail")
         os.mkdir(folder)
@@ -200,9 +205,8 @@ def main(words):
         sys.exit("\n".join([*bad, "no edit was tried"]))
     with tempfile.TemporaryDirectory(prefix="wrong_") as room:
         copied(room, chosen, known)
-        needed = {below for crate in chosen for below in lowest_first([crate], known)[:-1]}
-        for crate in lowest_first([*chosen], known):
-            if crate in needed and subprocess.run(["rt", "lib"], cwd=os.path.join(room, "crates", crate), stdout=subprocess.DEVNULL).returncode:
+        for crate in libraries_below(chosen, known):
+            if subprocess.run(["rt", "lib"], cwd=os.path.join(room, "crates", crate), stdout=subprocess.DEVNULL).returncode:
                 sys.exit(f"{crate} is not proved, so nothing above it was tried")
         with ThreadPoolExecutor(AT_ONCE) as pool:
             rows = {crate: pool.submit(tried, room, crate, edits) for crate, edits in chosen.items()}
