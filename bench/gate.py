@@ -1,7 +1,8 @@
 #!/usr/bin/env python3
-"""Runs the gate on a copy of the repository, from nothing, and prints what each crate cost it, as the table of docs/GATE.md.
+"""Runs rt ci on a copy of the repository, from nothing, and prints what each crate cost it, as the table of docs/GATE.md.
 
-gate.py [--log FILE] [CRATE..]   with names: these crates and those below them alone
+gate.py [--log FILE] [CRATE..]   with names: these crates and those below them alone; what rt ci says goes to the file
+gate.py [--log FILE] --here      runs the gate itself, .ci/run, where it stands
 
 A processor minute is user and system time. The gate's processes are looked at ten times a second, and each belongs to the crate
 that it is told to prove: with the tests, on a copy for an edit, or neither. What is left of the whole time (rt itself, linking,
@@ -77,11 +78,12 @@ def look(pid, labels, ticks):
             pass
 
 
-def measured(room, log):
-    """Processor seconds by crate and kind, all of them, seconds by the clock, the last line and the status."""
+def measured(command, room, log):
+    """Processor seconds by crate and kind, all of them, seconds by the clock, what was said and the status."""
     labels, ticks = {}, {}
     started = time.monotonic()
-    child = subprocess.Popen(["rt", "ci"], cwd=room, stdin=subprocess.DEVNULL, stdout=log, stderr=subprocess.STDOUT)
+    before = resource.getrusage(resource.RUSAGE_CHILDREN)
+    child = subprocess.Popen(command, cwd=room, stdin=subprocess.DEVNULL, stdout=log, stderr=subprocess.STDOUT)
     while child.poll() is None:
         look(child.pid, labels, ticks)
         time.sleep(0.1)
@@ -92,7 +94,8 @@ def measured(room, log):
             spent[labels[key]] = spent.get(labels[key], 0) + count / TICKS
     log.seek(0)
     said = log.read().splitlines()
-    return spent, usage.ru_utime + usage.ru_stime, time.monotonic() - started, said, child.returncode
+    whole = usage.ru_utime + usage.ru_stime - before.ru_utime - before.ru_stime
+    return spent, whole, time.monotonic() - started, said, child.returncode
 
 
 def table(names, spent, whole):
@@ -108,30 +111,36 @@ def table(names, spent, whole):
     print(f"| all | {' | '.join(map(minutes, sums))} | | {minutes(whole)} |")
 
 
+def copied(room, names, rows):
+    """A repository of these crates, in which nothing was proved yet."""
+    os.mkdir(room)
+    shutil.copy(os.path.join(TOP, "HANDLES"), room)
+    with open(os.path.join(room, "crates.txt"), "w", encoding="utf-8") as file:
+        file.writelines(f"{rows[it][0]}\n" for it in names)
+    leave = shutil.ignore_patterns("out", "wrong")
+    for name in names:
+        shutil.copytree(os.path.join(TOP, "crates", name), os.path.join(room, "crates", name), ignore=leave)
+    subprocess.run(["git", "init", "-q", room], check=True)
+
+
 def main(words):
     path = words[1] if words[:1] == ["--log"] and len(words) > 1 else None
     names, rows = words[2:] if path else words, rows_of_crates()
+    is_here = names == ["--here"]
+    names = [] if is_here else names
     for name in names:
         if name not in rows:
             sys.exit(f"{name} is no crate of crates.txt\n\n{__doc__}")
     names = [it for it in rows if it in with_those_below(names or [*rows], rows)]
-    with tempfile.TemporaryDirectory(prefix="gate_") as room, open(path or os.path.join(room, ".log"), "w+", encoding="utf-8") as log:
-        place = os.path.join(room, "copy")
-        os.mkdir(place)
-        shutil.copy(os.path.join(TOP, "HANDLES"), place)
-        with open(os.path.join(place, "crates.txt"), "w", encoding="utf-8") as file:
-            file.writelines(f"{rows[it][0]}\n" for it in names)
-        for name in names:
-            leave = shutil.ignore_patterns("out", "wrong")
-            shutil.copytree(os.path.join(TOP, "crates", name), os.path.join(place, "crates", name), ignore=leave)
-        subprocess.run(["git", "init", "-q", place], check=True)
-        # what was spent until here is not the gate's
-        before = resource.getrusage(resource.RUSAGE_CHILDREN)
-        spent, whole, seconds, said, status = measured(place, log)
+    with tempfile.TemporaryDirectory(prefix="gate_") as room, open(path or os.path.join(room, "log"), "w+", encoding="utf-8") as log:
+        place = TOP if is_here else os.path.join(room, "copy")
+        if not is_here:
+            copied(place, names, rows)
+        spent, whole, seconds, said, status = measured([".ci/run"] if is_here else ["rt", "ci"], place, log)
     for line in said:
         if re.search(r"NOT PROVED|NOT REFUSED|BAD EDIT|FAILED", line):
             print(line)
-    table(names, spent, whole - before.ru_utime - before.ru_stime)
+    table(names, spent, whole)
     print(f"\n{said[-1] if said else ''}; {seconds / 60:.1f} minutes on {len(os.sched_getaffinity(0))} processors")
     return status
 
