@@ -1,8 +1,11 @@
 # demo: runs the stored script, unproved    vtl: proves and builds the program    check: the gate
-# faults: refuses each growth in turn       bench: measures speed and memory of the built program
+# wrong: the edits of wrong/, which the prover must refuse too (CRATE=name, EDIT=name: of one crate, that one)
+# faults: refuses each growth in turn       endings: the built program at each of its endings
+# bench: measures speed and memory          gate: what each crate costs the gate
+# definitions: writes docs/DEFINITIONS.md
 RT := $(shell command -v rt)
 
-.PHONY: demo vtl check faults bench need-rt
+.PHONY: demo vtl check wrong faults endings bench gate definitions need-rt
 .DEFAULT_GOAL := demo
 
 need-rt:
@@ -21,11 +24,23 @@ vtl: need-rt
 	@echo "the proved program is crates/vtl/out/vtl"
 
 check: need-rt
-	rt ci
+	.ci/run
+
+wrong: need-rt
+	python3 bench/wrong.py $(CRATE) $(EDIT)
 
 faults: need-rt
 	python3 bench/faults.py
 
+endings: vtl
+	python3 bench/endings.py
+
 bench: need-rt
 	python3 bench/script.py
 	python3 bench/journal.py
+
+gate: need-rt
+	python3 bench/gate.py
+
+definitions:
+	python3 docs/definitions.py
