@@ -1,10 +1,10 @@
 -- Where no fault comes, a command's work has one answer, command by command.
 use Rattle.std.proofs.Common.{◌≡◌, ℕ, zero, suc, List, [], ◌∷◌, Option, None, Some, Result, Ok, Bool, true, false, not, sym, ◌∙◌, ap, subst, slice_get}
-use Rattle.scsi_wire.specs.declared.replies.Reply.{Reply}
+use Rattle.scsi_sense.specs.declared.replies.Reply.{Reply}
 use Rattle.scsi_wire.specs.declared.commands.Command.{Command}
 use Rattle.scsi_wire.specs.declared.commands.Command.TheVariants.{TestUnitReady, Rewind, Read, Write, WriteFilemarks}
-use Rattle.scsi_wire.specs.Replies.{check_with}
-use Rattle.scsi_wire.specs.Senses.{volume_overflow}
+use Rattle.scsi_sense.specs.Replies.{check_with}
+use Rattle.scsi_sense.specs.Senses.{volume_overflow}
 use Rattle.volume_core.specs.declared.changes.Change.{Change}
 use Rattle.volume_core.specs.declared.changes.Refusal.{Refusal}
 use Rattle.volume_core.specs.declared.changes.Refusal.TheVariants.{NoRoom, NoPartition, PastEnd, TooLong}

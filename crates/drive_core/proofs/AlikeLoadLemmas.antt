@@ -1,9 +1,9 @@
 -- Where no fault comes, a medium that it is sure of opens in one way, and so a loading and a power on have one outcome.
 use Rattle.std.proofs.Common.{◌≡◌, ◌++◌, List, [], ◌∷◌, Option, None, Some, Result, Ok, Err, Bool, true, false, sym, ◌∙◌, ap, subst, refl, inl, inr}
 use Rattle.std.specs.Prelude.{◌⊎◌, option_map}
-use Rattle.scsi_wire.specs.declared.replies.Reply.{Reply}
-use Rattle.scsi_wire.specs.declared.attention_sets.Attention.TheVariants.{MediumChanged}
-use Rattle.scsi_wire.specs.Attentions.{established_for_all}
+use Rattle.scsi_sense.specs.declared.replies.Reply.{Reply}
+use Rattle.scsi_attention.specs.declared.attention_sets.Attention.TheVariants.{MediumChanged}
+use Rattle.scsi_attention.specs.Attentions.{established_for_all}
 use Rattle.volume_core.specs.declared.changes.Change.{Change}
 use Rattle.volume_core.specs.declared.media.MediumError.{MediumError}
 use Rattle.volume_core.specs.declared.media.MediumError.TheVariants as Errors

@@ -1,7 +1,7 @@
 -- Where no fault comes, a step has one outcome, and so has a run, wherever flusher's turns stand in it.
 use Rattle.std.proofs.Common.{◌≡◌, ◌++◌, List, [], ◌∷◌, Option, None, Some, Result, Ok, Err, Bool, true, false, sym, ◌∙◌, ap, refl}
 use Rattle.std.specs.Prelude.{All}
-use Rattle.scsi_wire.specs.declared.replies.Reply.{Reply}
+use Rattle.scsi_sense.specs.declared.replies.Reply.{Reply}
 use Rattle.volume_core.specs.declared.media.Turn.{Turn}
 use Rattle.volume_core.specs.declared.media.Turn.TheVariants.{Idle, Stored, Faulted}
 use Rattle.volume_core.specs.Volume.{Part}

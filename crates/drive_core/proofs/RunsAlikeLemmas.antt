@@ -3,7 +3,7 @@ use Rattle.std.proofs.Common.{◌≡◌, List, [], ◌∷◌, sym, ◌∙◌, ap
 use Rattle.std.specs.Prelude.{All}
 use Rattle.std.specs.List.{cons_option}
 use Rattle.std.proofs.lemmas.List.Elements.{All-head, All-tail}
-use Rattle.scsi_wire.specs.declared.replies.Reply.{Reply}
+use Rattle.scsi_sense.specs.declared.replies.Reply.{Reply}
 use Rattle.drive_core.specs.State.{Machine}
 use Rattle.drive_core.specs.Relations.{Made, made_nothing, made_after}
 use Rattle.drive_core.specs.Step.{Input, Execute, FlushTurn, Load, PowerOn, Output, Step, reply_in, replies_of}

@@ -1,8 +1,8 @@
 use Rattle.std.proofs.Common.{◌≡◌, ◌∙◌, [], Some, Ok, Bool, false, ap, sym, refl, subst}
-use Rattle.scsi_wire.specs.declared.sense_data.Sense.{Sense}
-use Rattle.scsi_wire.specs.Attentions.{attention_of, cleared}
+use Rattle.scsi_sense.specs.declared.sense_data.Sense.{Sense}
+use Rattle.scsi_attention.specs.Attentions.{attention_of, cleared}
 use Rattle.scsi_wire.specs.Opcodes.{opcode_of}
-use Rattle.scsi_wire.specs.Replies.{check_with}
+use Rattle.scsi_sense.specs.Replies.{check_with}
 use Rattle.drive_core.specs.State.{DriveState, Kept, machine_of, medium_in}
 use Rattle.drive_core.specs.Relations.{made_nothing}
 use Rattle.drive_core.specs.Checks.{Executes}
