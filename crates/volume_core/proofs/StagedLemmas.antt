@@ -108,6 +108,10 @@ stores_by old new (Ok done) awake storing =
           (sym (take-length old.rest) ∙ ap (λ (l : List Change). take (length old.rest) l) (sym all)));
       pending =
           sym (drop-length old.rest) ∙ ap (λ (l : List Change). drop (length old.rest) l) (sym all);
+      room =
+          let taken : take (length old.rest) (old.rest ++ []) ≡ old.rest =
+          ap (λ (l : List Change). take (length old.rest) l) all ∙ take-length old.rest in
+          omega (arith, ap (sum_by frame_size) taken);
     })
 stores_by old new (Err Device) awake storing = search rules
 stores_by old new (Err (Refused cause)) awake storing = absurd storing
@@ -137,7 +141,13 @@ pub parks_failed : (old : Staged) → old.failed ≡ true
     → IsParkedFrom (Unit {0}) old.failed (staged_state old) (staged_state (closed old))
 parks_failed old failed =
     rw failed
-    (record { parked = refl; works = refl; nothing_pending = refl; gives = λ honest. (refl, refl) })
+    (record {
+      parked = refl;
+      works = refl;
+      nothing_pending = refl;
+      gives = λ honest. (refl, refl);
+      room_is = λ honest. omega arith;
+    })
 
 -- one that works has stored all
 pub parks_stored : (old : Staged) → old.awake ≡ true → old.failed ≡ false
@@ -149,6 +159,7 @@ parks_stored old awake works =
       works = refl;
       nothing_pending = refl;
       gives = λ honest. (ap Some (after_append (empty_volume old.capacities) old.stored old.rest), refl);
+      room_is = λ honest. omega arith;
     })
 
 -- one that was parked is opened without what was given up
@@ -156,7 +167,7 @@ pub opens_without : (old : Staged)
     → IsFresh (staged_state (opened old)) × Opens (staged_state old) (staged_state (opened old))
 opens_without old = (
   record { awake = refl; works = refl; nothing_pending = refl },
-  record { volume = inl refl; readable = λ none. search rules },
+  record { volume = inl refl; readable = λ none. search rules; room_is = omega arith },
 )
 
 -- or with the frame that was under way
@@ -167,6 +178,7 @@ opens_with old torn = (
   record {
     volume = rw torn (inr (ap Some (after_append (empty_volume old.capacities) old.stored old.rest)));
     readable = λ none. search rules;
+    room_is = rw torn (omega arith);
   },
 )
 
