@@ -12,7 +12,8 @@ pub record Replays (base : List ℕ) (keep fill : ℕ) (all remaining older : Li
   pub safe : 0 < syncs → (image ≡ contents_of base older) × (left ≡ keep)
   pub since : syncs ≡ 0 → (image ≡ torn base keep fill older) × (left ≡ keep - unsynced_bytes older)
 
-pub syncs_of-push : (xs : List LoggedCall) (x : LoggedCall) → syncs_of (xs ++ x ∷ []) ≡ syncs_of xs + cond (is_sync x) 1 0
+pub syncs_of-push : (xs : List LoggedCall) (x : LoggedCall) →
+    syncs_of (xs ++ x ∷ []) ≡ syncs_of xs + cond (is_sync x) 1 0
 syncs_of-push xs x = fold_push (λ (n : ℕ) (y : LoggedCall). n + cond (is_sync y) 1 0) 0 xs x
 
 module _ (base : List ℕ) (keep fill : ℕ) (all remaining older : List LoggedCall)
