@@ -1,9 +1,9 @@
 -- Where a walk ends, the motion ends.
-use Rattle.std.proofs.Common.{◌≡◌, ◌≤◌, ◌<◌, ◌+◌, ◌-◌, ◌⊎◌, ℕ, List, length, inl, inr, refl, ap, sym, ◌∙◌, arith}
+use Rattle.std.proofs.Common.{◌≡◌, ◌≤◌, ◌<◌, ◌+◌, ◌-◌, ℕ, List, length, inl, inr, refl, ap, ◌∙◌, arith}
 use Rattle.volume_core.specs.declared.objects.Object.{Object}
 use Rattle.positioning.specs.declared.positions.Stop.{Stop}
 use Rattle.positioning.specs.declared.positions.Stop.TheVariants.{Done, AtMark, AtEnd, AtStart}
-use Rattle.positioning.specs.Motion.{IsBlockAt, IsMarkAt, AreBlocks, AreBlocksFrom, AreBlocksBefore, IsGreatest, EndsForward, EndsBackward, ForwardOverBlocks, BackwardOverBlocks, marks_between}
+use Rattle.positioning.specs.Motion.{IsBlockAt, IsMarkAt, AreBlocksFrom, AreBlocksBefore, IsGreatest, ForwardOverBlocks, BackwardOverBlocks, marks_between}
 use Rattle.positioning.specs.Inner.Walks.{WalksForward, WalksBackward}
 use Rattle.positioning.proofs.MarkLemmas.{not_both, block_inside, none_between, mark_behind, mark_before, are_blocks, mark_inside}
 

@@ -1,16 +1,13 @@
 -- No motion has a second end, and no cause but those that suit it.
-use Rattle.std.proofs.Common.{◌≡◌, ◌≤◌, ◌<◌, ◌+◌, ◌-◌, ◌⊎◌, ◌↔◌, ℕ, ℤ, pos, negsuc, suc, zero, List, length, count_by, take, drop, inl, inr, refl, ap, sym, ◌∙◌, arith}
+use Rattle.std.proofs.Common.{◌≡◌, ◌≤◌, ◌<◌, ◌+◌, ◌-◌, ◌⊎◌, ◌↔◌, ℕ, pos, negsuc, suc, zero, List, length, count_by, take, drop, inl, inr, refl, ap, sym, ◌∙◌, arith}
 use Rattle.std.proofs.lemmas.Bool.{cases_lt}
 use Rattle.volume_core.specs.declared.objects.Object.{Object}
-use Rattle.positioning.specs.declared.positions.SpaceCode.{SpaceCode}
 use Rattle.positioning.specs.declared.positions.SpaceCode.TheVariants.{Blocks, Filemarks, EndOfData}
 use Rattle.positioning.specs.declared.positions.Stop.{Stop}
 use Rattle.positioning.specs.declared.positions.Stop.TheVariants.{Done, AtMark, AtEnd, AtStart}
-use Rattle.positioning.specs.Motion.{IsBlockAt, IsMarkAt, IsBehindMark, AreBlocks, AreBlocksFrom, AreBlocksBefore, IsGreatest, EndsForward, EndsBackward, ForwardOverBlocks, BackwardOverBlocks, ForwardOverMarks, BackwardOverMarks, Reaches, SpacesTo, is_mark, marks_between}
-use Rattle.positioning.specs.Inner.Walks.{WalksForward, WalksBackward}
-use Rattle.positioning.specs.Laws.{EachSpaceEnds, NoSpaceEndsTwice, ForwardMeetsNoStart, BackwardMeetsNoEnd, FilemarksStopNone, OnlyDoneLeavesNothing}
-use Rattle.positioning.proofs.MarkLemmas.{block_or_mark, mark_inside, none_between, marks_split, mark_behind, block_behind, mark_before, block_before}
-use Rattle.positioning.proofs.EndLemmas.{walk_to_mark, walk_of_all, walk_to_end, walk_back_to_mark, walk_back_of_all, walk_back_to_start}
+use Rattle.positioning.specs.Motion.{IsMarkAt, IsBehindMark, AreBlocksFrom, AreBlocksBefore, IsGreatest, EndsForward, EndsBackward, ForwardOverMarks, BackwardOverMarks, Reaches, is_mark, marks_between}
+use Rattle.positioning.specs.Laws.{NoSpaceEndsTwice, ForwardMeetsNoStart, BackwardMeetsNoEnd, FilemarksStopNone, OnlyDoneLeavesNothing, EachLocateEnds, NoLocateEndsTwice}
+use Rattle.positioning.proofs.MarkLemmas.{mark_inside, marks_split, mark_behind, mark_before}
 
 -- there is one greatest number
 one_greatest : (bound : ℕ) (Has : ℕ → Type 0) (m n : ℕ) → IsGreatest bound Has m → IsGreatest bound Has n → m ≡ n
@@ -252,3 +249,22 @@ only_done_leaves_nothing objects from Filemarks (negsuc n) end AtStart left ends
     neither (λ h. (cc)) (λ h. omega (arith, h, ends.2))
 only_done_leaves_nothing objects from Filemarks (negsuc n) end AtMark left ends = absurd ends
 only_done_leaves_nothing objects from Filemarks (negsuc n) end AtEnd left ends = absurd ends
+
+-- and LOCATE
+pub each_locate : EachLocateEnds
+each_locate objects to =
+    let which : (length objects < to) ⊎ (to ≤ length objects) = cases_lt (length objects) to in
+    elim which [
+      | inl short ↦ (length objects, AtEnd, 0, (short, refl, refl))
+      | inr fits ↦ (to, Done, 0, (fits, refl, refl))
+    ]
+
+pub no_second_locate : NoLocateEndsTwice
+no_second_locate objects to end Done left other Done rest a b = (a.1 ∙ sym b.1, refl, a.2 ∙ sym b.2)
+no_second_locate objects to end Done left other AtEnd rest a b = absurd (omega (arith, a.0, b.0))
+no_second_locate objects to end AtEnd left other Done rest a b = absurd (omega (arith, a.0, b.0))
+no_second_locate objects to end AtEnd left other AtEnd rest a b = (a.1 ∙ sym b.1, refl, a.2 ∙ sym b.2)
+no_second_locate objects to end AtMark left other cause rest a b = absurd a
+no_second_locate objects to end AtStart left other cause rest a b = absurd a
+no_second_locate objects to end stop left other AtMark rest a b = absurd b
+no_second_locate objects to end stop left other AtStart rest a b = absurd b

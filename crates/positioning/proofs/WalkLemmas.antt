@@ -1,15 +1,14 @@
 -- Each motion has an end.
-use Rattle.std.proofs.Common.{◌≡◌, ◌≤◌, ◌<◌, ◌+◌, ◌-◌, ◌⊎◌, ◌↔◌, ℕ, ℤ, pos, negsuc, suc, zero, List, length, count_by, take, drop, inl, inr, refl, ap, sym, ◌∙◌, arith}
+use Rattle.std.proofs.Common.{◌≡◌, ◌≤◌, ◌<◌, ◌+◌, ◌-◌, ◌⊎◌, ℕ, pos, negsuc, suc, zero, List, length, inl, inr, refl, arith}
 use Rattle.std.proofs.lemmas.Bool.{cases_lt}
 use Rattle.volume_core.specs.declared.objects.Object.{Object}
-use Rattle.positioning.specs.declared.positions.SpaceCode.{SpaceCode}
 use Rattle.positioning.specs.declared.positions.SpaceCode.TheVariants.{Blocks, Filemarks, EndOfData}
 use Rattle.positioning.specs.declared.positions.Stop.{Stop}
 use Rattle.positioning.specs.declared.positions.Stop.TheVariants.{Done, AtMark, AtEnd, AtStart}
-use Rattle.positioning.specs.Motion.{IsBlockAt, IsMarkAt, IsBehindMark, AreBlocks, AreBlocksFrom, AreBlocksBefore, IsGreatest, EndsForward, EndsBackward, ForwardOverBlocks, BackwardOverBlocks, ForwardOverMarks, BackwardOverMarks, Reaches, SpacesTo, is_mark, marks_between}
+use Rattle.positioning.specs.Motion.{IsBlockAt, IsMarkAt, ForwardOverBlocks, BackwardOverBlocks, ForwardOverMarks, BackwardOverMarks, marks_between}
 use Rattle.positioning.specs.Inner.Walks.{WalksForward, WalksBackward}
-use Rattle.positioning.specs.Laws.{EachSpaceEnds, NoSpaceEndsTwice, ForwardMeetsNoStart, BackwardMeetsNoEnd, FilemarksStopNone, OnlyDoneLeavesNothing}
-use Rattle.positioning.proofs.MarkLemmas.{block_or_mark, mark_inside, none_between, marks_split, mark_behind, block_behind, mark_before, block_before}
+use Rattle.positioning.specs.Laws.{EachSpaceEnds}
+use Rattle.positioning.proofs.MarkLemmas.{block_or_mark, none_between, mark_behind, block_behind, mark_before, block_before}
 use Rattle.positioning.proofs.EndLemmas.{walk_to_mark, walk_of_all, walk_to_end, walk_back_to_mark, walk_back_of_all, walk_back_to_start}
 
 -- a walk with a limit of one object more

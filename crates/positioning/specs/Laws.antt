@@ -5,7 +5,7 @@ use Rattle.positioning.specs.declared.positions.SpaceCode.{SpaceCode}
 use Rattle.positioning.specs.declared.positions.SpaceCode.TheVariants.{Filemarks}
 use Rattle.positioning.specs.declared.positions.Stop.{Stop}
 use Rattle.positioning.specs.declared.positions.Stop.TheVariants.{Done, AtMark, AtEnd, AtStart}
-use Rattle.positioning.specs.Motion.{SpacesTo}
+use Rattle.positioning.specs.Motion.{LocatesTo, SpacesTo}
 
 -- from each place on a tape, with any code and count, SPACE has an end (own)
 abbrev pub EachSpaceEnds : Type 0
@@ -45,3 +45,16 @@ abbrev pub OnlyDoneLeavesNothing : Type 0
 OnlyDoneLeavesNothing =
     (objects : List Object) (from : ℕ) (code : SpaceCode) (count : ℤ) (end : ℕ) (stop : Stop) (left : ℕ)
     → SpacesTo objects from code count end stop left → (stop ≡ Done) ↔ (left ≡ 0)
+
+-- LOCATE to any object has an end (own)
+abbrev pub EachLocateEnds : Type 0
+EachLocateEnds =
+    (objects : List Object) (to : ℕ)
+    → (end : ℕ) × (stop : Stop) × (left : ℕ) × LocatesTo objects to end stop left
+
+-- and it has no second one (own)
+abbrev pub NoLocateEndsTwice : Type 0
+NoLocateEndsTwice =
+    (objects : List Object) (to end : ℕ) (stop : Stop) (left other : ℕ) (cause : Stop) (rest : ℕ)
+    → LocatesTo objects to end stop left → LocatesTo objects to other cause rest
+    → (end ≡ other) × (stop ≡ cause) × (left ≡ rest)

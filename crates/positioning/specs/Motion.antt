@@ -1,6 +1,6 @@
 -- Where a motion over the objects of a partition ends. A place is the number of an object, or the end of data, which is
 -- the number behind the last.
-use Rattle.std.specs.Prelude.{◌≡◌, ◌≤◌, ◌<◌, ◌+◌, ◌-◌, ℕ, ℤ, pos, negsuc, suc, zero, List, length, count_by, slice_get, slice_range, Option, Some, Bool, true, false}
+use Rattle.std.specs.Prelude.{◌≡◌, ◌≤◌, ◌<◌, ◌+◌, ◌-◌, ℕ, ℤ, pos, negsuc, suc, zero, List, length, count_by, slice_get, slice_range, Some, Bool, true, false}
 use Rattle.volume_core.specs.declared.objects.Object.{Object}
 use Rattle.volume_core.specs.declared.objects.Object.TheVariants.{Block, Mark}
 use Rattle.volume_core.specs.declared.objects.Kind.TheVariants as Kinds

@@ -1,5 +1,5 @@
 -- What READ POSITION says of a position.
-use Rattle.std.specs.Prelude.{◌≡◌, ◌==◌, ◌+◌, ◌++◌, ℕ, List, [], ◌∷◌, replicate, Bool, if◌then◌else◌}
+use Rattle.std.specs.Prelude.{◌==◌, ◌+◌, ◌++◌, ℕ, List, [], ◌∷◌, Bool, if◌then◌else◌}
 use Rattle.std.specs.Int.{to_be_bytes, w32}
 use Rattle.volume_core.specs.Volume.{Part, capacity_of, is_in_early_zone, used_up_to}
 use Rattle.positioning.specs.declared.positions.Pos.{Pos}

@@ -1,5 +1,5 @@
 -- How far a walk over filemarks goes.
-use Rattle.std.specs.Prelude.{◌≡◌, ◌≤◌, ◌+◌, ◌-◌, ◌⊎◌, ℕ, List}
+use Rattle.std.specs.Prelude.{◌≡◌, ◌≤◌, ◌+◌, ◌⊎◌, ℕ, List}
 use Rattle.volume_core.specs.declared.objects.Object.{Object}
 use Rattle.positioning.specs.Motion.{IsMarkAt, IsBehindMark, marks_between}
 

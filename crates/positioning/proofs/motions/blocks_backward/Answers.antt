@@ -1,4 +1,4 @@
-use Rattle.std.proofs.Common.{◌≡◌, ◌≤◌, ℕ, ◌+◌, ◌-◌, arith}
+use Rattle.std.proofs.Common.{arith}
 use Rattle.positioning.proofs.EndLemmas.{walk_back_to_mark, walk_back_of_all, walk_back_to_start}
 use Rattle.positioning.proofs.motions.blocks_backward.Goals as goal
 

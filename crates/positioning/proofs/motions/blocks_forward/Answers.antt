@@ -1,4 +1,4 @@
-use Rattle.std.proofs.Common.{◌≡◌, ◌≤◌, ℕ, ◌+◌, ◌-◌, arith}
+use Rattle.std.proofs.Common.{arith}
 use Rattle.positioning.proofs.EndLemmas.{walk_to_mark, walk_of_all, walk_to_end}
 use Rattle.positioning.proofs.motions.blocks_forward.Goals as goal
 
