@@ -2,8 +2,8 @@
 """Runs the built program to each of its endings, and compares status, standard output and standard error.
 
 Done; a bad line; a reader that fails (a folder); a writer that fails (a full device, a closed pipe); memory that runs out, by
-limits of the system over a range: at each at which a script of no line ends well a long one does so too, or memory runs out,
-and at some it does. But for --short, a script of 2,147,483,648 bytes, and one of a byte more."""
+limits of the system over a range: at each at which a script of no line ends well a long one does so too, or memory runs out
+in the program or in the command, and at some it does. But for --short, a script of 2,147,483,648 bytes, and one of a byte more."""
 import os
 import resource
 import subprocess
@@ -17,6 +17,7 @@ PHASE = READY + b"--\n"
 # a command with 1,048,576 bytes
 LONG = b"1 1 0a0010000000 " + b"5a" * 1_048_576 + b"\n"
 ATTENTION = b"CHECK 700006000000000a00000000290000000000\n"
+ABORTED = b"CHECK 70000b000000000a00000000550300000000\n"
 DEVICE, MEMORY = b"vtl: device fault\n", b"vtl: out of memory\n"
 
 
@@ -52,11 +53,12 @@ def ended_on(size):
 def ends_out_of_memory():
     """How often memory ran out over a range of limits, and what ended otherwise than it should."""
     fine, times, wrong = (0, ATTENTION + b"GOOD\n", b""), 0, []
+    short = [(0, ATTENTION + ABORTED, b""), (3, ATTENTION, MEMORY), (3, b"", MEMORY)]
     limits = [limit for limit in range(1 << 20, 24 << 20, 1 << 18) if ended(b"", memory=limit) == (0, b"", b"")]
     for limit in [None, *limits]:
         run = ended(PHASE + LONG, memory=limit)
-        times += run[0] == 3
-        if run not in (fine, (3, b"", MEMORY), (3, ATTENTION, MEMORY)) or limit is None and run != fine:
+        times += run in short
+        if run != fine and not (limit and run in short):
             wrong.append(f"with {limit} bytes: {run}")
     return times, wrong
 
