@@ -1,13 +1,13 @@
 -- Where the checks of a command end: each cause, found to be the first that holds.
 use Rattle.std.proofs.Common.{◌≡◌, ℕ, List, Option, None, Some, Result, Ok, Bool, true, false, length, ◌==◌, refl, sym, ap, subst, arith}
 use Rattle.std.proofs.lemmas.Bool.Decides.{nat_tests}
-use Rattle.scsi_wire.specs.declared.replies.Reply.{Reply}
-use Rattle.scsi_wire.specs.declared.attention_sets.Attention.{Attention}
+use Rattle.scsi_sense.specs.declared.replies.Reply.{Reply}
+use Rattle.scsi_attention.specs.declared.attention_sets.Attention.{Attention}
 use Rattle.scsi_wire.specs.declared.opcodes.Opcode.{Opcode}
 use Rattle.scsi_wire.specs.declared.opcodes.Opcode.TheVariants.{TestUnitReady, Rewind, Read, Write, WriteFilemarks}
 use Rattle.scsi_wire.specs.declared.commands.Command.{Command}
-use Rattle.scsi_wire.specs.Attentions.{attention_of, cleared}
-use Rattle.scsi_wire.specs.Senses.{invalid_operation_code, invalid_field, medium_not_present, medium_failed, deferred_write_error, attention_sense}
+use Rattle.scsi_attention.specs.Attentions.{attention_of, cleared}
+use Rattle.scsi_sense.specs.Senses.{invalid_operation_code, invalid_field, medium_not_present, medium_failed, deferred_write_error, attention_sense}
 use Rattle.scsi_wire.specs.Opcodes.{is_exempt, needs_medium}
 use Rattle.scsi_wire.specs.Commands.{command_of, sent_length}
 use Rattle.volume_core.specs.Medium.{MediumState}

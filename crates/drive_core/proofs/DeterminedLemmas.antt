@@ -1,24 +1,19 @@
 -- Where no fault comes, a step has one outcome, and so has a run, wherever flusher's turns stand in it.
-use Rattle.std.proofs.Common.{◌≡◌, ◌++◌, List, [], ◌∷◌, Option, None, Some, Result, Ok, Err, Bool, true, false, sym, ◌∙◌, ap, refl}
-use Rattle.std.specs.Prelude.{All}
-use Rattle.scsi_wire.specs.declared.replies.Reply.{Reply}
+use Rattle.std.proofs.Common.{◌≡◌, Option, Ok, Err, true, sym, ◌∙◌, ap, refl}
 use Rattle.volume_core.specs.declared.media.Turn.{Turn}
 use Rattle.volume_core.specs.declared.media.Turn.TheVariants.{Idle, Stored, Faulted}
-use Rattle.volume_core.specs.Volume.{Part}
 use Rattle.volume_core.specs.Medium.{MediumState, volume_of, Turns}
 use Rattle.drive_core.specs.declared.bays.Bay.{Bay}
 use Rattle.drive_core.specs.declared.bays.Bay.TheVariants.{Empty, Unloaded, Loaded}
-use Rattle.drive_core.specs.declared.faults.Fault.{Fault}
 use Rattle.drive_core.specs.State.{Machine, bay_of}
-use Rattle.drive_core.specs.Relations.{Made, made_nothing, made_after}
+use Rattle.drive_core.specs.Relations.{Made, made_nothing}
 use Rattle.drive_core.specs.Work.{Request}
-use Rattle.drive_core.specs.Turn.{TurnsIn, FlushTurns, after_turn, turn_outcome}
-use Rattle.drive_core.specs.Step.{Input, Execute, FlushTurn, Load, PowerOn, Output, Answered, Unanswered, Step, replies_of, reply_in}
-use Rattle.drive_core.specs.Run.{Run}
-use Rattle.drive_core.specs.Determined.{Sight, sight_of, side_sight, seen_of, AskAlike, AllAskAlike, without_turns, IsCalm, AreSureAlike, AreAllSureAlike, AreAlike, StepsAreDetermined, RunsAreDetermined}
-use Rattle.drive_core.proofs.AlikeCommandLemmas.{working_sight, works_sight}
-use Rattle.drive_core.proofs.AlikeLoadLemmas.{loads, powers_on}
-use Rattle.drive_core.proofs.AlikeCheckLemmas.{requests}
+use Rattle.drive_core.specs.Turn.{TurnsIn, after_turn, turn_outcome}
+use Rattle.drive_core.specs.Step.{Execute, FlushTurn, Load, PowerOn, Output, Answered, Unanswered, Step}
+use Rattle.drive_core.specs.Determined.{sight_of, side_sight, seen_of, IsCalm, AreSureAlike, AreAllSureAlike, AreAlike, StepsAreDetermined}
+use Rattle.drive_core.proofs.CommandLemmas.{works_sight}
+use Rattle.drive_core.proofs.DeterminedLoads.{loads, powers_on}
+use Rattle.drive_core.proofs.DeterminedChecks.{requests}
 
 -- a turn that meets no fault leaves the medium seen as it was
 turns_unseen : (medium : MediumState) (turn : Turn) (left : MediumState) → medium.awake ≡ true
@@ -125,15 +120,15 @@ steps_determined old beside (PowerOn medium) (PowerOn other) output output' made
     power_on_determined old beside made made' new new' e medium other output output' asks calm calm' h k
 steps_determined old beside FlushTurn FlushTurn output output' made made' new new' e asks calm calm' h k =
     turn_determined old beside made made' new new' e output output' calm calm' h k
-steps_determined old beside (Execute request) (Load other) output output' made made' new new' e asks calm calm' h k = absurd asks
-steps_determined old beside (Execute request) (PowerOn other) output output' made made' new new' e asks calm calm' h k = absurd asks
-steps_determined old beside (Execute request) FlushTurn output output' made made' new new' e asks calm calm' h k = absurd asks
-steps_determined old beside (Load medium) (Execute other) output output' made made' new new' e asks calm calm' h k = absurd asks
-steps_determined old beside (Load medium) (PowerOn other) output output' made made' new new' e asks calm calm' h k = absurd asks
-steps_determined old beside (Load medium) FlushTurn output output' made made' new new' e asks calm calm' h k = absurd asks
-steps_determined old beside (PowerOn medium) (Execute other) output output' made made' new new' e asks calm calm' h k = absurd asks
-steps_determined old beside (PowerOn medium) (Load other) output output' made made' new new' e asks calm calm' h k = absurd asks
-steps_determined old beside (PowerOn medium) FlushTurn output output' made made' new new' e asks calm calm' h k = absurd asks
-steps_determined old beside FlushTurn (Execute other) output output' made made' new new' e asks calm calm' h k = absurd asks
-steps_determined old beside FlushTurn (Load other) output output' made made' new new' e asks calm calm' h k = absurd asks
-steps_determined old beside FlushTurn (PowerOn other) output output' made made' new new' e asks calm calm' h k = absurd asks
+steps_determined old beside (Execute request) (Load other) o o' made made' new new' e asks c c' h k = absurd asks
+steps_determined old beside (Execute request) (PowerOn other) o o' made made' new new' e asks c c' h k = absurd asks
+steps_determined old beside (Execute request) FlushTurn o o' made made' new new' e asks c c' h k = absurd asks
+steps_determined old beside (Load medium) (Execute other) o o' made made' new new' e asks c c' h k = absurd asks
+steps_determined old beside (Load medium) (PowerOn other) o o' made made' new new' e asks c c' h k = absurd asks
+steps_determined old beside (Load medium) FlushTurn o o' made made' new new' e asks c c' h k = absurd asks
+steps_determined old beside (PowerOn medium) (Execute other) o o' made made' new new' e asks c c' h k = absurd asks
+steps_determined old beside (PowerOn medium) (Load other) o o' made made' new new' e asks c c' h k = absurd asks
+steps_determined old beside (PowerOn medium) FlushTurn o o' made made' new new' e asks c c' h k = absurd asks
+steps_determined old beside FlushTurn (Execute other) o o' made made' new new' e asks c c' h k = absurd asks
+steps_determined old beside FlushTurn (Load other) o o' made made' new new' e asks c c' h k = absurd asks
+steps_determined old beside FlushTurn (PowerOn other) o o' made made' new new' e asks c c' h k = absurd asks

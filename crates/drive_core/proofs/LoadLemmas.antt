@@ -1,9 +1,9 @@
 -- Loading and powering on are steps of the machine.
-use Rattle.std.proofs.Common.{◌≡◌, ◌∙◌, [], Option, None, Some, option_map, Result, Ok, Err, refl, ap, subst, sym}
+use Rattle.std.proofs.Common.{◌≡◌, ◌∙◌, [], Option, None, Some, option_map, Result, Ok, Err, IfOk, refl, ap, subst, sym}
 use Rattle.vtl_base.specs.Below.{Below}
 use Rattle.vtl_base.specs.declared.faults.NoMemory.{NoMemory}
-use Rattle.scsi_wire.specs.declared.replies.Reply.{Reply}
-use Rattle.scsi_wire.specs.Replies.{good_with}
+use Rattle.scsi_sense.specs.declared.replies.Reply.{Reply}
+use Rattle.scsi_sense.specs.Replies.{good_with}
 use Rattle.volume_core.specs.declared.changes.Change.{Change}
 use Rattle.volume_core.specs.declared.media.MediumError.{MediumError}
 use Rattle.volume_core.specs.declared.media.MediumError.TheVariants as Errors
@@ -81,3 +81,9 @@ module _ {M : Type 0} (state : M → MediumState) (below : Below M Change) where
           ap (machine_of state) is,
         );
       }
+
+  -- the same of whatever came of it
+  pub power_on_where : (given : Option M) (result : Result (DriveState M Kept) (Option M × NoMemory))
+      → SwitchesOn state below given result → IfOk result (λ new. PowerOnSteps state below given new)
+  power_on_where given (Ok new) h = power_on_steps given new h
+  power_on_where given (Err back) h = tt

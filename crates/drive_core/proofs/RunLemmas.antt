@@ -1,7 +1,7 @@
 -- Runs: two in a row are one, and what a drive answers to hosts is one.
 use Rattle.std.proofs.Common.{◌≡◌, ◌++◌, ◌∙◌, List, [], ◌∷◌, map, Option, None, Some, Result, refl, sym, ap, subst, append_assoc}
 use Rattle.vtl_base.specs.Below.{Below}
-use Rattle.scsi_wire.specs.declared.replies.Reply.{Reply}
+use Rattle.scsi_sense.specs.declared.replies.Reply.{Reply}
 use Rattle.volume_core.specs.declared.changes.Change.{Change}
 use Rattle.volume_core.specs.Medium.{MediumState}
 use Rattle.drive_core.specs.declared.faults.Fault.{Fault}

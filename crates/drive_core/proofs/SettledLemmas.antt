@@ -2,19 +2,19 @@
 use Rattle.std.proofs.Common.{◌≡◌, ◌≢◌, ℕ, zero, suc, List, [], ◌∷◌, Option, None, Some, Result, Ok, Bool, true, false, length, ◌==◌, refl, subst, sym, ap, inl, inr, nat_lt, not, ◌&&◌, if◌then◌else◌}
 use Rattle.std.specs.Prelude.{IsOkAnd}
 use Rattle.std.proofs.lemmas.Bool.{eqb-true}
-use Rattle.scsi_wire.specs.declared.replies.Reply.{Reply}
-use Rattle.scsi_wire.specs.declared.sense_data.Sense.{Sense}
-use Rattle.scsi_wire.specs.declared.sense_data.SenseKey.TheVariants.{NoSense}
-use Rattle.scsi_wire.specs.declared.attention_sets.Attention.{Attention}
-use Rattle.scsi_wire.specs.declared.attention_sets.Attention.TheVariants.{PowerOn, MediumChanged, ReservationsPreempted, RegistrationsPreempted, ReservationsReleased, ModeChanged}
+use Rattle.scsi_sense.specs.declared.replies.Reply.{Reply}
+use Rattle.scsi_sense.specs.declared.sense_data.Sense.{Sense}
+use Rattle.scsi_sense.specs.declared.sense_data.SenseKey.TheVariants.{NoSense}
+use Rattle.scsi_attention.specs.declared.attention_sets.Attention.{Attention}
+use Rattle.scsi_attention.specs.declared.attention_sets.Attention.TheVariants.{PowerOn, MediumChanged, ReservationsPreempted, RegistrationsPreempted, ReservationsReleased, ModeChanged}
 use Rattle.scsi_wire.specs.declared.opcodes.Opcode.{Opcode}
 use Rattle.scsi_wire.specs.declared.commands.Command.{Command}
 use Rattle.scsi_wire.specs.declared.commands.Command.TheVariants.{TestUnitReady, Rewind, Read, Write, WriteFilemarks}
-use Rattle.scsi_wire.specs.Attentions.{attention_of, cleared}
+use Rattle.scsi_attention.specs.Attentions.{attention_of, cleared}
 use Rattle.scsi_wire.specs.Opcodes.{opcode_of, is_exempt, needs_medium, is_stopped_by_reservation}
 use Rattle.scsi_wire.specs.Commands.{command_of, sent_length, checked, decoded_as}
-use Rattle.scsi_wire.specs.Senses.{invalid_field, medium_not_present, medium_failed, deferred_write_error, attention_sense, volume_overflow}
-use Rattle.scsi_wire.specs.Replies.{check_with, conflict}
+use Rattle.scsi_sense.specs.Senses.{invalid_field, medium_not_present, medium_failed, deferred_write_error, attention_sense, volume_overflow}
+use Rattle.scsi_sense.specs.Replies.{check_with, conflict}
 use Rattle.volume_core.specs.declared.changes.Change.{Change}
 use Rattle.volume_core.specs.declared.changes.Refusal.{Refusal}
 use Rattle.volume_core.specs.declared.changes.Refusal.TheVariants.{NoPartition, PastEnd, NoRoom, TooLong}
@@ -65,7 +65,7 @@ append_settled : (cause : Option Refusal) (change : Change) (old : Mounted) (rep
 append_settled None change old reply made new h acknowledged = (h.2.medium_is.works, h.3 refl)
 append_settled (Some NoRoom) change old reply made new h acknowledged =
     absurd (unacknowledged (volume_overflow (Some (amount_of change))) [] (λ e. cc)
-      (subst (λ (r : Reply). Acknowledges r) h.0 acknowledged))
+    (subst (λ (r : Reply). Acknowledges r) h.0 acknowledged))
 append_settled (Some NoPartition) change old reply made new h acknowledged = absurd h
 append_settled (Some PastEnd) change old reply made new h acknowledged = absurd h
 append_settled (Some TooLong) change old reply made new h acknowledged = absurd h

@@ -1,11 +1,11 @@
 -- Steps, where more is known of the medium's honesty.
-use Rattle.std.proofs.Common.{ℕ, zero, suc, List, Option, None, Some, Result, Ok, Err, Bool, true, false, length, ◌==◌}
-use Rattle.scsi_wire.specs.declared.replies.Reply.{Reply}
-use Rattle.scsi_wire.specs.declared.attention_sets.Attention.{Attention}
+use Rattle.std.proofs.Common.{ℕ, List, [], Option, None, Some, Result, Ok, Err, Bool, true, false, length, ◌==◌}
+use Rattle.scsi_sense.specs.declared.replies.Reply.{Reply}
+use Rattle.scsi_attention.specs.declared.attention_sets.Attention.{Attention}
 use Rattle.scsi_wire.specs.declared.opcodes.Opcode.{Opcode}
 use Rattle.scsi_wire.specs.declared.commands.Command.{Command}
 use Rattle.scsi_wire.specs.declared.commands.Command.TheVariants.{TestUnitReady, Rewind, Read, Write, WriteFilemarks}
-use Rattle.scsi_wire.specs.Attentions.{attention_of}
+use Rattle.scsi_attention.specs.Attentions.{attention_of}
 use Rattle.scsi_wire.specs.Opcodes.{opcode_of, is_exempt, needs_medium}
 use Rattle.scsi_wire.specs.Commands.{command_of, sent_length}
 use Rattle.volume_core.specs.declared.changes.Change.{Change}
@@ -103,14 +103,15 @@ module _ (H H' : Type 0) (so : H → H') where
     code_where None h = h
     code_where (Some opcode) h = exempt_where (is_exempt opcode) opcode h
 
-  parked_where : (stored : Option (List Part)) (torn : List Change) (new : MediumState)
-      → IsParked H' stored torn new → IsParked H stored torn new
-  parked_where stored torn new h =
+  parked_where : (stored : Option (List Part)) (torn : List Change) (room : Option ℕ) (taken : List Change)
+      (new : MediumState) → IsParked H' stored torn room taken new → IsParked H stored torn room taken new
+  parked_where stored torn room taken new h =
       record {
         parked = h.parked;
         works = h.works;
         nothing_pending = h.nothing_pending;
         gives = λ honest. h.gives (so honest);
+        room_is = λ honest. h.room_is (so honest);
       }
 
   wakes_from_where : (awake : Bool) (old : MediumState) (woke : Result Unit MediumError) (new : MediumState)
@@ -123,10 +124,10 @@ module _ (H H' : Type 0) (so : H → H') where
   wakes_from_where true old (Err Errors.Device) new h = h
   wakes_from_where true old (Err Errors.Unreadable) new h = h
   wakes_from_where false old (Ok done) new h = (h.0, λ honest. h.1 (so honest))
-  wakes_from_where false old (Err Errors.NoMemory) new h = parked_where old.stored old.torn new h
-  wakes_from_where false old (Err Errors.Device) new h = parked_where old.stored old.torn new h
+  wakes_from_where false old (Err Errors.NoMemory) new h = parked_where old.stored old.torn old.room [] new h
+  wakes_from_where false old (Err Errors.Device) new h = parked_where old.stored old.torn old.room [] new h
   wakes_from_where false old (Err Errors.Unreadable) new h =
-      (parked_where old.stored old.torn new h.0, λ honest. h.1 (so honest))
+      (parked_where old.stored old.torn old.room [] new h.0, λ honest. h.1 (so honest))
   wakes_from_where false old (Err Errors.Failed) new h = h
   wakes_from_where false old (Err (Errors.Refused cause)) new h = h
   wakes_from_where false old (Err Errors.SideFull) new h = h

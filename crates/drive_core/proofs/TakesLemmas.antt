@@ -2,7 +2,7 @@
 use Rattle.std.proofs.Common.{◌≡◌, List, [], Option, None, Some, Result, Ok, Err, Bool, false, refl, subst}
 use Rattle.vtl_base.specs.Below.{Below, Advances}
 use Rattle.scsi_wire.specs.declared.opcodes.Opcode.{Opcode}
-use Rattle.scsi_wire.specs.declared.replies.Reply.{Reply}
+use Rattle.scsi_sense.specs.declared.replies.Reply.{Reply}
 use Rattle.volume_core.specs.declared.changes.Change.{Change}
 use Rattle.volume_core.specs.Medium.{MediumState}
 use Rattle.volume_core.specs.Stores.{stores_nowhere}

@@ -1,8 +1,8 @@
 -- A change at the position, which adds objects there: WRITE and WRITE FILEMARKS.
 use Rattle.std.specs.Prelude.{◌≡◌, ◌≤◌, ◌+◌, ◌++◌, ◌⊎◌, ℕ, List, [], ◌∷◌, length, Option, None, Some, Bool, true, false, Result, Ok, Err}
-use Rattle.scsi_wire.specs.declared.replies.Reply.{Reply}
-use Rattle.scsi_wire.specs.Replies.{good_with, check_with}
-use Rattle.scsi_wire.specs.Senses.{volume_overflow}
+use Rattle.scsi_sense.specs.declared.replies.Reply.{Reply}
+use Rattle.scsi_sense.specs.Replies.{good_with, check_with}
+use Rattle.scsi_sense.specs.Senses.{volume_overflow}
 use Rattle.volume_core.specs.declared.changes.Change.{Change}
 use Rattle.volume_core.specs.declared.changes.Change.TheVariants.{Put, Marks, Erase}
 use Rattle.volume_core.specs.declared.changes.Refusal.{Refusal}

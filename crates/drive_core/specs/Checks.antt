@@ -1,13 +1,13 @@
 -- The checks of a command in their order, and then its work.
 use Rattle.std.specs.Prelude.{◌≡◌, ℕ, List, [], length, Option, None, Some, Bool, true, false, ◌==◌, if◌then◌else◌, Result, Ok}
-use Rattle.scsi_wire.specs.declared.attention_sets.Attention.{Attention}
-use Rattle.scsi_wire.specs.declared.replies.Reply.{Reply}
+use Rattle.scsi_attention.specs.declared.attention_sets.Attention.{Attention}
+use Rattle.scsi_sense.specs.declared.replies.Reply.{Reply}
 use Rattle.scsi_wire.specs.declared.opcodes.Opcode.{Opcode}
 use Rattle.scsi_wire.specs.declared.commands.Command.{Command}
 use Rattle.scsi_wire.specs.declared.commands.Command.TheVariants.{WriteFilemarks}
-use Rattle.scsi_wire.specs.Attentions.{attention_of, cleared}
-use Rattle.scsi_wire.specs.Senses.{invalid_operation_code, invalid_field, medium_not_present, medium_failed, deferred_write_error, attention_sense}
-use Rattle.scsi_wire.specs.Replies.{conflict}
+use Rattle.scsi_attention.specs.Attentions.{attention_of, cleared}
+use Rattle.scsi_sense.specs.Senses.{invalid_operation_code, invalid_field, medium_not_present, medium_failed, deferred_write_error, attention_sense}
+use Rattle.scsi_sense.specs.Replies.{conflict}
 use Rattle.scsi_wire.specs.Opcodes.{opcode_of, is_exempt, is_stopped_by_reservation, needs_medium}
 use Rattle.scsi_wire.specs.Commands.{command_of, sent_length}
 use Rattle.volume_core.specs.Medium.{MediumState}

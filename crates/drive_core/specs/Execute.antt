@@ -1,7 +1,7 @@
 -- What a call does to a drive over any medium.
 use Rattle.std.specs.Prelude.{◌≡◌, ℕ, List, [], Option, None, Some, Bool, true, false, Result, Ok, Err}
 use Rattle.vtl_base.specs.Below.{Below, Advances}
-use Rattle.scsi_wire.specs.declared.replies.Reply.{Reply}
+use Rattle.scsi_sense.specs.declared.replies.Reply.{Reply}
 use Rattle.volume_core.specs.declared.changes.Change.{Change}
 use Rattle.volume_core.specs.Medium.{MediumState}
 use Rattle.volume_core.specs.Stores.{Stores}

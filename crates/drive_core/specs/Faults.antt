@@ -1,9 +1,9 @@
 -- Faults that may come into a command, and what a host is told of each.
 use Rattle.std.specs.Prelude.{[], Result, Ok, Err}
-use Rattle.scsi_wire.specs.declared.replies.Reply.{Reply}
-use Rattle.scsi_wire.specs.declared.sense_data.Sense.{Sense}
-use Rattle.scsi_wire.specs.Replies.{check_with}
-use Rattle.scsi_wire.specs.Senses.{insufficient_resources, write_error, read_error, volume_overflow}
+use Rattle.scsi_sense.specs.declared.replies.Reply.{Reply}
+use Rattle.scsi_sense.specs.declared.sense_data.Sense.{Sense}
+use Rattle.scsi_sense.specs.Replies.{check_with}
+use Rattle.scsi_sense.specs.Senses.{insufficient_resources, write_error, read_error, volume_overflow}
 use Rattle.drive_core.specs.declared.faults.Fault.{Fault}
 use Rattle.drive_core.specs.declared.faults.Fault.TheVariants.{NoMemory, Writing, Reading, SideFull}
 

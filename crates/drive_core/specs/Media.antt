@@ -2,8 +2,8 @@
 use Rattle.std.specs.Prelude.{◌≡◌, [], Option, None, Some, option_map, Result, Ok, Err}
 use Rattle.vtl_base.specs.Below.{Below, Advances}
 use Rattle.vtl_base.specs.declared.faults.NoMemory.{NoMemory}
-use Rattle.scsi_wire.specs.declared.replies.Reply.{Reply}
-use Rattle.scsi_wire.specs.Replies.{good_with}
+use Rattle.scsi_sense.specs.declared.replies.Reply.{Reply}
+use Rattle.scsi_sense.specs.Replies.{good_with}
 use Rattle.volume_core.specs.declared.changes.Change.{Change}
 use Rattle.volume_core.specs.declared.media.MediumError.{MediumError}
 use Rattle.volume_core.specs.declared.media.MediumError.TheVariants as Errors

@@ -1,9 +1,9 @@
 -- READ.
 use Rattle.std.specs.Prelude.{◌≡◌, ◌≤◌, ◌+◌, ◌-◌, ◌%◌, ◌^◌, ℕ, zero, suc, List, [], length, take, slice_get, Option, None, Some, Bool, ◌==◌, if◌then◌else◌, Result, Ok, Err}
 use Rattle.vtl_base.specs.declared.limits.TheConstants.{MAX_BLOCK}
-use Rattle.scsi_wire.specs.declared.replies.Reply.{Reply}
-use Rattle.scsi_wire.specs.Replies.{good_with, check_with}
-use Rattle.scsi_wire.specs.Senses.{end_of_data, filemark_detected, incorrect_length}
+use Rattle.scsi_sense.specs.declared.replies.Reply.{Reply}
+use Rattle.scsi_sense.specs.Replies.{good_with, check_with}
+use Rattle.scsi_sense.specs.Senses.{end_of_data, filemark_detected, incorrect_length}
 use Rattle.volume_core.specs.declared.changes.Change.{Change}
 use Rattle.volume_core.specs.declared.objects.Kind.TheVariants as Kinds
 use Rattle.volume_core.specs.declared.objects.Object.{Object}

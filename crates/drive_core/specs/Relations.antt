@@ -1,8 +1,8 @@
 -- What the work of a command is: a relation. What a step makes; nothing done; refusals; what stays where a command fails.
 use Rattle.std.specs.Prelude.{◌≡◌, ◌≤◌, ◌++◌, List, [], length, Result, Ok}
-use Rattle.scsi_wire.specs.declared.replies.Reply.{Reply}
-use Rattle.scsi_wire.specs.declared.sense_data.Sense.{Sense}
-use Rattle.scsi_wire.specs.Replies.{good_with, check_with}
+use Rattle.scsi_sense.specs.declared.replies.Reply.{Reply}
+use Rattle.scsi_sense.specs.declared.sense_data.Sense.{Sense}
+use Rattle.scsi_sense.specs.Replies.{good_with, check_with}
 use Rattle.volume_core.specs.declared.changes.Change.{Change}
 use Rattle.volume_core.specs.Medium.{Works, Breaks}
 use Rattle.drive_core.specs.declared.faults.Fault.{Fault}

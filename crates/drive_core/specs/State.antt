@@ -1,9 +1,9 @@
 -- What a drive is in.
 use Rattle.std.specs.Prelude.{◌≡◌, ◌<◌, ◌≤◌, List, length, replicate, Option, None, Some, Bool, true, false}
 use Rattle.vtl_base.specs.declared.limits.TheConstants.{NEXUSES}
-use Rattle.scsi_wire.specs.declared.attention_sets.Attention.TheVariants.{PowerOn, MediumChanged}
-use Rattle.scsi_wire.specs.AttentionSets.{AttentionSet, no_attentions, with_attention}
-use Rattle.scsi_wire.specs.Attentions.{established_for_all}
+use Rattle.scsi_attention.specs.declared.attention_sets.Attention.TheVariants.{PowerOn, MediumChanged}
+use Rattle.scsi_attention.specs.AttentionSets.{AttentionSet, no_attentions, with_attention}
+use Rattle.scsi_attention.specs.Attentions.{established_for_all}
 use Rattle.volume_core.specs.Volume.{Part, objects_of}
 use Rattle.volume_core.specs.Medium.{MediumState, volume_of}
 use Rattle.drive_core.specs.declared.bays.Bay.{Bay}

@@ -11,7 +11,9 @@ use crate::bays::{Bay, Position};
 use crate::dispatch::carry_out;
 use crate::faults::Fault;
 use crate::opening::{START, check, open, start_of, wake_reply};
-use scsi_wire::{Attention, Attentions, AttnSet, Command, Opcode, Reply, Sense};
+use scsi_attention::{Attention, Attentions, AttnSet};
+use scsi_sense::{Reply, Sense};
+use scsi_wire::{Command, Opcode};
 use std::alloc::Global;
 use std::marker::Model;
 use std::mem;
@@ -160,7 +162,7 @@ impl<M: Medium> Drive<M> {
             self.deferred = false;
             return Ok(check(self.alloc, Sense::deferred_write_error()));
         }
-        if let Some(attention) = self.attentions.take(nexus) {
+        if let Some(attention) = self.attentions.report(nexus) {
             return Ok(check(self.alloc, Sense::attention(attention)));
         }
         self.perform(nexus, opcode, cdb, sent)

@@ -2,7 +2,7 @@
 ghost use Rattle.std.specs.Prelude.{◌≡◌};
 ghost use Rattle.drive_core.specs.Faults.{fault_sense, fault_reply};
 
-use scsi_wire::{Reply, Sense};
+use scsi_sense::{Reply, Sense};
 use std::alloc::Global;
 use vtl_base::{Bytes, NoMemory};
 

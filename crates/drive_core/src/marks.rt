@@ -8,7 +8,7 @@ use crate::appends::append;
 use crate::bays::Position;
 use crate::faults::Fault;
 use crate::storing::store_pending;
-use scsi_wire::Reply;
+use scsi_sense::Reply;
 use std::alloc::Global;
 use volume_core::{Change, Medium};
 use vtl_base::Bytes;

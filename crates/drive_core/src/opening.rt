@@ -1,6 +1,6 @@
 //! Opening a medium that comes into a drive.
 ghost use Rattle.std.specs.Prelude.{◌≡◌, [], true, IfOk};
-ghost use Rattle.scsi_wire.specs.Replies.{check_with};
+ghost use Rattle.scsi_sense.specs.Replies.{check_with};
 ghost use Rattle.drive_core.specs.declared.bays.Bay.TheVariants as Bays;
 ghost use Rattle.drive_core.specs.State.{start, IsPositioned, IsBayPositioned};
 ghost use Rattle.drive_core.specs.Faults.{reply_of};
@@ -9,7 +9,7 @@ ghost use Rattle.drive_core.specs.Inner.Opening.{OpensInto};
 
 use crate::bays::{Bay, Position};
 use crate::faults::Fault;
-use scsi_wire::{Reply, Sense};
+use scsi_sense::{Reply, Sense};
 use std::alloc::Global;
 use volume_core::{Catalog, Medium, MediumError};
 use vtl_base::Bytes;

@@ -15,7 +15,7 @@ ghost use Rattle.drive_core.specs.Inner.Fetching.{FetchesBlock};
 use crate::bays::Position;
 use crate::faults::Fault;
 use crate::storing::store_pending;
-use scsi_wire::{Reply, Sense};
+use scsi_sense::{Reply, Sense};
 use std::alloc::Global;
 use volume_core::{Kind, Medium, MediumError};
 use vtl_base::{Bytes, ObjNo, PartNo};

@@ -7,7 +7,7 @@ ghost use Rattle.drive_core.specs.Inner.Carries.{Carries, IsReady};
 use crate::bays::Position;
 use crate::faults::Fault;
 use crate::storing::store_pending;
-use scsi_wire::Reply;
+use scsi_sense::Reply;
 use std::alloc::Global;
 use volume_core::Medium;
 use vtl_base::Bytes;

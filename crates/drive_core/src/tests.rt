@@ -4,7 +4,7 @@ mod failing;
 use crate::laws::{answers_are_determined, honest_steps, runs_append};
 use crate::{Drive, Fault};
 use failing::FailingMedium;
-use scsi_wire::{Reply, Status};
+use scsi_sense::{Reply, Status};
 use std::alloc::Global;
 use std::process::Abort;
 use std::test::Fail;

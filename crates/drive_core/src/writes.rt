@@ -11,7 +11,7 @@ ghost use Rattle.drive_core.specs.Inner.Carries.{Carries, IsReady};
 use crate::appends::append;
 use crate::bays::Position;
 use crate::faults::Fault;
-use scsi_wire::{Reply, Sense};
+use scsi_sense::{Reply, Sense};
 use std::alloc::Global;
 use volume_core::{Catalog, Change, Medium};
 use vtl_base::Bytes;

@@ -33,13 +33,15 @@ broken_is old torn faults same =
     ap (λ (n : ℕ). record old { failed = true; is_torn = torn; faults = n }) same
 
 -- the first of changes that all apply do
-pub all_apply_take : (volume : List Part) (log : List Change) (n : ℕ) → AllApply volume log → AllApply volume (take n log)
+pub all_apply_take : (volume : List Part) (log : List Change) (n : ℕ)
+    → AllApply volume log → AllApply volume (take n log)
 all_apply_take volume log zero all = tt
 all_apply_take volume [] (suc n) all = tt
 all_apply_take volume (change ∷ log) (suc n) all = (all.0, all_apply_take (changed volume change) log n all.1)
 
 -- one change more is pending
-pub staged_with : (capacities : List ℕ) (log : List Change) (stored room free : ℕ) (seen new : List Part) (awake failed : Bool)
+pub staged_with : (capacities : List ℕ) (log : List Change) (stored room free : ℕ)
+    (seen new : List Part) (awake failed : Bool)
     (change : Change)
     → IsStaged capacities log stored room free seen awake failed
     → refusal_of seen change ≡ None → new ≡ changed seen change → frame_size change ≤ free
@@ -68,7 +70,8 @@ volume_all_stored : (old : Staged) → old.awake ≡ true
 volume_all_stored old awake = rw awake (after_append (empty_volume old.capacities) old.stored old.rest)
 
 -- a change that is pending is carried out in what is seen
-pub works_with : (old new : Staged) (change : Change) → old.awake ≡ true → old.failed ≡ false → new ≡ with_pending change old
+pub works_with : (old new : Staged) (change : Change)
+    → old.awake ≡ true → old.failed ≡ false → new ≡ with_pending change old
     → Works (changed (volume_of (staged_state old)) change) (staged_state new)
 works_with old new change awake works same =
     rw same
@@ -105,6 +108,10 @@ stores_by old new (Ok done) awake storing =
           (sym (take-length old.rest) ∙ ap (λ (l : List Change). take (length old.rest) l) (sym all)));
       pending =
           sym (drop-length old.rest) ∙ ap (λ (l : List Change). drop (length old.rest) l) (sym all);
+      room =
+          let taken : take (length old.rest) (old.rest ++ []) ≡ old.rest =
+          ap (λ (l : List Change). take (length old.rest) l) all ∙ take-length old.rest in
+          omega (arith, ap (sum_by frame_size) taken);
     })
 stores_by old new (Err Device) awake storing = search rules
 stores_by old new (Err (Refused cause)) awake storing = absurd storing
@@ -114,7 +121,8 @@ stores_by old new (Err Failed) awake storing = absurd storing
 stores_by old new (Err Unreadable) awake storing = absurd storing
 
 -- what is not stored is given up
-pub staged_without : (capacities : List ℕ) (log : List Change) (stored room free : ℕ) (seen new : List Part) (awake failed : Bool)
+pub staged_without : (capacities : List ℕ) (log : List Change) (stored room free : ℕ)
+    (seen new : List Part) (awake failed : Bool)
     → IsStaged capacities log stored room free seen awake failed
     → new ≡ after (empty_volume capacities) (take stored log)
     → IsStaged capacities (take stored log) stored room room new awake failed
@@ -133,7 +141,13 @@ pub parks_failed : (old : Staged) → old.failed ≡ true
     → IsParkedFrom (Unit {0}) old.failed (staged_state old) (staged_state (closed old))
 parks_failed old failed =
     rw failed
-    (record { parked = refl; works = refl; nothing_pending = refl; gives = λ honest. (refl, refl) })
+    (record {
+      parked = refl;
+      works = refl;
+      nothing_pending = refl;
+      gives = λ honest. (refl, refl);
+      room_is = λ honest. omega arith;
+    })
 
 -- one that works has stored all
 pub parks_stored : (old : Staged) → old.awake ≡ true → old.failed ≡ false
@@ -145,13 +159,15 @@ parks_stored old awake works =
       works = refl;
       nothing_pending = refl;
       gives = λ honest. (ap Some (after_append (empty_volume old.capacities) old.stored old.rest), refl);
+      room_is = λ honest. omega arith;
     })
 
 -- one that was parked is opened without what was given up
-pub opens_without : (old : Staged) → IsFresh (staged_state (opened old)) × Opens (staged_state old) (staged_state (opened old))
+pub opens_without : (old : Staged)
+    → IsFresh (staged_state (opened old)) × Opens (staged_state old) (staged_state (opened old))
 opens_without old = (
   record { awake = refl; works = refl; nothing_pending = refl },
-  record { volume = inl refl; readable = λ none. search rules },
+  record { volume = inl refl; readable = λ none. search rules; room_is = omega arith },
 )
 
 -- or with the frame that was under way
@@ -162,6 +178,7 @@ opens_with old torn = (
   record {
     volume = rw torn (inr (ap Some (after_append (empty_volume old.capacities) old.stored old.rest)));
     readable = λ none. search rules;
+    room_is = rw torn (omega arith);
   },
 )
 

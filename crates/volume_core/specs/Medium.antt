@@ -42,6 +42,12 @@ abbrev pub IsFull : Option ℕ → List Change → Type 0
 IsFull None changes = ⊥
 IsFull (Some room) changes = room < sum_by frame_size changes
 
+-- of the room of a side at most what these changes take as frames of their own is gone; no bound stays none (own)
+abbrev pub LeavesRoom : Option ℕ → List Change → Option ℕ → Type 0
+LeavesRoom None made now = now ≡ None
+LeavesRoom (Some room) made None = Unit {0}
+LeavesRoom (Some room) made (Some left) = room ≤ left + sum_by frame_size made
+
 -- the volume is now this one, and the medium is awake and works (own)
 pub record Works (volume : List Part) (new : MediumState) : Type 0 where
   pub volume_is : volume_of new ≡ volume
@@ -120,18 +126,22 @@ abbrev pub turn_met_fault : Turn → Bool
 turn_met_fault Faulted = true
 turn_met_fault _ = false
 
--- a parked medium; where it is honest, its side gives this volume, with none or all of these changes (own)
-pub record IsParked (honest : Type 0) (stored : Option (List Part)) (torn : List Change) (new : MediumState) : Type 0 where
+-- a parked medium; where it is honest, its side gives this volume, with none or all of these changes, and of this room
+-- at most what some changes take is gone (own)
+pub record IsParked
+    (honest : Type 0) (stored : Option (List Part)) (torn : List Change) (room : Option ℕ) (taken : List Change)
+    (new : MediumState) : Type 0 where
   pub parked : new.awake ≡ false
   pub works : new.failed ≡ false
   pub nothing_pending : new.pending ≡ []
   pub gives : honest → (new.stored ≡ stored) × (new.torn ≡ torn)
+  pub room_is : honest → LeavesRoom room taken new.room
 
 -- what the side of a medium gives once it is parked: all that was accepted, or of one that has failed what was stored,
 -- with none or all of the frame that was under way (own)
 abbrev pub IsParkedFrom : Type 0 → Bool → MediumState → MediumState → Type 0
-IsParkedFrom honest false old new = IsParked honest (Some (volume_of old)) [] new
-IsParkedFrom honest true old new = IsParked honest old.stored old.torn new
+IsParkedFrom honest false old new = IsParked honest (Some (volume_of old)) [] old.room old.pending new
+IsParkedFrom honest true old new = IsParked honest old.stored old.torn old.room [] new
 
 -- A medium is parked, once what is pending is stored, and answers so. One that has failed gives up what is pending
 -- (own).
@@ -155,6 +165,7 @@ pub record IsFresh (new : MediumState) : Type 0 where
 pub record Opens (old new : MediumState) : Type 0 where
   pub volume : GivenBy old new.stored
   pub readable : old.stored ≡ None → ⊥
+  pub room_is : LeavesRoom old.room old.torn new.room
 
 -- A medium that is awake stays as it is. A parked one is opened, or stays parked: its side gives no volume, the device
 -- failed, or memory ran out. What its side gives is known where it is honest (own).
@@ -163,10 +174,10 @@ WakesFrom honest true old (Ok done) new = (old.failed ≡ false) × (new ≡ old
 WakesFrom honest true old (Err Failed) new = (old.failed ≡ true) × (new ≡ old)
 WakesFrom honest true old (Err _) new = ⊥
 WakesFrom honest false old (Ok done) new = IsFresh new × (honest → Opens old new)
-WakesFrom honest false old (Err NoMemory) new = IsParked honest old.stored old.torn new
-WakesFrom honest false old (Err Device) new = IsParked honest old.stored old.torn new
+WakesFrom honest false old (Err NoMemory) new = IsParked honest old.stored old.torn old.room [] new
+WakesFrom honest false old (Err Device) new = IsParked honest old.stored old.torn old.room [] new
 WakesFrom honest false old (Err Unreadable) new =
-    IsParked honest old.stored old.torn new × (honest → old.stored ≡ None)
+    IsParked honest old.stored old.torn old.room [] new × (honest → old.stored ≡ None)
 WakesFrom honest false old (Err _) new = ⊥
 
 -- A medium is opened, and answers so (own).

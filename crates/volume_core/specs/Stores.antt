@@ -1,22 +1,25 @@
 -- How what is stored and what is pending move: a first part of it is stored.
 use Rattle.std.specs.Prelude.{◌≡◌, ◌≤◌, ◌+◌, ◌++◌, ℕ, Option, None, Some, List, [], ◌∷◌, length, take, drop, refl}
-use Rattle.std.proofs.Common.{ap, sym, ◌∙◌, arith, append_assoc, length-append, ◌-◌}
+use Rattle.std.proofs.lemmas.List.Sums.{sum_by-append}
+use Rattle.std.proofs.Common.{subst, ap, sym, ◌∙◌, arith, append_assoc, length-append, ◌-◌}
 use Rattle.std.proofs.lemmas.List.{append-nil, take-append-le, take-append-drop, take-take, drop-take, drop-append-le, drop-drop, length-drop}
 use Rattle.volume_core.specs.declared.changes.Change.{Change}
 use Rattle.volume_core.specs.Volume.{Part, changed, after}
-use Rattle.volume_core.specs.Medium.{MediumState}
+use Rattle.volume_core.specs.Medium.{MediumState, LeavesRoom, frame_size}
 
 -- what a side gives, with these changes carried out; a side with no volume stays one (own)
 abbrev pub stored_after : Option (List Part) → List Change → Option (List Part)
 stored_after None changes = None
 stored_after (Some volume) changes = Some (after volume changes)
 
--- Of what was pending and what is now accepted, some has been stored, from the first on; the rest is pending (own).
+-- Of what was pending and what is now accepted, some has been stored, from the first on, and of the side's room at most
+-- what it takes is gone; the rest is pending (own).
 pub record Stores (old : MediumState) (made : List Change) (new : MediumState) : Type 0 where
   pub count : ℕ
   pub fits : count ≤ length (old.pending ++ made)
   pub stored : new.stored ≡ stored_after old.stored (take count (old.pending ++ made))
   pub pending : new.pending ≡ drop count (old.pending ++ made)
+  pub room : LeavesRoom old.room (take count (old.pending ++ made)) new.room
 
 pub after_append : (volume : List Part) (xs ys : List Change) → after volume (xs ++ ys) ≡ after (after volume xs) ys
 after_append volume [] ys = refl
@@ -31,6 +34,22 @@ stored_none : (stored : Option (List Part)) → stored ≡ stored_after stored [
 stored_none None = refl
 stored_none (Some volume) = refl
 
+-- nothing stored leaves all room
+room_nowhere : (room : Option ℕ) → LeavesRoom room [] room
+room_nowhere None = refl
+room_nowhere (Some room) = omega arith
+
+-- two in a row leave what both leave
+room_on : (a b c : Option ℕ) (first second : List Change)
+    → LeavesRoom a first b → LeavesRoom b second c → LeavesRoom a (first ++ second) c
+room_on None None c first second one two = two
+room_on None (Some b) c first second one two = cc
+room_on (Some a) None None first second one two = tt
+room_on (Some a) None (Some c) first second one two = cc
+room_on (Some a) (Some b) None first second one two = tt
+room_on (Some a) (Some b) (Some c) first second one two =
+    omega (arith, one, two, sum_by-append frame_size first second)
+
 take_plus : (m n : ℕ) (l : List Change) → take (m + n) l ≡ take m l ++ take n (drop m l)
 take_plus m n l =
     sym (take-append-drop m (take (m + n) l)) ∙ (λ i. take-take m (m + n) l (omega arith) i ++ drop-take m n l i)
@@ -43,6 +62,7 @@ stores_nowhere state =
       fits = omega arith;
       stored = stored_none state.stored;
       pending = sym (append-nil state.pending);
+      room = room_nowhere state.room;
     }
 
 -- two in a row append what they accept
@@ -79,4 +99,12 @@ stores_on a b c first second one two =
           ∙ ap (λ (l : List Change). drop two.count l) left
           ∙ drop-drop two.count one.count (parts ++ second)
           ∙ ap (λ (l : List Change). drop (one.count + two.count) l) (sym whole);
+      room =
+          subst (λ (l : List Change). LeavesRoom a.room (take (one.count + two.count) l) c.room) (sym whole)
+          (subst (λ (l : List Change). LeavesRoom a.room l c.room) (sym (take_plus one.count two.count (parts ++ second)))
+          (subst (λ (l : List Change). LeavesRoom a.room (l ++ take two.count (drop one.count (parts ++ second))) c.room)
+          (sym gone)
+          (room_on a.room b.room c.room (take one.count parts) (take two.count (drop one.count (parts ++ second)))
+          one.room
+          (subst (λ (l : List Change). LeavesRoom b.room (take two.count l) c.room) left two.room))));
     }

@@ -1,5 +1,5 @@
 //! What stands below a drive: a volume that tells of itself, and takes changes.
-ghost use Rattle.std.specs.Prelude.{◌≡◌, ℕ, ◌≤◌, ◌↔◌, ◌++◌, [], List, true, false, Some, OnOk, IfOk, length};
+ghost use Rattle.std.specs.Prelude.{◌≡◌, ℕ, ◌≤◌, ◌↔◌, ◌++◌, [], List, true, false, Some, OnOk, OnErr, length};
 ghost use Rattle.vtl_base.specs.declared.limits.TheConstants.{MAX_BLOCK, MAX_CAPACITY, MAX_OBJECTS, MAX_PARTITIONS};
 ghost use Rattle.vtl_base.specs.Below.{Below, Advances};
 ghost use Rattle.volume_core.specs.declared.changes.Change.{Change};
@@ -172,6 +172,7 @@ pub trait Medium: Catalog {
         requires { (Self.state self.old).awake ≡ true }
         ensures answer { Parks (below.honest self.old) (Self.state self.old) result
             (Self.state self.new) }
+        ensures stores { OnErr result (Stores (Self.state self.old) [] (Self.state self.new)) }
         ensures advances { Advances below self.old [] (met_fault result) self.new };
 
     /// Opens it. One that is awake stays as it is, and answers whether it has failed.

@@ -5,7 +5,7 @@ use Rattle.std.proofs.Math.Seq.{take-add, take-append-add, take-append_seam, tak
 use Rattle.std.specs.Io.{StartsWith}
 use Rattle.std.proofs.lemmas.Grind.{flat_map-append}
 use Rattle.std.specs.Io.KnownBytes.{Appends, Keeps}
-use Rattle.scsi_wire.specs.declared.replies.Reply.{Reply}
+use Rattle.scsi_sense.specs.declared.replies.Reply.{Reply}
 use Rattle.vtl.specs.Text.{reply_text, text_of, AppendsPart}
 
 pub appends_none : (a : Option (List ℕ)) → Appends a a []

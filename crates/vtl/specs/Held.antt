@@ -1,6 +1,6 @@
 -- What the items of a script ask of a drive (own).
 use Rattle.std.specs.Prelude.{List, map}
-use Rattle.scsi_wire.specs.declared.replies.Reply.{Reply}
+use Rattle.scsi_sense.specs.declared.replies.Reply.{Reply}
 use Rattle.volume_core.specs.declared.changes.Change.{Change}
 use Rattle.volume_core.specs.Medium.{Tape}
 use Rattle.drive_core.specs.Run.{Serves}

@@ -1,7 +1,7 @@
 -- What the program does over its streams (own).
 use Rattle.std.specs.Prelude.{◌≡◌, ℕ, ◌++◌, ◌∷◌, [], Bool, true, List, Option, Result, Ok, Err}
 use Rattle.std.specs.Io.KnownBytes.{Appends, Keeps}
-use Rattle.scsi_wire.specs.declared.replies.Reply.{Reply}
+use Rattle.scsi_sense.specs.declared.replies.Reply.{Reply}
 use Rattle.vtl.specs.declared.items.Item.{Item}
 use Rattle.vtl.specs.declared.faults.ScriptFault.{ScriptFault}
 use Rattle.vtl.specs.declared.programs.VtlFault.{VtlFault}

@@ -3,11 +3,11 @@ use Rattle.std.specs.Prelude.{ℕ, List, [], ◌∷◌, ◌++◌, Option, None, 
 use Rattle.std.specs.Io.{StartsWith}
 use Rattle.std.specs.Io.KnownBytes.{Appends}
 use Rattle.hex.specs.Hex.{encode_lower}
-use Rattle.scsi_wire.specs.declared.replies.Reply.{Reply}
-use Rattle.scsi_wire.specs.declared.sense_data.Sense.{Sense}
-use Rattle.scsi_wire.specs.declared.replies.Status.{Status}
-use Rattle.scsi_wire.specs.declared.replies.Status.TheVariants.{Good, Check, Conflict}
-use Rattle.scsi_wire.specs.SenseData.{sense_bytes}
+use Rattle.scsi_sense.specs.declared.replies.Reply.{Reply}
+use Rattle.scsi_sense.specs.declared.sense_data.Sense.{Sense}
+use Rattle.scsi_sense.specs.declared.replies.Status.{Status}
+use Rattle.scsi_sense.specs.declared.replies.Status.TheVariants.{Good, Check, Conflict}
+use Rattle.scsi_sense.specs.SenseData.{sense_bytes}
 
 -- a space and these bytes in hex, in lower case; nothing where there is no byte (own)
 abbrev pub hex_word : List ℕ → List ℕ

@@ -13,7 +13,7 @@ use crate::lines::Line;
 use crate::runners::Runner;
 use crate::scripts::run_script;
 use drive_core::Drive;
-use scsi_wire::Reply;
+use scsi_sense::Reply;
 use std::alloc::Global;
 use std::io::{Read, Write};
 use volume_core::Medium;

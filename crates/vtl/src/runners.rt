@@ -1,13 +1,13 @@
 //! What runs the items of a script.
 ghost use Rattle.std.specs.Prelude.{◌≡◌, ◌++◌, ◌∷◌, [], ℕ, Bool, List, IfOk, OnErr};
-ghost use Rattle.scsi_wire.specs.declared.replies.Reply.{Reply};
+ghost use Rattle.scsi_sense.specs.declared.replies.Reply.{Reply};
 ghost use Rattle.vtl.specs.declared.items.Item.{Item};
 ghost use Rattle.vtl.specs.declared.items.Item.TheVariants.{Phase};
 ghost use Rattle.vtl.specs.Items.{IsRunnable};
 ghost use Rattle.vtl.specs.Runs.{AnswersSome};
 
 use crate::items::Item;
-use scsi_wire::Reply;
+use scsi_sense::Reply;
 use std::alloc::Global;
 use vtl_base::{DriveNo, NoMemory};
 

@@ -4,7 +4,7 @@ ghost use Rattle.std.specs.Io.KnownBytes.{Appends};
 ghost use Rattle.vtl.specs.Text.{hex_word, reply_text, text_of, AppendsPart};
 
 use crate::faults::ScriptFault;
-use scsi_wire::{Reply, Status};
+use scsi_sense::{Reply, Status};
 use std::alloc::{AllocError, Global};
 use std::io::{ErrorKind, Write};
 

@@ -31,7 +31,7 @@ module _ {M C : Type 0} (below : Below M C) where
   -- two calls in a row, the first without a fault, append what they accepted
   pub advances_on :
       ((a b c : M) (first second : List C) → below.moves a first b → below.moves b second c
-          → below.moves a (first ++ second) c)
+      → below.moves a (first ++ second) c)
       → (a b c : M) (first second : List C) (fault : Bool)
       → Advances below a first false b → Advances below b second fault c
       → Advances below a (first ++ second) fault c

@@ -1,7 +1,7 @@
 -- What the work of a command owes, over any medium and the position on it.
 use Rattle.std.specs.Prelude.{◌≡◌, List, Result, true, false, Bool}
 use Rattle.vtl_base.specs.Below.{Below, Advances}
-use Rattle.scsi_wire.specs.declared.replies.Reply.{Reply}
+use Rattle.scsi_sense.specs.declared.replies.Reply.{Reply}
 use Rattle.volume_core.specs.declared.changes.Change.{Change}
 use Rattle.volume_core.specs.Medium.{MediumState}
 use Rattle.volume_core.specs.Stores.{Stores}

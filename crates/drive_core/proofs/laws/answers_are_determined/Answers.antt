@@ -1,5 +1,5 @@
 use Rattle.drive_core.proofs.DeterminedLemmas.{steps_determined}
-use Rattle.drive_core.proofs.RunsAlikeLemmas.{runs_determined}
+use Rattle.drive_core.proofs.DeterminedRuns.{runs_determined}
 use Rattle.drive_core.proofs.laws.answers_are_determined.Goals as goal
 
 pub returns-clause-step : goal.returns-clause-step

@@ -1,6 +1,6 @@
 use Rattle.std.proofs.Common.{◌≡◌, ◌∷◌, ◌++◌, [], ◌+◌, take, ap, sym, ◌∙◌, arith}
 use Rattle.std.proofs.lemmas.List.{take_more, take_all}
-use Rattle.scsi_wire.specs.declared.replies.Reply.{Reply}
+use Rattle.scsi_sense.specs.declared.replies.Reply.{Reply}
 use Rattle.vtl.proofs.TextLemmas.{IsPrinted, printed_more, printed_put, printed_part, printed_all, printed_whole}
 use Rattle.vtl.proofs.texts.print_replies.Goals as goal
 use Rattle.vtl.proofs.texts.print_replies.Goals.{then-len-ge-WRITE_CHUNK+in_ok-put, else-len-ge-WRITE_CHUNK}

@@ -1,8 +1,8 @@
 use Rattle.std.proofs.Common.{◌≡◌, ◌∙◌, ◌==◌, [], Some, Ok, Bool, true, false, length, ap, sym, refl, subst}
 use Rattle.std.proofs.lemmas.Bool.Decides.{nat_tests}
-use Rattle.scsi_wire.specs.declared.sense_data.Sense.{Sense}
+use Rattle.scsi_sense.specs.declared.sense_data.Sense.{Sense}
 use Rattle.scsi_wire.specs.Commands.{command_of, sent_length}
-use Rattle.scsi_wire.specs.Replies.{check_with}
+use Rattle.scsi_sense.specs.Replies.{check_with}
 use Rattle.drive_core.specs.declared.bays.Bay.{Bay}
 use Rattle.drive_core.specs.declared.bays.Bay.TheVariants.{Empty, Unloaded, Loaded}
 use Rattle.drive_core.specs.State.{DriveState, Kept, machine_of, medium_in, bay_of}

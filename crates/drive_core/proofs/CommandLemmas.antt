@@ -1,10 +1,10 @@
 -- Where no fault comes, a command's work has one answer, command by command.
-use Rattle.std.proofs.Common.{◌≡◌, ℕ, zero, suc, List, [], ◌∷◌, Option, None, Some, Result, Ok, Bool, true, false, not, sym, ◌∙◌, ap, subst, slice_get}
-use Rattle.scsi_wire.specs.declared.replies.Reply.{Reply}
+use Rattle.std.proofs.Common.{◌≡◌, ℕ, zero, suc, List, [], ◌∷◌, Option, None, Some, Ok, Bool, true, false, not, sym, ◌∙◌, ap, subst, slice_get}
+use Rattle.scsi_sense.specs.declared.replies.Reply.{Reply}
 use Rattle.scsi_wire.specs.declared.commands.Command.{Command}
 use Rattle.scsi_wire.specs.declared.commands.Command.TheVariants.{TestUnitReady, Rewind, Read, Write, WriteFilemarks}
-use Rattle.scsi_wire.specs.Replies.{check_with}
-use Rattle.scsi_wire.specs.Senses.{volume_overflow}
+use Rattle.scsi_sense.specs.Replies.{check_with}
+use Rattle.scsi_sense.specs.Senses.{volume_overflow}
 use Rattle.volume_core.specs.declared.changes.Change.{Change}
 use Rattle.volume_core.specs.declared.changes.Refusal.{Refusal}
 use Rattle.volume_core.specs.declared.changes.Refusal.TheVariants.{NoRoom, NoPartition, PastEnd, TooLong}
@@ -47,7 +47,8 @@ abbrev pub working_sight : List Part → Sight
 working_sight volume = record { awake = true; volume = volume; failed = false; side = None }
 
 -- a medium that works is seen by its volume alone
-pub works_sight : (volume : List Part) (medium : MediumState) → Works volume medium → sight_of medium ≡ working_sight volume
+pub works_sight : (volume : List Part) (medium : MediumState) → Works volume medium
+    → sight_of medium ≡ working_sight volume
 works_sight volume medium h = λ i. record {
   awake = h.awake i;
   volume = h.volume_is i;
@@ -139,12 +140,11 @@ appends : (settles : Bool) (change_at : Position → Change)
     → IsDetermined (λ old. AppendWork settles (change_at old.position) old)
 appends settles change_at old old' reply reply' made made' m m' e h k =
     let c : change_at old.position ≡ change_at old'.position = ap change_at e.positions in
-    let cause : refusal_of (contents_of old') (change_at old'.position) ≡ refusal_of (contents_of old) (change_at old.position) =
+    let cause = refusal_of (contents_of old) (change_at old.position) in
+    let same : refusal_of (contents_of old') (change_at old'.position) ≡ cause =
     λ i. refusal_of (sym (contents_alike old old' e) i) (sym c i) in
-    let k' : AppendAnswer (refusal_of (contents_of old) (change_at old.position)) settles (change_at old'.position) old' reply' made' m' =
-    subst (λ (r : Option Refusal). AppendAnswer r settles (change_at old'.position) old' reply' made' m') cause k in
-    answers old old' reply reply' made made' m m' e (refusal_of (contents_of old) (change_at old.position)) settles
-    (change_at old.position) (change_at old'.position) c h k'
+    answers old old' reply reply' made made' m m' e cause settles (change_at old.position) (change_at old'.position) c h
+    (subst (λ (r : Option Refusal). AppendAnswer r settles (change_at old'.position) old' reply' made' m') same k)
 
 -- WRITE
 writes : (buffered : Bool) (sent : List ℕ) → IsDetermined (WriteWork buffered sent)
@@ -161,7 +161,8 @@ marks (suc n) immediate = appends (not immediate) (λ position. marks_at positio
 gives_object : (suppress : Bool) (asked : ℕ) → IsDetermined (GivesObject (Unit {0}) suppress asked)
 gives_object suppress asked old old' reply reply' made made' m m' e h k =
     let object : object_at old' ≡ object_at old =
-    λ i. slice_get (objects_of (sym (contents_alike old old' e) i) (sym e.positions i).part) (sym e.positions i).object in
+    λ i. slice_get (objects_of (sym (contents_alike old old' e) i) (sym e.positions i).part)
+    (sym e.positions i).object in
     let k' : ReadAnswer (Unit {0}) (object_at old) suppress asked old'.position reply' m'.position =
     subst (λ (o : Option Object). ReadAnswer (Unit {0}) o suppress asked old'.position reply' m'.position) object k.2 in
     let given = gives old old' reply reply' made made' m m' e (object_at old) suppress asked h.2 k' in

@@ -3,7 +3,7 @@ use Rattle.std.proofs.Common.{◌≡◌, List, [], ◌∷◌, sym, ◌∙◌, ap
 use Rattle.std.specs.Prelude.{All}
 use Rattle.std.specs.List.{cons_option}
 use Rattle.std.proofs.lemmas.List.Elements.{All-head, All-tail}
-use Rattle.scsi_wire.specs.declared.replies.Reply.{Reply}
+use Rattle.scsi_sense.specs.declared.replies.Reply.{Reply}
 use Rattle.drive_core.specs.State.{Machine}
 use Rattle.drive_core.specs.Relations.{Made, made_nothing, made_after}
 use Rattle.drive_core.specs.Step.{Input, Execute, FlushTurn, Load, PowerOn, Output, Step, reply_in, replies_of}
@@ -80,7 +80,8 @@ untimed_turn old mid new inputs output outputs made first rest calm step is late
     let same : made ≡ rest = is ∙ ap (λ (m : Made). made_after m rest) unseen.made_is in
     record {
       outputs = later.outputs;
-      replies_are = ap (λ (o : Output). cons_option (reply_in o) (replies_of outputs)) unseen.output_is ∙ later.replies_are;
+      replies_are =
+          ap (λ (o : Output). cons_option (reply_in o) (replies_of outputs)) unseen.output_is ∙ later.replies_are;
       run =
           subst (λ (m : Made). SeenRun old inputs later.outputs m new) (sym same)
           (seen_run_from mid old inputs later.outputs rest new unseen.drive_is later.run);

@@ -1,23 +1,21 @@
 -- Where no fault comes, a medium that it is sure of opens in one way, and so a loading and a power on have one outcome.
-use Rattle.std.proofs.Common.{◌≡◌, ◌++◌, List, [], ◌∷◌, Option, None, Some, Result, Ok, Err, Bool, true, false, sym, ◌∙◌, ap, subst, refl, inl, inr}
-use Rattle.std.specs.Prelude.{◌⊎◌, option_map}
-use Rattle.scsi_wire.specs.declared.replies.Reply.{Reply}
-use Rattle.scsi_wire.specs.declared.attention_sets.Attention.TheVariants.{MediumChanged}
-use Rattle.scsi_wire.specs.Attentions.{established_for_all}
+use Rattle.std.proofs.Common.{◌≡◌, List, [], Option, None, Some, Result, Ok, Err, Bool, true, false, sym, ◌∙◌, ap, subst, refl, inl, inr}
+use Rattle.std.specs.Prelude.{option_map}
+use Rattle.scsi_sense.specs.declared.replies.Reply.{Reply}
 use Rattle.volume_core.specs.declared.changes.Change.{Change}
 use Rattle.volume_core.specs.declared.media.MediumError.{MediumError}
 use Rattle.volume_core.specs.declared.media.MediumError.TheVariants as Errors
 use Rattle.volume_core.specs.Volume.{Part, after}
-use Rattle.volume_core.specs.Medium.{MediumState, IsParked, Opens, GivenBy, Wakes, WakesFrom, volume_or_empty}
+use Rattle.volume_core.specs.Medium.{MediumState, GivenBy, Wakes, WakesFrom, volume_or_empty}
 use Rattle.drive_core.specs.declared.bays.Bay.{Bay}
 use Rattle.drive_core.specs.declared.bays.Bay.TheVariants.{Empty, Unloaded, Loaded}
 use Rattle.drive_core.specs.declared.faults.Fault.{Fault}
-use Rattle.drive_core.specs.State.{Machine, DriveState, Kept, bay_of, loaded, powered_on}
-use Rattle.drive_core.specs.Relations.{Made, made_nothing}
-use Rattle.drive_core.specs.Load.{LoadsAs, LoadsInto, PowersOn, wake_answer, bay_when_on, power_on_outcome}
-use Rattle.drive_core.specs.Step.{Output, Answered, Unanswered}
+use Rattle.drive_core.specs.State.{Machine, bay_of, loaded, powered_on}
+use Rattle.drive_core.specs.Relations.{Made}
+use Rattle.drive_core.specs.Load.{LoadsAs, LoadsInto, PowersOn, bay_when_on, power_on_outcome}
+use Rattle.drive_core.specs.Step.{Answered, Unanswered}
 use Rattle.drive_core.specs.Determined.{Sight, SideSight, sight_of, side_sight, seen_of, AreSureAlike, AreAllSureAlike, IsCalm, AreAlike}
-use Rattle.drive_core.proofs.AlikeCommandLemmas.{working_sight}
+use Rattle.drive_core.proofs.CommandLemmas.{working_sight}
 
 -- neither memory ran out nor the device failed
 abbrev IsQuiet : Result Unit MediumError → Type 0
@@ -67,8 +65,9 @@ given_sure volume medium given s t (inl h) = h ∙ s
 given_sure volume medium given s t (inr h) = h ∙ (λ i. Some (after (volume_or_empty (s i)) (t i)))
 
 -- a parked medium of which that is sure answers by what its side gives, and is seen so
-wakes_parked : (stored : Option (List Part)) (medium : MediumState) (woke : Result Unit MediumError) (opened : MediumState)
-    → medium.stored ≡ stored → medium.torn ≡ [] → IsQuiet woke → WakesFrom (Unit {0}) false medium woke opened
+wakes_parked : (stored : Option (List Part)) (medium : MediumState) (woke : Result Unit MediumError)
+    (opened : MediumState) → medium.stored ≡ stored → medium.torn ≡ [] → IsQuiet woke
+    → WakesFrom (Unit {0}) false medium woke opened
     → WokeAs woke (parked_answer stored) opened (opened_sight stored)
 wakes_parked None medium (Ok done) opened s t quiet h = absurd ((h.1 tt).readable s)
 wakes_parked (Some volume) medium (Ok done) opened s t quiet h =
@@ -193,8 +192,8 @@ bay_sight (Err Errors.Unreadable) opened = refl
 
 module _ (made made' : Made) (new new' : Machine) where
   -- a medium is loaded, or comes back, alike
-  loads_as : (old beside : Machine) (woke : Result Unit MediumError) (opened opened' : MediumState) (reply reply' : Reply)
-      → seen_of old ≡ seen_of beside → sight_of opened ≡ sight_of opened' → made ≡ made'
+  loads_as : (old beside : Machine) (woke : Result Unit MediumError) (opened opened' : MediumState)
+      (reply reply' : Reply) → seen_of old ≡ seen_of beside → sight_of opened ≡ sight_of opened' → made ≡ made'
       → LoadsAs woke opened old (Ok reply) new → LoadsAs woke opened' beside (Ok reply') new'
       → AreAlike (Answered (Ok reply)) (Answered (Ok reply')) made made' new new'
   loads_as old beside (Ok done) opened opened' reply reply' e s m h k = record {

@@ -1,27 +1,27 @@
 -- Where no fault comes, a request has one answer, check by check.
-use Rattle.std.proofs.Common.{◌≡◌, ℕ, List, [], Option, None, Some, Result, Ok, Bool, true, false, sym, ◌∙◌, ap, subst, length, ◌==◌, if◌then◌else◌}
-use Rattle.scsi_wire.specs.declared.replies.Reply.{Reply}
-use Rattle.scsi_wire.specs.declared.sense_data.Sense.{Sense}
-use Rattle.scsi_wire.specs.declared.attention_sets.Attention.{Attention}
+use Rattle.std.proofs.Common.{◌≡◌, [], Option, None, Some, Result, Ok, Bool, true, false, sym, ◌∙◌, ap, subst, length, ◌==◌, if◌then◌else◌}
+use Rattle.scsi_sense.specs.declared.replies.Reply.{Reply}
+use Rattle.scsi_sense.specs.declared.sense_data.Sense.{Sense}
+use Rattle.scsi_attention.specs.declared.attention_sets.Attention.{Attention}
 use Rattle.scsi_wire.specs.declared.opcodes.Opcode.{Opcode}
 use Rattle.scsi_wire.specs.declared.commands.Command.{Command}
 use Rattle.scsi_wire.specs.declared.commands.Command.TheVariants.{TestUnitReady, Rewind, Read, Write, WriteFilemarks}
-use Rattle.scsi_wire.specs.Attentions.{attention_of, cleared}
+use Rattle.scsi_attention.specs.Attentions.{attention_of, cleared}
 use Rattle.scsi_wire.specs.Opcodes.{opcode_of, is_exempt, needs_medium, is_stopped_by_reservation}
 use Rattle.scsi_wire.specs.Commands.{command_of, sent_length}
-use Rattle.scsi_wire.specs.Replies.{check_with, conflict}
-use Rattle.scsi_wire.specs.Senses.{invalid_operation_code, invalid_field, medium_not_present, medium_failed, deferred_write_error, attention_sense}
+use Rattle.scsi_sense.specs.Replies.{check_with, conflict}
+use Rattle.scsi_sense.specs.Senses.{invalid_operation_code, invalid_field, medium_not_present, medium_failed, deferred_write_error, attention_sense}
 use Rattle.volume_core.specs.Medium.{MediumState}
 use Rattle.drive_core.specs.declared.bays.Bay.{Bay}
 use Rattle.drive_core.specs.declared.bays.Bay.TheVariants.{Empty, Unloaded, Loaded}
 use Rattle.drive_core.specs.declared.faults.Fault.{Fault}
-use Rattle.drive_core.specs.State.{Machine, DriveState, Kept, Mounted, mounted, with_mounted, bay_of}
+use Rattle.drive_core.specs.State.{Machine, DriveState, Kept, mounted, with_mounted, bay_of}
 use Rattle.drive_core.specs.Relations.{Made, made_nothing, Refuses}
 use Rattle.drive_core.specs.Work.{Request, MediumWork, OnMediumIn}
 use Rattle.drive_core.specs.Checks.{AtCode, AtExempt, AtDeferred, AtAttention, AtReservation, AtNeed, AtBay, AtMedium, AtFields, AtMode, AtSent, Executes, suits, keeps_out}
-use Rattle.drive_core.specs.Step.{Output, Answered}
+use Rattle.drive_core.specs.Step.{Answered}
 use Rattle.drive_core.specs.Determined.{Sight, sight_of, seen_of, AreAlike}
-use Rattle.drive_core.proofs.AlikeCommandLemmas.{commands}
+use Rattle.drive_core.proofs.CommandLemmas.{commands}
 
 -- a drive as it is seen
 abbrev Seen : Type 0
@@ -44,17 +44,18 @@ module _ (old beside : Machine) (request : Request) (reply reply' : Reply) (made
   }
 
   -- and so does what stops a command
-  refuses : (sense : Sense) → Refuses sense old (Ok reply) made new → Refuses sense beside (Ok reply') made' new' → Alike
+  refuses : (sense : Sense) → Refuses sense old (Ok reply) made new
+      → Refuses sense beside (Ok reply') made' new' → Alike
   refuses sense h k = ends (Ok (check_with sense [])) old beside e h k
 
   on_medium : (bay bay' : Bay MediumState) (command : Command) → bay_of sight_of bay ≡ bay_of sight_of bay'
       → OnMediumIn bay (MediumWork (Unit {0}) command old.buffered request.sent) old (Ok reply) made new
-      → OnMediumIn bay' (MediumWork (Unit {0}) command beside.buffered request.sent) beside (Ok reply') made' new' → Alike
+      → OnMediumIn bay' (MediumWork (Unit {0}) command beside.buffered request.sent) beside (Ok reply') made' new'
+      → Alike
   on_medium (Loaded m) (Loaded m') command same h k =
-      let work : MediumWork (Unit {0}) command old.buffered request.sent (mounted m' beside.position) (Ok reply')
-        made'.changes k.0 =
-      subst (λ (b : Bool). MediumWork (Unit {0}) command b request.sent (mounted m' beside.position) (Ok reply')
-        made'.changes k.0) (ap (λ (x : Seen). x.buffered) (sym e)) k.1 in
+      let work =
+      subst (λ (b : Bool). MediumWork (Unit {0}) command b request.sent (mounted m' beside.position)
+      (Ok reply') made'.changes k.0) (ap (λ (x : Seen). x.buffered) (sym e)) k.1 in
       let a =
       commands command old.buffered request.sent (mounted m old.position) (mounted m' beside.position) reply reply'
       made.changes made'.changes h.0 k.0
@@ -109,7 +110,7 @@ module _ (old beside : Machine) (request : Request) (reply reply' : Reply) (made
       let sights : sight_of m' ≡ sight_of m = cc same in
       at_medium m.failed opcode h
       (subst (λ (b : Bool). AtMedium (Unit {0}) beside request (Ok reply') made' new' b opcode)
-        (ap (λ (x : Sight). x.failed) sights) k)
+      (ap (λ (x : Sight). x.failed) sights) k)
   at_bay Empty (Unloaded m') opcode same h k = cc same
   at_bay Empty (Loaded m') opcode same h k = cc same
   at_bay (Unloaded m) Empty opcode same h k = cc same
@@ -131,8 +132,8 @@ module _ (old beside : Machine) (request : Request) (reply reply' : Reply) (made
       → AtAttention (Unit {0}) old request (Ok reply) made new a opcode
       → AtAttention (Unit {0}) beside request (Ok reply') made' new' a opcode → Alike
   at_attention None opcode h k =
-      at_reservation (if keeps_out old.reservations request.nexus then is_stopped_by_reservation opcode else false) opcode
-      h k
+      at_reservation
+      (if keeps_out old.reservations request.nexus then is_stopped_by_reservation opcode else false) opcode h k
   at_attention (Some a) opcode h k =
       ends (Ok (check_with (attention_sense a) [])) (record old { attentions = cleared old.attentions request.nexus a })
       (record beside { attentions = cleared beside.attentions request.nexus a })
@@ -141,12 +142,12 @@ module _ (old beside : Machine) (request : Request) (reply reply' : Reply) (made
   at_deferred : (b : Bool) (opcode : Opcode) → AtDeferred (Unit {0}) old request (Ok reply) made new b opcode
       → AtDeferred (Unit {0}) beside request (Ok reply') made' new' b opcode → Alike
   at_deferred true opcode h k =
-      ends (Ok (check_with deferred_write_error [])) (record old { deferred = false }) (record beside { deferred = false })
-      (ap (λ (x : Seen). record x { deferred = false }) e) h k
+      ends (Ok (check_with deferred_write_error [])) (record old { deferred = false })
+      (record beside { deferred = false }) (ap (λ (x : Seen). record x { deferred = false }) e) h k
   at_deferred false opcode h k =
       at_attention (attention_of old.attentions request.nexus) opcode h
       (subst (λ (a : Option Attention). AtAttention (Unit {0}) beside request (Ok reply') made' new' a opcode)
-        (ap (λ (x : Seen). attention_of x.attentions request.nexus) (sym e)) k)
+      (ap (λ (x : Seen). attention_of x.attentions request.nexus) (sym e)) k)
 
   at_exempt : (b : Bool) (opcode : Opcode) → AtExempt (Unit {0}) old request (Ok reply) made new b opcode
       → AtExempt (Unit {0}) beside request (Ok reply') made' new' b opcode → Alike
@@ -154,7 +155,7 @@ module _ (old beside : Machine) (request : Request) (reply reply' : Reply) (made
   at_exempt false opcode h k =
       at_deferred old.deferred opcode h
       (subst (λ (b : Bool). AtDeferred (Unit {0}) beside request (Ok reply') made' new' b opcode)
-        (ap (λ (x : Seen). x.deferred) (sym e)) k)
+      (ap (λ (x : Seen). x.deferred) (sym e)) k)
 
   at_code : (o : Option Opcode) → AtCode (Unit {0}) old request (Ok reply) made new o
       → AtCode (Unit {0}) beside request (Ok reply') made' new' o → Alike
