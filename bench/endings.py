@@ -1,8 +1,9 @@
 #!/usr/bin/env python3
 """Runs the built program to each of its endings, and compares status, standard output and standard error.
 
-Done; a bad line; a reader that fails (a folder); a writer that fails (a full device); memory that runs out (a limit of the
-system); and, but for --short, a script of 2,147,483,648 bytes, and one of a byte more."""
+Done; a bad line; a reader that fails (a folder); a writer that fails (a full device, a closed pipe); memory that runs out, by
+limits of the system over a range: at each at which a script of no line ends well a long one does so too, or memory runs out
+in the program or in the command, and at some it does. But for --short, a script of 2,147,483,648 bytes, and one of a byte more."""
 import os
 import resource
 import subprocess
@@ -10,36 +11,14 @@ import sys
 
 TOP = os.path.dirname(os.path.dirname(os.path.abspath(__file__)))
 PROGRAM = os.path.join(TOP, "crates", "vtl", "out", "vtl")
-LIMIT = 2_147_483_648
+MOST = 2_147_483_648
 READY = b"1 1 000000000000\n"
+PHASE = READY + b"--\n"
+# a command with 1,048,576 bytes
+LONG = b"1 1 0a0010000000 " + b"5a" * 1_048_576 + b"\n"
 ATTENTION = b"CHECK 700006000000000a00000000290000000000\n"
-ENDINGS = {0: b"", 1: b"vtl: script line %d refused\n", 2: b"vtl: device fault\n", 3: b"vtl: out of memory\n"}
-
-
-def pieces(size):
-    """A script of this size: a phase of one command, and remarks."""
-    head = READY + b"--\n"
-    yield head
-    left, remark = size - len(head), b"#" * 2_199_999 + b"\n"
-    while left:
-        yield remark[-min(left, len(remark)):]
-        left -= min(left, len(remark))
-
-
-def ended(script, memory=None, **streams):
-    """Status, standard output and standard error of a run on a script, which is rows of bytes."""
-    limited = (lambda: resource.setrlimit(resource.RLIMIT_AS, (memory, memory))) if memory else None
-    how = {"stdin": subprocess.PIPE, "stdout": subprocess.PIPE, "stderr": subprocess.PIPE, **streams}
-    child = subprocess.Popen([PROGRAM], preexec_fn=limited, **how)
-    if child.stdin:
-        try:
-            for piece in script:
-                child.stdin.write(piece)
-            child.stdin.close()
-        except BrokenPipeError:
-            child.stdin = None
-    out, said = child.communicate() if child.stdin is None else (child.stdout.read() if child.stdout else b"", child.stderr.read())
-    return child.wait(), out or b"", said
+ABORTED = b"CHECK 70000b000000000a00000000550300000000\n"
+DEVICE, MEMORY = b"vtl: device fault\n", b"vtl: out of memory\n"
 
 
 def stored(name):
@@ -47,30 +26,69 @@ def stored(name):
         return file.read()
 
 
+def ended(script, stdin=None, stdout=None, memory=None):
+    """Status, standard output and standard error; stdin and stdout are files in the place of pipes."""
+    limited = (lambda: resource.setrlimit(resource.RLIMIT_AS, (memory, memory))) if memory else None
+    given = {"input": script} if stdin is None else {"stdin": stdin}
+    done = subprocess.run([PROGRAM], stdout=stdout or subprocess.PIPE, stderr=subprocess.PIPE, preexec_fn=limited, **given)
+    return done.returncode, done.stdout or b"", done.stderr
+
+
+def ended_on(size):
+    """The same of a script of this size: a phase of one command, and remarks."""
+    child = subprocess.Popen([PROGRAM], stdin=subprocess.PIPE, stdout=subprocess.PIPE, stderr=subprocess.PIPE)
+    left, remark = size - len(PHASE), b"#" * 2_199_999 + b"\n"
+    try:
+        child.stdin.write(PHASE)
+        while left:
+            child.stdin.write(remark[-min(left, len(remark)):])
+            left -= min(left, len(remark))
+        child.stdin.close()
+    except BrokenPipeError:
+        pass
+    out, said = child.stdout.read(), child.stderr.read()
+    return child.wait(), out, said
+
+
+def ends_out_of_memory():
+    """How often memory ran out over a range of limits, and what ended otherwise than it should."""
+    fine, times, wrong = (0, ATTENTION + b"GOOD\n", b""), 0, []
+    short = [(0, ATTENTION + ABORTED, b""), (3, ATTENTION, MEMORY), (3, b"", MEMORY)]
+    limits = [limit for limit in range(1 << 20, 24 << 20, 1 << 18) if ended(b"", memory=limit) == (0, b"", b"")]
+    for limit in [None, *limits]:
+        run = ended(PHASE + LONG, memory=limit)
+        times += run in short
+        if run != fine and not (limit and run in short):
+            wrong.append(f"with {limit} bytes: {run}")
+    return times, wrong
+
+
 def main(words):
     if not os.path.exists(PROGRAM):
         sys.exit("build the program first: make vtl")
     folder, full = os.open(TOP, os.O_RDONLY), os.open("/dev/full", os.O_WRONLY)
-    phase = [READY, b"--\n"]
+    read_end, closed = os.pipe()
+    os.close(read_end)
     rows = [
-        ("the stored script", 0, stored("stdout"), ended([stored("stdin")])),
-        ("a bad line", 1, ATTENTION, ended([*phase, READY, b"move 1 2\n", READY])),
-        ("a reader that fails", 2, b"", ended([], stdin=folder)),
-        ("a writer that fails", 2, b"", ended(phase, stdout=full)),
-        ("memory that runs out", 3, ATTENTION, ended([*phase, *[READY * 1_000] * 1_000], memory=64 * 1024 * 1024)),
+        ("the stored script", (0, stored("stdout"), b""), ended(stored("stdin"))),
+        ("no line", (0, b"", b""), ended(b"")),
+        ("a bad line", (1, ATTENTION, b"vtl: script line 4 refused\n"), ended(PHASE + READY + b"move 1 2\n" + READY)),
+        ("a bad first line", (1, b"", b"vtl: script line 1 refused\n"), ended(b"x\n")),
+        ("a reader that fails", (2, b"", DEVICE), ended(b"", stdin=folder)),
+        ("a writer that is full", (2, b"", DEVICE), ended(PHASE, stdout=full)),
+        ("a writer that is closed", (2, b"", DEVICE), ended(PHASE, stdout=closed)),
     ]
     if words != ["--short"]:
-        rows += [
-            (f"a script of {LIMIT:,} bytes", 0, ATTENTION, ended(pieces(LIMIT))),
-            (f"a script of {LIMIT + 1:,} bytes", 2, ATTENTION, ended(pieces(LIMIT + 1))),
-        ]
+        rows.append((f"a script of {MOST:,} bytes", (0, ATTENTION, b""), ended_on(MOST)))
+        rows.append((f"a script of {MOST + 1:,} bytes", (2, ATTENTION, DEVICE), ended_on(MOST + 1)))
     wrong = 0
-    for name, status, out, run in rows:
-        line = ENDINGS[status] % 4 if status == 1 else ENDINGS[status]
-        well = run == (status, out, line)
-        wrong += not well
-        print(f"{name}: {'status ' + str(status) if well else f'{run[0]}, {run[1][:80]}, {run[2][:80]} in the place of {(status, out[:80], line)}'}")
-    print(f"{len(rows) - wrong} endings as they are described, {wrong} not")
+    for name, wanted, run in rows:
+        wrong += run != wanted
+        print(f"{name}: {f'status {wanted[0]}' if run == wanted else f'{run} in the place of {wanted}'}")
+    times, others = ends_out_of_memory()
+    wrong += len(others) if times else 1
+    print("\n".join([f"memory that runs out: at {times} limits", *others]))
+    print(f"endings: {wrong} are not as they should be")
     return 1 if wrong else 0
 
 
