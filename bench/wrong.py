@@ -108,8 +108,8 @@ def text_of(crate):
     return "\n".join(found)
 
 
-def false_claims(rows, guarded):
-    """What docs/CLAIMS.md names that is not there: an edit, a contract, a test."""
+def false_claims(rows, guarded, others):
+    """What docs/CLAIMS.md names that is not there: a contract, an edit of must-fail/ or, in brackets, of wrong/, a test."""
     texts = {crate: text_of(crate) for crate in crates()}
     every = "\n".join(texts.values())
     for contract, edits, tests in rows:
@@ -122,17 +122,22 @@ def false_claims(rows, guarded):
         for name in names_in(edits):
             if name not in guarded:
                 yield f"docs/CLAIMS.md names {name}, which is no edit of a must-fail/"
+        remarks = " ".join(it for it in re.findall(r"\(([^)]*)\)", edits) if "wrong/" in it)
+        for name in re.findall(r"`(\w+)`", remarks):
+            if name not in others:
+                yield f"docs/CLAIMS.md names {name}, which is no edit of a wrong/"
         for name in names_in(tests):
             if name not in texts and not re.search(rf"\bfn {name}\b", every):
                 yield f"docs/CLAIMS.md names {name}, which is no test"
 
 
 def lint():
-    said, every, guarded = [], 0, set()
+    said, every, guarded, others = [], 0, set(), set()
     for crate in crates():
         first, second = edits_in(crate, "must-fail"), edits_in(crate, "wrong")
         every += len(first) + len(second)
         guarded |= {*first}
+        others |= {*second}
         if len(first) > MOST:
             said.append(f"crates/{crate}/must-fail has {len(first)} edits, and the gate has time for {MOST} of a crate: move others to wrong/")
         said += [f"crates/{crate}/{folder}/{file} is no edit" for folder in ("must-fail", "wrong") for file in strange_files(crate, folder)]
@@ -144,7 +149,7 @@ def lint():
     rows = claims()
     claimed = {name for _, edits, _ in rows for name in names_in(edits)}
     said += [f"docs/CLAIMS.md names no claim for the edit {name}" for name in sorted(guarded - claimed)]
-    said += false_claims(rows, guarded)
+    said += false_claims(rows, guarded, others)
     print("\n".join([*said, f"edits: {every} looked at, {len(said)} faults"]))
     return 1 if said else 0
 
