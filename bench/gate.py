@@ -1,8 +1,9 @@
 #!/usr/bin/env python3
 """Runs rt ci on a copy of the repository, from nothing, and prints what each crate cost it, as the table of docs/GATE.md.
 
-gate.py [--log FILE] [CRATE..]   with names: these crates and those below them alone; what rt ci says goes to the file
-gate.py [--log FILE] --here      runs the gate itself, .ci/run, where it stands
+gate.py [--log FILE] [CRATE..]         with names: these crates and those below them alone; what rt ci says goes to the file
+gate.py [--log FILE] [--write] --here  runs the gate itself, .ci/run, where it stands; with --write, where it passes, the
+                                       table and the sentence over it go into docs/GATE.md
 
 A processor minute is user and system time. The gate's processes are looked at ten times a second, and each belongs to the crate
 that it is told to prove: with the tests, on a copy for an edit, or neither. What is left of the whole time (rt itself, linking,
@@ -100,15 +101,26 @@ def measured(command, room, log):
 
 def table(names, spent, whole):
     minutes = lambda seconds: f"{seconds / 60:.1f}"
-    print("| Crate | Proofs | Tests | Edits | Tried | All |\n|---|---|---|---|---|---|")
+    rows = ["| Crate | Proofs | Tests | Edits | Tried | All |", "|---|---|---|---|---|---|"]
     for name in names:
         row = [spent.get((name, kind), 0) for kind in KINDS]
         folder = os.path.join(TOP, "crates", name, "must-fail")
         count = len([it for it in os.listdir(folder) if it.endswith(".edit")]) if os.path.isdir(folder) else 0
-        print(f"| `{name}` | {' | '.join(map(minutes, row))} | {count} | {minutes(sum(row))} |")
-    print(f"| the rest | | | | | {minutes(whole - sum(spent.values()))} |")
+        rows.append(f"| `{name}` | {' | '.join(map(minutes, row))} | {count} | {minutes(sum(row))} |")
+    rows.append(f"| the rest | | | | | {minutes(whole - sum(spent.values()))} |")
     sums = [sum(seconds for (_, it), seconds in spent.items() if it == kind) for kind in KINDS]
-    print(f"| all | {' | '.join(map(minutes, sums))} | | {minutes(whole)} |")
+    return "\n".join([*rows, f"| all | {' | '.join(map(minutes, sums))} | | {minutes(whole)} |"])
+
+
+def write(made, sentence):
+    """Puts the table and the sentence in the place of those that stand in docs/GATE.md."""
+    path = os.path.join(TOP, "docs", "GATE.md")
+    with open(path, encoding="utf-8") as file:
+        text = file.read()
+    text = re.sub(r"(?m)^The gate takes .*$", lambda _: sentence, text, count=1)
+    text = re.sub(r"(?m)^\| Crate \|.*\n(\|.*\n)*", lambda _: made + "\n", text, count=1)
+    with open(path, "w", encoding="utf-8") as file:
+        file.write(text)
 
 
 def copied(room, names, rows):
@@ -126,7 +138,7 @@ def copied(room, names, rows):
 def main(words):
     path = words[1] if words[:1] == ["--log"] and len(words) > 1 else None
     names, rows = words[2:] if path else words, rows_of_crates()
-    is_here = names == ["--here"]
+    is_here, writes = names[-1:] == ["--here"], names == ["--write", "--here"]
     names = [] if is_here else names
     for name in names:
         if name not in rows:
@@ -140,8 +152,12 @@ def main(words):
     for line in said:
         if re.search(r"NOT PROVED|NOT REFUSED|BAD EDIT|FAILED", line):
             print(line)
-    table(names, spent, whole)
-    print(f"\n{said[-1] if said else ''}; {seconds / 60:.1f} minutes on {len(os.sched_getaffinity(0))} processors")
+    made = table(names, spent, whole)
+    cores = len(os.sched_getaffinity(0))
+    sentence = f"The gate takes {whole / 60:.0f} processor minutes, {seconds / 60:.0f} minutes by the clock on {cores} processors."
+    print(f"{made}\n\n{sentence}\n{said[-1] if said else ''}")
+    if writes and not status:
+        write(made, sentence)
     return status
 
 
