@@ -39,7 +39,8 @@ OneHostInOrder =
 -- has another text (own)
 pub record AnswersOneHost {M : Type 0}
     (tape : M → Tape) (moves : M → List Change → M → Type 0) (honest : M → Type 0) (number : ℕ)
-    (old : DriveState M Kept) (left before : Option (List ℕ)) (new : DriveState M Kept) (now : Option (List ℕ)) : Type 0 where
+    (old : DriveState M Kept) (left before : Option (List ℕ)) (new : DriveState M Kept) (now : Option (List ℕ)) : Type
+    0 where
   -- the text of the script: all that the reader has, where that is known
   pub text : List ℕ
   pub known : IfSome left (λ all. text ≡ all)

@@ -12,7 +12,7 @@ use crate::items::Item;
 use crate::lines::Line;
 use crate::runners::Runner;
 use crate::scripts::run_script;
-use drive_core::Drive;
+use drive_core::{Drive, laws};
 use scsi_sense::Reply;
 use std::alloc::Global;
 use std::io::{Read, Write};
@@ -87,5 +87,8 @@ pub fn run_on_drive<M: Medium, R: Read, W: Write>(
     ensures past { result ≢ Err ScriptFault.ReadFault →
         TakesWithin (R.remaining reader.old) 0 (R.remaining reader.new) }
 {
+    // The laws of the machine, for the proof alone.
+    laws::honest_steps::<M>();
+    laws::answers_are_determined();
     run_script(alloc, held, reader, writer)
 }

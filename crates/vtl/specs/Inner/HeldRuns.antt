@@ -20,5 +20,6 @@ pub held_on : {M : Type 0} (tape : M → Tape) (moves : M → List Change → M 
     → Serves tape moves honest mid (inputs_of rest) others new
     → Serves tape moves honest old (inputs_of (first ++ rest)) (replies ++ others) new
 held_on tape moves honest on old mid new first rest replies others one two =
-    rw (ap (map input_of) (flat_map-append commands_of first rest) ∙ map-append input_of (commands_to_run first) (commands_to_run rest))
+    rw (ap (map input_of) (flat_map-append commands_of first rest)
+    ∙ map-append input_of (commands_to_run first) (commands_to_run rest))
     (serves_append tape moves honest on old mid new (inputs_of first) (inputs_of rest) replies others one two)

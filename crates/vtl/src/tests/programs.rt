@@ -9,7 +9,7 @@ use std::test::Fail;
 
 // What a run of the program wrote on both streams, and how it ended.
 #[derive(Drop)]
-struct Ran {
+struct ProgramRun {
     text: Vec<u8>,
     line: Vec<u8>,
     ended: Ended,
@@ -23,7 +23,7 @@ fn ran(
     plan: Plan,
     errors: Plan,
     has_drive: bool,
-) -> Result<Ran, Fail> {
+) -> Result<ProgramRun, Fail> {
     let (wire, other) = (Wire::new(), Wire::new());
     let mut reader = WireReader::new(script, plan, &wire);
     let mut writer = WireWriter::new(alloc, plan, &wire);
@@ -34,7 +34,7 @@ fn ran(
         Err(VtlFault::NoMemory)
     };
     let ended = run(alloc, drive, &mut reader, &mut writer, &mut told);
-    Ok(Ran {
+    Ok(ProgramRun {
         text: writer.into_text(),
         line: told.into_text(),
         ended,
