@@ -2,8 +2,8 @@
 """Runs the built program at each fault, and compares its status, its line on standard error and what it wrote.
 
 crates/vtl/out/vtl is the program; 'make vtl' builds it. Memory is bounded by RLIMIT_AS, tried over a range of limits: the
-program ends with its stored text and status 0, or with status 3 and its line; a limit at which it does not start is passed
-over, and at some limit memory must run out inside."""
+program ends with its whole text and status 0, or with status 3, its line and the text of whole phases; the limits at which it
+does not start are passed over, and at some limit memory must run out inside."""
 import os
 import resource
 import subprocess
@@ -37,12 +37,13 @@ def memory():
     script = COMMAND + b"--\n" + LONG
     fine = (0, ATTENTION + b"GOOD\n", b"")
     want("a long command", run(script), fine)
-    short = 0
+    short, starts = 0, False
     for limit in range(1 << 20, 24 << 20, 1 << 18):
         status, text, line = run(script, limit=limit)
+        starts = starts or status in (0, 3)
         if (status, line) == (3, b"vtl: out of memory\n") and text in (b"", ATTENTION):
             short += 1
-        elif (status, text, line) != fine and b"vtl" in line:
+        elif starts and (status, text, line) != fine:
             sys.exit(f"{limit} bytes of memory: status {status}, {text}, {line}")
     if not short:
         sys.exit("memory ran out at no limit")

@@ -136,14 +136,16 @@ run_in honest steps (Some medium) is old inputs answers made new run =
     run_over honest steps medium is old inputs answers made new run
 
 pub one_host_is_answered : {M : Type 0} (tape : M → Tape) (moves : M → List Change → M → Type 0) (honest : M → Type 0)
-    → HonestStepsAreSteps honest → RunsAreDetermined → (number : ℕ) (old : DriveState M Kept) (left before : Option (List ℕ)) (new : DriveState M Kept)
+    → HonestStepsAreSteps honest → RunsAreDetermined
+    → (number : ℕ) (old : DriveState M Kept) (left before : Option (List ℕ)) (new : DriveState M Kept)
     (now : Option (List ℕ))
     (text : List ℕ) (items : List Item) (replies : List Reply) → IfSome left (λ all. text ≡ all)
     → refused_line (parsed_lines (λ drive. drive == number) text) ≡ None
     → items ≡ items_to_run (parsed_lines (λ drive. drive == number) text)
     → Serves tape moves honest old (inputs_of items) replies new → Appends before now (text_of replies)
     → AnswersOneHost tape moves honest number old left before new now
-one_host_is_answered tape moves honest steps determined number old left before new now text items replies known good items_are serves
+one_host_is_answered tape moves honest steps determined number old left before new now text items replies known good
+    items_are serves
     written =
     let parsed_list = parsed_lines (λ drive. drive == number) text in
     let lines_are : (host : ℕ) → IsOfHost host (commands_in parsed_list)
@@ -168,7 +170,8 @@ one_host_is_answered tape moves honest steps determined number old left before n
     }
 
 pub one_host_of : {M : Type 0} (tape : M → Tape) (moves : M → List Change → M → Type 0) (honest : M → Type 0)
-    → HonestStepsAreSteps honest → RunsAreDetermined → (old : HeldDrive M) (left before : Option (List ℕ)) (new : HeldDrive M) (now : Option (List ℕ))
+    → HonestStepsAreSteps honest → RunsAreDetermined
+    → (old : HeldDrive M) (left before : Option (List ℕ)) (new : HeldDrive M) (now : Option (List ℕ))
     (result : Result (Unit {0}) ScriptFault)
     → RunsScript (λ number. number == old.number)
     (HeldAnswers tape moves honest) old left before new now result
@@ -176,6 +179,7 @@ pub one_host_of : {M : Type 0} (tape : M → Tape) (moves : M → List Change �
 one_host_of {M} tape moves honest steps determined old left before new now (Err fault) runs = tt
 one_host_of {M} tape moves honest steps determined old left before new now (Ok done) runs =
     let serves = rw (sym runs.ended.3.0) at runs.answered in
-    one_host_is_answered tape moves honest steps determined old.number old.drive left before new.drive now runs.text runs.items
+    one_host_is_answered tape moves honest steps determined old.number old.drive left before new.drive now runs.text
+    runs.items
     runs.replies
     runs.known runs.ended.1 runs.ended.2 serves runs.ended.3.1
