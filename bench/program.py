@@ -2,8 +2,9 @@
 """Runs the built program at each fault, and compares its status, its line on standard error and what it wrote.
 
 crates/vtl/out/vtl is the program; 'make vtl' builds it. Memory is bounded by RLIMIT_AS, tried over a range of limits: the
-program ends with its whole text and status 0, or with status 3, its line and the text of whole phases; the limits at which it
-does not start are passed over, and at some limit memory must run out inside."""
+program ends with its whole text and status 0, where memory may have run out for a command (ABORTED COMMAND), or with status
+3, its line and the text of whole phases; the limits at which it does not start are passed over, and at some limit the
+program must end so."""
 import os
 import resource
 import subprocess
@@ -13,6 +14,8 @@ TOP = os.path.dirname(os.path.dirname(os.path.abspath(__file__)))
 PROGRAM = os.path.join(TOP, "crates", "vtl", "out", "vtl")
 ATTENTION = b"CHECK 700006000000000a00000000290000000000\n"
 COMMAND = b"1 1 000000000000\n"
+# a command that memory ran out for
+ABORTED = b"CHECK 70000b000000000a00000000550300000000\n"
 # a command of 1,048,576 bytes of data
 LONG = b"1 1 0a0010000000 " + b"5a" * 1_048_576 + b"\n"
 
@@ -43,7 +46,7 @@ def memory():
         starts = starts or status in (0, 3)
         if (status, line) == (3, b"vtl: out of memory\n") and text in (b"", ATTENTION):
             short += 1
-        elif starts and (status, text, line) != fine:
+        elif starts and (status, text, line) not in (fine, (0, ATTENTION + ABORTED, b"")):
             sys.exit(f"{limit} bytes of memory: status {status}, {text}, {line}")
     if not short:
         sys.exit("memory ran out at no limit")
