@@ -14,7 +14,7 @@ use Rattle.vtl.specs.Text.{reply_text, text_of}
 use Rattle.vtl.specs.Runs.{WritesPart, RunsPart, WritesSome}
 use Rattle.vtl.specs.Inner.Reading.{Reading}
 use Rattle.vtl.specs.Inner.ReadItem.{rest_of, ParsesFirst, IsItem, ReadsLines}
-use Rattle.vtl.proofs.PhaseLemmas.{at_end}
+use Rattle.vtl.proofs.LineLemmas.{at_end}
 use Rattle.vtl.proofs.TextLemmas.{appends_on}
 
 -- what is read, and then the rest that is known
@@ -95,7 +95,8 @@ first_of_items : (is_last : Bool) (parsed_list all behind : List ParsedLine) (it
     → all ≡ parsed_list ++ behind → (is_last ≡ true → behind ≡ []) → IsItem is_last parsed_list item
     → (rest : List Item) × (items_to_run all ≡ item ∷ rest)
 first_of_items true parsed_list all behind item is last is_item =
-    let whole : all ≡ parsed_list = is ∙ ap (λ (xs : List ParsedLine). parsed_list ++ xs) (last refl) ∙ append-nil parsed_list in
+    let whole : all ≡ parsed_list = is ∙ ap (λ (xs : List ParsedLine). parsed_list ++ xs) (last refl)
+    ∙ append-nil parsed_list in
     (is_item.0, ap items_to_run whole ∙ is_item.1)
 first_of_items false parsed_list all behind item is last is_item =
     (items_to_run behind, ap items_to_run is ∙ is_item behind)
@@ -106,15 +107,26 @@ lines_behind : (is_configured : ℕ → Bool) (is_last : Bool) (text read : List
     → (behind : List ParsedLine)
     × (parsed_lines is_configured (text ++ (read ++ rest_of left)) ≡ parsed_list ++ behind)
     × (is_last ≡ true → behind ≡ [])
-lines_behind is_configured true text read parsed_list unread left says =
-    ([], ap (parsed_lines is_configured) (sym (append_assoc text read (rest_of left)) ∙ ap (λ (xs : List ℕ). (text ++ read) ++ xs) (at_end left says.0) ∙ append-nil (text ++ read)) ∙ says.1 ∙ sym (append-nil parsed_list), λ is. refl)
-lines_behind is_configured false text read parsed_list unread left says =
-    (parsed_lines is_configured (unread ++ rest_of left), ap (parsed_lines is_configured) (sym (append_assoc text read (rest_of left))) ∙ says (rest_of left), λ is. absurd (cc))
+lines_behind is_configured true text read parsed_list unread left says = (
+  [],
+  ap (parsed_lines is_configured)
+      (sym (append_assoc text read (rest_of left)) ∙ ap (λ (xs : List ℕ). (text ++ read) ++ xs) (at_end left says.0)
+      ∙ append-nil (text ++ read)) ∙ says.1 ∙ sym (append-nil parsed_list),
+  λ is. refl,
+)
+lines_behind is_configured false text read parsed_list unread left says = (
+  parsed_lines is_configured (unread ++ rest_of left),
+  ap (parsed_lines is_configured)
+      (sym (append_assoc text read (rest_of left))) ∙ says (rest_of left),
+  λ is. absurd (cc),
+)
 
 pub in_script : (is_configured : ℕ → Bool) (left left' : Option (List ℕ)) (old new : Reading) (is_last : Bool)
     (item : Item) → (reads : ReadsLines is_configured left old left' new is_last item)
     → (rest : List Item)
     × (items_to_run (parsed_lines is_configured (old.unread ++ (reads.read ++ rest_of left'))) ≡ item ∷ rest)
 in_script is_configured left left' old new is_last item reads =
-    let behind = lines_behind is_configured is_last old.unread reads.read reads.parsed_list new.unread left' reads.says in
-    first_of_items is_last reads.parsed_list (parsed_lines is_configured (old.unread ++ (reads.read ++ rest_of left'))) behind.0 item behind.1 behind.2 reads.is_item
+    let behind = lines_behind is_configured is_last old.unread reads.read reads.parsed_list new.unread left' reads.says
+    in
+    first_of_items is_last reads.parsed_list (parsed_lines is_configured (old.unread ++ (reads.read ++ rest_of left')))
+    behind.0 item behind.1 behind.2 reads.is_item

@@ -55,7 +55,8 @@ pass_with : (p : Line → Bool) (is_configured : ℕ → Bool) → AllPass p is_
     → list_all p (filter_map line_in (parse_command is_configured first rest ∷ [])) ≡ true
 pass_with p is_configured all first [] = pass_if p (bytes_eq first (codes "--")) PhaseEnd Refused refl refl
 pass_with p is_configured all first (drive ∷ []) = refl
-pass_with p is_configured all first (drive ∷ cdb ∷ rest) = pass_fields p is_configured all first drive cdb (data_of rest)
+pass_with p is_configured all first (drive ∷ cdb ∷ rest) = pass_fields p is_configured all first drive cdb
+    (data_of rest)
 
 pass_by : (p : Line → Bool) (is_configured : ℕ → Bool) → AllPass p is_configured → (fields : List (List ℕ))
     → list_all p (filter_map line_in (parse_fields is_configured fields ∷ [])) ≡ true
@@ -90,7 +91,8 @@ drives_of is_configured count line parsed is =
     rw is (pass_line (λ line. is_configured line.drive) is_configured
     (λ from to host drive cdb sent is_host is_drive.
     second_of (nat_le 1 drive && nat_le drive 16) (is_configured drive)
-    (only_passes (λ number. (nat_le 1 number && nat_le number 16) && is_configured number) (decimal_of to) drive is_drive))
+    (only_passes (λ number. (nat_le 1 number && nat_le number 16) && is_configured number) (decimal_of to) drive
+    is_drive))
     count line)
 
 -- the commands of a phase pass in the order of their turns too

@@ -1,5 +1,7 @@
 pub mod BehindLemmas
 pub mod HostLemmas
+pub mod ItemLemmas
+pub mod LineLemmas
 pub mod OneHostLemmas
 pub mod PartLemmas
 pub mod PhaseLemmas

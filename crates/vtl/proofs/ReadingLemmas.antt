@@ -24,16 +24,21 @@ err_same r a b h k = cc
 pub ok_other : {T E : Type 0} (r : Result T E) (x : T) (e : E) → r ≡ Ok x → r ≡ Err e → ⊥
 ok_other r x e h k = absurd (cc)
 
-pub consumes_in_place : (left left' : Option (List ℕ)) (n : ℕ) (front part rest : List ℕ) (at : ℕ) → length front ≡ at → n ≤ length part → Consumes left left' (take n part) → Consumes left left' (take n (drop at (front ++ (part ++ rest))))
+pub consumes_in_place : (left left' : Option (List ℕ)) (n : ℕ) (front part rest : List ℕ) (at : ℕ) → length front ≡ at
+    → n ≤ length part → Consumes left left' (take n part)
+    → Consumes left left' (take n (drop at (front ++ (part ++ rest))))
 consumes_in_place left left' n front part rest at long fits read =
-    subst (Consumes left left') (sym (ap (take n) (drop_at front (part ++ rest) at long) ∙ take-append-le n part rest fits)) read
+    subst (Consumes left left') (sym
+    (ap (take n) (drop_at front (part ++ rest) at long) ∙ take-append-le n part rest fits)) read
 
 -- two readings in a row
-pub consumes_on : (a b c : Option (List ℕ)) (first second : List ℕ) → Consumes a b first → Consumes b c second → Consumes a c (first ++ second)
+pub consumes_on : (a b c : Option (List ℕ)) (first second : List ℕ) → Consumes a b first → Consumes b c second
+    → Consumes a c (first ++ second)
 consumes_on None b c first second h k = tt
 consumes_on (Some xs) None c first second h k = absurd h
 consumes_on (Some xs) (Some ys) None first second h k = absurd k
-consumes_on (Some xs) (Some ys) (Some zs) first second h k = h ∙ ap (λ (rest : List ℕ). first ++ rest) k ∙ sym (append_assoc first second zs)
+consumes_on (Some xs) (Some ys) (Some zs) first second h k = h ∙ ap (λ (rest : List ℕ). first ++ rest) k
+    ∙ sym (append_assoc first second zs)
 
 pub consumes_none : (a : Option (List ℕ)) → Consumes a a []
 consumes_none None = tt
@@ -41,45 +46,70 @@ consumes_none (Some xs) = refl
 
 -- nothing came
 pub comes_none : (left : Option (List ℕ)) (reading : Reading) → Comes left reading left reading
-comes_none left reading = record { read = []; taken = consumes_none left; unread = sym (append-nil reading.unread); bytes = omega arith; reads = omega arith; lines = refl }
+comes_none left reading = record {
+  read = [];
+  taken = consumes_none left;
+  unread = sym (append-nil reading.unread);
+  bytes = omega arith;
+  reads =
+      omega arith;
+  lines = refl;
+}
 
 -- bytes that stand behind those of a buffer come to the unread ones
-pub comes_behind : (left left' : Option (List ℕ)) (old : Reading) (start count bytes reads lines : ℕ) (items now : List ℕ) → old.unread ≡ drop start items → bytes ≡ old.bytes → old.reads ≤ reads → lines ≡ old.lines → start ≤ length items → take (length items) now ≡ items → length now ≡ length items + count → Consumes left left' (drop (length items) now) → Comes left old left' (record { unread = drop start now; bytes = bytes + count; reads = reads; lines = lines })
-comes_behind left left' old start count bytes reads lines items now unread of_bytes of_reads of_lines within front more taken =
+pub comes_behind : (left left' : Option (List ℕ)) (old : Reading) (start count bytes reads lines : ℕ)
+    (items now : List ℕ) → old.unread ≡ drop start items → bytes ≡ old.bytes → old.reads ≤ reads → lines ≡ old.lines
+    → start ≤ length items → take (length items) now ≡ items → length now ≡ length items + count
+    → Consumes left left' (drop (length items) now)
+    → Comes left old left' (record { unread = drop start now; bytes = bytes + count; reads = reads; lines = lines })
+comes_behind left left' old start count bytes reads lines items now unread of_bytes of_reads of_lines within front more
+    taken =
     let n = length items in
     let all : now ≡ items ++ drop n now = sym (take-append-drop n now) ∙ ap (λ (xs : List ℕ). xs ++ drop n now) front in
     let long : length (drop n now) ≡ count = omega (arith, length-drop n now, more) in
     record {
       read = drop n now;
       taken = taken;
-      unread = ap (drop start) all ∙ drop-append-le start items (drop n now) within ∙ ap (λ (xs : List ℕ). xs ++ drop n now) (sym unread);
+      unread = ap (drop start) all ∙ drop-append-le start items (drop n now) within
+          ∙ ap (λ (xs : List ℕ). xs ++ drop n now) (sym unread);
       bytes = omega (arith, long, of_bytes);
       reads = of_reads;
       lines = of_lines;
     }
 
-pub comes_on : (a b c : Option (List ℕ)) (old mid new : Reading) → Comes a old b mid → Comes b mid c new → Comes a old c new
+pub comes_on : (a b c : Option (List ℕ)) (old mid new : Reading) → Comes a old b mid → Comes b mid c new
+    → Comes a old c new
 comes_on a b c old mid new first second = record {
   read = first.read ++ second.read;
   taken = consumes_on a b c first.read second.read first.taken second.taken;
-  unread = second.unread ∙ ap (λ (xs : List ℕ). xs ++ second.read) first.unread ∙ append_assoc old.unread first.read second.read;
+  unread = second.unread ∙ ap (λ (xs : List ℕ). xs ++ second.read) first.unread
+      ∙ append_assoc old.unread first.read second.read;
   bytes = omega (arith, first.bytes, second.bytes, length-append first.read second.read);
   reads = omega (arith, first.reads, second.reads);
   lines = second.lines ∙ first.lines;
 }
 
 -- what came has no line feed in its first bytes
-pub record IsSearched (left : Option (List ℕ)) (old : Reading) (left' : Option (List ℕ)) (new : Reading) (searched : ℕ) : Type 0 where
+pub record IsSearched (left : Option (List ℕ)) (old : Reading) (left' : Option (List ℕ)) (new : Reading) (searched : ℕ)
+    : Type 0 where
   pub comes : Comes left old left' new
   pub within : searched ≤ length new.unread
   pub none : position (λ byte. byte == 10) (take searched new.unread) ≡ None
 
 -- more came behind bytes that have no line feed
-pub searched_on : (a b c : Option (List ℕ)) (old mid new : Reading) (s : ℕ) → Comes a old b mid → position (λ byte. byte == 10) mid.unread ≡ None → s ≡ length mid.unread → Comes b mid c new → IsSearched a old c new s
+pub searched_on : (a b c : Option (List ℕ)) (old mid new : Reading) (s : ℕ) → Comes a old b mid
+    → position (λ byte. byte == 10) mid.unread ≡ None → s ≡ length mid.unread → Comes b mid c new
+    → IsSearched a old c new s
 searched_on a b c old mid new s first none all second = record {
   comes = comes_on a b c old mid new first second;
   within = omega (arith, all, ap length second.unread, length-append mid.unread second.read);
-  none = rw (second.unread, all, take-append-le (length mid.unread) mid.unread second.read (omega arith), take_all (length mid.unread) mid.unread (omega arith)) none;
+  none = rw (
+    second.unread,
+    all,
+    take-append-le (length mid.unread) mid.unread second.read (omega arith),
+    take_all
+        (length mid.unread) mid.unread (omega arith),
+  ) none;
 }
 
 -- what came is within the limit of bytes

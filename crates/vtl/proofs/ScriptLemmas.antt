@@ -18,7 +18,8 @@ use Rattle.vtl.specs.Inner.ReadItem.{rest_of, ParsesFirst, AreEmpty, IsItem, Rea
 use Rattle.vtl.specs.Runs.{AnswersSome, ScriptEnds, RunsScript, WritesPart, RunsPart, WritesSome, Stops}
 use Rattle.vtl.specs.Inner.RunItem.{EndsFrom, FinishesScript, GoesOn, RunsItem}
 use Rattle.vtl.proofs.ReadingLemmas.{consumes_on, consumes_none}
-use Rattle.vtl.proofs.PhaseLemmas.{at_end, texts}
+use Rattle.vtl.proofs.LineLemmas.{at_end}
+use Rattle.vtl.proofs.PhaseLemmas.{texts}
 use Rattle.vtl.proofs.TextLemmas.{appends_none, appends_on}
 use Rattle.vtl.proofs.RefusedLemmas.{refused_behind, none_behind, none_refused, first_refused}
 use Rattle.vtl.proofs.BehindLemmas.{known_on, known_rest, text_of-append, items_behind, first_behind, writes_part_behind, runs_part_behind, writes_some_behind, in_script}
@@ -28,155 +29,6 @@ module _ {P : Type 0} (is_configured : ℕ → Bool) (answers : P → List Item 
     (empty : (runner : P) → answers runner (Phase [] ∷ []) [] runner)
     (on : (old mid new : P) (first rest : List Item) (replies others : List Reply) → answers old first replies mid
     → answers mid rest others new → answers old (first ++ rest) (replies ++ others) new) where
-  -- an item was not read
-  pub finish_unread : (reading : Reading) (old : P) (left before : Option (List ℕ))
-      → FinishesScript is_configured answers reading old left before old before (Err ReadFault)
-  finish_unread reading old left before = record {
-    text = rest_of left;
-    known = known_rest left;
-    items = [];
-    replies = [];
-    mid = old;
-    answered = nothing old;
-    ended = (_, refl, (refl, appends_none before));
-  }
-
-  pub finish_short : (reading : Reading) (old : P) (left before : Option (List ℕ))
-      → FinishesScript is_configured answers reading old left before old before (Err NoMemory)
-  finish_short reading old left before = record {
-    text = rest_of left;
-    known = known_rest left;
-    items = [];
-    replies = [];
-    mid = old;
-    answered = nothing old;
-    ended = (_, refl, inl (refl, appends_none before));
-  }
-
-  -- a line of an item is refused
-  pub finish_refused : (reading : Reading) (old : P) (left left' before : Option (List ℕ)) (number : ℕ)
-      → RefusesItem is_configured left reading left' number
-      → FinishesScript is_configured answers reading old left before old before (Err (BadLine number))
-  finish_refused reading old left left' before number refuses =
-      let says = ap (parsed_lines is_configured) (sym (append_assoc reading.unread refuses.read (rest_of left'))) ∙ refuses.says in
-      record {
-        text = refuses.read ++ rest_of left';
-        known = known_on left left' refuses.read (rest_of left') refuses.taken (known_rest left');
-        items = [];
-        replies = [];
-        mid = old;
-        answered = nothing old;
-        ended = (length refuses.parsed_list + 1, omega (arith, refuses.number_is), (ap refused_line says ∙ first_refused refuses.parsed_list refuses.behind refuses.accepted, sym (ap items_to_run says ∙ refuses.not_run), (refl, appends_none before)));
-      }
-
-  -- an item was not read, or a line of it is refused
-  pub read_failed : (reading : Reading) (old : P) (left left' before : Option (List ℕ)) (fault : ScriptFault)
-      → (fault ≡ WriteFault → ⊥)
-      → ((number : ℕ) → fault ≡ BadLine number → RefusesItem is_configured left reading left' number)
-      → FinishesScript is_configured answers reading old left before old before (Err fault)
-  read_failed reading old left left' before (BadLine number) other refuses = finish_refused reading old left left' before number (refuses number refl)
-  read_failed reading old left left' before ReadFault other refuses = finish_unread reading old left before
-  read_failed reading old left left' before WriteFault other refuses = absurd (other refl)
-  read_failed reading old left left' before NoMemory other refuses = finish_short reading old left before
-
-  -- an item was read, and not all of it was run
-  pub finish_part : (reading reading' : Reading) (old : P) (left left' before : Option (List ℕ)) (new : P)
-      (is_last : Bool) (item : Item) → ReadsLines is_configured left reading left' reading' is_last item
-      → AnswersSome answers old item new
-      → FinishesScript is_configured answers reading old left before new before (Err NoMemory)
-  finish_part reading reading' old left left' before new is_last item reads some =
-      let at = in_script is_configured left left' reading reading' is_last item reads in
-      record {
-        text = reads.read ++ rest_of left';
-        known = known_on left left' reads.read (rest_of left') reads.taken (known_rest left');
-        items = [];
-        replies = [];
-        mid = old;
-        answered = nothing old;
-        ended = (item ∷ at.0, at.1, inr (inl (record { item = item; rest = at.0; is = refl; some = some; written = appends_none before })));
-      }
-
-  -- it was run, and the first of its replies were written
-  pub finish_print : (reading reading' : Reading) (old : P) (left left' before now : Option (List ℕ)) (new : P)
-      (is_last : Bool) (item : Item) (replies : List Reply) (count : ℕ)
-      → ReadsLines is_configured left reading left' reading' is_last item → answers old (item ∷ []) replies new
-      → Appends before now (text_of (take count replies))
-      → FinishesScript is_configured answers reading old left before new now (Err NoMemory)
-  finish_print reading reading' old left left' before now new is_last item replies count reads answered appends =
-      let at = in_script is_configured left left' reading reading' is_last item reads in
-      record {
-        text = reads.read ++ rest_of left';
-        known = known_on left left' reads.read (rest_of left') reads.taken (known_rest left');
-        items = [];
-        replies = [];
-        mid = old;
-        answered = nothing old;
-        ended = (item ∷ at.0, at.1, inr (inr (record { item = item; rest = at.0; is = refl; replies = replies; answered = answered; count = count; written = appends })));
-      }
-
-  -- a write failed
-  pub finish_unwritten : (reading reading' : Reading) (old : P) (left left' before now : Option (List ℕ)) (new : P)
-      (is_last : Bool) (item : Item) (replies : List Reply)
-      → ReadsLines is_configured left reading left' reading' is_last item → answers old (item ∷ []) replies new
-      → AppendsPart before now (text_of replies)
-      → FinishesScript is_configured answers reading old left before new now (Err WriteFault)
-  finish_unwritten reading reading' old left left' before now new is_last item replies reads answered part =
-      let at = in_script is_configured left left' reading reading' is_last item reads in
-      record {
-        text = reads.read ++ rest_of left';
-        known = known_on left left' reads.read (rest_of left') reads.taken (known_rest left');
-        items = [];
-        replies = [];
-        mid = old;
-        answered = nothing old;
-        ended = (item ∷ at.0, at.1, record { item = item; rest = at.0; is = refl; replies = replies; answered = answered; part = part.0; begins = part.1; written = part.2 });
-      }
-
-  -- items with no command are answered by standing still
-  empty_stand : (runner : P) (items : List Item) → AreEmpty items → answers runner items [] runner
-  empty_stand runner items (inl none) = rw none (nothing runner)
-  empty_stand runner items (inr one) = rw one (empty runner)
-
-  -- the last item was run and answered
-  pub finish_last : (reading reading' : Reading) (old : P) (left left' before now : Option (List ℕ)) (new : P)
-      (item : Item) (replies : List Reply) → ReadsLines is_configured left reading left' reading' true item
-      → answers old (item ∷ []) replies new → Appends before now (text_of replies)
-      → FinishesScript is_configured answers reading old left before new now (Ok tt)
-  finish_last reading reading' old left left' before now new item replies reads answered appends =
-      let text_is : reads.read ++ rest_of left' ≡ reads.read = ap (λ (xs : List ℕ). reads.read ++ xs) (at_end left' reads.says.0) ∙ append-nil reads.read in
-      let parsed_is : parsed_lines is_configured (reading.unread ++ (reads.read ++ rest_of left')) ≡ reads.parsed_list = ap (λ (xs : List ℕ). parsed_lines is_configured (reading.unread ++ xs)) text_is ∙ reads.says.1 in
-      let rest = reads.is_item.0 in
-      record {
-        text = reads.read ++ rest_of left';
-        known = known_on left left' reads.read (rest_of left') reads.taken (known_rest left');
-        items = item ∷ rest;
-        replies = replies;
-        mid = new;
-        answered = rw (append-nil replies) at (on old new new (item ∷ []) rest replies [] answered (empty_stand new rest reads.is_item.2));
-        ended = (omega (arith, ap length text_is, reads.bytes, reads.within), ap refused_line parsed_is ∙ none_refused reads.parsed_list reads.accepted, sym (ap items_to_run parsed_is ∙ reads.is_item.1), (refl, appends));
-      }
-
-  -- an item that is not the last was run and answered
-  pub go_on : (reading reading' : Reading) (old : P) (left left' before now : Option (List ℕ)) (new : P)
-      (item : Item) (replies : List Reply) → ReadsLines is_configured left reading left' reading' false item
-      → answers old (item ∷ []) replies new → Appends before now (text_of replies)
-      → GoesOn is_configured answers reading old left before reading' new left' now
-  go_on reading reading' old left left' before now new item replies reads answered appends =
-      record {
-        read = reads.read;
-        taken = reads.taken;
-        parsed_list = reads.parsed_list;
-        says = reads.says;
-        accepted = reads.accepted;
-        lines = reads.lines refl;
-        bytes = reads.bytes;
-        items = item ∷ [];
-        to_run = reads.is_item;
-        replies = replies;
-        answered = answered;
-        written = appends;
-      }
-
   -- nothing was run yet
   pub begin : (reading : Reading) (old : P) (left before : Option (List ℕ))
       → GoesOn is_configured answers reading old left before reading old left before
@@ -206,7 +58,8 @@ module _ {P : Type 0} (is_configured : ℕ → Bool) (answers : P → List Item 
     parsed_list = one.parsed_list ++ two.parsed_list;
     says = λ more.
         ap (parsed_lines is_configured) (texts reading.unread one.read two.read more) ∙ one.says (two.read ++ more)
-        ∙ ap (λ (text : List ℕ). one.parsed_list ++ parsed_lines is_configured text) (sym (append_assoc mid.unread two.read more))
+        ∙ ap (λ (text : List ℕ). one.parsed_list ++ parsed_lines is_configured text)
+        (sym (append_assoc mid.unread two.read more))
         ∙ ap (λ (xs : List ParsedLine). one.parsed_list ++ xs) (two.says more)
         ∙ sym (append_assoc one.parsed_list two.parsed_list (parsed_lines is_configured (new.unread ++ more)));
     accepted = list_any-append is_refused one.parsed_list two.parsed_list ∙ rw (one.accepted, two.accepted) refl;
@@ -219,41 +72,78 @@ module _ {P : Type 0} (is_configured : ℕ → Bool) (answers : P → List Item 
         ∙ sym (append_assoc one.items two.items (items_to_run more));
     replies = one.replies ++ two.replies;
     answered = on old between last one.items two.items one.replies two.replies one.answered two.answered;
-    written = rw (text_of-append one.replies two.replies) (appends_on before during after (text_of one.replies) (text_of two.replies) one.written two.written);
+    written = rw (text_of-append one.replies two.replies)
+        (appends_on before during after (text_of one.replies) (text_of two.replies) one.written two.written);
   }
 
   -- where memory ran out
   short_behind : (behind : List Item) (front text : List ℕ) (mid : P) (before during : Option (List ℕ)) (new : P)
       (now : Option (List ℕ)) → Appends before during front
-      → Stops text mid during new now ⊎ (RunsPart answers behind text mid during new now ⊎ WritesSome answers behind text mid during new now)
-      → Stops (front ++ text) mid before new now ⊎ (RunsPart answers behind (front ++ text) mid before new now ⊎ WritesSome answers behind (front ++ text) mid before new now)
-  short_behind behind front text mid before during new now one (inl stops) = inl (stops.0, appends_on before during now front text one stops.1)
-  short_behind behind front text mid before during new now one (inr (inl runs)) = inr (inl (runs_part_behind answers behind front text mid before during new now one runs))
-  short_behind behind front text mid before during new now one (inr (inr writes)) = inr (inr (writes_some_behind answers behind front text mid before during new now one writes))
+      → Stops text mid during new now ⊎
+      (RunsPart answers behind text mid during new now ⊎ WritesSome answers behind text mid during new now)
+      → Stops (front ++ text) mid before new now ⊎
+      (RunsPart answers behind (front ++ text) mid before new now ⊎ WritesSome answers behind (front ++ text) mid
+      before new now)
+  short_behind behind front text mid before during new now one (inl stops) = inl
+      (stops.0, appends_on before during now front text one stops.1)
+  short_behind behind front text mid before during new now one (inr (inl runs)) = inr
+      (inl (runs_part_behind answers behind front text mid before during new now one runs))
+  short_behind behind front text mid before during new now one (inr (inr writes)) = inr
+      (inr (writes_some_behind answers behind front text mid before during new now one writes))
 
   -- the end of a script, from its start on
   ends_behind : (reading mid : Reading) (old between new : P) (a b before during now : Option (List ℕ))
       (one : GoesOn is_configured answers reading old a before mid between b during) (size : ℕ)
       (parsed_list : List ParsedLine) (items : List Item) (text : List ℕ) (middle : P)
-      (result : Result (Unit {0}) ScriptFault) → EndsFrom answers mid size parsed_list items text middle during new now result
-      → EndsFrom answers reading (length one.read + size) (one.parsed_list ++ parsed_list) (one.items ++ items) (text_of one.replies ++ text) middle before new now result
-  ends_behind reading mid old between new a b before during now one size parsed_list items text middle (Ok done) ends =
-      (omega (arith, one.bytes, ends.0), none_behind one.parsed_list parsed_list one.accepted ends.1, items_behind one.parsed_list parsed_list one.items items (one.to_run parsed_list) ends.2, (ends.3.0, appends_on before during now (text_of one.replies) text one.written ends.3.1))
-  ends_behind reading mid old between new a b before during now one size parsed_list items text middle (Err (BadLine number)) ends =
-      (length one.parsed_list + ends.0, omega (arith, one.lines, ends.1), (refused_behind one.parsed_list parsed_list ends.0 one.accepted ends.2.0, items_behind one.parsed_list parsed_list one.items items (one.to_run parsed_list) ends.2.1, (ends.2.2.0, appends_on before during now (text_of one.replies) text one.written ends.2.2.1)))
-  ends_behind reading mid old between new a b before during now one size parsed_list items text middle (Err ReadFault) ends =
-      (ends.0, first_behind one.parsed_list parsed_list one.items items ends.0 (one.to_run parsed_list) ends.1, (ends.2.0, appends_on before during now (text_of one.replies) text one.written ends.2.1))
-  ends_behind reading mid old between new a b before during now one size parsed_list items text middle (Err WriteFault) ends =
-      (ends.0, first_behind one.parsed_list parsed_list one.items items ends.0 (one.to_run parsed_list) ends.1, writes_part_behind answers ends.0 (text_of one.replies) text middle before during new now one.written ends.2)
-  ends_behind reading mid old between new a b before during now one size parsed_list items text middle (Err NoMemory) ends =
-      (ends.0, first_behind one.parsed_list parsed_list one.items items ends.0 (one.to_run parsed_list) ends.1, short_behind ends.0 (text_of one.replies) text middle before during new now one.written ends.2)
+      (result : Result (Unit {0}) ScriptFault)
+      → EndsFrom answers mid size parsed_list items text middle during new now result
+      → EndsFrom answers reading (length one.read + size) (one.parsed_list ++ parsed_list) (one.items ++ items)
+      (text_of one.replies ++ text) middle before new now result
+  ends_behind reading mid old between new a b before during now one size parsed_list items text middle (Ok done)
+      ends = (
+        omega (arith, one.bytes, ends.0),
+        none_behind one.parsed_list parsed_list one.accepted ends.1,
+        items_behind
+            one.parsed_list parsed_list one.items items (one.to_run parsed_list) ends.2,
+        (ends.3.0, appends_on before during now (text_of one.replies) text one.written ends.3.1),
+      )
+  ends_behind reading mid old between new a b before during now one size parsed_list items text middle
+      (Err (BadLine number)) ends = (
+        length one.parsed_list + ends.0,
+        omega (arith, one.lines, ends.1),
+        (
+          refused_behind one.parsed_list parsed_list ends.0 one.accepted ends.2.0,
+          items_behind one.parsed_list
+              parsed_list one.items items (one.to_run parsed_list) ends.2.1,
+          (ends.2.2.0, appends_on before during now (text_of one.replies) text one.written ends.2.2.1),
+        ),
+      )
+  ends_behind reading mid old between new a b before during now one size parsed_list items text middle (Err ReadFault)
+      ends = (
+        ends.0,
+        first_behind one.parsed_list parsed_list one.items items ends.0 (one.to_run parsed_list) ends.1,
+        (ends.2.0, appends_on before during now (text_of one.replies) text one.written ends.2.1),
+      )
+  ends_behind reading mid old between new a b before during now one size parsed_list items text middle (Err WriteFault)
+      ends = (
+        ends.0,
+        first_behind one.parsed_list parsed_list one.items items ends.0 (one.to_run parsed_list) ends.1,
+        writes_part_behind answers ends.0 (text_of one.replies) text middle before during new now one.written ends.2,
+      )
+  ends_behind reading mid old between new a b before during now one size parsed_list items text middle (Err NoMemory)
+      ends = (
+        ends.0,
+        first_behind one.parsed_list parsed_list one.items items ends.0 (one.to_run parsed_list) ends.1,
+        short_behind ends.0 (text_of one.replies) text middle before during new now one.written ends.2,
+      )
 
   pub finish_on : (reading mid : Reading) (old between new : P) (a b before during now : Option (List ℕ))
       (result : Result (Unit {0}) ScriptFault) → GoesOn is_configured answers reading old a before mid between b during
       → FinishesScript is_configured answers mid between b during new now result
       → FinishesScript is_configured answers reading old a before new now result
   finish_on reading mid old between new a b before during now result one two =
-      let parsed_is : parsed_lines is_configured (reading.unread ++ (one.read ++ two.text)) ≡ one.parsed_list ++ parsed_lines is_configured (mid.unread ++ two.text) =
+      let parsed_is : parsed_lines is_configured (reading.unread ++ (one.read ++ two.text)) ≡ one.parsed_list ++
+      parsed_lines is_configured (mid.unread ++ two.text) =
       ap (parsed_lines is_configured) (sym (append_assoc reading.unread one.read two.text)) ∙ one.says two.text in
       record {
         text = one.read ++ two.text;
@@ -262,22 +152,28 @@ module _ {P : Type 0} (is_configured : ℕ → Bool) (answers : P → List Item 
         replies = one.replies ++ two.replies;
         mid = two.mid;
         answered = on old between two.mid one.items two.items one.replies two.replies one.answered two.answered;
-        ended = rw (parsed_is, length-append one.read two.text, text_of-append one.replies two.replies) (ends_behind reading mid old between new a b before during now one (length two.text) (parsed_lines is_configured (mid.unread ++ two.text)) two.items (text_of two.replies) two.mid result two.ended);
+        ended = rw (parsed_is, length-append one.read two.text, text_of-append one.replies two.replies)
+            (ends_behind reading mid old between new a b before during now one (length two.text)
+            (parsed_lines is_configured (mid.unread ++ two.text)) two.items (text_of two.replies) two.mid result
+            two.ended);
       }
 
   ends_whole : (size : ℕ) (parsed_list : List ParsedLine) (items : List Item) (text : List ℕ) (mid : P)
       (before : Option (List ℕ)) (new : P) (now : Option (List ℕ)) (result : Result (Unit {0}) ScriptFault)
       → EndsFrom answers unbegun size parsed_list items text mid before new now result
       → ScriptEnds answers size parsed_list items text mid before new now result
-  ends_whole size parsed_list items text mid before new now (Ok done) ends = (omega (arith, ends.0), ends.1, ends.2, ends.3)
-  ends_whole size parsed_list items text mid before new now (Err (BadLine number)) ends = let is : number ≡ ends.0 = omega (arith, ends.1) in rw is ends.2
+  ends_whole size parsed_list items text mid before new now (Ok done) ends =
+      (omega (arith, ends.0), ends.1, ends.2, ends.3)
+  ends_whole size parsed_list items text mid before new now (Err (BadLine number)) ends = let is : number ≡ ends.0 =
+      omega (arith, ends.1) in rw is ends.2
   ends_whole size parsed_list items text mid before new now (Err ReadFault) ends = ends
   ends_whole size parsed_list items text mid before new now (Err WriteFault) ends = ends
   ends_whole size parsed_list items text mid before new now (Err NoMemory) ends = ends
 
   -- what was run from the start on
   pub runs_script : (old : P) (left before : Option (List ℕ)) (new : P) (now : Option (List ℕ))
-      (result : Result (Unit {0}) ScriptFault) → FinishesScript is_configured answers unbegun old left before new now result
+      (result : Result (Unit {0}) ScriptFault)
+      → FinishesScript is_configured answers unbegun old left before new now result
       → RunsScript is_configured answers old left before new now result
   runs_script old left before new now result ends = record {
     text = ends.text;
@@ -286,48 +182,12 @@ module _ {P : Type 0} (is_configured : ℕ → Bool) (answers : P → List Item 
     replies = ends.replies;
     mid = ends.mid;
     answered = ends.answered;
-    ended = ends_whole (length ends.text) (parsed_lines is_configured ends.text) ends.items (text_of ends.replies) ends.mid before new now result ends.ended;
+    ended = ends_whole (length ends.text) (parsed_lines is_configured ends.text) ends.items (text_of ends.replies)
+        ends.mid before new now result ends.ended;
   }
-
-  -- the replies of an item were not all written
-  pub write_failed : (reading reading' : Reading) (old : P) (left left' before now : Option (List ℕ)) (new : P)
-      (is_last : Bool) (item : Item) (replies : List Reply) (fault : ScriptFault)
-      → ReadsLines is_configured left reading left' reading' is_last item → answers old (item ∷ []) replies new
-      → (fault ≡ WriteFault) ⊎ (fault ≡ NoMemory)
-      → (fault ≡ WriteFault → AppendsPart before now (text_of replies))
-      → (fault ≡ NoMemory → (count : ℕ) × Appends before now (text_of (take count replies)))
-      → FinishesScript is_configured answers reading old left before new now (Err fault)
-  write_failed reading reading' old left left' before now new is_last item replies (BadLine number) reads answered (inl is) part some = absurd (cc)
-  write_failed reading reading' old left left' before now new is_last item replies (BadLine number) reads answered (inr is) part some = absurd (cc)
-  write_failed reading reading' old left left' before now new is_last item replies ReadFault reads answered (inl is) part some = absurd (cc)
-  write_failed reading reading' old left left' before now new is_last item replies ReadFault reads answered (inr is) part some = absurd (cc)
-  write_failed reading reading' old left left' before now new is_last item replies WriteFault reads answered cause part some =
-      finish_unwritten reading reading' old left left' before now new is_last item replies reads answered (part refl)
-  write_failed reading reading' old left left' before now new is_last item replies NoMemory reads answered cause part some =
-      let written = some refl in finish_print reading reading' old left left' before now new is_last item replies written.0 reads answered written.1
-
-  -- an item was run and answered
-  pub item_done : (reading reading' : Reading) (old : P) (left left' before now : Option (List ℕ)) (new : P)
-      (is_last : Bool) (item : Item) (replies : List Reply)
-      → ReadsLines is_configured left reading left' reading' is_last item → answers old (item ∷ []) replies new
-      → Appends before now (text_of replies)
-      → RunsItem is_configured answers reading old left before reading' new left' now (Ok (not is_last))
-  item_done reading reading' old left left' before now new true item replies reads answered appends = finish_last reading reading' old left left' before now new item replies reads answered appends
-  item_done reading reading' old left left' before now new false item replies reads answered appends = go_on reading reading' old left left' before now new item replies reads answered appends
 
 -- items were run so far, and the drives are as they were
 pub record IsRunning {P : Type 0} (is_configured : P → ℕ → Bool) (answers : P → List Item → List Reply → P → Type 0)
     (old : P) (left before : Option (List ℕ)) (reading : Reading) (new : P) (left' now : Option (List ℕ)) : Type 0 where
   pub goes : GoesOn (is_configured old) answers unbegun old left before reading new left' now
   pub same : is_configured new ≡ is_configured old
-
--- no command was run
-answers_no : {P : Type 0} (answers : P → List Item → List Reply → P → Type 0) (old : P) (item : Item)
-    → answers old (Phase [] ∷ []) [] old → AnswersSome answers old item old
-answers_no answers old (Phase lines) empty = record { part = Phase []; begins = (0, refl); replies = []; answered = empty }
-
-pub none_answered : {P T E : Type 0} (answers : P → List Item → List Reply → P → Type 0) (old new : P) (item : Item)
-    (result : Result T E) → answers old (Phase [] ∷ []) [] old → OnErr result (new ≡ old)
-    → OnErr result (AnswersSome answers old item new)
-none_answered answers old new item (Ok done) empty same = tt
-none_answered answers old new item (Err fault) empty same = rw same (answers_no answers old item empty)

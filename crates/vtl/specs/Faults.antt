@@ -1,4 +1,4 @@
--- How a fault is told (own).
+-- How a fault is reported (own).
 use Rattle.std.specs.Prelude.{ℕ, List, ◌++◌, codes, decimal}
 use Rattle.vtl.specs.declared.faults.ScriptFault.{ScriptFault}
 use Rattle.vtl.specs.declared.faults.ScriptFault.TheVariants as script
@@ -12,7 +12,7 @@ fault_of script.ReadFault = Device
 fault_of script.WriteFault = Device
 fault_of script.NoMemory = NoMemory
 
--- the status: 1 where something is refused, 2 at a device, a file or a stream, 3 at want of memory (own)
+-- the status: 1 where something is refused, 2 at a device, a file or a stream, 3 where memory ran out (own)
 abbrev pub status_of : VtlFault → ℕ
 status_of Words = 1
 status_of Config = 1

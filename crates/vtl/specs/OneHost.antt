@@ -1,21 +1,25 @@
 -- Scripts of at most one host (own).
-use Rattle.std.specs.Prelude.{◌≡◌, ℕ, ◌==◌, ◌≤◌, Bool, false, true, List, map, filter_map, Option, Result, Ok, IfSome}
+use Rattle.std.specs.Prelude.{◌≡◌, ℕ, ◌==◌, ◌≤◌, Bool, false, true, List, All, map, filter_map, Option, Result, Ok, IfSome}
 use Rattle.std.specs.List.{list_all, list_any}
 use Rattle.std.specs.Io.KnownBytes.{Appends}
 use Rattle.scsi_sense.specs.declared.replies.Reply.{Reply}
+use Rattle.vtl_base.specs.Below.{Below}
 use Rattle.volume_core.specs.declared.changes.Change.{Change}
-use Rattle.volume_core.specs.Medium.{Tape}
+use Rattle.volume_core.specs.Medium.{MediumState}
 use Rattle.drive_core.specs.declared.faults.Fault.{Fault}
 use Rattle.drive_core.specs.Faults.{reply_of}
 use Rattle.drive_core.specs.State.{DriveState, Kept, Machine, machine_of, medium_in}
 use Rattle.drive_core.specs.Execute.{HonestIn}
+use Rattle.drive_core.specs.Relations.{Made}
+use Rattle.drive_core.specs.Step.{Input, Execute, Output, Answered, replies_of}
 use Rattle.drive_core.specs.Run.{Run}
+use Rattle.drive_core.specs.Determined.{IsCalm, without_turns}
 use Rattle.vtl.specs.declared.lines.Line.{Line}
 use Rattle.vtl.specs.declared.lines.ParsedLine.{ParsedLine}
 use Rattle.vtl.specs.Parsed.{parsed_lines, is_refused, line_in}
 use Rattle.vtl.specs.Items.{items_to_run, commands_to_run}
 use Rattle.vtl.specs.Text.{text_of}
-use Rattle.vtl.specs.Held.{input_of}
+use Rattle.vtl.specs.Held.{request_of}
 
 -- the commands of a script, in the order of its lines (own)
 abbrev pub commands_in : List ParsedLine → List Line
@@ -27,6 +31,10 @@ pub record IsOfHost (host : ℕ) (lines : List Line) : Type 0 where
   pub most : host ≤ 64
   pub all : list_all (λ line. line.host == host) lines ≡ true
 
+-- what a script asks of a drive, line by line (own)
+abbrev pub asked_in : List ParsedLine → List Input
+asked_in parsed_list = map Execute (map request_of (commands_in parsed_list))
+
 -- a script of one host is run line by line (own)
 abbrev pub OneHostInOrder : Type 0
 OneHostInOrder =
@@ -35,25 +43,26 @@ OneHostInOrder =
 
 -- a script of one host that was run to its end by the drive of this number: it was answered by a run of the drive's
 -- machine over the commands in the order of the lines, and the text of those answers was written, and nothing else;
--- over an honest medium, and where no answer is a fault, want of memory or a full side, no other run of the machine
--- has another text (own)
+-- over an honest medium, and where no answer is a fault, want of memory or a full side, no other run of the machine in
+-- which none of these comes, wherever flusher's turns stand in it, has another text (own)
 pub record AnswersOneHost {M : Type 0}
-    (tape : M → Tape) (moves : M → List Change → M → Type 0) (honest : M → Type 0) (number : ℕ)
-    (old : DriveState M Kept) (left before : Option (List ℕ)) (new : DriveState M Kept) (now : Option (List ℕ)) : Type 0 where
+    (state : M → MediumState) (below : Below M Change) (number : ℕ)
+    (old : DriveState M Kept) (left before : Option (List ℕ)) (new : DriveState M Kept) (now : Option (List ℕ)) : Type
+    0 where
   -- the text of the script: all that the reader has, where that is known
   pub text : List ℕ
   pub known : IfSome left (λ all. text ≡ all)
   pub answers : List (Result Reply Fault)
-  pub made : List Change
+  pub made : Made
   pub run :
       (host : ℕ) → IsOfHost host (commands_in (parsed_lines (λ drive. drive == number) text))
-      → Run (HonestIn honest (medium_in old.bay)) (machine_of tape old)
-      (map input_of (commands_in (parsed_lines (λ drive. drive == number) text))) answers made (machine_of tape new)
+      → Run (HonestIn below (medium_in old.bay)) (machine_of state old)
+      (asked_in (parsed_lines (λ drive. drive == number) text)) (map Answered answers) made (machine_of state new)
   pub written : Appends before now (text_of (map reply_of answers))
   pub sole :
       (host : ℕ) → IsOfHost host (commands_in (parsed_lines (λ drive. drive == number) text))
-      → HonestIn honest (medium_in old.bay) → (silent : List Reply) → answers ≡ map Ok silent
-      → (replies : List Reply) (others : List Change) (end : Machine)
-      → Run (Unit {0}) (machine_of tape old)
-      (map input_of (commands_in (parsed_lines (λ drive. drive == number) text))) (map Ok replies) others end
-      → Appends before now (text_of replies)
+      → HonestIn below (medium_in old.bay) → (silent : List Reply) → answers ≡ map Ok silent
+      → (inputs : List Input) (outputs : List Output) (others : Made) (end : Machine)
+      → without_turns inputs ≡ asked_in (parsed_lines (λ drive. drive == number) text) → All IsCalm outputs
+      → Run (Unit {0}) (machine_of state old) inputs outputs others end
+      → Appends before now (text_of (replies_of outputs))

@@ -106,4 +106,5 @@ pub record RunsScript {P : Type 0}
   pub mid : P
   pub answered : answers old items replies mid
   pub ended :
-      ScriptEnds answers (length text) (parsed_lines is_configured text) items (text_of replies) mid before new now result
+      ScriptEnds answers (length text) (parsed_lines is_configured text) items (text_of replies) mid before new now
+      result

@@ -1,18 +1,17 @@
 //! A script that is run by one drive.
 ghost use Rattle.std.specs.Prelude.{◌≡◌, ◌≢◌, ◌==◌, map, IfOk, OnOk, OnErr, Err, length, vec_len};
-ghost use Rattle.drive_core.specs.Run.{Serves};
-ghost use Rattle.vtl.specs.Held.{input_of, HeldAnswers};
+ghost use Rattle.drive_core.specs.Run.{Serves, serves_none};
+ghost use Rattle.vtl.specs.Held.{request_of, HeldAnswers};
 ghost use Rattle.vtl.specs.Inner.HeldRuns.{held_on};
 ghost use Rattle.vtl.specs.OneHost.{AnswersOneHost};
 ghost use Rattle.vtl.specs.Runs.{AnswersSome, RunsScript, TakesWithin};
-ghost use Rattle.drive_core.proofs.RunLemmas.{serves_none};
 
 use crate::faults::ScriptFault;
 use crate::items::Item;
 use crate::lines::Line;
 use crate::runners::Runner;
 use crate::scripts::run_script;
-use drive_core::Drive;
+use drive_core::{Drive, laws};
 use scsi_sense::Reply;
 use std::alloc::Global;
 use std::io::{Read, Write};
@@ -29,8 +28,8 @@ pub struct HeldDrive<M: Medium> {
 impl<M: Medium> HeldDrive<M> {
     // Carries the commands of these lines out, in order.
     fn run_lines(&mut self, alloc: Global, lines: &[Line]) -> Result<Vec<Reply>, NoMemory>
-        ensures ok { IfOk result (λ replies. Serves M.tape M.moves M.honest self.old.drive
-            (map input_of lines.now) replies.items self.new.drive) }
+        ensures ok { IfOk result (λ replies. Serves M.state M.below self.old.drive
+            (map request_of lines.now) replies.items self.new.drive) }
         ensures err { OnErr result (self.new ≡ self.old) }
         ensures same { self.new.number ≡ self.old.number }
     {
@@ -48,7 +47,7 @@ impl<M: Medium> HeldDrive<M> {
 impl<M: Medium> Runner for HeldDrive<M> {
     ghost is_configured = { λ held number. number == held.number };
 
-    ghost answers = { HeldAnswers M.tape M.moves M.honest };
+    ghost answers = { HeldAnswers M.state M.below };
 
     fn configured(&self, drive: DriveNo) -> bool {
         drive == self.number
@@ -60,12 +59,12 @@ impl<M: Medium> Runner for HeldDrive<M> {
         }
     }
 
-    ghost answers_none = { λ held. serves_none M.tape M.moves M.honest M.moves_nowhere held.drive };
+    ghost answers_none = { λ held. serves_none M.state M.below held.drive };
 
-    ghost answers_empty = { λ held. serves_none M.tape M.moves M.honest M.moves_nowhere held.drive };
+    ghost answers_empty = { λ held. serves_none M.state M.below held.drive };
 
     ghost answers_on = { λ old mid new first rest replies others one two.
-        held_on M.tape M.moves M.honest M.moves_on old.drive mid.drive new.drive
+        held_on M.state M.below old.drive mid.drive new.drive
         first rest replies others one two };
 }
 
@@ -79,13 +78,17 @@ pub fn run_on_drive<M: Medium, R: Read, W: Write>(
     writer: &mut W,
 ) -> Result<(), ScriptFault>
     ensures runs { RunsScript (λ number. number == held.old.number)
-        (HeldAnswers M.tape M.moves M.honest) held.old (R.remaining reader.old) (W.contents writer.old)
+        (HeldAnswers M.state M.below) held.old (R.remaining reader.old) (W.contents writer.old)
         held.new (W.contents writer.new) result }
-    ensures one_host { OnOk result (AnswersOneHost M.tape M.moves M.honest held.old.number
+    ensures one_host { OnOk result (AnswersOneHost M.state M.below held.old.number
         held.old.drive (R.remaining reader.old) (W.contents writer.old)
         held.new.drive (W.contents writer.new)) }
     ensures past { result ≢ Err ScriptFault.ReadFault →
         TakesWithin (R.remaining reader.old) 0 (R.remaining reader.new) }
 {
+    // The laws of the machine, for the proof alone.
+    laws::honest_steps::<M>();
+    laws::answers_are_determined();
+    laws::served_hosts_run::<M>();
     run_script(alloc, held, reader, writer)
 }

@@ -1,5 +1,5 @@
 //! The program: the built-in configuration, and how a fault is reported.
-ghost use Rattle.std.specs.Prelude.{◌≡◌, ◌==◌, ◌∷◌, [], IfOk, IfErr};
+ghost use Rattle.std.specs.Prelude.{◌≡◌, ◌==◌, ◌∷◌, [], true, IfOk, IfErr};
 ghost use Rattle.volume_core.specs.Volume.{empty_volume};
 ghost use Rattle.vtl.specs.BuiltIn.{IsBuiltIn};
 ghost use Rattle.vtl.specs.Faults.{status_of};
@@ -31,7 +31,7 @@ pub enum VtlFault {
     Script { line: u64 },
     /// A device, a file or a stream failed.
     Device,
-    /// A growth was refused.
+    /// Memory ran out.
     NoMemory,
 }
 
@@ -100,7 +100,8 @@ pub fn fault_line(fault: &VtlFault) -> (u8, FaultLine)
 /// The drive of the built-in configuration: drive 1, in which a cartridge of one partition of
 /// 16,777,216 bytes is loaded.
 pub fn built_in_drive(alloc: Global) -> Result<HeldDrive<PlainMedium>, VtlFault>
-    ensures ok { IfOk result (λ held. IsBuiltIn (empty_volume (16777216 ∷ [])) held) }
+    ensures ok { IfOk result (λ held. IsBuiltIn
+        (record { volume = empty_volume (16777216 ∷ []); awake = true }) held) }
     ensures fault { IfErr result (λ fault. fault ≡ VtlFault.NoMemory) }
 {
     let Some(number) = DriveNo::new(DRIVE) else {
@@ -121,7 +122,7 @@ fn run_started<M: Medium + Drop, R: Read, W: Write>(
     writer: &mut W,
 ) -> Result<(), VtlFault>
     ensures { RunsFrom (λ held number. number == held.number)
-        (HeldAnswers M.tape M.moves M.honest) start
+        (HeldAnswers M.state M.below) start
         (R.remaining reader.old) (W.contents writer.old) (W.contents writer.new) result }
 {
     let mut held = start?;
@@ -146,7 +147,7 @@ pub fn run<M: Medium + Drop, R: Read, W: Write, E: Write>(
     errors: &mut E,
 ) -> Ended
     ensures { RunsProgram (λ held number. number == held.number)
-        (HeldAnswers M.tape M.moves M.honest) start
+        (HeldAnswers M.state M.below) start
         (R.remaining reader.old) (W.contents writer.old) (W.contents writer.new)
         (E.contents errors.old) (E.contents errors.new) result }
 {

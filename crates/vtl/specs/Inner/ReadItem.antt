@@ -21,7 +21,7 @@ use Rattle.vtl.specs.Inner.Reading.{Reading, work_left}
 abbrev pub rest_of : Option (List ℕ) → List ℕ
 rest_of left = unwrap_or left []
 
--- a line that is refused has its number told (own)
+-- where a line is refused, its number is returned (own)
 abbrev pub ReportsRefused : ParsedLine → Bool → ℕ → Result NextLine ScriptFault → Type 0
 ReportsRefused parsed is_last number (Ok next) =
     (next ≡ record { parsed = parsed; is_last = is_last }) × (is_refused parsed ≡ false)
@@ -69,7 +69,7 @@ IsItem true parsed_list item = (rest : List Item) × (items_to_run parsed_list �
 IsItem false parsed_list item =
     (more : List ParsedLine) → items_to_run (parsed_list ++ more) ≡ item ∷ items_to_run more
 
--- an item was read, up to where a new reading tells (own)
+-- an item was read, up to the place of a new reading (own)
 pub record ReadsLines (is_configured : ℕ → Bool) (left : Option (List ℕ)) (old : Reading)
     (left' : Option (List ℕ)) (new : Reading) (is_last : Bool) (item : Item) : Type 0 where
   pub read : List ℕ

@@ -13,7 +13,7 @@ use Rattle.vtl.specs.Text.{text_of}
 use Rattle.vtl.specs.Inner.Reading.{Reading}
 use Rattle.vtl.specs.Runs.{ScriptEnds}
 
--- as at the end of a script, where it is run from the place on that a reading tells: lines are counted from its
+-- as at the end of a script, where it is run from the place of a reading on: lines are counted from its
 -- lines on, and bytes from its bytes on (own)
 abbrev pub EndsFrom : {P : Type 0} → (P → List Item → List Reply → P → Type 0) → Reading → ℕ → List ParsedLine
     → List Item → List ℕ → P → Option (List ℕ) → P → Option (List ℕ) → Result (Unit {0}) ScriptFault → Type 0

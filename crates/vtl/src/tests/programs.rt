@@ -9,7 +9,7 @@ use std::test::Fail;
 
 // What a run of the program wrote on both streams, and how it ended.
 #[derive(Drop)]
-struct Ran {
+struct ProgramRun {
     text: Vec<u8>,
     line: Vec<u8>,
     ended: Ended,
@@ -23,20 +23,20 @@ fn ran(
     plan: Plan,
     errors: Plan,
     has_drive: bool,
-) -> Result<Ran, Fail> {
+) -> Result<ProgramRun, Fail> {
     let (wire, other) = (Wire::new(), Wire::new());
     let mut reader = WireReader::new(script, plan, &wire);
     let mut writer = WireWriter::new(alloc, plan, &wire);
-    let mut told = WireWriter::new(alloc, errors, &other);
+    let mut lines = WireWriter::new(alloc, errors, &other);
     let drive = if has_drive {
         built_in_drive(alloc)
     } else {
         Err(VtlFault::NoMemory)
     };
-    let ended = run(alloc, drive, &mut reader, &mut writer, &mut told);
-    Ok(Ran {
+    let ended = run(alloc, drive, &mut reader, &mut writer, &mut lines);
+    Ok(ProgramRun {
         text: writer.into_text(),
-        line: told.into_text(),
+        line: lines.into_text(),
         ended,
     })
 }
@@ -134,8 +134,8 @@ fn fault_lines(rt: HostRuntime) -> Result<(), Fail> {
         ),
     ];
     for (fault, status, text) in rows {
-        let (told, line) = fault_line(&fault);
-        assert_eq!(rt; told, status, "{text}");
+        let (given, line) = fault_line(&fault);
+        assert_eq!(rt; given, status, "{text}");
         assert_eq!(rt; format!(in rt.alloc(); "{line}")?.as_str(), text);
     }
     Ok(())

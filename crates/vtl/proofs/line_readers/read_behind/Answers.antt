@@ -8,5 +8,6 @@ returns-clause-front g c = take_put _ _ c.args.buffer.now _ (omega (arith, c.req
 
 pub returns-clause-taken : goal.returns-clause-taken
 returns-clause-taken g c =
-    consumes_in_place _ _ _ _ c.read_once.new.slice _ c.args.filled (length-take-le _ c.args.buffer.now (omega (arith, c.requires)))
+    consumes_in_place _ _ _ _ c.read_once.new.slice _ c.args.filled
+    (length-take-le _ c.args.buffer.now (omega (arith, c.requires)))
     c.read_once.ensures.within c.read_once.ensures.taken

@@ -15,4 +15,5 @@ returns-in-Some-clause-fields c =
 pub returns-in-None-clause-fields : goal.returns-in-None-clause-fields
 returns-in-None-clause-fields c =
     let text = c.args.text.now in
-    ap (filter is_some_byte) (split_whole (λ byte. byte == 32) text (sym c.place_of.ensures.place ∙ c.in-None.is)) ∙ no_last_field text
+    ap (filter is_some_byte) (split_whole (λ byte. byte == 32) text (sym c.place_of.ensures.place ∙ c.in-None.is))
+    ∙ no_last_field text

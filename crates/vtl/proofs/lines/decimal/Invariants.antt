@@ -6,4 +6,5 @@ use Rattle.vtl.proofs.lines.decimal.Given as goal
 
 -- the number of the digits so far
 abbrev pub invariant-loop-digit : goal.invariant-loop-digit
-invariant-loop-digit l = (l.number ≡ number_of (take l.digit-index l.field)) × (list_all is_ascii_digit (take l.digit-index l.field) ≡ true) × (l.number < 10 ^ l.digit-index)
+invariant-loop-digit l = (l.number ≡ number_of (take l.digit-index l.field))
+    × (list_all is_ascii_digit (take l.digit-index l.field) ≡ true) × (l.number < 10 ^ l.digit-index)

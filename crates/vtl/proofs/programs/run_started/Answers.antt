@@ -4,7 +4,8 @@ use Rattle.vtl.proofs.programs.run_started.Goals as goal
 
 pub returns-in_err-run_on_drive : goal.returns-in_err-run_on_drive
 returns-in_err-run_on_drive g c =
-    let exit = err_from_is_err_and c.from_residual-in_err-run_on_drive.result c.from_residual-in_err-run_on_drive.ensures.1 in
+    let exit = err_from_is_err_and c.from_residual-in_err-run_on_drive.result
+    c.from_residual-in_err-run_on_drive.ensures.1 in
     rw c.in_ok-held.was (record {
       new = c.run_on_drive.new.held;
       ended = Err c.in_err-run_on_drive.field-0.0;

@@ -1,8 +1,9 @@
-use Rattle.drive_core.proofs.RunLemmas.{serves_none}
-use Rattle.vtl.proofs.ScriptLemmas.{none_answered}
+use Rattle.drive_core.specs.Run.{serves_none}
+use Rattle.vtl.proofs.ItemLemmas.{none_answered}
 use Rattle.vtl.proofs.drives.HeldDriveRunner.run.Goals as goal
 
 pub returns-clause-err : goal.returns-clause-err
 returns-clause-err g c =
-    none_answered _ c.args.self.now _ c.args.item.now c.run_lines.result (serves_none g.M.Catalog.tape g.M.Medium.moves g.M.Medium.honest g.met.M.Medium.moves_nowhere c.args.self.now.drive)
+    none_answered _ c.args.self.now _ c.args.item.now c.run_lines.result
+    (serves_none g.M.Catalog.state g.M.Medium.below c.args.self.now.drive)
     c.run_lines.ensures.err

@@ -12,7 +12,8 @@ returns-in-Some-2-clause-comes g c =
     let length_is : vec_len closed ≡ length items = closed.ok.0 in
     let now_is : vec_len c.read_chunk.new.buffer ≡ length now = c.read_chunk.new.buffer.ok.0 in
     let counted : vec_len c.read_chunk.new.buffer ≡ vec_len closed + c.in-Some.count =
-    c.read_chunk.ensures.count ∙ ap (λ (n : ℕ). vec_len closed + n) (ap bytes_read (c.in_ok-read_chunk.was ∙ ap Ok c.in-Some.is)) in
+    c.read_chunk.ensures.count ∙ ap (λ (n : ℕ). vec_len closed + n)
+    (ap bytes_read (c.in_ok-read_chunk.was ∙ ap Ok c.in-Some.is)) in
     comes_behind (g.R.Read.remaining c.args.reader.now) (g.R.Read.remaining c.read_chunk.new.reader) c.args.self.now
     0 c.in-Some.count before.bytes (before.reads + 1) before.lines items now
     (sym (ap (λ (r : Reading). r.unread) c.self.view_is) ∙ sym c.close_up.ensures)

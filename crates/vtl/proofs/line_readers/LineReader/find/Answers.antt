@@ -6,13 +6,15 @@ use Rattle.vtl.proofs.line_readers.LineReader.find.Goals as goal
 pub returns-in-Some-clause-found : goal.returns-in-Some-clause-found
 returns-in-Some-clause-found g c =
     let so = c.loop-place.invariant in
-    found_in (λ byte. byte == 10) c.loop-place.self.unread c.unread-unread.result.now c.loop-place.searched c.in-Some.place c.unread-unread.ensures.bytes so.within so.none
+    found_in (λ byte. byte == 10) c.loop-place.self.unread c.unread-unread.result.now c.loop-place.searched
+    c.in-Some.place c.unread-unread.ensures.bytes so.within so.none
     (sym c.place_of.ensures.place ∙ c.in-Some.is)
 
 pub returns-then-searched-gt-LINE_BYTES-clause-found : goal.returns-then-searched-gt-LINE_BYTES-clause-found
 returns-then-searched-gt-LINE_BYTES-clause-found g c =
     let so = c.loop-place.invariant in (
-      missed_in (λ byte. byte == 10) c.loop-place.self.unread c.unread-unread.result.now c.loop-place.searched c.unread-unread.ensures.bytes so.within so.none
+      missed_in (λ byte. byte == 10) c.loop-place.self.unread c.unread-unread.result.now c.loop-place.searched
+          c.unread-unread.ensures.bytes so.within so.none
           (sym c.place_of.ensures.place ∙ c.in-None.is),
       omega (arith, ap length c.unread-unread.ensures.bytes),
     )
@@ -21,7 +23,8 @@ pub returns-then-not-branch-clause-found : goal.returns-then-not-branch-clause-f
 returns-then-not-branch-clause-found g c =
     let so = c.loop-place.invariant in
     let end = c.fill.ensures.end (c.in_ok-fill.was ∙ ap Ok c.if-not-branch.true) in (
-      rw end.1 (missed_in (λ byte. byte == 10) c.loop-place.self.unread c.unread-unread.result.now c.loop-place.searched c.unread-unread.ensures.bytes so.within so.none
+      rw end.1 (missed_in (λ byte. byte == 10) c.loop-place.self.unread c.unread-unread.result.now
+          c.loop-place.searched c.unread-unread.ensures.bytes so.within so.none
           (sym c.place_of.ensures.place ∙ c.in-None.is)),
       end.0,
     )
@@ -30,6 +33,7 @@ pub loop-place-preserved : goal.loop-place-preserved
 loop-place-preserved g c =
     let so = c.loop-place.invariant in
     searched_on _ _ _ c.args.self.now c.loop-place.self c.fill.new.self (length c.unread-unread.result.now) so.comes
-    (missed_in (λ byte. byte == 10) c.loop-place.self.unread c.unread-unread.result.now c.loop-place.searched c.unread-unread.ensures.bytes so.within so.none
+    (missed_in (λ byte. byte == 10) c.loop-place.self.unread c.unread-unread.result.now c.loop-place.searched
+    c.unread-unread.ensures.bytes so.within so.none
     (sym c.place_of.ensures.place ∙ c.in-None.is))
     (ap length c.unread-unread.ensures.bytes) c.in_ok-fill.ensures.comes
