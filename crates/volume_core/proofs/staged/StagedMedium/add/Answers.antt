@@ -1,4 +1,4 @@
-use Rattle.std.proofs.Common.{◌≡◌, ◌∙◌, ap, sym, true, rules, arith}
+use Rattle.std.proofs.Common.{◌≡◌, ◌∙◌, ap, true, rules}
 use Rattle.volume_core.specs.Medium.{volume_of}
 use Rattle.volume_core.specs.Staged.{Staged, staged_state}
 use Rattle.volume_core.proofs.StagedLemmas.{seen_awake, staged_with}
