@@ -1,5 +1,5 @@
 -- A medium for tests: its volume, and what its steps do.
-use Rattle.std.proofs.Common.{◌≡◌, ◌⊎◌, ◌≤◌, ◌<◌, ◌+◌, ◌-◌, ◌++◌, ℕ, zero, suc, Option, None, Some, Result, Ok, Err, List, [], ◌∷◌, Bool, true, false, if◌then◌else◌, IsTrue, length, take, drop, sum_by, refl, sym, ap, ◌∙◌, inl, inr, subst, arith, rules}
+use Rattle.std.proofs.Common.{◌≡◌, ◌≤◌, ◌+◌, ◌-◌, ◌++◌, ℕ, zero, suc, None, Some, Result, Ok, Err, List, [], ◌∷◌, Bool, true, false, if◌then◌else◌, length, take, drop, sum_by, refl, sym, ap, ◌∙◌, inl, inr, subst, arith, rules}
 use Rattle.std.proofs.Math.Seq.{take-length, drop-length}
 use Rattle.std.proofs.lemmas.List.{append-nil, drop-append-le, take-append-drop, length-append, length-take-le, drop_all}
 use Rattle.std.proofs.lemmas.List.Sums.{sum_by-append}
@@ -60,7 +60,8 @@ staged_with capacities log stored room free seen new awake failed change old app
             ap (sum_by frame_size) rest,
             sum_by-append frame_size (drop stored log) (change ∷ []),
           );
-      seen_is = moves_on_by_changes (empty_volume capacities) seen new log (change ∷ []) old.seen_is ((applies, tt), leads);
+      seen_is =
+          moves_on_by_changes (empty_volume capacities) seen new log (change ∷ []) old.seen_is ((applies, tt), leads);
       parked_works = old.parked_works;
     }
 
@@ -172,7 +173,8 @@ opens_without old = (
 
 -- or with the frame that was under way
 pub opens_with : (old : Staged) → old.is_torn ≡ true
-    → IsFresh (staged_state (opened (all_stored old))) × Opens (staged_state old) (staged_state (opened (all_stored old)))
+    → IsFresh (staged_state (opened (all_stored old)))
+    × Opens (staged_state old) (staged_state (opened (all_stored old)))
 opens_with old torn = (
   record { awake = refl; works = refl; nothing_pending = refl },
   record {

@@ -1,5 +1,5 @@
 -- The state of a medium, and how a medium answers.
-use Rattle.std.specs.Prelude.{◌≡◌, ◌⊎◌, ◌<◌, ◌≤◌, ◌+◌, ◌++◌, ℕ, Option, None, Some, Result, Ok, Err, List, [], ◌∷◌, length, sum_by, Bool, true, false, if◌then◌else◌}
+use Rattle.std.specs.Prelude.{◌≡◌, ◌⊎◌, ◌<◌, ◌≤◌, ◌+◌, ◌++◌, ℕ, Option, None, Some, Result, Ok, Err, List, [], ◌∷◌, length, sum_by, Bool, true, false}
 use Rattle.volume_core.specs.declared.changes.Change.{Change}
 use Rattle.volume_core.specs.declared.changes.Change.TheVariants.{Put, Marks, Erase}
 use Rattle.volume_core.specs.declared.media.MediumError.{MediumError}

@@ -1,5 +1,5 @@
 -- A medium that keeps all in memory, to a contract.
-use Rattle.std.specs.Prelude.{◌≡◌, ◌++◌, Option, None, Some, List, [], ◌∷◌, Bool, true, false, refl}
+use Rattle.std.specs.Prelude.{◌≡◌, ◌++◌, None, Some, List, [], ◌∷◌, Bool, false, refl}
 use Rattle.std.proofs.Common.{subst}
 use Rattle.vtl_base.specs.Below.{Below}
 use Rattle.volume_core.specs.declared.changes.Change.{Change}

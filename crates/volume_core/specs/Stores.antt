@@ -1,7 +1,7 @@
 -- How what is stored and what is pending move: a first part of it is stored.
 use Rattle.std.specs.Prelude.{◌≡◌, ◌≤◌, ◌+◌, ◌++◌, ℕ, Option, None, Some, List, [], ◌∷◌, length, take, drop, refl}
 use Rattle.std.proofs.lemmas.List.Sums.{sum_by-append}
-use Rattle.std.proofs.Common.{subst, ap, sym, ◌∙◌, arith, append_assoc, length-append, ◌-◌}
+use Rattle.std.proofs.Common.{subst, ap, sym, ◌∙◌, arith, append_assoc, length-append}
 use Rattle.std.proofs.lemmas.List.{append-nil, take-append-le, take-append-drop, take-take, drop-take, drop-append-le, drop-drop, length-drop}
 use Rattle.volume_core.specs.declared.changes.Change.{Change}
 use Rattle.volume_core.specs.Volume.{Part, changed, after}
@@ -73,7 +73,8 @@ stores_on a b c first second one two =
     let whole : a.pending ++ (first ++ second) ≡ parts ++ second = sym (append_assoc a.pending first second) in
     let left : b.pending ++ second ≡ drop one.count (parts ++ second) =
     ap (λ (l : List Change). l ++ second) one.pending ∙ sym (drop-append-le one.count parts second one.fits) in
-    let gone : take one.count (parts ++ second) ≡ take one.count parts = take-append-le one.count parts second one.fits in
+    let gone : take one.count (parts ++ second) ≡ take one.count parts =
+    take-append-le one.count parts second one.fits in
     record {
       count = one.count + two.count;
       fits =
@@ -101,8 +102,10 @@ stores_on a b c first second one two =
           ∙ ap (λ (l : List Change). drop (one.count + two.count) l) (sym whole);
       room =
           subst (λ (l : List Change). LeavesRoom a.room (take (one.count + two.count) l) c.room) (sym whole)
-          (subst (λ (l : List Change). LeavesRoom a.room l c.room) (sym (take_plus one.count two.count (parts ++ second)))
-          (subst (λ (l : List Change). LeavesRoom a.room (l ++ take two.count (drop one.count (parts ++ second))) c.room)
+          (subst (λ (l : List Change). LeavesRoom a.room l c.room)
+          (sym (take_plus one.count two.count (parts ++ second)))
+          (subst
+          (λ (l : List Change). LeavesRoom a.room (l ++ take two.count (drop one.count (parts ++ second))) c.room)
           (sym gone)
           (room_on a.room b.room c.room (take one.count parts) (take two.count (drop one.count (parts ++ second)))
           one.room

@@ -1,20 +1,19 @@
 //! A medium for tests: its side has an end, and its device fails.
 ghost use Rattle.std.specs.Prelude.{◌≡◌, ◌≤◌, ◌+◌, ◌↔◌, IsTrue, IfOk, OnOk, OnErr, None, [], length, sum_by, true, false, if◌then◌else◌};
-ghost use Rattle.vtl_base.specs.Below.{Advances};
 ghost use Rattle.volume_core.specs.Volume.{AllApply, after, are_capacities, empty_volume, refusal_of};
 ghost use Rattle.volume_core.specs.Medium.{frame_size, volume_of};
-ghost use Rattle.volume_core.specs.Stores.{Stores};
-ghost use Rattle.volume_core.specs.Staged.{staged_state, staged_below};
+ghost use Rattle.volume_core.specs.Staged.{staged_state};
 ghost use Rattle.volume_core.specs.Inner.Staged.{IsOpening, IsStoring, all_stored, closed, with_pending};
+
+mod medium;
 
 use crate::changes::Change;
 use crate::fuses::Fuse;
-use crate::media::{Catalog, Medium, MediumError, Turn};
-use crate::objects::Kind;
+use crate::media::MediumError;
 use crate::volumes::{ApplyError, Volume};
 use std::alloc::Global;
 use std::marker::Model;
-use vtl_base::{NoMemory, ObjNo, PartNo};
+use vtl_base::NoMemory;
 
 /// Which call of a test medium's device fails, and what that leaves.
 #[derive(Clone, Copy, Drop)]
@@ -227,130 +226,4 @@ impl StagedMedium {
         self.is_torn = false;
         Ok(())
     }
-}
-
-impl Catalog for StagedMedium {
-    ghost use Rattle.volume_core.specs.Staged.{staged_state};
-
-    ghost state = { staged_state };
-
-    fn parts(&self) -> PartNo {
-        self.volume().parts()
-    }
-
-    fn capacity(&self, part: PartNo) -> u64 {
-        self.volume().capacity(part)
-    }
-
-    fn count(&self, part: PartNo) -> u32 {
-        self.volume().count(part)
-    }
-
-    fn kind_at(&self, part: PartNo, at: ObjNo) -> Option<Kind> {
-        self.volume().kind_at(part, at)
-    }
-
-    fn used(&self, part: PartNo, n: ObjNo) -> u64 {
-        self.volume().used(part, n)
-    }
-}
-
-impl Medium for StagedMedium {
-    ghost use Rattle.vtl_base.specs.Below.{advances_nowhere};
-    ghost use Rattle.volume_core.specs.Stores.{stores_nowhere};
-    ghost use Rattle.volume_core.specs.Staged.{staged_state, staged_below, staged_moves_nowhere, staged_moves_on};
-
-    ghost below = { staged_below };
-
-    fn accept(&mut self, change: Change) -> Result<(), MediumError> {
-        if self.failed {
-            return Err(MediumError::Failed);
-        }
-        if let Some(cause) = self.volume().refusal(&change) {
-            return Err(MediumError::Refused(cause));
-        }
-        if !self.has_room(&change) {
-            return Err(MediumError::SideFull);
-        }
-        match self.add(change) {
-            Ok(()) => Ok(()),
-            Err(NoMemory) => Err(MediumError::NoMemory),
-        }
-    }
-
-    fn fetch(&mut self, part: PartNo, at: ObjNo, into: &mut Vec<u8>) -> Result<(), MediumError> {
-        if self.failed {
-            return Err(MediumError::Failed);
-        }
-        if self.fetch_fuse.blows() {
-            self.failed = true;
-            self.is_torn = false;
-            return Err(MediumError::Device);
-        }
-        match self.volume().block_at(part, at) {
-            Some(block) => {
-                into.clear();
-                match into.extend_from_slice(block) {
-                    Ok(()) => Ok(()),
-                    Err(_) => Err(MediumError::NoMemory),
-                }
-            }
-            None => unreachable!(),
-        }
-    }
-
-    fn settle(&mut self) -> Result<(), MediumError> {
-        if self.failed {
-            return Err(MediumError::Failed);
-        }
-        self.store()
-    }
-
-    fn flush_turn(&mut self) -> Turn {
-        let count = self.count_pending();
-        if self.failed || count == 0 {
-            return Turn::Idle;
-        }
-        match self.store() {
-            Ok(()) => Turn::Stored(count),
-            Err(_) => Turn::Faulted,
-        }
-    }
-
-    fn park(&mut self) -> Result<(), MediumError> {
-        if self.failed {
-            self.close();
-            return Ok(());
-        }
-        self.store()?;
-        self.close();
-        Ok(())
-    }
-
-    fn wake(&mut self) -> Result<(), MediumError> {
-        if self.awake && self.failed {
-            return Err(MediumError::Failed);
-        }
-        if self.awake {
-            return Ok(());
-        }
-        match self.open() {
-            Ok(()) => Ok(()),
-            Err(NoMemory) => Err(MediumError::NoMemory),
-        }
-    }
-
-    fn pending(&self) -> usize {
-        self.count_pending()
-    }
-
-    fn has_failed(&self) -> bool {
-        self.failed
-    }
-
-    ghost advances_nowhere = { λ medium. advances_nowhere staged_below staged_moves_nowhere medium };
-
-    ghost stores_nowhere = { λ medium. stores_nowhere (staged_state medium) };
-
-    ghost moves_on = { staged_moves_on };
 }

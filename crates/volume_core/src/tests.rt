@@ -1,5 +1,6 @@
 //! Refusals in their order, capacities at their borders; each public call once.
 mod media;
+mod staged;
 
 use crate::{ApplyError, Change, Kind, Object, Refusal, Volume, are_capacities, is_in_early_zone};
 use std::alloc::Global;

@@ -1,4 +1,4 @@
-use Rattle.std.proofs.Common.{◌≡◌, ◌∙◌, ap, sym, true, rules, arith}
+use Rattle.std.proofs.Common.{◌≡◌, ◌∙◌, ap, true, rules}
 use Rattle.volume_core.specs.Medium.{volume_of}
 use Rattle.volume_core.specs.Staged.{Staged, staged_state}
 use Rattle.volume_core.proofs.StagedLemmas.{seen_awake, staged_with}
@@ -20,5 +20,5 @@ invariant_of-self-2 c =
     let inside = c.self.inside in
     rw (c.push_reserved.ensures.items, c.reserve.ensures.items, c.frame_size-size.ensures)
     (staged_with
-    inside.capacities.items inside.log.items inside.stored inside.room inside.free inside.seen c.apply.new.self inside.awake
-    inside.failed c.args.change c.self.invariant (search rules) (search rules) (search rules))
+    inside.capacities.items inside.log.items inside.stored inside.room inside.free inside.seen
+    c.apply.new.self inside.awake inside.failed c.args.change c.self.invariant (search rules) (search rules) (search rules))

@@ -17,5 +17,5 @@ invariant_of-self c =
     rw (← c.deref.ensures.value, ← c.deref-2.ensures.value) c.in_ok-self-inside.ensures in
     rw c.truncate.ensures.items
     (staged_without
-    inside.capacities.items inside.log.items inside.stored inside.room inside.free inside.seen _ inside.awake inside.failed
-    c.self.invariant leads)
+    inside.capacities.items inside.log.items inside.stored inside.room inside.free inside.seen _
+    inside.awake inside.failed c.self.invariant leads)

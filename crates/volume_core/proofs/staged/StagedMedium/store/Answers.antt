@@ -1,6 +1,5 @@
 use Rattle.std.proofs.Common.{◌≤◌, length, take, drop, arith}
 use Rattle.std.proofs.lemmas.List.{length-drop}
-use Rattle.volume_core.specs.Staged.{Staged}
 use Rattle.volume_core.proofs.StagedLemmas.{broken_is}
 use Rattle.volume_core.proofs.staged.StagedMedium.store.Goals as goal
 

@@ -1,4 +1,4 @@
-use Rattle.std.proofs.Common.{◌≡◌, ◌∙◌, ap, true, sym}
+use Rattle.std.proofs.Common.{◌≡◌, ◌∙◌, ap, true}
 use Rattle.volume_core.specs.Staged.{Staged}
 use Rattle.volume_core.proofs.StagedLemmas.{seen_awake}
 use Rattle.volume_core.proofs.staged.StagedMedium.volume.Goals as goal

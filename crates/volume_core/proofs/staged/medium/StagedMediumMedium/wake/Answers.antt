@@ -1,6 +1,6 @@
 use Rattle.std.proofs.Common.{◌≡◌, false, inl, inr, rules}
 use Rattle.volume_core.proofs.StagedLemmas.{opens_with, opens_without, wakes_parked}
-use Rattle.volume_core.proofs.staged.StagedMediumMedium.wake.Goals as goal
+use Rattle.volume_core.proofs.staged.medium.StagedMediumMedium.wake.Goals as goal
 
 -- a parked one is opened by what its side gives
 pub returns-in-Ok-clause-answer : goal.returns-in-Ok-clause-answer

@@ -1,6 +1,6 @@
-use Rattle.std.proofs.Common.{◌≡◌, Ok, false, arith, rules}
+use Rattle.std.proofs.Common.{◌≡◌, Ok, false, rules}
 use Rattle.volume_core.proofs.StagedLemmas.{settles_by, stores_by}
-use Rattle.volume_core.proofs.staged.StagedMediumMedium.flush_turn.Goals as goal
+use Rattle.volume_core.proofs.staged.medium.StagedMediumMedium.flush_turn.Goals as goal
 
 -- all that was pending is stored
 pub returns-in-Ok-clause-answer : goal.returns-in-Ok-clause-answer

@@ -1,6 +1,6 @@
 use Rattle.std.proofs.Common.{rules}
 use Rattle.volume_core.proofs.StagedLemmas.{settles_by, stores_by}
-use Rattle.volume_core.proofs.staged.StagedMediumMedium.settle.Goals as goal
+use Rattle.volume_core.proofs.staged.medium.StagedMediumMedium.settle.Goals as goal
 
 pub returns-clause-answer : goal.returns-clause-answer
 returns-clause-answer c =

@@ -3,7 +3,7 @@ use Rattle.volume_core.specs.Volume.{refusal_of}
 use Rattle.volume_core.specs.Medium.{volume_of}
 use Rattle.volume_core.specs.Staged.{staged_state}
 use Rattle.volume_core.proofs.StagedLemmas.{works_with}
-use Rattle.volume_core.proofs.staged.StagedMediumMedium.accept.Goals as goal
+use Rattle.volume_core.proofs.staged.medium.StagedMediumMedium.accept.Goals as goal
 
 -- the change is pending now
 pub returns-in-Ok-clause-answer : goal.returns-in-Ok-clause-answer

@@ -1,6 +1,6 @@
 use Rattle.std.proofs.Common.{◌≡◌, false, rules}
 use Rattle.volume_core.proofs.StagedLemmas.{parks_stored}
-use Rattle.volume_core.proofs.staged.StagedMediumMedium.park.Goals as goal
+use Rattle.volume_core.proofs.staged.medium.StagedMediumMedium.park.Goals as goal
 
 -- one that works has stored all
 pub returns-clause-answer : goal.returns-clause-answer
