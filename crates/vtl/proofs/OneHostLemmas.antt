@@ -129,7 +129,8 @@ replied (reply ∷ replies) = ap (λ (rest : List Reply). reply ∷ rest) (repli
 -- and no fault, want of memory or full side came
 all_calm : (replies : List Reply) → All IsCalm (map Answered (map Ok replies))
 all_calm replies =
-    All-map IsCalm Answered (map Ok replies) (All-map (λ (answer : Result Reply Fault). IsCalm (Answered answer)) Ok replies (λ k d h. tt))
+    All-map IsCalm Answered (map Ok replies)
+    (All-map (λ (answer : Result Reply Fault). IsCalm (Answered answer)) Ok replies (λ k d h. tt))
 
 -- a run over a medium that is honest is a run of the machine
 run_over : {M : Type 0} (honest : M → Type 0) → HonestStepsAreSteps honest → (medium : M) → honest medium
@@ -148,7 +149,8 @@ run_over honest steps medium is old [] (output ∷ outputs) made new run = absur
 run_over honest steps medium is old (input ∷ inputs) [] made new run = absurd run
 
 run_in : {M : Type 0} (below : Below M Change) → HonestStepsAreSteps below.honest → (medium : Option M)
-    → HonestIn below medium → (old : Machine) (inputs : List Input) (outputs : List Output) (made : Made) (new : Machine)
+    → HonestIn below medium
+    → (old : Machine) (inputs : List Input) (outputs : List Output) (made : Made) (new : Machine)
     → Run (HonestIn below medium) old inputs outputs made new → Run (Unit {0}) old inputs outputs made new
 run_in below steps None is old inputs outputs made new run = run
 run_in below steps (Some medium) is old inputs outputs made new run =
