@@ -32,6 +32,7 @@ abbrev pub clock_of : List LoggedCall → ℕ
 clock_of [] = 0
 clock_of (call ∷ older) = clock_of older + idle_before call + 1
 
+-- whether a call was a sync (own)
 abbrev pub is_sync : LoggedCall → Bool
 is_sync (Synced idle) = true
 is_sync (Wrote idle at bytes) = false
@@ -147,6 +148,7 @@ smears at bytes old = record {
     )
 
 module _ (base : List ℕ) where
+  -- what a read gives is an image that a crash may leave
   pub reads : (calls : List LoggedCall) → IsImage base calls (contents_of base calls)
   reads [] = refl
   reads (Wrote idle at bytes ∷ older) =

@@ -7,6 +7,7 @@ use Rattle.tape_disk.specs.Disk.{DiskCall, ReadAt, DiskState, IsDisk, Passes, Sa
 abbrev pub with_failures : DiskState → ℕ → DiskState
 with_failures below failures = record below { failures = failures }
 
+-- a disk that counts its own failures keeps the laws of the disk below
 pub is_disk_over : (below : DiskState) (failures : ℕ) → IsDisk below → IsDisk (with_failures below failures)
 is_disk_over below failures is_disk = record {
   reads = is_disk.reads;

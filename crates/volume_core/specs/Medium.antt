@@ -23,6 +23,7 @@ pub record MediumState : Type 0 where
   -- the bytes that may still be added to the side; None is no bound, as in memory
   pub room : Option ℕ
 
+-- the volume that a side gives; of a side with none, one of no partition (own)
 abbrev pub volume_or_empty : Option (List Part) → List Part
 volume_or_empty None = []
 volume_or_empty (Some volume) = volume

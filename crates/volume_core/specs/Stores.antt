@@ -21,6 +21,7 @@ pub record Stores (old : MediumState) (made : List Change) (new : MediumState) :
   pub pending : new.pending ≡ drop count (old.pending ++ made)
   pub room : LeavesRoom old.room (take count (old.pending ++ made)) new.room
 
+-- the changes of two lists in a row are those of the first, then those of the second
 pub after_append : (volume : List Part) (xs ys : List Change) → after volume (xs ++ ys) ≡ after (after volume xs) ys
 after_append volume [] ys = refl
 after_append volume (x ∷ xs) ys = after_append (changed volume x) xs ys

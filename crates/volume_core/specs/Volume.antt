@@ -64,10 +64,12 @@ empty_part capacity = record { capacity = capacity; objects = [] }
 abbrev pub empty_volume : List ℕ → List Part
 empty_volume capacities = map empty_part capacities
 
+-- the capacity of a partition that may be there; 0 where it is not (own)
 abbrev pub capacity_in : Option Part → ℕ
 capacity_in None = 0
 capacity_in (Some part) = part.capacity
 
+-- its objects; none where it is not there (own)
 abbrev pub objects_in : Option Part → List Object
 objects_in None = []
 objects_in (Some part) = part.objects
@@ -88,10 +90,12 @@ count_of volume number = length (objects_of volume number)
 abbrev pub used_up_to : List Part → ℕ → ℕ → ℕ
 used_up_to volume number n = used_of (take n (objects_of volume number))
 
+-- whether an object is a block or a filemark (SSC-4, logical objects)
 abbrev pub kind_of : Object → Kind
 kind_of (Block bytes) = Kinds.Block
 kind_of Mark = Kinds.Mark
 
+-- the kind of an object that may be there (own)
 abbrev pub kind_in : Option Object → Option Kind
 kind_in None = None
 kind_in (Some object) = Some (kind_of object)
@@ -100,6 +104,7 @@ kind_in (Some object) = Some (kind_of object)
 abbrev pub kind_at : List Part → ℕ → ℕ → Option Kind
 kind_at volume number at = kind_in (slice_get (objects_of volume number) at)
 
+-- the bytes of an object that may be there, if it is a block (own)
 abbrev pub block_in : Option Object → Option (List ℕ)
 block_in None = None
 block_in (Some Mark) = None
@@ -160,6 +165,7 @@ abbrev pub part_after : Part → Change → Part
 part_after part change =
     record { capacity = part.capacity; objects = objects_after part.objects change }
 
+-- a volume after a change of this partition of it; without that partition, as it was (own)
 abbrev pub changed_in : Option Part → List Part → Change → List Part
 changed_in None volume change = volume
 changed_in (Some part) volume change = slice_set volume (part_of change) (part_after part change)

@@ -7,6 +7,7 @@ use Rattle.hex.specs.Hex.{decode_of}
 use Rattle.vtl.specs.declared.lines.ParsedLine.{ParsedLine}
 use Rattle.vtl.specs.declared.lines.ParsedLine.TheVariants.{Nothing, PhaseEnd, Command, Refused}
 
+-- whether a part of a line has a byte (own)
 abbrev pub is_some_byte : List ℕ → Bool
 is_some_byte part = nat_lt 0 (length part)
 
