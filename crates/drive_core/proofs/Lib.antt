@@ -1,4 +1,5 @@
 pub mod TakesLemmas
+pub mod TestLemmas
 pub mod CommandLemmas
 pub mod DeterminedLoads
 pub mod DeterminedChecks
