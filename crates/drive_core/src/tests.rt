@@ -8,13 +8,11 @@ use std::alloc::Global;
 use std::process::Abort;
 use std::test::Fail;
 use tables::{
-    AFTER_A_LATE_FAULT, BEFORE_A_TURN, END, FAILED, FILLING, FULL, FULL_BY_1, FULL_BY_4096,
-    FULL_SIDE, GOOD, HAS_FAILED, HELLO, LOADED, MARKS_FAIL, NO_MARKS_FAIL, NO_MEDIUM, NO_MEMORY,
-    NONE, NOTHING_LOADED, POWERED_ON, READ_5, READ_ERROR, READ_FAILS, READ_FAILS_TO_STORE, READS,
-    REWIND_FAILS, Row, SOUND, TEST_UNIT_READY, TORN_AND_FOUND, TORN_AND_GONE, WRITE_ERROR, WRITES,
+    ARRIVALS, COURSES, Course, FULL, FULL_BY_1, FULL_BY_4096, LOADED, NO_MEMORY, NONE,
+    NOTHING_LOADED, POWERED_ON, READ_5, READ_ERROR, Row, SOUND, TEST_UNIT_READY, WRITE_ERROR,
     Wanted,
 };
-use volume_core::{Catalog, FaultPlan, Medium, PlainMedium, StagedMedium, Turn};
+use volume_core::{FaultPlan, Medium, PlainMedium, StagedMedium, Turn};
 use vtl_base::{Bytes, Nexus, NoMemory};
 
 fn assert_reply(rt: &impl Abort, reply: &Reply, wanted: Wanted, at: usize) {
@@ -45,15 +43,20 @@ fn assert_rows(rt: &impl Abort, drive: &mut Drive<StagedMedium>, rows: &[Row]) {
     }
 }
 
-// Which storing fails, which reading, and the room of the side; commands, a turn, and commands.
-type Course<'a> = (
-    Option<u32>,
-    Option<u32>,
-    u64,
-    &'a [Row<'a>],
-    Turn,
-    &'a [Row<'a>],
-);
+fn assert_course(rt: &impl Abort, alloc: Global, course: &Course) -> Result<(), Fail> {
+    let (store, fetch, room, rows, turn, then) = *course;
+    let plan = FaultPlan {
+        store,
+        fetch,
+        ..SOUND
+    };
+    let medium = StagedMedium::new(alloc, &[4_096], room, plan)?;
+    let mut drive = Drive::power_on(alloc, Some(medium)).map_err(|_| NoMemory)?;
+    assert_rows(rt, &mut drive, rows);
+    assert_eq!(rt; drive.turn(), turn);
+    assert_rows(rt, &mut drive, then);
+    Ok(())
+}
 
 #[test]
 fn a_drive_answers(rt: HostRuntime) -> Result<(), Fail> {
@@ -68,50 +71,9 @@ fn a_drive_answers(rt: HostRuntime) -> Result<(), Fail> {
             FULL_BY_4096,
         ),
     ];
-    let courses: [Course; 10] = [
-        (None, None, 1_000, &WRITES, Turn::Idle, &[]),
-        (None, None, 9_000, &overflow, Turn::Idle, &[]),
-        (None, None, 1_000, &READS, Turn::Idle, &[]),
-        (None, None, 50, &FILLING, Turn::Stored(3), &FULL_SIDE),
-        (Some(0), None, 1_000, &REWIND_FAILS, Turn::Idle, &HAS_FAILED),
-        (
-            Some(0),
-            None,
-            1_000,
-            &READ_FAILS_TO_STORE,
-            Turn::Idle,
-            &HAS_FAILED,
-        ),
-        (
-            Some(0),
-            None,
-            1_000,
-            &NO_MARKS_FAIL,
-            Turn::Idle,
-            &HAS_FAILED,
-        ),
-        (Some(1), None, 1_000, &MARKS_FAIL, Turn::Idle, &HAS_FAILED),
-        (None, Some(1), 1_000, &READ_FAILS, Turn::Idle, &HAS_FAILED),
-        (
-            Some(1),
-            None,
-            1_000,
-            &BEFORE_A_TURN,
-            Turn::Faulted,
-            &AFTER_A_LATE_FAULT,
-        ),
-    ];
-    for (store, fetch, room, rows, turn, then) in courses {
-        let plan = FaultPlan {
-            store,
-            fetch,
-            ..SOUND
-        };
-        let medium = StagedMedium::new(alloc, &[4_096], room, plan)?;
-        let mut drive = Drive::power_on(alloc, Some(medium)).map_err(|_| NoMemory)?;
-        assert_rows(&rt, &mut drive, rows);
-        assert_eq!(&rt; drive.turn(), turn);
-        assert_rows(&rt, &mut drive, then);
+    assert_course(&rt, alloc, &(None, None, 9_000, &overflow, Turn::Idle, &[]))?;
+    for course in &COURSES {
+        assert_course(&rt, alloc, course)?;
     }
     Ok(())
 }
@@ -134,23 +96,6 @@ fn written(
     }
     Ok(medium)
 }
-
-// How a medium was made ready; what a loading of it is answered; what a READ is answered then, and
-// after a power on with it.
-const ARRIVALS: [(
-    FaultPlan,
-    bool,
-    bool,
-    Wanted<'static>,
-    Wanted<'static>,
-    Wanted<'static>,
-); 5] = [
-    (SOUND, false, false, GOOD, HELLO, HELLO),
-    (SOUND, false, true, GOOD, HELLO, HELLO),
-    (TORN_AND_GONE, true, false, FAILED, NO_MEDIUM, FAILED),
-    (TORN_AND_GONE, true, true, GOOD, END, END),
-    (TORN_AND_FOUND, true, true, GOOD, HELLO, HELLO),
-];
 
 fn assert_loads(
     rt: &impl Abort,

@@ -3,13 +3,13 @@
 use Rattle.std.proofs.Common.{◌≡◌, ℕ, ◌+◌, ◌-◌, ◌<◌, List, [], ◌∷◌, ◌++◌, length, take, cond, ap, ◌∙◌, arith, append_assoc}
 use Rattle.std.proofs.lemmas.List.Sums.{fold_push}
 use Rattle.tape_disk.specs.Disk.{overwritten}
-use Rattle.tape_disk.specs.CallLog.{LoggedCall, Wrote, CutTo, Synced, landed, is_sync, syncs_of, unsynced_bytes, contents_of, torn}
+use Rattle.tape_disk.specs.CallLog.{LoggedCall, Wrote, CutTo, Synced, landed, is_sync, syncs_of, unsynced_bytes, bytes_after, torn}
 
 pub record Replays (base : List ℕ) (keep fill : ℕ) (all remaining older : List LoggedCall)
     (syncs left : ℕ) (image : List ℕ) : Type 0 where
   pub whole : all ≡ remaining ++ older
   pub to_come : syncs ≡ syncs_of remaining
-  pub safe : 0 < syncs → (image ≡ contents_of base older) × (left ≡ keep)
+  pub safe : 0 < syncs → (image ≡ bytes_after base older) × (left ≡ keep)
   pub since : syncs ≡ 0 → (image ≡ torn base keep fill older) × (left ≡ keep - unsynced_bytes older)
 
 pub syncs_of-push : (xs : List LoggedCall) (x : LoggedCall) →

@@ -55,11 +55,11 @@ landed n fill bytes = take n bytes ++ replicate (length bytes - n) fill
 
 module _ (base : List ℕ) where
   -- what a read gives (own)
-  abbrev pub contents_of : List LoggedCall → List ℕ
-  contents_of [] = base
-  contents_of (Wrote idle at bytes ∷ older) = overwritten at bytes (contents_of older)
-  contents_of (CutTo idle len ∷ older) = take len (contents_of older)
-  contents_of (Synced idle ∷ older) = contents_of older
+  abbrev pub bytes_after : List LoggedCall → List ℕ
+  bytes_after [] = base
+  bytes_after (Wrote idle at bytes ∷ older) = overwritten at bytes (bytes_after older)
+  bytes_after (CutTo idle len ∷ older) = take len (bytes_after older)
+  bytes_after (Synced idle ∷ older) = bytes_after older
 
   -- what a crash now may leave: what the disk model says of each call since the last sync (own)
   abbrev pub IsImage : List LoggedCall → List ℕ → Type 0
@@ -67,7 +67,7 @@ module _ (base : List ℕ) where
   IsImage (Wrote idle at bytes ∷ older) image =
       (before : List ℕ) × IsImage older before × Smeared at (length bytes) before image
   IsImage (CutTo idle len ∷ older) image = (before : List ℕ) × IsImage older before × Cut len before image
-  IsImage (Synced idle ∷ older) image = image ≡ contents_of older
+  IsImage (Synced idle ∷ older) image = image ≡ bytes_after older
 
   -- what a crash at the moment t or later might have left: what it may leave now, or, where t is no
   -- later than the newest call, what it might have left before that (own)
@@ -83,7 +83,7 @@ module _ (base : List ℕ) where
   torn keep fill (Wrote idle at bytes ∷ older) =
       overwritten at (landed (keep - unsynced_bytes older) fill bytes) (torn keep fill older)
   torn keep fill (CutTo idle len ∷ older) = take len (torn keep fill older)
-  torn keep fill (Synced idle ∷ older) = contents_of older
+  torn keep fill (Synced idle ∷ older) = bytes_after older
 
 -- a disk that begins with these bytes (own)
 abbrev pub new_log : List ℕ → CallLog
@@ -108,7 +108,7 @@ logged SyncAll log = kept (Synced log.idle) log
 abbrev pub state_of : CallLog → ℕ → DiskState
 state_of log failures = record {
   honest = Unit {0};
-  seen = contents_of log.base log.calls;
+  seen = bytes_after log.base log.calls;
   may_leave = IsImage log.base log.calls;
   moment = clock_of log.calls + log.idle;
   left_since = IsImageSince log.base log.calls;
@@ -149,12 +149,12 @@ smears at bytes old = record {
 
 module _ (base : List ℕ) where
   -- what a read gives is an image that a crash may leave
-  pub reads : (calls : List LoggedCall) → IsImage base calls (contents_of base calls)
+  pub reads : (calls : List LoggedCall) → IsImage base calls (bytes_after base calls)
   reads [] = refl
   reads (Wrote idle at bytes ∷ older) =
-      (contents_of base older, reads older, smears at bytes (contents_of base older))
+      (bytes_after base older, reads older, smears at bytes (bytes_after base older))
   reads (CutTo idle len ∷ older) =
-      (contents_of base older, reads older, ([], sym (append-nil (take len (contents_of base older)))))
+      (bytes_after base older, reads older, ([], sym (append-nil (take len (bytes_after base older)))))
   reads (Synced idle ∷ older) = refl
 
   counts_now : (calls : List LoggedCall) (t : ℕ) (image : List ℕ) →

@@ -1,6 +1,6 @@
 //! A disk in memory, which keeps a log of its calls, and so knows what a crash may leave.
 ghost use Rattle.std.specs.Prelude.{◌≡◌, ◌+◌, ◌-◌, ◌^◌, min, [], OnOk, OnErr, IfOk};
-ghost use Rattle.tape_disk.specs.CallLog.{CallLog, IsImage, contents_of, syncs_of, torn, new_log, idled, logged, state_of, is_disk};
+ghost use Rattle.tape_disk.specs.CallLog.{CallLog, IsImage, bytes_after, syncs_of, torn, new_log, idled, logged, state_of, is_disk};
 ghost use Rattle.tape_disk.specs.Disk.{Only, WriteAt, overwritten};
 ghost use Rattle.tape_disk.specs.Log.{log_of};
 
@@ -21,7 +21,7 @@ pub struct MemDisk {
     bytes: Vec<u8>,
     log: Log,
     failures: Failures,
-    ghost replays: { bytes.items ≡ contents_of (log_of log).base (log_of log).calls },
+    ghost replays: { bytes.items ≡ bytes_after (log_of log).base (log_of log).calls },
 }
 
 impl MemDisk {
@@ -73,7 +73,7 @@ impl MemDisk {
 
     /// What a read gives.
     pub fn bytes(&self) -> &[u8]
-        ensures { result.now ≡ contents_of (mem_log self.now).base (mem_log self.now).calls }
+        ensures { result.now ≡ bytes_after (mem_log self.now).base (mem_log self.now).calls }
     {
         &self.bytes
     }

@@ -1,5 +1,5 @@
 //! Tables of commands, with the reply that is wanted of each.
-use volume_core::FaultPlan;
+use volume_core::{FaultPlan, Turn};
 
 // What a reply is wanted to be: its sense data, if any, by bytes 0 and 2, INFORMATION, additional
 // code and qualifier; and the bytes that it gives.
@@ -206,4 +206,64 @@ pub const LOADED: [Row<'static>; 3] = [
     (1, REWIND, NONE, CHANGED),
     (64, REWIND, NONE, POWERED_ON),
     (64, REWIND, NONE, CHANGED),
+];
+
+// How a medium was made ready; what a loading of it is answered; what a READ is answered then, and
+// after a power on with it.
+pub const ARRIVALS: [(
+    FaultPlan,
+    bool,
+    bool,
+    Wanted<'static>,
+    Wanted<'static>,
+    Wanted<'static>,
+); 5] = [
+    (SOUND, false, false, GOOD, HELLO, HELLO),
+    (SOUND, false, true, GOOD, HELLO, HELLO),
+    (TORN_AND_GONE, true, false, FAILED, NO_MEDIUM, FAILED),
+    (TORN_AND_GONE, true, true, GOOD, END, END),
+    (TORN_AND_FOUND, true, true, GOOD, HELLO, HELLO),
+];
+
+// Which storing fails, which reading, and the room of the side; commands, a turn, and commands.
+pub type Course<'a> = (
+    Option<u32>,
+    Option<u32>,
+    u64,
+    &'a [Row<'a>],
+    Turn,
+    &'a [Row<'a>],
+);
+
+pub const COURSES: [Course<'static>; 9] = [
+    (None, None, 1_000, &WRITES, Turn::Idle, &[]),
+    (None, None, 1_000, &READS, Turn::Idle, &[]),
+    (None, None, 50, &FILLING, Turn::Stored(3), &FULL_SIDE),
+    (Some(0), None, 1_000, &REWIND_FAILS, Turn::Idle, &HAS_FAILED),
+    (
+        Some(0),
+        None,
+        1_000,
+        &READ_FAILS_TO_STORE,
+        Turn::Idle,
+        &HAS_FAILED,
+    ),
+    (
+        Some(0),
+        None,
+        1_000,
+        &NO_MARKS_FAIL,
+        Turn::Idle,
+        &HAS_FAILED,
+    ),
+    (Some(1), None, 1_000, &MARKS_FAIL, Turn::Idle, &HAS_FAILED),
+    (None, Some(1), 1_000, &READ_FAILS, Turn::Idle, &HAS_FAILED),
+    (
+        Some(1),
+        None,
+        1_000,
+        &BEFORE_A_TURN,
+        Turn::Faulted,
+        &AFTER_A_LATE_FAULT,
+    ),
 ];
