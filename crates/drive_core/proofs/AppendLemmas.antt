@@ -72,7 +72,9 @@ pub append_refused : (settles : Bool) (change : Change) (u t : MediumState) (p :
     → IsReady (mounted u p) → IsAt p change → is_well_formed change ≡ true → Accepts u change (Err error) t
     → AppendWork settles change (mounted u p) (refused_as error (amount_of change)) [] (mounted t p)
 append_refused settles change u t p (medium.Refused cause) ready at formed answer =
-    let room = refused_for_room (volume_of u) change cause (within u p change ready at) (reaches u p change ready at) formed answer.0 in
+    let room =
+    refused_for_room (volume_of u) change cause (within u p change ready at) (reaches u p change ready at) formed
+    answer.0 in
     rw room (refl, refl, ap (λ (x : MediumState). mounted x p) answer.2)
 append_refused settles change u t p medium.NoMemory ready at formed answer =
     (answer.0, refl, record { medium = answer.2; position = refl })

@@ -41,7 +41,9 @@ all_need Read = refl
 all_need Write = refl
 all_need WriteFilemarks = refl
 
-module _ (H : Type 0) (old : Machine) (request : Request) (answer : Result Reply Fault) (made : Made) (new : Machine) where
+module _
+    (H : Type 0) (old : Machine) (request : Request) (answer : Result Reply Fault) (made : Made)
+    (new : Machine) where
   exempt_is : (b : Bool) (opcode : Opcode) → b ≡ false → AtDeferred H old request answer made new old.deferred opcode
       → AtExempt H old request answer made new b opcode
   exempt_is false opcode e h = h
@@ -176,7 +178,8 @@ module _ (H : Type 0) (old : Machine) (request : Request) (answer : Result Reply
   miscounted medium opcode command works e fits never h =
       medium_is medium.failed opcode works
       (command_is (command_of opcode request.cdb) command e
-      (mode_is (suits old command) command fits (sent_bad (length request.sent == sent_length command) command never h)))
+      (mode_is (suits old command) command fits
+      (sent_bad (length request.sent == sent_length command) command never h)))
 
   -- no check stops the command
   pub passed : (medium : MediumState) (opcode : Opcode) (command : Command) → medium.failed ≡ false
@@ -186,4 +189,5 @@ module _ (H : Type 0) (old : Machine) (request : Request) (answer : Result Reply
   passed medium opcode command works e fits counted h =
       medium_is medium.failed opcode works
       (command_is (command_of opcode request.cdb) command e
-      (mode_is (suits old command) command fits (sent_is (length request.sent == sent_length command) command counted h)))
+      (mode_is (suits old command) command fits
+      (sent_is (length request.sent == sent_length command) command counted h)))

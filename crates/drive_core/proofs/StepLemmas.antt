@@ -25,12 +25,14 @@ use Rattle.drive_core.specs.Step.{Input, Execute, FlushTurn, Load, PowerOn, Outp
 use Rattle.drive_core.proofs.ReadLemmas.{read_where}
 
 module _ (H H' : Type 0) (so : H → H') where
-  work_where : (command : Command) (buffered : Bool) (sent : List ℕ) (old : Mounted) (answer : Result Reply Fault) (made : List Change) (new : Mounted)
+  work_where : (command : Command) (buffered : Bool) (sent : List ℕ) (old : Mounted) (answer : Result Reply Fault)
+      (made : List Change) (new : Mounted)
       → MediumWork H' command buffered sent old answer made new
       → MediumWork H command buffered sent old answer made new
   work_where TestUnitReady buffered sent old answer made new h = h
   work_where Rewind buffered sent old answer made new h = h
-  work_where (Read asked suppress) buffered sent old answer made new h = read_where H H' so suppress asked old answer made new h
+  work_where (Read asked suppress) buffered sent old answer made new h =
+      read_where H H' so suppress asked old answer made new h
   work_where (Write asked) buffered sent old answer made new h = h
   work_where (WriteFilemarks count immediate) buffered sent old answer made new h = h
 
@@ -38,7 +40,11 @@ module _ (H H' : Type 0) (so : H → H') where
     bay_work_where : (bay : Bay MediumState) (command : Command)
         → OnMediumIn bay (MediumWork H' command old.buffered request.sent) old answer made new
         → OnMediumIn bay (MediumWork H command old.buffered request.sent) old answer made new
-    bay_work_where (Loaded medium) command h = (h.0, work_where command old.buffered request.sent (mounted medium old.position) answer made.changes h.0 h.1, h.2)
+    bay_work_where (Loaded medium) command h = (
+      h.0,
+      work_where command old.buffered request.sent (mounted medium old.position) answer made.changes h.0 h.1,
+      h.2,
+    )
     bay_work_where Empty command h = h
     bay_work_where (Unloaded medium) command h = h
 

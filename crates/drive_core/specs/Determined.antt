@@ -20,6 +20,7 @@ pub record SideSight : Type 0 where
   pub stored : Option (List Part)
   pub torn : List Change
 
+-- a medium that is awake shows nothing of its side, a parked one what the side gives (own)
 abbrev pub side_sight : Bool → MediumState → Option SideSight
 side_sight true medium = None
 side_sight false medium = Some (record { stored = medium.stored; torn = medium.torn })
@@ -32,6 +33,7 @@ pub record Sight : Type 0 where
   pub failed : Bool
   pub side : Option SideSight
 
+-- what of a medium is seen: while it is awake its volume, whatever of it is stored (own)
 abbrev pub sight_of : MediumState → Sight
 sight_of medium =
     record {
@@ -61,6 +63,7 @@ IsSure medium = (medium.awake ≡ true) ⊎ (medium.torn ≡ [])
 abbrev pub AreSureAlike : MediumState → MediumState → Type 0
 AreSureAlike medium other = IsSure medium × (sight_of medium ≡ sight_of other)
 
+-- two media that may be there are seen alike, and it is sure what they give (own)
 abbrev pub AreAllSureAlike : Option MediumState → Option MediumState → Type 0
 AreAllSureAlike (Some medium) (Some other) = AreSureAlike medium other
 AreAllSureAlike None None = Unit {0}
@@ -74,11 +77,13 @@ AskAlike (PowerOn medium) (PowerOn other) = AreAllSureAlike medium other
 AskAlike FlushTurn FlushTurn = Unit {0}
 AskAlike _ _ = ⊥
 
+-- the inputs of two lists ask alike, one by one (own)
 abbrev pub AllAskAlike : List Input → List Input → Type 0
 AllAskAlike [] [] = Unit {0}
 AllAskAlike (input ∷ inputs) (other ∷ others) = AskAlike input other × AllAskAlike inputs others
 AllAskAlike _ _ = ⊥
 
+-- whether an input is none of a flusher (own)
 abbrev pub is_no_turn : Input → Bool
 is_no_turn FlushTurn = false
 is_no_turn _ = true

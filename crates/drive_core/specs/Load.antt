@@ -26,6 +26,7 @@ abbrev pub LoadsAs : Result Unit MediumError → MediumState → Machine → Res
 LoadsAs (Ok done) opened old answer new = (answer ≡ Ok (good_with [])) × (new ≡ loaded old opened)
 LoadsAs (Err error) opened old answer new = (answer ≡ wake_answer error) × (new ≡ old)
 
+-- the same by what is in the drive: only an empty one takes a medium in (SMC-3)
 abbrev pub LoadsInto : Type 0 → Bay MediumState → MediumState → MachineRelation
 LoadsInto honest Empty medium old answer made new =
     (woke : Result Unit MediumError) × (opened : MediumState) × Wakes honest medium woke opened

@@ -62,7 +62,8 @@ module _ {M : Type 0} (state : M → MediumState) (below : Below M Change) where
   SwitchesOn (Some given) (Ok new) =
       (woke : Result Unit MediumError) × (opened : M) × (bay : Bay M)
       × WakesAs given woke opened × (bay_when_on woke opened ≡ Some bay) × (new ≡ powered_on bay)
-  SwitchesOn (Some given) (Err back) = (opened : M) × WakesAs given (Err Errors.NoMemory) opened × (back.0 ≡ Some opened)
+  SwitchesOn (Some given) (Err back) =
+      (opened : M) × WakesAs given (Err Errors.NoMemory) opened × (back.0 ≡ Some opened)
 
   -- and so it is a step of the machine, whatever it was before (own)
   pub record PowerOnSteps (given : Option M) (new : DriveState M Kept) : Type 0 where

@@ -1,4 +1,4 @@
--- What the work of a command is: a relation. What a step makes; nothing done; refusals; what stays where a command fails.
+-- What the work of a command is: a relation. What a step makes; nothing done; refusals; what stays at a failure.
 use Rattle.std.specs.Prelude.{◌≡◌, ◌≤◌, ◌++◌, List, [], length, Result, Ok}
 use Rattle.scsi_sense.specs.declared.replies.Reply.{Reply}
 use Rattle.scsi_sense.specs.declared.sense_data.Sense.{Sense}
@@ -12,6 +12,7 @@ use Rattle.drive_core.specs.State.{Machine, Mounted, contents_of}
 pub record Made : Type 0 where
   pub changes : List Change
 
+-- nothing is made (own)
 abbrev pub made_nothing : Made
 made_nothing = record { changes = [] }
 

@@ -41,7 +41,8 @@ module _ {M : Type 0} (state : M → MediumState) (below : Below M Change) where
 
   -- what a drive answers to hosts is a run of its machine, over a medium that is honest where it was at its start (own)
   pub record IsRun
-      (old : DriveState M Kept) (requests : List Request) (replies : List Reply) (new : DriveState M Kept) : Type 0 where
+      (old : DriveState M Kept) (requests : List Request) (replies : List Reply) (new : DriveState M Kept) : Type
+      0 where
     pub answers : List (Result Reply Fault)
     pub replied : replies ≡ map reply_of answers
     pub made : Made
@@ -64,7 +65,8 @@ module _ {M : Type 0} (state : M → MediumState) (below : Below M Change) where
       (old mid new : DriveState M Kept) (first rest : List Request) (replies others : List Reply)
       → Serves old first replies mid → Serves mid rest others new
       → Serves old (first ++ rest) (replies ++ others) new
-  serves_append old mid new [] rest [] others one two = subst (λ (drive : DriveState M Kept). Serves drive rest others new) one two
+  serves_append old mid new [] rest [] others one two =
+      subst (λ (drive : DriveState M Kept). Serves drive rest others new) one two
   serves_append old mid new (request ∷ first) rest (reply ∷ replies) others one two =
       (one.0, one.1, serves_append one.0 mid new first rest replies others one.2 two)
   serves_append old mid new [] rest (reply ∷ replies) others one two = absurd one

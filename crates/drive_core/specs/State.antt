@@ -19,8 +19,8 @@ abbrev pub Kept : Type 0
 Kept = Unit {0}
 
 -- a drive whose medium is known as an M, and whose keeper as a K: what is in it, where on the medium the next command
--- works, the buffered mode, whether a deferred error is to be reported, the unit attention conditions of each nexus, the
--- reservations, and what keeps these (SSC-4, SPC-4; the last own)
+-- works, the buffered mode, whether a deferred error is to be reported, the unit attention conditions of each nexus,
+-- the reservations, and what keeps these (SSC-4, SPC-4; the last own)
 pub record DriveState (M K : Type 0) : Type 0 where
   pub bay : Bay M
   pub position : Position
@@ -34,6 +34,7 @@ pub record DriveState (M K : Type 0) : Type 0 where
 abbrev pub Machine : Type 0
 Machine = DriveState MediumState Kept
 
+-- what is in a drive, seen through a function (own)
 abbrev pub bay_of : {A B : Type 0} → (A → B) → Bay A → Bay B
 bay_of f Empty = Empty
 bay_of f (Unloaded m) = Unloaded (f m)
@@ -62,6 +63,7 @@ pub record Mounted : Type 0 where
   pub medium : MediumState
   pub position : Position
 
+-- a medium loaded, and this position on it (own)
 abbrev pub mounted : MediumState → Position → Mounted
 mounted medium position = record { medium = medium; position = position }
 

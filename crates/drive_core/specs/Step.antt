@@ -35,6 +35,7 @@ Step honest old (Load medium) (Answered answer) made new = Loads honest medium o
 Step honest old (PowerOn medium) (Unanswered outcome) made new = PowersOn honest medium outcome made new
 Step honest old _ _ made new = ⊥
 
+-- the reply that came of an input, if it is answered (own)
 abbrev pub reply_in : Output → Option Reply
 reply_in (Answered answer) = Some (reply_of answer)
 reply_in (Unanswered outcome) = None

@@ -9,8 +9,8 @@ use Rattle.scsi_sense.specs.declared.sense_data.SenseKey.TheVariants.{NoSense}
 use Rattle.scsi_wire.specs.Commands.{decoded}
 use Rattle.drive_core.specs.State.{Machine, medium_in}
 
--- whether a command synchronizes at a drive: REWIND; WRITE FILEMARKS without IMMED, of none too; a READ of some bytes; an
--- unbuffered WRITE of some (SSC-4, buffered mode; READ and REWIND own)
+-- whether a command synchronizes at a drive: REWIND; WRITE FILEMARKS without IMMED, of none too; a READ of some bytes;
+-- an unbuffered WRITE of some (SSC-4, buffered mode; READ and REWIND own)
 abbrev pub synchronizes : Machine → Command → Bool
 synchronizes machine TestUnitReady = false
 synchronizes machine Rewind = true

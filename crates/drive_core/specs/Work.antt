@@ -29,6 +29,7 @@ MediumWork honest (Write length) buffered sent old answer made new =
 MediumWork honest (WriteFilemarks count immediate) buffered sent old answer made new =
     MarksWork count immediate old answer made new
 
+-- work on the medium of this bay; where none is loaded there is no such work (own)
 abbrev pub OnMediumIn : Bay MediumState → MediumRelation → MachineRelation
 OnMediumIn (Loaded medium) W old answer made new =
     (m : Mounted) × W (mounted medium old.position) answer made.changes m × (new ≡ with_mounted old m)

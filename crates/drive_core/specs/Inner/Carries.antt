@@ -19,7 +19,8 @@ pub record IsReady (m : Mounted) : Type 0 where
 -- a medium and the position on it go through such work, and the medium accepts just the changes that it makes
 pub record Carries {M : Type 0}
     (state : M → MediumState) (below : Below M Change)
-    (W : MediumRelation) (old : M) (before : Position) (answer : Result Reply Fault) (new : M) (now : Position) : Type 0 where
+    (W : MediumRelation) (old : M) (before : Position) (answer : Result Reply Fault) (new : M) (now : Position) : Type
+    0 where
   pub made : List Change
   pub work : W (mounted (state old) before) answer made (mounted (state new) now)
   pub advances : Advances below old made (is_device_fault answer) new

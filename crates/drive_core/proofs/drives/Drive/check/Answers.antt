@@ -74,7 +74,8 @@ returns-in-Some-report g c =
     (Executes H machine request) old new c.check-in-Some-report.result refl
     (code_is H machine request _ made_nothing (machine_of state new) (opcode_of c.args.cdb.now) c.in-Some.opcode
     (sym c.of.ensures ∙ c.in-Some.is)
-    (no_deferred H machine request _ made_nothing (machine_of state new) inside.deferred c.in-Some.opcode c.if-self.false
+    (no_deferred H machine request _ made_nothing (machine_of state new) inside.deferred c.in-Some.opcode
+    c.if-self.false
     (attention_is H machine request _ made_nothing (machine_of state new)
     (attention_of inside.attentions c.args.nexus) attention c.in-Some.opcode
     (sym c.report.ensures.reports ∙ c.in-Some-report.is)

@@ -15,7 +15,8 @@ use Rattle.drive_core.proofs.CheckLemmas.{absent, broken, fields_bad, unsuited, 
 use Rattle.drive_core.proofs.drives.Drive.perform.Goals as goal
 
 -- what is loaded is not in another kind of bay
-not_loaded : {A B : Type 0} (f : A → B) (bay : Bay A) → ((x : A) → bay ≡ Loaded x → ⊥) → (y : B) → bay_of f bay ≡ Loaded y → ⊥
+not_loaded : {A B : Type 0} (f : A → B) (bay : Bay A) → ((x : A) → bay ≡ Loaded x → ⊥) → (y : B)
+    → bay_of f bay ≡ Loaded y → ⊥
 not_loaded f Empty never y e = cc
 not_loaded f (Unloaded x) never y e = cc
 not_loaded f (Loaded x) never y e = never x refl
@@ -56,7 +57,8 @@ returns-then-has_failed g c =
     let request = asked c.args.nexus c.args.cdb.now c.args.sent.now in
     let machine = machine_of state old in
     let reply = c.check-then-has_failed.ensures ∙ ap (λ (s : Sense). check_with s []) c.medium_failed.ensures in
-    performs_from state g.M.Medium.below request c.args.opcode old c.args.self.now (Ok c.check-then-has_failed.result) old same
+    performs_from state g.M.Medium.below request c.args.opcode old c.args.self.now (Ok
+    c.check-then-has_failed.result) old same
     (refused_takes state g.M.Medium.below g.met.M.Medium.advances_nowhere
     (λ answer made new. AtBay H machine request answer made new machine.bay c.args.opcode) old old
     c.check-then-has_failed.result refl
@@ -83,7 +85,8 @@ returns-in_default-of g c =
     let request = asked c.args.nexus c.args.cdb.now c.args.sent.now in
     let machine = machine_of state old in
     let reply = c.check-in_default-of.ensures ∙ ap (λ (s : Sense). check_with s []) c.invalid_field.ensures in
-    performs_from state g.M.Medium.below request c.args.opcode old c.args.self.now (Ok c.check-in_default-of.result) old same
+    performs_from state g.M.Medium.below request c.args.opcode old c.args.self.now (Ok
+    c.check-in_default-of.result) old same
     (refused_takes state g.M.Medium.below g.met.M.Medium.advances_nowhere
     (λ answer made new. AtBay H machine request answer made new machine.bay c.args.opcode) old old
     c.check-in_default-of.result refl
@@ -110,12 +113,15 @@ returns-then-not-suits g c =
     let H = HonestIn g.M.Medium.below (medium_in old.bay) in
     let request = asked c.args.nexus c.args.cdb.now c.args.sent.now in
     let machine = machine_of state old in
-    let reply = c.check-then-not-suits.ensures ∙ ap (λ (s : Sense). check_with s []) c.invalid_field-then-not-suits.ensures in
-    performs_from state g.M.Medium.below request c.args.opcode old c.args.self.now (Ok c.check-then-not-suits.result) old same
+    let reply = c.check-then-not-suits.ensures ∙ ap (λ (s : Sense). check_with s [])
+    c.invalid_field-then-not-suits.ensures in
+    performs_from state g.M.Medium.below request c.args.opcode old c.args.self.now (Ok
+    c.check-then-not-suits.result) old same
     (refused_takes state g.M.Medium.below g.met.M.Medium.advances_nowhere
     (λ answer made new. AtBay H machine request answer made new machine.bay c.args.opcode) old old
     c.check-then-not-suits.result refl
-    (unsuited H machine request _ made_nothing machine (state medium) c.args.opcode c.in-Some.command (sym c.if-has_failed.ensures)
+    (unsuited H machine request _ made_nothing machine (state medium) c.args.opcode c.in-Some.command (sym
+    c.if-has_failed.ensures)
     (sym c.of.ensures.command ∙ c.in-Some.is) (sym (c.if-not-suits.ensures machine refl))
     (ap Ok reply, refl, refl)))
 
@@ -138,12 +144,15 @@ returns-then-sent-sent_length g c =
     let H = HonestIn g.M.Medium.below (medium_in old.bay) in
     let request = asked c.args.nexus c.args.cdb.now c.args.sent.now in
     let machine = machine_of state old in
-    let reply = c.check-then-sent-sent_length.ensures ∙ ap (λ (s : Sense). check_with s []) c.invalid_field-then-sent-sent_length.ensures in
-    performs_from state g.M.Medium.below request c.args.opcode old c.args.self.now (Ok c.check-then-sent-sent_length.result) old same
+    let reply = c.check-then-sent-sent_length.ensures ∙ ap (λ (s : Sense). check_with s [])
+    c.invalid_field-then-sent-sent_length.ensures in
+    performs_from state g.M.Medium.below request c.args.opcode old c.args.self.now (Ok
+    c.check-then-sent-sent_length.result) old same
     (refused_takes state g.M.Medium.below g.met.M.Medium.advances_nowhere
     (λ answer made new. AtBay H machine request answer made new machine.bay c.args.opcode) old old
     c.check-then-sent-sent_length.result refl
-    (miscounted H machine request _ made_nothing machine (state medium) c.args.opcode c.in-Some.command (sym c.if-has_failed.ensures)
+    (miscounted H machine request _ made_nothing machine (state medium) c.args.opcode c.in-Some.command (sym
+    c.if-has_failed.ensures)
     (sym c.of.ensures.command ∙ c.in-Some.is) (sym (c.if-not-suits.ensures machine refl))
     (counts_differ _ _ (λ e. c.if-sent-sent_length.true (e ∙ sym c.sent_length.ensures)))
     (ap Ok reply, refl, refl)))

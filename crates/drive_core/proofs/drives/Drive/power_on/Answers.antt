@@ -2,4 +2,5 @@ use Rattle.drive_core.proofs.LoadLemmas.{power_on_where}
 use Rattle.drive_core.proofs.drives.Drive.power_on.Goals as goal
 
 pub returns-clause-step : goal.returns-clause-step
-returns-clause-step g c = power_on_where g.M.Catalog.state g.M.Medium.below c.args.medium c.switch_on.result c.switch_on.ensures
+returns-clause-step g c = power_on_where g.M.Catalog.state g.M.Medium.below c.args.medium c.switch_on.result
+    c.switch_on.ensures

@@ -21,4 +21,5 @@ invariant_of-self-2 c =
     rw (c.push_reserved.ensures.items, c.reserve.ensures.items, c.frame_size-size.ensures)
     (staged_with
     inside.capacities.items inside.log.items inside.stored inside.room inside.free inside.seen
-    c.apply.new.self inside.awake inside.failed c.args.change c.self.invariant (search rules) (search rules) (search rules))
+    c.apply.new.self inside.awake inside.failed c.args.change c.self.invariant
+    (search rules) (search rules) (search rules))
