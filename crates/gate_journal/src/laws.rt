@@ -2,6 +2,8 @@
 ghost use Rattle.std.specs.Prelude.{◌≡◌, ◌↔◌, ℕ, List, Some};
 ghost use Rattle.gate_journal.specs.Side.{Heading, StandsFor, IsNotOurs, IsDamagedAt, IsDecided};
 ghost use Rattle.gate_journal.specs.SideOn.{side_on};
+ghost use Rattle.gate_journal.specs.declared.header.TheConstants.{NAME_BYTES};
+ghost use Rattle.gate_journal.specs.declared.spelling.TheConstants.{FRAME_BYTES};
 
 /// Each image stands for some side, is no side of this library, or is damaged at some place.
 pub fn each_image_is_decided()
@@ -25,4 +27,10 @@ pub fn no_image_is_decided_twice()
 pub fn the_side_on_an_image()
     ensures { (image : List ℕ) (h : Heading) (bs : List (List ℕ)) →
         (side_on image ≡ Some (h, bs)) ↔ StandsFor h bs image }
+{}
+
+/// The lengths that this crate names itself: of a name, and of the longest frame.
+pub fn the_lengths()
+    ensures name { NAME_BYTES ≡ 16 }
+    ensures frame { FRAME_BYTES ≡ 8_388_613 }
 {}

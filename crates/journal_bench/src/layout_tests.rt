@@ -1,6 +1,6 @@
 //! The layout byte by byte, every cut and every gate.
-use crate::samples::{FIRST, SECOND, SIDE, body_of, frames_of, shut, written};
-use gate_journal::{Journal, JournalError};
+use crate::samples::{FAULT, FIRST, SECOND, SIDE, body_of, frames_of, made, shut, written};
+use gate_journal::{Header, Journal, JournalError, SideKind};
 use std::test::Fail;
 use tape_disk::MemDisk;
 
@@ -34,6 +34,58 @@ fn bodies_are_read_back(rt: HostRuntime) -> Result<(), Fail> {
             return Err(Fail::from("not read"));
         };
         assert_eq!(rt; (at, body.as_slice()), (place, bytes));
+    }
+    Ok(())
+}
+
+#[test]
+fn sides_of_each_kind(rt: HostRuntime) -> Result<(), Fail> {
+    let alloc = rt.alloc();
+    for (kind, name, count) in [
+        (SideKind::Store, *b"DRIVE16         ", 0),
+        (SideKind::Cartridge, *b"T00001L6        ", 1),
+        (SideKind::Cartridge, *b"T00001L6        ", 4),
+    ] {
+        let header = Header {
+            kind,
+            name,
+            capacities: vec![in alloc; 4096; count]?,
+        };
+        let Ok(mut journal) = made(alloc, MemDisk::new(alloc), header) else {
+            return Err(Fail::from("not made"));
+        };
+        // No room was asked for before.
+        for _ in 0..5 {
+            assert_eq!(rt; journal.append(&FIRST), Ok(()));
+        }
+        let Ok(journal) = Journal::open(alloc, journal.close()) else {
+            return Err(Fail::from("not opened"));
+        };
+        let header = journal.header();
+        assert_eq!(rt;
+            (
+                header.kind,
+                header.name,
+                header.capacities.len(),
+                journal.frames()
+            ),
+            (kind, name, count, 5)
+        );
+    }
+    Ok(())
+}
+
+#[test]
+fn the_texts_of_the_refusals(rt: HostRuntime) -> Result<(), Fail> {
+    for (error, text) in [
+        (JournalError::NotOurs, "not a side"),
+        (JournalError::Damaged { at: 35 }, "damaged at 35"),
+        (JournalError::SideFull, "side full"),
+        (FAULT, "device fault"),
+        (JournalError::Failed, "failed before"),
+        (JournalError::NoMemory, "out of memory"),
+    ] {
+        assert_eq!(rt; format!(in rt.alloc(); "{error}")?.as_str(), text);
     }
     Ok(())
 }

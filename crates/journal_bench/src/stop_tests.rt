@@ -81,6 +81,47 @@ fn a_stop_at_each_call(rt: HostRuntime) -> Result<(), Fail> {
     Ok(())
 }
 
+// Writes two bytes and makes them sure.
+struct TwoBytes;
+
+impl Run for TwoBytes {
+    fn run(&self, _alloc: Global, disk: FuseDisk<MemDisk>) -> (MemDisk, bool) {
+        let mut disk = disk;
+        let ended = disk.write_at(0, b"ab").is_ok() && disk.sync().is_ok();
+        (disk.into_inner(), ended)
+    }
+}
+
+#[test]
+fn what_the_stops_leave(rt: HostRuntime) -> Result<(), Fail> {
+    let alloc = rt.alloc();
+    let disk = MemDisk::from_bytes(alloc, b"..")?;
+    let stops = stop_at_each_call(alloc, &disk, &TwoBytes)?;
+    assert_eq!(rt; stops.len(), 27);
+    // After the write alone none, one or both of the bytes have landed.
+    let landed = [
+        *b"\0\0",
+        *b"\xa5\xa5",
+        *b"\xff\xff",
+        *b"a\0",
+        *b"a\xa5",
+        *b"a\xff",
+        *b"ab",
+        *b"ab",
+        *b"ab",
+    ];
+    for (i, Stop { calls, ended, disk }) in stops.into_iter().enumerate() {
+        let left = match i / 9 {
+            0 => *b"..",
+            1 => landed[i % 9],
+            _ => *b"ab",
+        };
+        assert_eq!(rt; (calls, ended), (i as u64 / 9, i >= 18));
+        assert_eq!(rt; disk.bytes(), left.as_slice(), "stop {i}");
+    }
+    Ok(())
+}
+
 #[test]
 fn a_stop_in_an_append(rt: HostRuntime) -> Result<(), Fail> {
     let alloc = rt.alloc();

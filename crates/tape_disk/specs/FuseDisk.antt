@@ -1,5 +1,5 @@
 -- A disk with a fuse, as its contracts see it.
-use Rattle.std.specs.Prelude.{◌≡◌, ℕ, ◌-◌, Result}
+use Rattle.std.specs.Prelude.{◌≡◌, ℕ, ◌+◌, ◌-◌, OnErr, Result}
 use Rattle.vtl_base.specs.declared.faults.DevFault.{DevFault}
 use Rattle.tape_disk.specs.Disk.{DiskCall, DiskState}
 use Rattle.tape_disk.specs.Faults.{CalledBelow, holds, with_failures}
@@ -18,9 +18,11 @@ module _ {D : Type 0} where
   abbrev pub fuse_state : (D → DiskState) → FuseDisk D → DiskState
   fuse_state state fuse = with_failures (state fuse.below.disk) fuse.below.failures.count.value
 
-  -- A call passes while some are left, and is then one fewer (own).
+  -- A call passes while some are left, and is then one fewer; each that fails is one failure more (own).
   pub record FuseEffect (state : D → DiskState) (effect : DiskCall → Result Unit DevFault → D → D → Type 0)
       (call : DiskCall) (result : Result Unit DevFault) (old new : FuseDisk D) : Type 0 where
     pub below : CalledBelow state effect (holds (fuse_calls_left old)) call result
         (fuse_disk_below old) (fuse_disk_below new)
     pub left : fuse_calls_left new ≡ fuse_calls_left old - 1
+    pub counted : OnErr result
+        ((fuse_state state new).failures ≡ (fuse_state state old).failures + 1)

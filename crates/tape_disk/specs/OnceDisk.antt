@@ -1,5 +1,5 @@
 -- A disk of which one call fails, as its contracts see it.
-use Rattle.std.specs.Prelude.{◌≡◌, ℕ, not, Option, Result}
+use Rattle.std.specs.Prelude.{◌≡◌, ℕ, ◌+◌, not, OnErr, Option, Result}
 use Rattle.vtl_base.specs.declared.faults.DevFault.{DevFault}
 use Rattle.tape_disk.specs.Disk.{DiskCall, DiskState}
 use Rattle.tape_disk.specs.Faults.{CalledBelow, is_due, after_call, with_failures}
@@ -18,9 +18,11 @@ module _ {D : Type 0} where
   abbrev pub once_state : (D → DiskState) → OnceDisk D → DiskState
   once_state state once = with_failures (state once.below.disk) once.below.failures.count.value
 
-  -- A call passes unless it is the one that is to fail (own).
+  -- A call passes unless it is the one that is to fail; each that fails is one failure more (own).
   pub record OnceEffect (state : D → DiskState) (effect : DiskCall → Result Unit DevFault → D → D → Type 0)
       (call : DiskCall) (result : Result Unit DevFault) (old new : OnceDisk D) : Type 0 where
     pub below : CalledBelow state effect (not (is_due (once_calls_left old))) call result
         (once_disk_below old) (once_disk_below new)
     pub left : once_calls_left new ≡ after_call (once_calls_left old)
+    pub counted : OnErr result
+        ((once_state state new).failures ≡ (once_state state old).failures + 1)

@@ -1,5 +1,5 @@
 //! A disk over another one, whose calls fail when they are told to.
-ghost use Rattle.std.specs.Prelude.{◌≡◌, ◌+◌, ◌-◌, ◌≤◌, ◌^◌, min, length, OnOk, Result, slice_range};
+ghost use Rattle.std.specs.Prelude.{◌≡◌, ◌+◌, ◌-◌, ◌≤◌, ◌^◌, min, length, OnOk, OnErr, Result, slice_range};
 ghost use Rattle.tape_disk.specs.Disk.{Elapses, Passes, Same, Writes, Cuts, Syncs, ReadAt, WriteAt, CutAt, SyncAll};
 ghost use Rattle.vtl_base.specs.declared.faults.DevFault.{DevFault};
 ghost use Rattle.tape_disk.specs.Faults.{CalledBelow, CalledOnce};
@@ -58,6 +58,8 @@ impl<D: Disk> Failing<D> {
             Same (failing_state D.state self.old) (failing_state D.state self.new) }
         ensures bytes { (D.state self.old.disk).honest → OnOk result
             (buffer.new ≡ slice_range (D.state self.old.disk).seen at (at + length buffer.old)) }
+        ensures once { OnErr result
+            (self.new.failures.count.value ≡ self.old.failures.count.value + 1) }
         ensures below { CalledBelow D.state D.effect passes (ReadAt at (length buffer.old)) result
             self.old.disk self.new.disk }
     {
@@ -77,6 +79,8 @@ impl<D: Disk> Failing<D> {
             Elapses (failing_state D.state self.old) (failing_state D.state self.new) }
         ensures writes { (D.state self.old.disk).honest →
             Writes at bytes.now result (failing_state D.state self.old) (failing_state D.state self.new) }
+        ensures once { OnErr result
+            (self.new.failures.count.value ≡ self.old.failures.count.value + 1) }
         ensures below { CalledBelow D.state D.effect passes (WriteAt at bytes.now) result
             self.old.disk self.new.disk }
     {
@@ -96,6 +100,8 @@ impl<D: Disk> Failing<D> {
             Elapses (failing_state D.state self.old) (failing_state D.state self.new) }
         ensures cuts { (D.state self.old.disk).honest →
             Cuts len result (failing_state D.state self.old) (failing_state D.state self.new) }
+        ensures once { OnErr result
+            (self.new.failures.count.value ≡ self.old.failures.count.value + 1) }
         ensures below { CalledBelow D.state D.effect passes (CutAt len) result
             self.old.disk self.new.disk }
     {
@@ -114,6 +120,8 @@ impl<D: Disk> Failing<D> {
             Elapses (failing_state D.state self.old) (failing_state D.state self.new) }
         ensures syncs { (D.state self.old.disk).honest →
             Syncs result (failing_state D.state self.old) (failing_state D.state self.new) }
+        ensures once { OnErr result
+            (self.new.failures.count.value ≡ self.old.failures.count.value + 1) }
         ensures below { CalledBelow D.state D.effect passes SyncAll result
             self.old.disk self.new.disk }
     {

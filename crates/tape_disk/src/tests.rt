@@ -131,6 +131,24 @@ fn one_call_fails(rt: HostRuntime) -> Result<(), Fail> {
     Ok(())
 }
 
+#[test]
+fn a_fault_of_the_disk_below(rt: HostRuntime) -> Result<(), Fail> {
+    let below = FuseDisk::new(MemDisk::from_bytes(rt.alloc(), b"abc")?, 1);
+    let mut disk = OnceDisk::new(FuseDisk::new(below, 9), 9);
+    for (ask, failures) in [
+        (Ask::Write(0, b"x"), 0),
+        (Ask::Write(0, b"y"), 1),
+        (Ask::Cut(0), 2),
+        (Ask::Sync, 3),
+        (Ask::Read(0), 4),
+    ] {
+        let fault = answer(&mut disk, ask).err();
+        assert_eq!(rt; fault.map_or(0, |fault| fault.failures), failures);
+    }
+    assert_eq!(rt; disk.inner().inner().inner().bytes(), b"xbc".as_slice());
+    Ok(())
+}
+
 // What a caller knows of a disk in memory, and of one below a fuse.
 fn synced(disk: &mut MemDisk) -> Result<(), DevFault>
     ensures ok { OnOk result
