@@ -1,5 +1,6 @@
 //! Values at the borders; each public call once.
 use crate::{BadBarcode, Barcode, Bytes, DevFault, DriveNo, Nexus, NoMemory, SlotNo};
+use std::test::Fail;
 
 #[test]
 fn numbers_stay_in_their_ranges(rt: HostRuntime) {
@@ -84,4 +85,15 @@ fn bytes_come_back_as_they_went_in(rt: HostRuntime) {
     assert_eq!(rt; again.as_slice(), b"tape".as_slice());
     assert_eq!(rt; NoMemory, NoMemory);
     assert_eq!(rt; DevFault { failures: 2 }.failures, 2);
+}
+
+#[test]
+fn a_copy_of_any_length_is_made_where_memory_is_there(rt: HostRuntime) -> Result<(), Fail> {
+    let alloc = rt.alloc();
+    for length in [0usize, 1, 5, 17, 1_048_576] {
+        let bytes = vec![in alloc; 7u8; length]?;
+        let copy = Bytes::from_slice(alloc, bytes.as_slice())?;
+        assert_eq!(rt; copy.len(), length);
+    }
+    Ok(())
 }
