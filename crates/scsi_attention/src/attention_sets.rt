@@ -14,7 +14,7 @@ pub enum Attention {
     PowerOn,
     /// The medium may have been changed.
     MediumChanged,
-    /// Another host cleared or preempted the reservations.
+    /// Another host cleared the reservations.
     ReservationsPreempted,
     /// Another host removed this one's registration.
     RegistrationsPreempted,
