@@ -1,6 +1,6 @@
 //! Fuses, which choose the call of a device that fails.
 ghost use Rattle.std.specs.Prelude.{◌≡◌, ◌+◌, if◌then◌else◌};
-ghost use Rattle.volume_core.specs.Inner.Fuses.{Burns, times_blown};
+ghost use Rattle.volume_core.specs.Inner.Fuses.{Burns, fuse_of, times_blown};
 
 // A fuse lets so many calls pass, and blows in the next; a blown one lets all pass.
 #[derive(Clone, Copy)]
@@ -12,7 +12,7 @@ pub(crate) enum Fuse {
 
 impl Fuse {
     pub(crate) fn new(calls: Option<u32>) -> Self
-        ensures { times_blown result ≡ 0 }
+        ensures { result ≡ fuse_of calls }
     {
         match calls {
             Some(calls) => Fuse::After(calls),

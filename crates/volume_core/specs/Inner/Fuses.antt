@@ -1,7 +1,12 @@
 -- Fuses, which choose the call that fails.
-use Rattle.std.specs.Prelude.{◌≡◌, ℕ, zero, suc, Bool, true, false}
+use Rattle.std.specs.Prelude.{◌≡◌, ℕ, zero, suc, Bool, true, false, Option, None, Some}
 use Rattle.volume_core.specs.declared.fuses.Fuse.{Fuse}
 use Rattle.volume_core.specs.declared.fuses.Fuse.TheVariants.{Never, After, Blown}
+
+-- a fuse that blows in the call after so many, or never (own)
+abbrev pub fuse_of : Option ℕ → Fuse
+fuse_of None = Never
+fuse_of (Some calls) = After calls
 
 -- a fuse blows once at most (own)
 abbrev pub times_blown : Fuse → ℕ

@@ -54,6 +54,22 @@ const PARK_FAILS: [Row; 4] = [
     (Ask::Reopen, FAULT, 1, true, 2),
 ];
 
+// The first storing fails at once.
+const AT_ONCE: [Row; 2] = [
+    (Ask::Put(0, 5), Answer::Done, 1, false, 1),
+    (Ask::Settle, FAULT, 1, true, 1),
+];
+
+// A reading fails, and later a storing.
+const BOTH_FAIL: [Row; 6] = [
+    (Ask::Put(0, 5), Answer::Done, 1, false, 1),
+    (Ask::Settle, Answer::Done, 0, false, 1),
+    (Ask::Fetch(0, 5), FAULT, 0, true, 1),
+    (Ask::Reopen, Answer::Done, 0, false, 1),
+    (Ask::Put(1, 1), Answer::Done, 1, false, 2),
+    (Ask::Settle, FAULT, 1, true, 2),
+];
+
 // It is parked and woken then, and works again: without what was pending, or with it.
 const WITHOUT: [Row; 3] = [
     (Ask::Reopen, Answer::Done, 0, false, 1),
@@ -104,6 +120,14 @@ fn a_side_fills_and_a_device_fails(rt: HostRuntime) -> Result<(), Fail> {
         fetch: Some(1),
         ..no_fault
     };
+    let at_once = FaultPlan {
+        store: Some(0),
+        ..found
+    };
+    let both = FaultPlan {
+        fetch: Some(0),
+        ..found
+    };
     for (plan, room, rows, then) in [
         (no_fault, 50, FILLING.as_slice(), [].as_slice()),
         (no_frame, 1_000, SETTLE_FAILS.as_slice(), WITHOUT.as_slice()),
@@ -112,6 +136,8 @@ fn a_side_fills_and_a_device_fails(rt: HostRuntime) -> Result<(), Fail> {
         (found, 1_000, TURN_FAILS.as_slice(), WITH.as_slice()),
         (lost, 1_000, PARK_FAILS.as_slice(), WITHOUT.as_slice()),
         (reading, 1_000, FETCH_FAILS.as_slice(), [].as_slice()),
+        (at_once, 1_000, AT_ONCE.as_slice(), [].as_slice()),
+        (both, 1_000, BOTH_FAIL.as_slice(), [].as_slice()),
     ] {
         let mut medium = StagedMedium::new(alloc, &[4_096], room, plan)?;
         assert_rows(&rt, alloc, &mut medium, rows)?;
