@@ -1,16 +1,14 @@
 //! Each public call once, over a medium whose side has an end and whose device fails.
-mod sealed;
 mod tables;
 
 use crate::laws::{answers_are_determined, honest_steps, runs_append, served_hosts_run};
 use crate::{Drive, Fault};
 use scsi_sense::{Reply, Status};
-use sealed::SealedMedium;
 use std::alloc::Global;
 use std::process::Abort;
 use std::test::Fail;
 use tables::{
-    ARRIVALS, COURSES, Course, FULL, FULL_BY_1, FULL_BY_4096, LOADED, NO_MEDIUM, NO_MEMORY, NONE,
+    ARRIVALS, COURSES, Course, FULL, FULL_BY_1, FULL_BY_4096, LOADED, NO_MEMORY, NONE,
     NOTHING_LOADED, POWERED_ON, READ_5, READ_ERROR, Row, SOUND, TEST_UNIT_READY, WRITE_ERROR,
     Wanted,
 };
@@ -164,35 +162,4 @@ fn faults_are_reported(rt: HostRuntime) {
     served_hosts_run::<PlainMedium>();
     answers_are_determined();
     runs_append();
-}
-
-#[test]
-fn a_side_with_no_volume_is_not_want_of_memory(rt: HostRuntime) -> Result<(), Fail> {
-    let alloc = rt.alloc();
-    let nexus = Nexus::new(1).expect(&rt, "a nexus");
-    let mut drive = Drive::power_on(alloc, None).map_err(|_| NoMemory)?;
-    match drive.load(SealedMedium) {
-        Ok(()) => assert!(&rt; false, "it has no volume"),
-        Err((_, reply)) => assert_reply(&rt, &reply, READ_ERROR, 0),
-    }
-    assert!(&rt; drive.is_empty());
-    match Drive::power_on(alloc, Some(SealedMedium)) {
-        Ok(mut drive) => {
-            assert!(&rt; !drive.is_empty());
-            assert_reply(
-                &rt,
-                &drive.execute(nexus, TEST_UNIT_READY, &[]),
-                POWERED_ON,
-                1,
-            );
-            assert_reply(
-                &rt,
-                &drive.execute(nexus, TEST_UNIT_READY, &[]),
-                NO_MEDIUM,
-                2,
-            );
-        }
-        Err(_) => assert!(&rt; false, "it is switched on"),
-    }
-    Ok(())
 }
