@@ -144,8 +144,9 @@ fn of_attentions() -> [(Sense, u128); 6] {
 
 // The bytes 0 to 15, and the two behind them.
 fn spelled(sense: &Sense) -> (u128, u8, u8) {
-    let [head @ .., last_but_one, last] = sense.bytes();
-    (u128::from_be_bytes(head), last_but_one, last)
+    let [a, b, c, d, e, f, g, h, i, j, k, l, m, n, o, p, q, r] = sense.bytes();
+    let head = [a, b, c, d, e, f, g, h, i, j, k, l, m, n, o, p];
+    (u128::from_be_bytes(head), q, r)
 }
 
 #[test]
