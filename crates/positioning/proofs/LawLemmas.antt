@@ -2,7 +2,7 @@
 use Rattle.std.proofs.Common.{◌≡◌, ◌≤◌, ◌<◌, ◌+◌, ◌-◌, ◌⊎◌, ◌↔◌, ℕ, pos, negsuc, suc, zero, List, length, count_by, take, drop, inl, inr, refl, ap, sym, ◌∙◌, arith}
 use Rattle.std.proofs.lemmas.Bool.{cases_lt}
 use Rattle.volume_core.specs.declared.objects.Object.{Object}
-use Rattle.positioning.specs.declared.positions.SpaceCode.TheVariants.{Blocks, Filemarks, EndOfData}
+use Rattle.vtl_base.specs.declared.space_codes.SpaceCode.TheVariants.{Blocks, Filemarks, EndOfData}
 use Rattle.positioning.specs.declared.positions.Stop.{Stop}
 use Rattle.positioning.specs.declared.positions.Stop.TheVariants.{Done, AtMark, AtEnd, AtStart}
 use Rattle.positioning.specs.Motion.{IsMarkAt, IsBehindMark, AreBlocksFrom, AreBlocksBefore, IsGreatest, EndsForward, EndsBackward, ForwardOverMarks, BackwardOverMarks, Reaches, is_mark, marks_between}

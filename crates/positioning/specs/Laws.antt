@@ -1,8 +1,8 @@
 -- Laws of motions.
 use Rattle.std.specs.Prelude.{◌≡◌, ◌≤◌, ◌↔◌, ℕ, ℤ, pos, negsuc, List, length}
 use Rattle.volume_core.specs.declared.objects.Object.{Object}
-use Rattle.positioning.specs.declared.positions.SpaceCode.{SpaceCode}
-use Rattle.positioning.specs.declared.positions.SpaceCode.TheVariants.{Filemarks}
+use Rattle.vtl_base.specs.declared.space_codes.SpaceCode.{SpaceCode}
+use Rattle.vtl_base.specs.declared.space_codes.SpaceCode.TheVariants.{Filemarks}
 use Rattle.positioning.specs.declared.positions.Stop.{Stop}
 use Rattle.positioning.specs.declared.positions.Stop.TheVariants.{Done, AtMark, AtEnd, AtStart}
 use Rattle.positioning.specs.Motion.{LocatesTo, SpacesTo}

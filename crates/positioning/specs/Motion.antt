@@ -6,8 +6,8 @@ use Rattle.volume_core.specs.declared.objects.Object.TheVariants.{Block, Mark}
 use Rattle.volume_core.specs.declared.objects.Kind.TheVariants as Kinds
 use Rattle.volume_core.specs.Volume.{Part, count_of, kind_in}
 use Rattle.positioning.specs.declared.positions.Pos.{Pos}
-use Rattle.positioning.specs.declared.positions.SpaceCode.{SpaceCode}
-use Rattle.positioning.specs.declared.positions.SpaceCode.TheVariants.{Blocks, Filemarks, EndOfData}
+use Rattle.vtl_base.specs.declared.space_codes.SpaceCode.{SpaceCode}
+use Rattle.vtl_base.specs.declared.space_codes.SpaceCode.TheVariants.{Blocks, Filemarks, EndOfData}
 use Rattle.positioning.specs.declared.positions.Stop.{Stop}
 use Rattle.positioning.specs.declared.positions.Stop.TheVariants.{Done, AtMark, AtEnd, AtStart}
 

@@ -10,5 +10,6 @@ mod tests;
 mod walks;
 
 pub use motions::{locate, space};
-pub use positions::{Moved, Pos, SpaceCode, Stop};
-pub use reports::report;
+pub use positions::{Moved, Pos, Stop};
+pub use reports::{is_near_end, report};
+pub use vtl_base::SpaceCode;

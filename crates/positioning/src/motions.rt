@@ -4,10 +4,10 @@ ghost use Rattle.volume_core.specs.Volume.{count_of, objects_of};
 ghost use Rattle.volume_core.specs.Medium.{volume_of};
 ghost use Rattle.positioning.specs.Motion.{BackwardOverBlocks, ForwardOverBlocks, IsOnTape, LocatesTo, BackwardOverMarks, ForwardOverMarks, SpacesTo};
 
-use crate::positions::{Moved, Pos, SpaceCode, Stop};
+use crate::positions::{Moved, Pos, Stop};
 use crate::walks::{backward, forward};
 use volume_core::Catalog;
-use vtl_base::ObjNo;
+use vtl_base::{ObjNo, SpaceCode};
 
 fn moved(from: Pos, obj: ObjNo, stop: Stop, left: u32) -> Moved
     ensures part { result.pos.part ≡ from.part }

@@ -9,15 +9,6 @@ pub struct Pos {
     pub obj: ObjNo,
 }
 
-/// What SPACE counts (SSC-4, SPACE(6)).
-#[derive(Clone, Copy, PartialEq, Eq, Debug)]
-pub enum SpaceCode {
-    Blocks,
-    Filemarks,
-    /// Nothing: it goes to the end of data.
-    EndOfData,
-}
-
 /// Why a motion ended where it did (SSC-4, SPACE(6) and LOCATE(10)).
 #[derive(Clone, Copy, PartialEq, Eq, Debug)]
 pub enum Stop {

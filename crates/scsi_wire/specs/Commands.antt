@@ -1,12 +1,14 @@
 -- Command descriptor blocks: the fields of each command, read from named bytes.
-use Rattle.std.specs.Prelude.{ℕ, List, length, slice_index, drop, Option, None, Some, Result, Ok, Err, Bool, nat_lt, ◌==◌, ◌||◌, if◌then◌else◌}
+use Rattle.std.specs.Prelude.{ℕ, ℤ, List, length, slice_index, drop, Option, None, Some, Result, Ok, Err, Bool, nat_lt, not, ◌%◌, ◌==◌, ◌||◌, if◌then◌else◌}
 use Rattle.std.specs.Int.{bit_at}
-use Rattle.byteorder.specs.Endian.{big_number}
+use Rattle.byteorder.specs.Endian.{big_number, twos_complement}
 use Rattle.vtl_base.specs.declared.limits.TheConstants.{MAX_BLOCK}
+use Rattle.vtl_base.specs.declared.space_codes.SpaceCode.{SpaceCode}
+use Rattle.vtl_base.specs.declared.space_codes.SpaceCode.TheVariants as counts
 use Rattle.scsi_wire.specs.declared.opcodes.Opcode.{Opcode}
 use Rattle.scsi_wire.specs.declared.opcodes.Opcode.TheVariants as code
 use Rattle.scsi_wire.specs.declared.commands.Command.{Command}
-use Rattle.scsi_wire.specs.declared.commands.Command.TheVariants.{TestUnitReady, Rewind, Read, Write, WriteFilemarks}
+use Rattle.scsi_wire.specs.declared.commands.Command.TheVariants.{TestUnitReady, Rewind, RequestSense, ReadBlockLimits, Read, Write, WriteFilemarks, Space, Inquiry, Erase, Locate, ReadPosition}
 use Rattle.scsi_sense.specs.declared.sense_data.Sense.{Sense}
 use Rattle.scsi_wire.specs.Opcodes.{opcode_of, block_length}
 use Rattle.scsi_sense.specs.Senses.{invalid_operation_code, invalid_field}
@@ -31,28 +33,107 @@ is_immediate cdb = is_bit_set (slice_index cdb 1) 0
 abbrev pub transfer_length : List ℕ → ℕ
 transfer_length cdb = big_number 3 (drop 2 cdb)
 
+-- DESC: byte 1 bit 0 (SPC-4, REQUEST SENSE)
+abbrev pub asks_descriptors : List ℕ → Bool
+asks_descriptors cdb = is_bit_set (slice_index cdb 1) 0
+
+-- ALLOCATION LENGTH of one byte: byte 4 (SPC-4, REQUEST SENSE)
+abbrev pub short_allocation : List ℕ → ℕ
+short_allocation cdb = slice_index cdb 4
+
+-- MLOI: byte 1 bit 0 (SSC-4, READ BLOCK LIMITS)
+abbrev pub asks_object_limit : List ℕ → Bool
+asks_object_limit cdb = is_bit_set (slice_index cdb 1) 0
+
+-- EVPD: byte 1 bit 0 (SPC-4, INQUIRY)
+abbrev pub asks_product_page : List ℕ → Bool
+asks_product_page cdb = is_bit_set (slice_index cdb 1) 0
+
+-- PAGE CODE: byte 2 (SPC-4, INQUIRY)
+abbrev pub page_code : List ℕ → ℕ
+page_code cdb = slice_index cdb 2
+
+-- ALLOCATION LENGTH: bytes 3 and 4, the highest first (SPC-4, INQUIRY)
+abbrev pub allocation_length : List ℕ → ℕ
+allocation_length cdb = big_number 2 (drop 3 cdb)
+
+-- CODE: byte 1 bits 3 to 0; 0 is blocks, 1 filemarks, 3 the end of data, and no other is known
+-- (SSC-4, SPACE(6); that 2 and 4 are not known, own)
+abbrev pub space_code : ℕ → Option SpaceCode
+space_code code =
+    if code == 0 then Some counts.Blocks
+    else (if code == 1 then Some counts.Filemarks
+    else (if code == 3 then Some counts.EndOfData
+    else None))
+
+-- COUNT: bytes 2 to 4, the highest first, in two's complement; below 0 it is backward (SSC-4, SPACE(6))
+abbrev pub space_count : List ℕ → ℤ
+space_count cdb = twos_complement 3 (big_number 3 (drop 2 cdb))
+
+-- SPACE with a code that is known (SSC-4, SPACE(6))
+abbrev pub space_of : Option SpaceCode → ℤ → Option Command
+space_of None count = None
+space_of (Some code) count = Some (Space code count)
+
+-- LOGICAL OBJECT IDENTIFIER: bytes 3 to 6, the highest first (SSC-4, LOCATE(10))
+abbrev pub object_identifier : List ℕ → ℕ
+object_identifier cdb = big_number 4 (drop 3 cdb)
+
+-- CP: byte 1 bit 1 (SSC-4, LOCATE(10))
+abbrev pub changes_partition : List ℕ → Bool
+changes_partition cdb = is_bit_set (slice_index cdb 1) 1
+
+-- PARTITION: byte 8, which counts where CP is set (SSC-4, LOCATE(10))
+abbrev pub partition_asked : List ℕ → Option ℕ
+partition_asked cdb = if changes_partition cdb then Some (slice_index cdb 8) else None
+
+-- SERVICE ACTION: byte 1 bits 4 to 0; 0 is the short form (SSC-4, READ POSITION)
+abbrev pub service_action : List ℕ → ℕ
+service_action cdb = slice_index cdb 1 % 32
+
 -- the command of a block of the right length, where its fields are right; nothing else of the block counts
--- (SSC-4; own that FIXED is refused)
+-- (SPC-4, SSC-4; own that FIXED, DESC, MLOI, EVPD, pages and long forms are refused)
 abbrev pub command_by_fields : Opcode → List ℕ → Option Command
 command_by_fields code.TestUnitReady cdb = Some TestUnitReady
 command_by_fields code.Rewind cdb = Some Rewind
+command_by_fields code.RequestSense cdb =
+    if asks_descriptors cdb then None else Some (RequestSense (short_allocation cdb))
+command_by_fields code.ReadBlockLimits cdb = if asks_object_limit cdb then None else Some ReadBlockLimits
 command_by_fields code.Read cdb =
     if is_fixed cdb then None else Some (Read (transfer_length cdb) (suppresses_length cdb))
 command_by_fields code.Write cdb =
     if is_fixed cdb || nat_lt MAX_BLOCK (transfer_length cdb) then None else Some (Write (transfer_length cdb))
 command_by_fields code.WriteFilemarks cdb = Some (WriteFilemarks (transfer_length cdb) (is_immediate cdb))
+command_by_fields code.Space cdb = space_of (space_code (slice_index cdb 1 % 16)) (space_count cdb)
+command_by_fields code.Inquiry cdb =
+    if asks_product_page cdb || not (page_code cdb == 0) then None else Some (Inquiry (allocation_length cdb))
+command_by_fields code.Erase cdb = Some Erase
+command_by_fields code.Locate cdb = Some (Locate (object_identifier cdb) (partition_asked cdb))
+command_by_fields code.ReadPosition cdb = if service_action cdb == 0 then Some ReadPosition else None
 
 -- the command of a block, where its length and its fields are right (own)
 abbrev pub command_of : Opcode → List ℕ → Option Command
 command_of opcode cdb = if length cdb == block_length opcode then command_by_fields opcode cdb else None
 
--- how many bytes a host sends with a command (SSC-4, WRITE(6))
+-- the operation code of a command (SPC-4, SSC-4)
+abbrev pub code_of : Command → Opcode
+code_of TestUnitReady = code.TestUnitReady
+code_of Rewind = code.Rewind
+code_of (RequestSense length) = code.RequestSense
+code_of ReadBlockLimits = code.ReadBlockLimits
+code_of (Read length suppress) = code.Read
+code_of (Write length) = code.Write
+code_of (WriteFilemarks count immediate) = code.WriteFilemarks
+code_of (Space counted count) = code.Space
+code_of (Inquiry length) = code.Inquiry
+code_of Erase = code.Erase
+code_of (Locate object part) = code.Locate
+code_of ReadPosition = code.ReadPosition
+
+-- how many bytes a host sends with a command: a WRITE's block, and no others (SSC-4, WRITE(6))
 abbrev pub sent_length : Command → ℕ
-sent_length TestUnitReady = 0
-sent_length Rewind = 0
-sent_length (Read length suppress) = 0
 sent_length (Write length) = length
-sent_length (WriteFilemarks count immediate) = 0
+sent_length _ = 0
 
 -- a command, or the refusal where there is none (SPC-4)
 abbrev pub checked : Option Command → Result Command Sense

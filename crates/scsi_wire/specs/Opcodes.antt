@@ -1,7 +1,7 @@
 -- The operation codes, in one table.
 use Rattle.std.specs.Prelude.{ℕ, Bool, true, false, List, [], ◌∷◌, Option, None, option_map, find, ◌==◌}
 use Rattle.scsi_wire.specs.declared.opcodes.Opcode.{Opcode}
-use Rattle.scsi_wire.specs.declared.opcodes.Opcode.TheVariants.{TestUnitReady, Rewind, Read, Write, WriteFilemarks}
+use Rattle.scsi_wire.specs.declared.opcodes.Opcode.TheVariants.{TestUnitReady, Rewind, RequestSense, ReadBlockLimits, Read, Write, WriteFilemarks, Space, Inquiry, Erase, Locate, ReadPosition}
 use Rattle.scsi_wire.specs.declared.opcodes.Row.{Row}
 
 -- a row: code, bytes of its blocks, exempt from all checks of state, stopped by a reservation, needs a medium (own)
@@ -18,13 +18,22 @@ new_row code bytes exempt stopped on_medium = record {
 abbrev pub row_of : Opcode → Row
 row_of TestUnitReady = new_row 0x00 6 false false true
 row_of Rewind = new_row 0x01 6 false true true
+row_of RequestSense = new_row 0x03 6 true false false
+row_of ReadBlockLimits = new_row 0x05 6 false false false
 row_of Read = new_row 0x08 6 false true true
 row_of Write = new_row 0x0a 6 false true true
 row_of WriteFilemarks = new_row 0x10 6 false true true
+row_of Space = new_row 0x11 6 false true true
+row_of Inquiry = new_row 0x12 6 true false false
+row_of Erase = new_row 0x19 6 false true true
+row_of Locate = new_row 0x2b 10 false true true
+row_of ReadPosition = new_row 0x34 10 false false true
 
 -- the codes that are known (own)
 abbrev pub opcodes : List Opcode
-opcodes = TestUnitReady ∷ Rewind ∷ Read ∷ Write ∷ WriteFilemarks ∷ []
+opcodes =
+    TestUnitReady ∷ Rewind ∷ RequestSense ∷ ReadBlockLimits ∷ Read ∷ Write ∷ WriteFilemarks ∷ Space ∷ Inquiry ∷ Erase
+    ∷ Locate ∷ ReadPosition ∷ []
 
 -- the code that a byte is (own)
 abbrev pub opcode_at : ℕ → Option Opcode

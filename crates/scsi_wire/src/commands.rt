@@ -1,46 +1,44 @@
 //! Command descriptor blocks.
-ghost use Rattle.std.specs.Prelude.{◌≡◌, ◌<◌, ◌≤◌, IfSome, length};
-ghost use Rattle.scsi_wire.specs.Commands.{command_of, decoded, command_by_fields, is_bit_set, sent_length, transfer_length};
-ghost use Rattle.scsi_wire.specs.Opcodes.{block_length};
+ghost use Rattle.std.specs.Prelude.{◌≡◌, ◌≤◌, IfSome};
+ghost use Rattle.scsi_wire.specs.Commands.{code_of, command_of, decoded, sent_length};
+ghost use Rattle.vtl_base.specs.declared.limits.TheConstants.{MAX_BLOCK};
 
+use crate::fields;
 use crate::opcodes::Opcode;
-use byteorder::{BigEndian, ByteOrder};
 use scsi_sense::Sense;
-use vtl_base::limits::MAX_BLOCK;
+use vtl_base::{ObjNo, PartNo, SpaceCode};
 
-/// A command with its fields (SSC-4). Lengths are in bytes.
+/// A command with its fields (SPC-4, SSC-4). Lengths are in bytes.
 #[derive(Clone, Copy, PartialEq, Eq, Debug)]
 pub enum Command {
     TestUnitReady,
     Rewind,
+    /// `length` is the room that the host has for sense data.
+    RequestSense { length: u8 },
+    ReadBlockLimits,
     /// `suppress_length` is SILI: an incorrect length is not reported.
     Read { length: u32, suppress_length: bool },
     Write { length: u32 },
     /// `immediate` is IMMED: the status does not wait until all is stored.
     WriteFilemarks { count: u32, immediate: bool },
+    /// A `count` below 0 is backward, -8,388,608 to 8,388,607.
+    Space { code: SpaceCode, count: i32 },
+    /// `length` is the room that the host has for the data.
+    Inquiry { length: u16 },
+    Erase,
+    /// `part` is the partition where another is asked for (CP).
+    Locate { object: ObjNo, part: Option<PartNo> },
+    ReadPosition,
 }
 
 /// A command descriptor block, as a host sends it.
 pub struct Cdb;
 
-fn is_bit_set(byte: u8, bit: u32) -> bool
-    requires { bit < 8 }
-    ensures { result ≡ is_bit_set byte bit }
-{
-    byte >> bit & 1 == 1
-}
-
-fn transfer_length(cdb: &[u8]) -> u32
-    requires { 5 ≤ length cdb.now }
-    ensures { result ≡ transfer_length cdb.now }
-{
-    BigEndian::read_u24(&cdb[2..])
-}
-
 impl Command {
     /// The command of a block with this operation code, where its length and its fields are right.
     pub fn of(opcode: Opcode, cdb: &[u8]) -> Option<Self>
         ensures command { result ≡ command_of opcode cdb.now }
+        ensures code { IfSome result (λ command. code_of command ≡ opcode) }
         ensures sent { IfSome result (λ command. sent_length command ≤ MAX_BLOCK) }
     {
         if cdb.len() != opcode.block_length() {
@@ -49,12 +47,36 @@ impl Command {
         match opcode {
             Opcode::TestUnitReady => Some(Command::TestUnitReady),
             Opcode::Rewind => Some(Command::Rewind),
-            Opcode::Read => Command::read(cdb),
-            Opcode::Write => Command::write(cdb),
-            Opcode::WriteFilemarks => Some(Command::WriteFilemarks {
-                count: transfer_length(cdb),
-                immediate: is_bit_set(cdb[1], 0),
-            }),
+            Opcode::RequestSense => fields::request_sense(cdb),
+            Opcode::ReadBlockLimits => fields::read_block_limits(cdb),
+            Opcode::Read => fields::read(cdb),
+            Opcode::Write => fields::write(cdb),
+            Opcode::WriteFilemarks => Some(fields::write_filemarks(cdb)),
+            Opcode::Space => fields::space(cdb),
+            Opcode::Inquiry => fields::inquiry(cdb),
+            Opcode::Erase => Some(Command::Erase),
+            Opcode::Locate => Some(fields::locate(cdb)),
+            Opcode::ReadPosition => fields::read_position(cdb),
+        }
+    }
+
+    /// Its operation code.
+    pub fn opcode(self) -> Opcode
+        ensures { result ≡ code_of self }
+    {
+        match self {
+            Command::TestUnitReady => Opcode::TestUnitReady,
+            Command::Rewind => Opcode::Rewind,
+            Command::RequestSense { .. } => Opcode::RequestSense,
+            Command::ReadBlockLimits => Opcode::ReadBlockLimits,
+            Command::Read { .. } => Opcode::Read,
+            Command::Write { .. } => Opcode::Write,
+            Command::WriteFilemarks { .. } => Opcode::WriteFilemarks,
+            Command::Space { .. } => Opcode::Space,
+            Command::Inquiry { .. } => Opcode::Inquiry,
+            Command::Erase => Opcode::Erase,
+            Command::Locate { .. } => Opcode::Locate,
+            Command::ReadPosition => Opcode::ReadPosition,
         }
     }
 
@@ -64,35 +86,8 @@ impl Command {
     {
         match self {
             Command::Write { length } => length,
-            Command::TestUnitReady
-            | Command::Rewind
-            | Command::Read { .. }
-            | Command::WriteFilemarks { .. } => 0,
+            _ => 0,
         }
-    }
-
-    fn read(cdb: &[u8]) -> Option<Self>
-        requires { 5 ≤ length cdb.now }
-        ensures { result ≡ command_by_fields Opcode.Read cdb.now }
-    {
-        if is_bit_set(cdb[1], 0) {
-            return None;
-        }
-        Some(Command::Read {
-            length: transfer_length(cdb),
-            suppress_length: is_bit_set(cdb[1], 1),
-        })
-    }
-
-    fn write(cdb: &[u8]) -> Option<Self>
-        requires { 5 ≤ length cdb.now }
-        ensures { result ≡ command_by_fields Opcode.Write cdb.now }
-    {
-        let length = transfer_length(cdb);
-        if is_bit_set(cdb[1], 0) || length > MAX_BLOCK {
-            return None;
-        }
-        Some(Command::Write { length })
     }
 }
 

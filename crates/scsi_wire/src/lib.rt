@@ -1,11 +1,14 @@
 //! Command descriptor blocks and operation codes: what a host sends to a drive.
 #![tactic(auto)]
 
+pub mod answers;
 pub mod commands;
+mod fields;
 pub mod laws;
 pub mod opcodes;
 #[cfg(test)]
 mod tests;
 
+pub use answers::{block_limits, cut_to, inquiry_data};
 pub use commands::{Cdb, Command};
 pub use opcodes::{Opcode, length_of};

@@ -7,9 +7,16 @@ ghost use Rattle.scsi_wire.specs.Opcodes.{new_row, row_of, opcode_at, opcode_of,
 pub enum Opcode {
     TestUnitReady,
     Rewind,
+    RequestSense,
+    ReadBlockLimits,
     Read,
     Write,
     WriteFilemarks,
+    Space,
+    Inquiry,
+    Erase,
+    Locate,
+    ReadPosition,
 }
 
 /// What the table says of a code.
@@ -22,12 +29,19 @@ struct Row {
     on_medium: bool,
 }
 
-const KNOWN: [Opcode; 5] = [
+const KNOWN: [Opcode; 12] = [
     Opcode::TestUnitReady,
     Opcode::Rewind,
+    Opcode::RequestSense,
+    Opcode::ReadBlockLimits,
     Opcode::Read,
     Opcode::Write,
     Opcode::WriteFilemarks,
+    Opcode::Space,
+    Opcode::Inquiry,
+    Opcode::Erase,
+    Opcode::Locate,
+    Opcode::ReadPosition,
 ];
 
 impl Row {
@@ -98,9 +112,16 @@ impl Opcode {
         match self {
             Opcode::TestUnitReady => Row::new(0x00, 6, false, false, true),
             Opcode::Rewind => Row::new(0x01, 6, false, true, true),
+            Opcode::RequestSense => Row::new(0x03, 6, true, false, false),
+            Opcode::ReadBlockLimits => Row::new(0x05, 6, false, false, false),
             Opcode::Read => Row::new(0x08, 6, false, true, true),
             Opcode::Write => Row::new(0x0a, 6, false, true, true),
             Opcode::WriteFilemarks => Row::new(0x10, 6, false, true, true),
+            Opcode::Space => Row::new(0x11, 6, false, true, true),
+            Opcode::Inquiry => Row::new(0x12, 6, true, false, false),
+            Opcode::Erase => Row::new(0x19, 6, false, true, true),
+            Opcode::Locate => Row::new(0x2b, 10, false, true, true),
+            Opcode::ReadPosition => Row::new(0x34, 10, false, false, true),
         }
     }
 }

@@ -7,6 +7,7 @@ pub mod faults;
 pub mod laws;
 pub mod limits;
 pub mod numbers;
+pub mod space_codes;
 #[cfg(test)]
 mod tests;
 
@@ -14,3 +15,4 @@ pub use barcode::{BadBarcode, Barcode};
 pub use bytes::Bytes;
 pub use faults::{DevFault, NoMemory};
 pub use numbers::{DriveNo, Nexus, ObjNo, PartNo, SlotNo};
+pub use space_codes::SpaceCode;

@@ -1,0 +1,145 @@
+//! The fields of command descriptor blocks, command by command. Each block has the length of its code.
+ghost use Rattle.std.specs.Prelude.{◌≡◌, ◌<◌, ◌≤◌, Some, length};
+ghost use Rattle.scsi_wire.specs.Commands.{command_by_fields, is_bit_set, space_code, transfer_length};
+
+use crate::commands::Command;
+use crate::opcodes::Opcode;
+use byteorder::{BigEndian, ByteOrder};
+use vtl_base::SpaceCode;
+use vtl_base::limits::MAX_BLOCK;
+
+fn is_bit_set(byte: u8, bit: u32) -> bool
+    requires { bit < 8 }
+    ensures { result ≡ is_bit_set byte bit }
+{
+    byte >> bit & 1 == 1
+}
+
+fn transfer_length(cdb: &[u8]) -> u32
+    requires { 5 ≤ length cdb.now }
+    ensures { result ≡ transfer_length cdb.now }
+{
+    BigEndian::read_u24(&cdb[2..])
+}
+
+/// REQUEST SENSE: DESC is refused.
+pub fn request_sense(cdb: &[u8]) -> Option<Command>
+    requires { 5 ≤ length cdb.now }
+    ensures { result ≡ command_by_fields Opcode.RequestSense cdb.now }
+{
+    if is_bit_set(cdb[1], 0) {
+        return None;
+    }
+    Some(Command::RequestSense { length: cdb[4] })
+}
+
+/// READ BLOCK LIMITS: MLOI is refused.
+pub fn read_block_limits(cdb: &[u8]) -> Option<Command>
+    requires { 2 ≤ length cdb.now }
+    ensures { result ≡ command_by_fields Opcode.ReadBlockLimits cdb.now }
+{
+    if is_bit_set(cdb[1], 0) {
+        return None;
+    }
+    Some(Command::ReadBlockLimits)
+}
+
+/// READ: FIXED is refused.
+pub fn read(cdb: &[u8]) -> Option<Command>
+    requires { 5 ≤ length cdb.now }
+    ensures { result ≡ command_by_fields Opcode.Read cdb.now }
+{
+    if is_bit_set(cdb[1], 0) {
+        return None;
+    }
+    Some(Command::Read {
+        length: transfer_length(cdb),
+        suppress_length: is_bit_set(cdb[1], 1),
+    })
+}
+
+/// WRITE: FIXED is refused, and a block that is too long.
+pub fn write(cdb: &[u8]) -> Option<Command>
+    requires { 5 ≤ length cdb.now }
+    ensures { result ≡ command_by_fields Opcode.Write cdb.now }
+{
+    let length = transfer_length(cdb);
+    if is_bit_set(cdb[1], 0) || length > MAX_BLOCK {
+        return None;
+    }
+    Some(Command::Write { length })
+}
+
+/// WRITE FILEMARKS.
+pub fn write_filemarks(cdb: &[u8]) -> Command
+    requires { 5 ≤ length cdb.now }
+    ensures { Some result ≡ command_by_fields Opcode.WriteFilemarks cdb.now }
+{
+    Command::WriteFilemarks {
+        count: transfer_length(cdb),
+        immediate: is_bit_set(cdb[1], 0),
+    }
+}
+
+/// SPACE: a code that is not known is refused.
+pub fn space(cdb: &[u8]) -> Option<Command>
+    requires { 5 ≤ length cdb.now }
+    ensures { result ≡ command_by_fields Opcode.Space cdb.now }
+{
+    let code = space_code(cdb[1] % 16)?;
+    Some(Command::Space {
+        code,
+        count: BigEndian::read_i24(&cdb[2..]),
+    })
+}
+
+fn space_code(code: u8) -> Option<SpaceCode>
+    ensures { result ≡ space_code code }
+{
+    match code {
+        0 => Some(SpaceCode::Blocks),
+        1 => Some(SpaceCode::Filemarks),
+        3 => Some(SpaceCode::EndOfData),
+        _ => None,
+    }
+}
+
+/// INQUIRY: product pages are refused.
+pub fn inquiry(cdb: &[u8]) -> Option<Command>
+    requires { 5 ≤ length cdb.now }
+    ensures { result ≡ command_by_fields Opcode.Inquiry cdb.now }
+{
+    if is_bit_set(cdb[1], 0) || cdb[2] != 0 {
+        return None;
+    }
+    Some(Command::Inquiry {
+        length: BigEndian::read_u16(&cdb[3..]),
+    })
+}
+
+/// LOCATE.
+pub fn locate(cdb: &[u8]) -> Command
+    requires { 9 ≤ length cdb.now }
+    ensures { Some result ≡ command_by_fields Opcode.Locate cdb.now }
+{
+    let part = if is_bit_set(cdb[1], 1) {
+        Some(cdb[8])
+    } else {
+        None
+    };
+    Command::Locate {
+        object: BigEndian::read_u32(&cdb[3..]),
+        part,
+    }
+}
+
+/// READ POSITION: every form but the short one is refused.
+pub fn read_position(cdb: &[u8]) -> Option<Command>
+    requires { 2 ≤ length cdb.now }
+    ensures { result ≡ command_by_fields Opcode.ReadPosition cdb.now }
+{
+    if cdb[1] % 32 != 0 {
+        return None;
+    }
+    Some(Command::ReadPosition)
+}
