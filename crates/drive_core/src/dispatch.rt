@@ -10,10 +10,11 @@ ghost use Rattle.drive_core.specs.Work.{MediumWork};
 
 use crate::erases::erase;
 use crate::faults::Fault;
+use crate::locates::locate;
 use crate::marks::write_marks;
-use crate::motions::{locate, space};
 use crate::reads::read;
 use crate::rewinds::rewind;
+use crate::spaces::space;
 use crate::telling::read_position;
 use crate::writes::write;
 use positioning::Pos;

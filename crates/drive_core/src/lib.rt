@@ -9,11 +9,12 @@ pub mod drives;
 mod erases;
 pub mod faults;
 pub mod laws;
+mod locates;
 mod marks;
-mod motions;
 mod opening;
 mod reads;
 mod rewinds;
+mod spaces;
 mod storing;
 mod telling;
 #[cfg(test)]

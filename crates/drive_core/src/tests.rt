@@ -1,8 +1,13 @@
 //! Each public call once, over a medium whose side has an end and whose device fails.
+mod motions;
 mod tables;
 
 use crate::laws::{answers_are_determined, honest_steps, runs_append, served_hosts_run};
 use crate::{Drive, Fault};
+use motions::{
+    AFTER_A_FAULT, AFTER_A_LATE_FAULT, AFTER_ANOTHER, ASKED, ASKED_EMPTY, ASKED_LOADED,
+    BEFORE_A_FAULT, ERASURES, MOVES, NO_ERASURE, STORED_FIRST,
+};
 use scsi_sense::{Reply, Status};
 use std::alloc::Global;
 use std::process::Abort;
@@ -139,6 +144,63 @@ fn a_medium_comes_into_a_drive(rt: HostRuntime) -> Result<(), Fail> {
         let mut drive = Drive::power_on(alloc, Some(medium)).map_err(|_| NoMemory)?;
         let rows: [Row; 2] = [(1, READ_5, NONE, POWERED_ON), (1, READ_5, NONE, powered_on)];
         assert_rows(&rt, &mut drive, &rows);
+    }
+    Ok(())
+}
+
+fn powered(
+    alloc: Global,
+    capacities: &[u64],
+    room: u64,
+    store: Option<u32>,
+) -> Result<Drive<StagedMedium>, Fail> {
+    let plan = FaultPlan { store, ..SOUND };
+    let medium = StagedMedium::new(alloc, capacities, room, plan)?;
+    Ok(Drive::power_on(alloc, Some(medium)).map_err(|_| NoMemory)?)
+}
+
+// A medium comes into the empty drive, and then two conditions are due for a host.
+fn load_and_ask(rt: &impl Abort, drive: &mut Drive<StagedMedium>, medium: StagedMedium) {
+    if !drive.is_empty() {
+        assert!(rt; false, "not empty");
+        return;
+    }
+    assert!(rt; drive.load(medium).is_ok());
+    assert_rows(rt, drive, &ASKED_LOADED);
+}
+
+#[test]
+fn a_drive_moves_and_tells(rt: HostRuntime) -> Result<(), Fail> {
+    let alloc = rt.alloc();
+    for (rows, room) in [
+        (MOVES.as_slice(), 1_000),
+        (ERASURES.as_slice(), 1_000),
+        (NO_ERASURE.as_slice(), 20),
+        (ASKED.as_slice(), 1_000),
+    ] {
+        let mut drive = powered(alloc, &[4_096, 4_111], room, None)?;
+        assert_rows(&rt, &mut drive, rows);
+    }
+    let mut drive = Drive::power_on(alloc, None).map_err(|_| NoMemory)?;
+    assert_rows(&rt, &mut drive, &ASKED_EMPTY);
+    load_and_ask(&rt, &mut drive, written(alloc, SOUND, true, true)?);
+    Ok(())
+}
+
+#[test]
+fn what_is_pending_is_stored_first(rt: HostRuntime) -> Result<(), Fail> {
+    let alloc = rt.alloc();
+    for cdb in STORED_FIRST {
+        let mut drive = powered(alloc, &[4_096], 1_000, Some(0))?;
+        assert_rows(&rt, &mut drive, &BEFORE_A_FAULT);
+        assert_rows(&rt, &mut drive, &[(1, cdb, NONE, WRITE_ERROR)]);
+        assert_rows(&rt, &mut drive, &AFTER_A_FAULT);
+    }
+    for rows in [AFTER_A_LATE_FAULT.as_slice(), AFTER_ANOTHER.as_slice()] {
+        let mut drive = powered(alloc, &[4_096], 1_000, Some(0))?;
+        assert_rows(&rt, &mut drive, &BEFORE_A_FAULT);
+        assert_eq!(&rt; drive.turn(), Turn::Faulted);
+        assert_rows(&rt, &mut drive, rows);
     }
     Ok(())
 }
