@@ -148,14 +148,11 @@ fn a_medium_comes_into_a_drive(rt: HostRuntime) -> Result<(), Fail> {
     Ok(())
 }
 
-fn powered(
-    alloc: Global,
-    capacities: &[u64],
-    room: u64,
-    store: Option<u32>,
-) -> Result<Drive<StagedMedium>, Fail> {
+// A drive with two partitions, whose side has such room, and whose device fails as it stores for
+// the time of this number.
+fn powered(alloc: Global, room: u64, store: Option<u32>) -> Result<Drive<StagedMedium>, Fail> {
     let plan = FaultPlan { store, ..SOUND };
-    let medium = StagedMedium::new(alloc, capacities, room, plan)?;
+    let medium = StagedMedium::new(alloc, &[4_096, 4_111], room, plan)?;
     Ok(Drive::power_on(alloc, Some(medium)).map_err(|_| NoMemory)?)
 }
 
@@ -178,7 +175,7 @@ fn a_drive_moves_and_tells(rt: HostRuntime) -> Result<(), Fail> {
         (NO_ERASURE.as_slice(), 20),
         (ASKED.as_slice(), 1_000),
     ] {
-        let mut drive = powered(alloc, &[4_096, 4_111], room, None)?;
+        let mut drive = powered(alloc, room, None)?;
         assert_rows(&rt, &mut drive, rows);
     }
     let mut drive = Drive::power_on(alloc, None).map_err(|_| NoMemory)?;
@@ -191,13 +188,13 @@ fn a_drive_moves_and_tells(rt: HostRuntime) -> Result<(), Fail> {
 fn what_is_pending_is_stored_first(rt: HostRuntime) -> Result<(), Fail> {
     let alloc = rt.alloc();
     for cdb in STORED_FIRST {
-        let mut drive = powered(alloc, &[4_096], 1_000, Some(0))?;
+        let mut drive = powered(alloc, 1_000, Some(0))?;
         assert_rows(&rt, &mut drive, &BEFORE_A_FAULT);
         assert_rows(&rt, &mut drive, &[(1, cdb, NONE, WRITE_ERROR)]);
         assert_rows(&rt, &mut drive, &AFTER_A_FAULT);
     }
     for rows in [AFTER_A_LATE_FAULT.as_slice(), AFTER_ANOTHER.as_slice()] {
-        let mut drive = powered(alloc, &[4_096], 1_000, Some(0))?;
+        let mut drive = powered(alloc, 1_000, Some(0))?;
         assert_rows(&rt, &mut drive, &BEFORE_A_FAULT);
         assert_eq!(&rt; drive.turn(), Turn::Faulted);
         assert_rows(&rt, &mut drive, rows);
