@@ -1,5 +1,5 @@
 -- What a change at the position makes of a medium, and how it is answered.
-use Rattle.std.proofs.Common.{◌≡◌, ◌<◌, ◌≤◌, ◌+◌, ◌&&◌, ◌++◌, if◌then◌else◌, ℕ, zero, suc, List, [], ◌∷◌, Option, Some, None, Result, Ok, Err, Bool, true, false, length, take, sum_by, nat_lt, nat_le, slice_get, slice_set, refl, arith, sym, ◌∙◌, ap, inl, inr, length-append}
+use Rattle.std.proofs.Common.{◌≡◌, ◌<◌, ◌≤◌, ◌+◌, ◌&&◌, ◌++◌, if◌then◌else◌, ℕ, zero, suc, List, [], ◌∷◌, Option, Some, None, Result, Ok, Err, Bool, true, false, length, take, sum_by, nat_lt, nat_le, slice_get, slice_set, refl, arith, sym, ◌∙◌, ap, inl, inr, length-append, append-nil}
 use Rattle.std.proofs.lemmas.Bool.Decides.{nat_tests}
 use Rattle.std.proofs.lemmas.List.{length-take-le}
 use Rattle.std.proofs.lemmas.List.Sums.{sum_by_push}
@@ -14,11 +14,14 @@ use Rattle.volume_core.specs.declared.objects.Object.{Object}
 use Rattle.volume_core.specs.declared.objects.Object.TheVariants.{Block}
 use Rattle.volume_core.specs.Volume.{Part, objects_of, capacity_of, used_up_to, used_of, cost_of, refusal_in, refusal_of, changed, part_after, added_by, part_of, kept_of, is_well_formed, has_room, objects_after}
 use Rattle.volume_core.specs.Medium.{MediumState, volume_of, Accepts, met_fault}
-use Rattle.drive_core.specs.declared.bays.Position.{Position}
+use Rattle.positioning.specs.declared.positions.Pos.{Pos}
 use Rattle.drive_core.specs.declared.faults.Fault.{Fault}
 use Rattle.drive_core.specs.declared.faults.Fault.TheVariants.{Writing, NoMemory, Reading, SideFull}
 use Rattle.drive_core.specs.State.{mounted}
-use Rattle.drive_core.specs.Append.{AppendWork, amount_of, behind}
+use Rattle.scsi_sense.specs.Replies.{check_with}
+use Rattle.scsi_sense.specs.Senses.{volume_overflow}
+use Rattle.drive_core.specs.Append.{AppendWork, LacksRoom, amount_of, behind, done_reply, is_warned}
+use Rattle.drive_core.specs.Erase.{erase_at}
 use Rattle.drive_core.specs.Write.{put_at}
 use Rattle.drive_core.specs.Execute.{is_device_fault}
 use Rattle.drive_core.specs.Inner.Carries.{IsReady}
@@ -59,54 +62,66 @@ refused_for_room volume change cause within at formed e =
     e ∙ ap Some (refused_in part change cause (rw is at at) formed (rw is at e))
 
 -- the part and the object of a change at a position on the medium
-within : (u : MediumState) (p : Position) (change : Change) → IsReady (mounted u p) → IsAt p change
+within : (u : MediumState) (p : Pos) (change : Change) → IsReady (mounted u p) → IsAt p change
     → part_of change < length (volume_of u)
-within u p change ready at = rw at.part ready.on.part
+within u p change ready at = rw at.part ready.on.on_tape.part
 
-reaches : (u : MediumState) (p : Position) (change : Change) → IsReady (mounted u p) → IsAt p change
+reaches : (u : MediumState) (p : Pos) (change : Change) → IsReady (mounted u p) → IsAt p change
     → kept_of change ≤ length (objects_of (volume_of u) (part_of change))
-reaches u p change ready at = rw (at.part, at.object) ready.on.object
+reaches u p change ready at = rw (at.part, at.object) ready.on.on_tape.object
+
+-- what does not fit adds something
+lacks : (amount : Option ℕ) (u t : MediumState) (p : Pos) → (amount ≡ None → ⊥) → t ≡ u
+    → LacksRoom amount (mounted u p) (check_with (volume_overflow amount) []) [] (mounted t p)
+lacks None u t p some same = absurd (some refl)
+lacks (Some amount) u t p some same = (refl, refl, ap (λ (x : MediumState). mounted x p) same)
 
 -- what a medium does not accept changes nothing
-pub append_refused : (settles : Bool) (change : Change) (u t : MediumState) (p : Position) (error : MediumError)
-    → IsReady (mounted u p) → IsAt p change → is_well_formed change ≡ true → Accepts u change (Err error) t
+pub append_refused : (settles : Bool) (change : Change) (u t : MediumState) (p : Pos) (error : MediumError)
+    → IsReady (mounted u p) → IsAt p change → is_well_formed change ≡ true
+    → (amount_of change ≡ None → refusal_of (volume_of u) change ≡ None) → Accepts u change (Err error) t
     → AppendWork settles change (mounted u p) (refused_as error (amount_of change)) [] (mounted t p)
-append_refused settles change u t p (medium.Refused cause) ready at formed answer =
+append_refused settles change u t p (medium.Refused cause) ready at formed fits answer =
     let room =
     refused_for_room (volume_of u) change cause (within u p change ready at) (reaches u p change ready at) formed
     answer.0 in
-    rw room (refl, refl, ap (λ (x : MediumState). mounted x p) answer.2)
-append_refused settles change u t p medium.NoMemory ready at formed answer =
+    rw room (lacks (amount_of change) u t p (λ none. cc (room, fits none)) answer.2)
+append_refused settles change u t p medium.NoMemory ready at formed fits answer =
     (answer.0, refl, record { medium = answer.2; position = refl })
-append_refused settles change u t p medium.SideFull ready at formed answer =
+append_refused settles change u t p medium.SideFull ready at formed fits answer =
     (answer.0, refl, refl, ap (λ (x : MediumState). mounted x p) answer.2, answer.1)
-append_refused settles change u t p medium.Device ready at formed answer =
+append_refused settles change u t p medium.Device ready at formed fits answer =
     (answer.0, inl (refl, record { some_pending = answer.2; medium = answer.3; position = refl }))
-append_refused settles change u t p medium.Failed ready at formed answer = let works = ready.works in cc answer.0
-append_refused settles change u t p medium.Unreadable ready at formed answer = absurd answer
+append_refused settles change u t p medium.Failed ready at formed fits answer =
+    let works = ready.works in cc answer.0
+append_refused settles change u t p medium.Unreadable ready at formed fits answer = absurd answer
 
 -- the position behind a change is the end of data
-stands : (change : Change) (u mid : MediumState) (p : Position) (count : ℕ) → IsReady (mounted u p) → IsAt p change
+stands : (change : Change) (u mid : MediumState) (p : Pos) (count : ℕ) → IsReady (mounted u p) → IsAt p change
     → Accepts u change (Ok tt) mid → count ≡ length (objects_of (volume_of mid) p.part)
-    → record p { object = count } ≡ behind change p
+    → record p { obj = count } ≡ behind change p
 stands change u mid p count ready at accepts counted =
-    let sum : count ≡ p.object + length (added_by change) =
+    let sum : count ≡ p.obj + length (added_by change) =
     counted
     ∙ ap (λ (v : List Part). length (objects_of v p.part)) accepts.2.volume_is
     ∙ ap (λ (n : ℕ). length (objects_of (changed (volume_of u) change) n)) (sym at.part)
     ∙ count_changed (volume_of u) change (within u p change ready at) (reaches u p change ready at)
     ∙ ap (λ (n : ℕ). n + length (added_by change)) at.object in
-    ap (λ (n : ℕ). record p { object = n }) sum
+    ap (λ (n : ℕ). record p { obj = n }) sum
 
 -- what a medium accepts stands, and the position is behind it
-pub append_accepted : (settles : Bool) (change : Change) (u mid t : MediumState) (p : Position) (count : ℕ)
-    (answer : Result Reply Fault)
+pub append_accepted : (settles : Bool) (change : Change) (u mid t : MediumState) (p : Pos) (count : ℕ)
+    (warned : Bool) (answer : Result Reply Fault)
     → IsReady (mounted u p) → IsAt p change → Accepts u change (Ok tt) mid
-    → count ≡ length (objects_of (volume_of mid) p.part) → SettlesAfter settles mid answer t
-    → AppendWork settles change (mounted u p) answer (change ∷ []) (mounted t (record p { object = count }))
-append_accepted settles change u mid t p count (Ok reply) ready at accepts counted done =
+    → count ≡ length (objects_of (volume_of mid) p.part)
+    → warned ≡ is_warned (amount_of change) (volume_of mid) (record p { obj = count })
+    → SettlesAfter settles warned mid answer t
+    → AppendWork settles change (mounted u p) answer (change ∷ []) (mounted t (record p { obj = count }))
+append_accepted settles change u mid t p count warned (Ok reply) ready at accepts counted warns done =
+    let stand = stands change u mid p count ready at accepts counted in
     rw accepts.0 (
-      done.0,
+      done.0
+          ∙ ap done_reply (warns ∙ (λ i. is_warned (amount_of change) (accepts.2.volume_is i) (stand i))),
       refl,
       record {
         medium_is = record {
@@ -118,7 +133,7 @@ append_accepted settles change u mid t p count (Ok reply) ready at accepts count
       },
       done.2,
     )
-append_accepted settles change u mid t p count (Err Writing) ready at accepts counted done = (
+append_accepted settles change u mid t p count warned (Err Writing) ready at accepts counted warns done = (
   accepts.0,
   inr (
     done.0,
@@ -131,12 +146,13 @@ append_accepted settles change u mid t p count (Err Writing) ready at accepts co
     done.1,
   ),
 )
-append_accepted settles change u mid t p count (Err NoMemory) ready at accepts counted done = absurd done
-append_accepted settles change u mid t p count (Err Reading) ready at accepts counted done = absurd done
-append_accepted settles change u mid t p count (Err (SideFull residue)) ready at accepts counted done = absurd done
+append_accepted settles change u mid t p count warned (Err NoMemory) ready at accepts counted warns done = absurd done
+append_accepted settles change u mid t p count warned (Err Reading) ready at accepts counted warns done = absurd done
+append_accepted settles change u mid t p count warned (Err (SideFull residue)) ready at accepts counted warns done =
+    absurd done
 
 -- the device fails where it failed in the medium's call
-pub fault_refused : (error : MediumError) (amount : ℕ)
+pub fault_refused : (error : MediumError) (amount : Option ℕ)
     → met_fault (Err error) ≡ is_device_fault (refused_as error amount)
 fault_refused (medium.Refused cause) amount = refl
 fault_refused medium.NoMemory amount = refl
@@ -153,7 +169,7 @@ used_with_block objects block = sum_by_push cost_of objects (Block block)
 -- whether a block fits behind the first objects of a partition
 block_in : (part : Part) (number at : ℕ) (block : List ℕ) → at ≤ length part.objects → at < MAX_OBJECTS
     → 1 ≤ length block → length block ≤ MAX_BLOCK
-    → refusal_in (Some part) (put_at (record { part = number; object = at }) block)
+    → refusal_in (Some part) (put_at (record { part = number; obj = at }) block)
     ≡ (if nat_le (used_of (take at part.objects) + (length block + OBJECT_COST)) part.capacity then None
     else Some NoRoom)
 block_in part number at block inside below some short =
@@ -163,13 +179,33 @@ block_in part number at block inside below some short =
     rw (used, count) (grind (arith, nat_tests))
 
 -- whether a block fits at a position
-pub room_for_block : (volume : List Part) (position : Position) (block : List ℕ) → position.part < length volume
-    → position.object ≤ length (objects_of volume position.part) → position.object < MAX_OBJECTS
+pub room_for_block : (volume : List Part) (position : Pos) (block : List ℕ) → position.part < length volume
+    → position.obj ≤ length (objects_of volume position.part) → position.obj < MAX_OBJECTS
     → 1 ≤ length block → length block ≤ MAX_BLOCK
     → refusal_of volume (put_at position block)
-    ≡ (if nat_le (used_up_to volume position.part position.object + (length block + OBJECT_COST))
+    ≡ (if nat_le (used_up_to volume position.part position.obj + (length block + OBJECT_COST))
     (capacity_of volume position.part) then None
     else Some NoRoom)
 room_for_block volume position block within at below some short =
     let (part, is) = part_at volume position.part within in
-    rw is (block_in part position.part position.object block (rw is at at) below some short)
+    rw is (block_in part position.part position.obj block (rw is at at) below some short)
+
+-- what stays of a partition fits it
+erase_in : (part : Part) (number at : ℕ) → at ≤ length part.objects → length part.objects ≤ MAX_OBJECTS
+    → used_of (take at part.objects) ≤ part.capacity
+    → refusal_in (Some part) (erase_at (record { part = number; obj = at })) ≡ None
+erase_in part number at inside few fits =
+    let count : length (take at part.objects ++ []) ≤ MAX_OBJECTS =
+    simp length-append (omega (arith, few, length-take-le at part.objects inside)) in
+    let used : used_of (take at part.objects ++ []) ≤ part.capacity = rw (append-nil (take at part.objects)) fits in
+    grind (arith, nat_tests)
+
+-- an erasing at a position on the medium always fits
+pub erase_fits : (volume : List Part) (position : Pos) → position.part < length volume
+    → position.obj ≤ length (objects_of volume position.part)
+    → length (objects_of volume position.part) ≤ MAX_OBJECTS
+    → used_up_to volume position.part position.obj ≤ capacity_of volume position.part
+    → refusal_of volume (erase_at position) ≡ None
+erase_fits volume position within at few fits =
+    let (part, is) = part_at volume position.part within in
+    rw is (erase_in part position.part position.obj (rw is at at) (rw is at few) (rw is at fits))

@@ -1,10 +1,10 @@
 -- Where no fault comes, a command's work has one answer, command by command.
-use Rattle.std.proofs.Common.{◌≡◌, ℕ, zero, suc, List, [], ◌∷◌, Option, None, Some, Ok, Bool, true, false, not, sym, ◌∙◌, ap, subst, slice_get}
+use Rattle.std.proofs.Common.{◌≡◌, ℕ, ℤ, zero, suc, List, [], ◌∷◌, Option, None, Some, Ok, Bool, true, false, not, sym, ◌∙◌, ap, subst, slice_get}
 use Rattle.scsi_sense.specs.declared.replies.Reply.{Reply}
 use Rattle.scsi_wire.specs.declared.commands.Command.{Command}
-use Rattle.scsi_wire.specs.declared.commands.Command.TheVariants.{TestUnitReady, Rewind, Read, Write, WriteFilemarks}
-use Rattle.scsi_sense.specs.Replies.{check_with}
-use Rattle.scsi_sense.specs.Senses.{volume_overflow}
+use Rattle.scsi_wire.specs.declared.commands.Command.TheVariants.{TestUnitReady, Rewind, RequestSense, ReadBlockLimits, Read, Write, WriteFilemarks, Space, Inquiry, Erase, Locate, ReadPosition}
+use Rattle.scsi_sense.specs.Replies.{good_with}
+use Rattle.vtl_base.specs.declared.space_codes.SpaceCode.{SpaceCode}
 use Rattle.volume_core.specs.declared.changes.Change.{Change}
 use Rattle.volume_core.specs.declared.changes.Refusal.{Refusal}
 use Rattle.volume_core.specs.declared.changes.Refusal.TheVariants.{NoRoom, NoPartition, PastEnd, TooLong}
@@ -12,12 +12,19 @@ use Rattle.volume_core.specs.declared.objects.Object.{Object}
 use Rattle.volume_core.specs.declared.objects.Object.TheVariants.{Block, Mark}
 use Rattle.volume_core.specs.Volume.{Part, refusal_of, changed, objects_of}
 use Rattle.volume_core.specs.Medium.{MediumState, Works}
-use Rattle.drive_core.specs.declared.bays.Position.{Position}
+use Rattle.positioning.specs.declared.positions.Pos.{Pos}
 use Rattle.drive_core.specs.State.{Mounted, mounted, contents_of}
 use Rattle.drive_core.specs.Relations.{MediumRelation, Idles}
 use Rattle.drive_core.specs.StoredFirst.{StoredFirst, GoesTo}
 use Rattle.drive_core.specs.Rewind.{RewindWork, partition_start}
-use Rattle.drive_core.specs.Append.{AppendWork, AppendAnswer, amount_of, behind}
+use Rattle.positioning.specs.Laws.{NoSpaceEndsTwice, NoLocateEndsTwice}
+use Rattle.positioning.specs.Motion.{SpacesTo, LocatesTo}
+use Rattle.positioning.specs.Report.{report_of}
+use Rattle.drive_core.specs.Append.{AppendWork, AppendAnswer, LacksRoom, amount_of, behind, done_reply, is_warned}
+use Rattle.drive_core.specs.Erase.{EraseWork, Erases, erase_at}
+use Rattle.drive_core.specs.Space.{SpaceMotion, SpaceWhen, is_over_nothing, space_reply}
+use Rattle.drive_core.specs.Locate.{LocateMotion, locate_reply, part_asked}
+use Rattle.drive_core.specs.Tell.{GivesPosition}
 use Rattle.drive_core.specs.Write.{WriteWork, put_at}
 use Rattle.drive_core.specs.Marks.{MarksWork, marks_at}
 use Rattle.drive_core.specs.Read.{ReadWork, ReadAnswer, GivesObject, object_at, next, block_reply}
@@ -70,7 +77,7 @@ alike_by m m' a a' h k e = record {
 }
 
 -- GOOD and a position
-goes_to : (where_to : Mounted → Position) → ((m m' : Mounted) → MountedAlike m m' → where_to m ≡ where_to m')
+goes_to : (where_to : Mounted → Pos) → ((m m' : Mounted) → MountedAlike m m' → where_to m ≡ where_to m')
     → IsDetermined (GoesTo where_to)
 goes_to where_to same old old' reply reply' made made' m m' e h k = record {
   replies = cc (h.0, k.0);
@@ -98,6 +105,16 @@ stored_first W determined old old' reply reply' made made' m m' e h k =
 
 module _ (old old' : Mounted) (reply reply' : Reply) (made made' : List Change) (m m' : Mounted)
     (e : MountedAlike old old') where
+  -- want of room
+  lacks : (amount : Option ℕ) → LacksRoom amount old reply made m → LacksRoom amount old' reply' made' m'
+      → Agrees reply reply' made made' m m'
+  lacks None h k = absurd h
+  lacks (Some amount) h k = record {
+    replies = h.0 ∙ sym k.0;
+    changes = h.1 ∙ sym k.1;
+    left = alike_by m m' old old' h.2 k.2 e;
+  }
+
   -- a change at the position, by whether it is refused
   answers : (cause : Option Refusal) (settles : Bool) (change change' : Change) → change ≡ change'
       → AppendAnswer cause settles change old reply made m → AppendAnswer cause settles change' old' reply' made' m'
@@ -106,7 +123,10 @@ module _ (old old' : Mounted) (reply reply' : Reply) (made made' : List Change) 
       let volumes : changed (contents_of old) change ≡ changed (contents_of old') change' =
       λ i. changed (contents_alike old old' e i) (c i) in
       record {
-        replies = h.0 ∙ sym k.0;
+        replies =
+            h.0
+            ∙ (λ i. done_reply (is_warned (amount_of (c i)) (volumes i) (behind (c i) (e.positions i))))
+            ∙ sym k.0;
         changes = h.1 ∙ ap (λ (x : Change). x ∷ []) c ∙ sym k.1;
         left = record {
           sights =
@@ -115,11 +135,9 @@ module _ (old old' : Mounted) (reply reply' : Reply) (made made' : List Change) 
           positions = h.2.position_is ∙ (λ i. behind (c i) (e.positions i)) ∙ sym k.2.position_is;
         };
       }
-  answers (Some NoRoom) settles change change' c h k = record {
-    replies = h.0 ∙ ap (λ (x : Change). check_with (volume_overflow (Some (amount_of x))) []) c ∙ sym k.0;
-    changes = h.1 ∙ sym k.1;
-    left = alike_by m m' old old' h.2 k.2 e;
-  }
+  answers (Some NoRoom) settles change change' c h k =
+      lacks (amount_of change) h
+      (subst (λ (a : Option ℕ). LacksRoom a old' reply' made' m') (ap amount_of (sym c)) k)
   answers (Some NoPartition) settles change change' c h k = absurd h
   answers (Some PastEnd) settles change change' c h k = absurd h
   answers (Some TooLong) settles change change' c h k = absurd h
@@ -136,7 +154,7 @@ module _ (old old' : Mounted) (reply reply' : Reply) (made made' : List Change) 
       (h.0.replied ∙ ap (block_reply suppress asked) given ∙ sym k.0.replied, h.1 ∙ ap next e.positions ∙ sym k.1)
 
 -- a change at the position
-appends : (settles : Bool) (change_at : Position → Change)
+appends : (settles : Bool) (change_at : Pos → Change)
     → IsDetermined (λ old. AppendWork settles (change_at old.position) old)
 appends settles change_at old old' reply reply' made made' m m' e h k =
     let c : change_at old.position ≡ change_at old'.position = ap change_at e.positions in
@@ -162,7 +180,7 @@ gives_object : (suppress : Bool) (asked : ℕ) → IsDetermined (GivesObject (Un
 gives_object suppress asked old old' reply reply' made made' m m' e h k =
     let object : object_at old' ≡ object_at old =
     λ i. slice_get (objects_of (sym (contents_alike old old' e) i) (sym e.positions i).part)
-    (sym e.positions i).object in
+    (sym e.positions i).obj in
     let k' : ReadAnswer (Unit {0}) (object_at old) suppress asked old'.position reply' m'.position =
     subst (λ (o : Option Object). ReadAnswer (Unit {0}) o suppress asked old'.position reply' m'.position) object k.2 in
     let given = gives old old' reply reply' made made' m m' e (object_at old) suppress asked h.2 k' in
@@ -180,13 +198,94 @@ reads suppress (suc n) = stored_first (GivesObject (Unit {0}) suppress (suc n)) 
 -- REWIND
 rewinds : IsDetermined RewindWork
 rewinds = stored_first (GoesTo partition_start)
-    (goes_to partition_start (λ m m' e. ap (λ (q : Position). record q { object = 0 }) e.positions))
+    (goes_to partition_start (λ m m' e. ap (λ (q : Pos). record q { obj = 0 }) e.positions))
+
+-- the position is told
+gives_position : IsDetermined GivesPosition
+gives_position old old' reply reply' made made' m m' e h k = record {
+  replies = h.0 ∙ (λ i. good_with (report_of (contents_alike old old' e i) (e.positions i))) ∙ sym k.0;
+  changes = h.1 ∙ sym k.1;
+  left = alike_by m m' old old' h.2 k.2 e;
+}
+
+-- ERASE
+erases : (buffered : Bool) → IsDetermined (EraseWork buffered)
+erases buffered = stored_first (Erases buffered) (appends (not buffered) erase_at)
+
+-- a position in a partition, at an object
+at_place : (p q : Pos) → p.part ≡ q.part → p.obj ≡ q.obj → p ≡ q
+at_place p q part obj = λ i. record { part = part i; obj = obj i }
+
+-- SPACE
+spaced : NoSpaceEndsTwice → (code : SpaceCode) (count : ℤ) → IsDetermined (SpaceMotion code count)
+spaced once code count old old' reply reply' made made' m m' e h k =
+    let a = h.1 in
+    let b = k.1 in
+    let ends : SpacesTo (objects_of (contents_of old) old.position.part) old.position.obj code count m'.position.obj
+    b.stop b.left =
+    subst (λ (objects : List Object). SpacesTo objects old.position.obj code count m'.position.obj b.stop b.left)
+    (sym (λ i. objects_of (contents_alike old old' e i) (e.positions i).part))
+    (subst (λ (from : ℕ).
+    SpacesTo (objects_of (contents_of old') old'.position.part) from code count m'.position.obj b.stop b.left)
+    (sym (ap (λ (p : Pos). p.obj) e.positions)) b.ends) in
+    let same =
+    once (objects_of (contents_of old) old.position.part) old.position.obj code count m.position.obj a.stop a.left
+    m'.position.obj b.stop b.left a.ends ends in
+    record {
+      replies = a.replied ∙ (λ i. space_reply (same.1 i) (same.2 i)) ∙ sym b.replied;
+      changes = h.0 ∙ sym k.0;
+      left = record {
+        sights = ap sight_of a.medium ∙ e.sights ∙ sym (ap sight_of b.medium);
+        positions =
+            at_place m.position m'.position (a.part ∙ ap (λ (p : Pos). p.part) e.positions ∙ sym b.part) same.0;
+      };
+    }
+
+spaces_when : NoSpaceEndsTwice → (nothing : Bool) (code : SpaceCode) (count : ℤ)
+    → IsDetermined (SpaceWhen nothing code count)
+spaces_when once true code count = idles
+spaces_when once false code count = stored_first (SpaceMotion code count) (spaced once code count)
+
+-- LOCATE
+located : NoLocateEndsTwice → (object : ℕ) (part : Option ℕ) → IsDetermined (LocateMotion object part)
+located once object part old old' reply reply' made made' m m' e h k =
+    let a = h.1 in
+    let b = k.1 in
+    let parts : part_asked part old.position ≡ part_asked part old'.position = ap (part_asked part) e.positions in
+    let ends : LocatesTo (objects_of (contents_of old) (part_asked part old.position)) object m'.position.obj b.stop
+    b.left =
+    subst (λ (objects : List Object). LocatesTo objects object m'.position.obj b.stop b.left)
+    (sym (λ i. objects_of (contents_alike old old' e i) (parts i))) b.ends in
+    let same =
+    once (objects_of (contents_of old) (part_asked part old.position)) object m.position.obj a.stop a.left
+    m'.position.obj b.stop b.left a.ends ends in
+    record {
+      replies = a.replied ∙ ap locate_reply same.1 ∙ sym b.replied;
+      changes = h.0 ∙ sym k.0;
+      left = record {
+        sights = ap sight_of a.medium ∙ e.sights ∙ sym (ap sight_of b.medium);
+        positions = at_place m.position m'.position (a.part_is ∙ parts ∙ sym b.part_is) same.0;
+      };
+    }
+
+-- no work on a medium
+none_determined : IsDetermined (λ old answer made new. ⊥)
+none_determined old old' reply reply' made made' m m' e h k = absurd h
 
 -- any command
-pub commands : (command : Command) (buffered : Bool) (sent : List ℕ)
+pub commands : NoSpaceEndsTwice → NoLocateEndsTwice → (command : Command) (buffered : Bool) (sent : List ℕ)
     → IsDetermined (MediumWork (Unit {0}) command buffered sent)
-commands TestUnitReady buffered sent = idles
-commands Rewind buffered sent = rewinds
-commands (Read asked suppress) buffered sent = reads suppress asked
-commands (Write asked) buffered sent = writes buffered sent
-commands (WriteFilemarks count immediate) buffered sent = marks count immediate
+commands spaces locates TestUnitReady buffered sent = idles
+commands spaces locates Rewind buffered sent = rewinds
+commands spaces locates (Read asked suppress) buffered sent = reads suppress asked
+commands spaces locates (Write asked) buffered sent = writes buffered sent
+commands spaces locates (WriteFilemarks count immediate) buffered sent = marks count immediate
+commands spaces locates (Space code count) buffered sent =
+    spaces_when spaces (is_over_nothing code count) code count
+commands spaces locates Erase buffered sent = erases buffered
+commands spaces locates (Locate object part) buffered sent =
+    stored_first (LocateMotion object part) (located locates object part)
+commands spaces locates ReadPosition buffered sent = stored_first GivesPosition gives_position
+commands spaces locates (RequestSense room) buffered sent = none_determined
+commands spaces locates ReadBlockLimits buffered sent = none_determined
+commands spaces locates (Inquiry room) buffered sent = none_determined

@@ -1,24 +1,32 @@
--- Where no fault comes, a request has one answer, check by check.
-use Rattle.std.proofs.Common.{◌≡◌, [], Option, None, Some, Result, Ok, Bool, true, false, sym, ◌∙◌, ap, subst, length, ◌==◌, if◌then◌else◌}
+-- Where no fault comes, a request has one answer.
+use Rattle.std.proofs.Common.{◌≡◌, ℕ, List, [], Option, None, Some, Result, Ok, Err, Bool, true, false, refl, sym, ◌∙◌, ap, subst, length, nat_lt, ◌==◌, ◌&&◌, if◌then◌else◌}
 use Rattle.scsi_sense.specs.declared.replies.Reply.{Reply}
-use Rattle.scsi_sense.specs.declared.sense_data.Sense.{Sense}
-use Rattle.scsi_attention.specs.declared.attention_sets.Attention.{Attention}
+use Rattle.scsi_attention.specs.Attentions.{attention_of, cleared}
+use Rattle.scsi_sense.specs.Replies.{good_with}
+use Rattle.scsi_sense.specs.SenseData.{sense_bytes}
+use Rattle.scsi_sense.specs.Senses.{invalid_field, medium_not_present, medium_failed}
 use Rattle.scsi_wire.specs.declared.opcodes.Opcode.{Opcode}
 use Rattle.scsi_wire.specs.declared.commands.Command.{Command}
-use Rattle.scsi_wire.specs.declared.commands.Command.TheVariants.{TestUnitReady, Rewind, Read, Write, WriteFilemarks}
-use Rattle.scsi_attention.specs.Attentions.{attention_of, cleared}
-use Rattle.scsi_wire.specs.Opcodes.{opcode_of, is_exempt, needs_medium, is_stopped_by_reservation}
-use Rattle.scsi_wire.specs.Commands.{command_of, sent_length}
-use Rattle.scsi_sense.specs.Replies.{check_with, conflict}
-use Rattle.scsi_sense.specs.Senses.{invalid_operation_code, invalid_field, medium_not_present, medium_failed, deferred_write_error, attention_sense}
+use Rattle.scsi_wire.specs.declared.commands.Command.TheVariants.{TestUnitReady, Rewind, RequestSense, ReadBlockLimits, Read, Write, WriteFilemarks, Space, Inquiry, Erase, Locate, ReadPosition}
+use Rattle.scsi_wire.specs.Answers.{block_limits, cut_to, inquiry_data}
+use Rattle.scsi_wire.specs.Opcodes.{opcode_of, is_exempt, needs_medium}
+use Rattle.scsi_wire.specs.Commands.{code_of, command_of, sent_length}
+use Rattle.volume_core.specs.Volume.{Part}
 use Rattle.volume_core.specs.Medium.{MediumState}
+use Rattle.positioning.specs.Laws.{NoSpaceEndsTwice, NoLocateEndsTwice}
 use Rattle.drive_core.specs.declared.bays.Bay.{Bay}
 use Rattle.drive_core.specs.declared.bays.Bay.TheVariants.{Empty, Unloaded, Loaded}
+use Rattle.drive_core.specs.declared.conditions.Condition.{Condition}
+use Rattle.drive_core.specs.declared.conditions.Condition.TheVariants.{DeferredError, UnitAttention}
+use Rattle.drive_core.specs.declared.conditions.Denial.{Denial}
+use Rattle.drive_core.specs.declared.conditions.Denial.TheVariants.{Refused, Reported, Conflict}
 use Rattle.drive_core.specs.declared.faults.Fault.{Fault}
-use Rattle.drive_core.specs.State.{Machine, DriveState, Kept, mounted, with_mounted, bay_of}
-use Rattle.drive_core.specs.Relations.{Made, made_nothing, Refuses}
-use Rattle.drive_core.specs.Work.{Request, MediumWork, OnMediumIn}
-use Rattle.drive_core.specs.Checks.{AtCode, AtExempt, AtDeferred, AtAttention, AtReservation, AtNeed, AtBay, AtMedium, AtFields, AtMode, AtSent, Executes, suits, keeps_out}
+use Rattle.drive_core.specs.State.{Machine, DriveState, Kept, mounted, with_mounted, bay_of, volume_in}
+use Rattle.drive_core.specs.Conditions.{attention_due, condition_due, denial_reply, denied, first_some, without_condition}
+use Rattle.drive_core.specs.Relations.{Made, made_nothing}
+use Rattle.drive_core.specs.RequestSense.{RequestSenseWork, once_reported, sense_due}
+use Rattle.drive_core.specs.Work.{Request, MediumWork, OnMediumIn, Tells, DriveWork, WorkBy}
+use Rattle.drive_core.specs.Checks.{Executes, ExecutesAs, condition_denial, fields_verdict, medium_denial, reservation_denial, state_denial, suits, unless_denied, verdict, verdict_at}
 use Rattle.drive_core.specs.Step.{Answered}
 use Rattle.drive_core.specs.Determined.{Sight, sight_of, seen_of, AreAlike}
 use Rattle.drive_core.proofs.CommandLemmas.{commands}
@@ -27,7 +35,101 @@ use Rattle.drive_core.proofs.CommandLemmas.{commands}
 abbrev Seen : Type 0
 Seen = DriveState Sight Kept
 
-module _ (old beside : Machine) (request : Request) (reply reply' : Reply) (made made' : Made) (new new' : Machine)
+-- what denies a command that needs a medium, by what is seen of it
+abbrev denial_seen : Bay Sight → Option Denial
+denial_seen (Loaded sight) = if sight.failed then Some (Refused medium_failed) else None
+denial_seen Empty = Some (Refused medium_not_present)
+denial_seen (Unloaded sight) = Some (Refused medium_not_present)
+
+-- the volume that is seen
+abbrev volume_of_sight : Bay Sight → List Part
+volume_of_sight (Loaded sight) = sight.volume
+volume_of_sight Empty = []
+volume_of_sight (Unloaded sight) = []
+
+-- what is in two drives that are seen alike is denied alike
+medium_denied : (bay : Bay MediumState) → medium_denial bay ≡ denial_seen (bay_of sight_of bay)
+medium_denied Empty = refl
+medium_denied (Unloaded medium) = refl
+medium_denied (Loaded medium) = refl
+
+-- and has the same volume
+volume_seen : (bay : Bay MediumState) → volume_in bay ≡ volume_of_sight (bay_of sight_of bay)
+volume_seen Empty = refl
+volume_seen (Unloaded medium) = refl
+volume_seen (Loaded medium) = refl
+
+module _ (old beside : Machine) (e : seen_of old ≡ seen_of beside) where
+  volumes_same : volume_in old.bay ≡ volume_in beside.bay
+  volumes_same =
+      volume_seen old.bay ∙ ap (λ (x : Seen). volume_of_sight x.bay) e ∙ sym (volume_seen beside.bay)
+
+  denials_same : medium_denial old.bay ≡ medium_denial beside.bay
+  denials_same = medium_denied old.bay ∙ ap (λ (x : Seen). denial_seen x.bay) e ∙ sym (medium_denied beside.bay)
+
+  suits_same : (command : Command) → suits old command ≡ suits beside command
+  suits_same TestUnitReady = refl
+  suits_same Rewind = refl
+  suits_same (RequestSense room) = refl
+  suits_same ReadBlockLimits = refl
+  suits_same (Read asked suppress) = refl
+  suits_same (Write asked) = refl
+  suits_same (WriteFilemarks count immediate) = ap (λ (x : Seen). if immediate then x.buffered else true) e
+  suits_same (Space code count) = refl
+  suits_same (Inquiry room) = refl
+  suits_same Erase = refl
+  suits_same (Locate object (Some part)) = ap (λ (v : List Part). nat_lt part (length v)) volumes_same
+  suits_same (Locate object None) = refl
+  suits_same ReadPosition = refl
+
+  due_same : (nexus : ℕ) → condition_due old nexus ≡ condition_due beside nexus
+  due_same nexus =
+      ap (λ (x : Seen).
+      first_some (if x.deferred then Some DeferredError else None) (attention_due (attention_of x.attentions nexus))) e
+
+  fields_same : (sent : List ℕ) (found : Option Command)
+      → fields_verdict old sent found ≡ fields_verdict beside sent found
+  fields_same sent None = refl
+  fields_same sent (Some command) =
+      ap (λ (b : Bool). if b && (length sent == sent_length command) then Ok command else Err (Refused invalid_field))
+      (suits_same command)
+
+  state_same : (nexus : ℕ) (opcode : Opcode) → state_denial old nexus opcode ≡ state_denial beside nexus opcode
+  state_same nexus opcode = λ i.
+      if is_exempt opcode then None
+      else first_some (condition_denial (due_same nexus i))
+      (first_some (reservation_denial old nexus opcode) (if needs_medium opcode then denials_same i else None))
+
+  code_same : (request : Request) (found : Option Opcode)
+      → verdict_at old request found ≡ verdict_at beside request found
+  code_same request None = refl
+  code_same request (Some opcode) = λ i.
+      unless_denied (state_same request.nexus opcode i)
+      (fields_same request.sent (command_of opcode request.cdb) i)
+
+  -- drives that are seen alike judge a request alike
+  verdict_same : (request : Request) → verdict old request ≡ verdict beside request
+  verdict_same request = code_same request (opcode_of request.cdb)
+
+  -- and are seen alike once a condition was reported
+  without_same : (condition : Condition) (nexus : ℕ)
+      → seen_of (without_condition condition nexus old) ≡ seen_of (without_condition condition nexus beside)
+  without_same DeferredError nexus = ap (λ (x : Seen). record x { deferred = false }) e
+  without_same (UnitAttention attention) nexus =
+      ap (λ (x : Seen). record x { attentions = cleared x.attentions nexus attention }) e
+
+  denied_same : (denial : Denial) (nexus : ℕ) → seen_of (denied denial nexus old) ≡ seen_of (denied denial nexus beside)
+  denied_same (Refused sense) nexus = e
+  denied_same (Reported condition) nexus = without_same condition nexus
+  denied_same Conflict nexus = e
+
+  reported_same : (due : Option Condition) (nexus : ℕ)
+      → seen_of (once_reported due nexus old) ≡ seen_of (once_reported due nexus beside)
+  reported_same None nexus = e
+  reported_same (Some condition) nexus = without_same condition nexus
+
+module _ (spaces : NoSpaceEndsTwice) (locates : NoLocateEndsTwice)
+    (old beside : Machine) (reply reply' : Reply) (made made' : Made) (new new' : Machine)
     (e : seen_of old ≡ seen_of beside) where
   -- both were answered, and came out alike
   abbrev Alike : Type 0
@@ -43,21 +145,16 @@ module _ (old beside : Machine) (request : Request) (reply reply' : Reply) (made
     drives = ap seen_of h.2 ∙ same ∙ sym (ap seen_of k.2);
   }
 
-  -- and so does what stops a command
-  refuses : (sense : Sense) → Refuses sense old (Ok reply) made new
-      → Refuses sense beside (Ok reply') made' new' → Alike
-  refuses sense h k = ends (Ok (check_with sense [])) old beside e h k
-
-  on_medium : (bay bay' : Bay MediumState) (command : Command) → bay_of sight_of bay ≡ bay_of sight_of bay'
-      → OnMediumIn bay (MediumWork (Unit {0}) command old.buffered request.sent) old (Ok reply) made new
-      → OnMediumIn bay' (MediumWork (Unit {0}) command beside.buffered request.sent) beside (Ok reply') made' new'
+  on_medium : (bay bay' : Bay MediumState) (command : Command) (sent : List ℕ) → bay_of sight_of bay ≡ bay_of sight_of bay'
+      → OnMediumIn bay (MediumWork (Unit {0}) command old.buffered sent) old (Ok reply) made new
+      → OnMediumIn bay' (MediumWork (Unit {0}) command beside.buffered sent) beside (Ok reply') made' new'
       → Alike
-  on_medium (Loaded m) (Loaded m') command same h k =
+  on_medium (Loaded m) (Loaded m') command sent same h k =
       let work =
-      subst (λ (b : Bool). MediumWork (Unit {0}) command b request.sent (mounted m' beside.position)
+      subst (λ (b : Bool). MediumWork (Unit {0}) command b sent (mounted m' beside.position)
       (Ok reply') made'.changes k.0) (ap (λ (x : Seen). x.buffered) (sym e)) k.1 in
       let a =
-      commands command old.buffered request.sent (mounted m old.position) (mounted m' beside.position) reply reply'
+      commands spaces locates command old.buffered sent (mounted m old.position) (mounted m' beside.position) reply reply'
       made.changes made'.changes h.0 k.0
       (record { sights = cc same; positions = ap (λ (x : Seen). x.position) e }) h.1 work in
       let left : seen_of (with_mounted old h.0) ≡ seen_of (with_mounted beside k.0) =
@@ -67,102 +164,71 @@ module _ (old beside : Machine) (request : Request) (reply reply' : Reply) (made
         changes = λ i. record { changes = a.changes i };
         drives = ap seen_of h.2 ∙ left ∙ sym (ap seen_of k.2);
       }
-  on_medium Empty bay' command same h k = absurd h
-  on_medium (Unloaded m) bay' command same h k = absurd h
-  on_medium (Loaded m) Empty command same h k = absurd k
-  on_medium (Loaded m) (Unloaded m') command same h k = absurd k
+  on_medium Empty bay' command sent same h k = absurd h
+  on_medium (Unloaded m) bay' command sent same h k = absurd h
+  on_medium (Loaded m) Empty command sent same h k = absurd k
+  on_medium (Loaded m) (Unloaded m') command sent same h k = absurd k
 
-  at_sent : (b : Bool) (command : Command) → AtSent (Unit {0}) old request (Ok reply) made new b command
-      → AtSent (Unit {0}) beside request (Ok reply') made' new' b command → Alike
-  at_sent false command h k = refuses invalid_field h k
-  at_sent true command h k = on_medium old.bay beside.bay command (ap (λ (x : Seen). x.bay) e) h k
+  -- data that is told
+  tells : (bytes : List ℕ) → Tells bytes old (Ok reply) made new → Tells bytes beside (Ok reply') made' new' → Alike
+  tells bytes h k = record {
+    outputs = ap (λ (r : Reply). Answered (Ok r)) (h.0 ∙ sym k.0);
+    changes = h.1 ∙ sym k.1;
+    drives = ap seen_of h.2 ∙ e ∙ sym (ap seen_of k.2);
+  }
 
-  at_mode : (b : Bool) (command : Command) → AtMode (Unit {0}) old request (Ok reply) made new b command
-      → AtMode (Unit {0}) beside request (Ok reply') made' new' b command → Alike
-  at_mode false command h k = refuses invalid_field h k
-  at_mode true command h k = at_sent (length request.sent == sent_length command) command h k
+  senses : (room nexus : ℕ) → RequestSenseWork room nexus old (Ok reply) made new
+      → RequestSenseWork room nexus beside (Ok reply') made' new' → Alike
+  senses room nexus h k =
+      let due = due_same old beside e nexus in
+      let left : seen_of (once_reported (condition_due old nexus) nexus old)
+      ≡ seen_of (once_reported (condition_due beside nexus) nexus beside) =
+      reported_same old beside e (condition_due old nexus) nexus
+      ∙ ap (λ (d : Option Condition). seen_of (once_reported d nexus beside)) due in
+      record {
+        outputs =
+            ap (λ (r : Reply). Answered (Ok r))
+            (h.0 ∙ ap (λ (d : Option Condition). good_with (cut_to room (sense_bytes (sense_due d)))) due ∙ sym k.0);
+        changes = h.1 ∙ sym k.1;
+        drives = ap seen_of h.2 ∙ left ∙ sym (ap seen_of k.2);
+      }
 
-  suits_alike : (command : Command) → suits beside command ≡ suits old command
-  suits_alike TestUnitReady = λ i. true
-  suits_alike Rewind = λ i. true
-  suits_alike (Read asked suppress) = λ i. true
-  suits_alike (Write asked) = λ i. true
-  suits_alike (WriteFilemarks count immediate) = ap (λ (x : Seen). if immediate then x.buffered else true) (sym e)
+  on_drive : (command : Command) (nexus : ℕ) → DriveWork command nexus old (Ok reply) made new
+      → DriveWork command nexus beside (Ok reply') made' new' → Alike
+  on_drive (RequestSense room) nexus h k = senses room nexus h k
+  on_drive ReadBlockLimits nexus h k = tells block_limits h k
+  on_drive (Inquiry room) nexus h k = tells (cut_to room inquiry_data) h k
+  on_drive TestUnitReady nexus h k = absurd h
+  on_drive Rewind nexus h k = absurd h
+  on_drive (Read asked suppress) nexus h k = absurd h
+  on_drive (Write asked) nexus h k = absurd h
+  on_drive (WriteFilemarks count immediate) nexus h k = absurd h
+  on_drive (Space code count) nexus h k = absurd h
+  on_drive Erase nexus h k = absurd h
+  on_drive (Locate object part) nexus h k = absurd h
+  on_drive ReadPosition nexus h k = absurd h
 
-  at_fields : (command : Option Command) → AtFields (Unit {0}) old request (Ok reply) made new command
-      → AtFields (Unit {0}) beside request (Ok reply') made' new' command → Alike
-  at_fields None h k = refuses invalid_field h k
-  at_fields (Some command) h k =
-      at_mode (suits old command) command h
-      (subst (λ (b : Bool). AtMode (Unit {0}) beside request (Ok reply') made' new' b command) (suits_alike command) k)
+  work_alike : (needs : Bool) (command : Command) (nexus : ℕ) (sent : List ℕ)
+      → WorkBy needs (Unit {0}) command nexus sent old (Ok reply) made new
+      → WorkBy needs (Unit {0}) command nexus sent beside (Ok reply') made' new' → Alike
+  work_alike true command nexus sent h k =
+      on_medium old.bay beside.bay command sent (ap (λ (x : Seen). x.bay) e) h k
+  work_alike false command nexus sent h k = on_drive command nexus h k
 
-  at_medium : (b : Bool) (opcode : Opcode) → AtMedium (Unit {0}) old request (Ok reply) made new b opcode
-      → AtMedium (Unit {0}) beside request (Ok reply') made' new' b opcode → Alike
-  at_medium true opcode h k = refuses medium_failed h k
-  at_medium false opcode h k = at_fields (command_of opcode request.cdb) h k
-
-  at_bay : (bay bay' : Bay MediumState) (opcode : Opcode) → bay_of sight_of bay ≡ bay_of sight_of bay'
-      → AtBay (Unit {0}) old request (Ok reply) made new bay opcode
-      → AtBay (Unit {0}) beside request (Ok reply') made' new' bay' opcode → Alike
-  at_bay Empty Empty opcode same h k = refuses medium_not_present h k
-  at_bay (Unloaded m) (Unloaded m') opcode same h k = refuses medium_not_present h k
-  at_bay (Loaded m) (Loaded m') opcode same h k =
-      let sights : sight_of m' ≡ sight_of m = cc same in
-      at_medium m.failed opcode h
-      (subst (λ (b : Bool). AtMedium (Unit {0}) beside request (Ok reply') made' new' b opcode)
-      (ap (λ (x : Sight). x.failed) sights) k)
-  at_bay Empty (Unloaded m') opcode same h k = cc same
-  at_bay Empty (Loaded m') opcode same h k = cc same
-  at_bay (Unloaded m) Empty opcode same h k = cc same
-  at_bay (Unloaded m) (Loaded m') opcode same h k = cc same
-  at_bay (Loaded m) Empty opcode same h k = cc same
-  at_bay (Loaded m) (Unloaded m') opcode same h k = cc same
-
-  at_need : (b : Bool) (opcode : Opcode) → AtNeed (Unit {0}) old request (Ok reply) made new b opcode
-      → AtNeed (Unit {0}) beside request (Ok reply') made' new' b opcode → Alike
-  at_need false opcode h k = at_fields (command_of opcode request.cdb) h k
-  at_need true opcode h k = at_bay old.bay beside.bay opcode (ap (λ (x : Seen). x.bay) e) h k
-
-  at_reservation : (b : Bool) (opcode : Opcode) → AtReservation (Unit {0}) old request (Ok reply) made new b opcode
-      → AtReservation (Unit {0}) beside request (Ok reply') made' new' b opcode → Alike
-  at_reservation true opcode h k = ends (Ok conflict) old beside e h k
-  at_reservation false opcode h k = at_need (needs_medium opcode) opcode h k
-
-  at_attention : (a : Option Attention) (opcode : Opcode)
-      → AtAttention (Unit {0}) old request (Ok reply) made new a opcode
-      → AtAttention (Unit {0}) beside request (Ok reply') made' new' a opcode → Alike
-  at_attention None opcode h k =
-      at_reservation
-      (if keeps_out old.reservations request.nexus then is_stopped_by_reservation opcode else false) opcode h k
-  at_attention (Some a) opcode h k =
-      ends (Ok (check_with (attention_sense a) [])) (record old { attentions = cleared old.attentions request.nexus a })
-      (record beside { attentions = cleared beside.attentions request.nexus a })
-      (ap (λ (x : Seen). record x { attentions = cleared x.attentions request.nexus a }) e) h k
-
-  at_deferred : (b : Bool) (opcode : Opcode) → AtDeferred (Unit {0}) old request (Ok reply) made new b opcode
-      → AtDeferred (Unit {0}) beside request (Ok reply') made' new' b opcode → Alike
-  at_deferred true opcode h k =
-      ends (Ok (check_with deferred_write_error [])) (record old { deferred = false })
-      (record beside { deferred = false }) (ap (λ (x : Seen). record x { deferred = false }) e) h k
-  at_deferred false opcode h k =
-      at_attention (attention_of old.attentions request.nexus) opcode h
-      (subst (λ (a : Option Attention). AtAttention (Unit {0}) beside request (Ok reply') made' new' a opcode)
-      (ap (λ (x : Seen). attention_of x.attentions request.nexus) (sym e)) k)
-
-  at_exempt : (b : Bool) (opcode : Opcode) → AtExempt (Unit {0}) old request (Ok reply) made new b opcode
-      → AtExempt (Unit {0}) beside request (Ok reply') made' new' b opcode → Alike
-  at_exempt true opcode h k = at_fields (command_of opcode request.cdb) h k
-  at_exempt false opcode h k =
-      at_deferred old.deferred opcode h
-      (subst (λ (b : Bool). AtDeferred (Unit {0}) beside request (Ok reply') made' new' b opcode)
-      (ap (λ (x : Seen). x.deferred) (sym e)) k)
-
-  at_code : (o : Option Opcode) → AtCode (Unit {0}) old request (Ok reply) made new o
-      → AtCode (Unit {0}) beside request (Ok reply') made' new' o → Alike
-  at_code None h k = refuses invalid_operation_code h k
-  at_code (Some opcode) h k = at_exempt (is_exempt opcode) opcode h k
+  judged_alike : (judged : Result Command Denial) (request : Request)
+      → ExecutesAs (Unit {0}) judged request old (Ok reply) made new
+      → ExecutesAs (Unit {0}) judged request beside (Ok reply') made' new' → Alike
+  judged_alike (Err denial) request h k =
+      ends (Ok (denial_reply denial)) (denied denial request.nexus old) (denied denial request.nexus beside)
+      (denied_same old beside e denial request.nexus) h k
+  judged_alike (Ok command) request h k =
+      work_alike (needs_medium (code_of command)) command request.nexus request.sent h k
 
   -- a request has one answer
-  pub requests : Executes (Unit {0}) old request (Ok reply) made new
-      → Executes (Unit {0}) beside request (Ok reply') made' new' → Alike
-  requests h k = at_code (opcode_of request.cdb) h k
+  pub requests : (request : Request) → Executes (Unit {0}) request old (Ok reply) made new
+      → Executes (Unit {0}) request beside (Ok reply') made' new' → Alike
+  requests request h k =
+      judged_alike (verdict old request) request h
+      (subst (λ (judged : Result Command Denial).
+      ExecutesAs (Unit {0}) judged request beside (Ok reply') made' new')
+      (sym (verdict_same old beside e request)) k)

@@ -3,6 +3,7 @@ use Rattle.std.proofs.Common.{◌≡◌, Option, Ok, Err, true, sym, ◌∙◌, 
 use Rattle.volume_core.specs.declared.media.Turn.{Turn}
 use Rattle.volume_core.specs.declared.media.Turn.TheVariants.{Idle, Stored, Faulted}
 use Rattle.volume_core.specs.Medium.{MediumState, volume_of, Turns}
+use Rattle.positioning.specs.Laws.{NoSpaceEndsTwice, NoLocateEndsTwice}
 use Rattle.drive_core.specs.declared.bays.Bay.{Bay}
 use Rattle.drive_core.specs.declared.bays.Bay.TheVariants.{Empty, Unloaded, Loaded}
 use Rattle.drive_core.specs.State.{Machine, bay_of}
@@ -69,13 +70,13 @@ turn_unseen old (Unanswered outcome) made new calm h =
     }
 turn_unseen old (Answered answer) made new calm h = absurd h
 
-module _ (old beside : Machine) (made made' : Made) (new new' : Machine) (e : seen_of old ≡ seen_of beside) where
+module _ (spaces : NoSpaceEndsTwice) (locates : NoLocateEndsTwice) (old beside : Machine) (made made' : Made) (new new' : Machine) (e : seen_of old ≡ seen_of beside) where
   execute_determined : (request other : Request) (output output' : Output) → request ≡ other
       → IsCalm output → IsCalm output' → Step (Unit {0}) old (Execute request) output made new
       → Step (Unit {0}) beside (Execute other) output' made' new' → AreAlike output output' made made' new new'
   execute_determined request other (Answered (Ok reply)) (Answered (Ok reply')) asks calm calm' h k =
       let k' : Step (Unit {0}) beside (Execute request) (Answered (Ok reply')) made' new' = rw (sym asks) at k in
-      requests old beside request reply reply' made made' new new' e h k'
+      requests spaces locates old beside reply reply' made made' new new' e request h k'
   execute_determined request other (Answered (Ok reply)) (Answered (Err fault)) asks calm calm' h k = absurd calm'
   execute_determined request other (Answered (Ok reply)) (Unanswered outcome) asks calm calm' h k = absurd k
   execute_determined request other (Answered (Err fault)) output' asks calm calm' h k = absurd calm
@@ -111,24 +112,24 @@ module _ (old beside : Machine) (made made' : Made) (new new' : Machine) (e : se
         drives = one.drive_is ∙ e ∙ sym two.drive_is;
       }
 
-pub steps_determined : StepsAreDetermined
-steps_determined old beside (Execute request) (Execute other) output output' made made' new new' e asks calm calm' h k =
-    execute_determined old beside made made' new new' e request other output output' asks calm calm' h k
-steps_determined old beside (Load medium) (Load other) output output' made made' new new' e asks calm calm' h k =
-    load_determined old beside made made' new new' e medium other output output' asks calm calm' h k
-steps_determined old beside (PowerOn medium) (PowerOn other) output output' made made' new new' e asks calm calm' h k =
-    power_on_determined old beside made made' new new' e medium other output output' asks calm calm' h k
-steps_determined old beside FlushTurn FlushTurn output output' made made' new new' e asks calm calm' h k =
-    turn_determined old beside made made' new new' e output output' calm calm' h k
-steps_determined old beside (Execute request) (Load other) o o' made made' new new' e asks c c' h k = absurd asks
-steps_determined old beside (Execute request) (PowerOn other) o o' made made' new new' e asks c c' h k = absurd asks
-steps_determined old beside (Execute request) FlushTurn o o' made made' new new' e asks c c' h k = absurd asks
-steps_determined old beside (Load medium) (Execute other) o o' made made' new new' e asks c c' h k = absurd asks
-steps_determined old beside (Load medium) (PowerOn other) o o' made made' new new' e asks c c' h k = absurd asks
-steps_determined old beside (Load medium) FlushTurn o o' made made' new new' e asks c c' h k = absurd asks
-steps_determined old beside (PowerOn medium) (Execute other) o o' made made' new new' e asks c c' h k = absurd asks
-steps_determined old beside (PowerOn medium) (Load other) o o' made made' new new' e asks c c' h k = absurd asks
-steps_determined old beside (PowerOn medium) FlushTurn o o' made made' new new' e asks c c' h k = absurd asks
-steps_determined old beside FlushTurn (Execute other) o o' made made' new new' e asks c c' h k = absurd asks
-steps_determined old beside FlushTurn (Load other) o o' made made' new new' e asks c c' h k = absurd asks
-steps_determined old beside FlushTurn (PowerOn other) o o' made made' new new' e asks c c' h k = absurd asks
+pub steps_determined : NoSpaceEndsTwice → NoLocateEndsTwice → StepsAreDetermined
+steps_determined spaces locates old beside (Execute request) (Execute other) output output' made made' new new' e asks calm calm' h k =
+    execute_determined spaces locates old beside made made' new new' e request other output output' asks calm calm' h k
+steps_determined spaces locates old beside (Load medium) (Load other) output output' made made' new new' e asks calm calm' h k =
+    load_determined spaces locates old beside made made' new new' e medium other output output' asks calm calm' h k
+steps_determined spaces locates old beside (PowerOn medium) (PowerOn other) output output' made made' new new' e asks calm calm' h k =
+    power_on_determined spaces locates old beside made made' new new' e medium other output output' asks calm calm' h k
+steps_determined spaces locates old beside FlushTurn FlushTurn output output' made made' new new' e asks calm calm' h k =
+    turn_determined spaces locates old beside made made' new new' e output output' calm calm' h k
+steps_determined spaces locates old beside (Execute request) (Load other) o o' made made' new new' e asks c c' h k = absurd asks
+steps_determined spaces locates old beside (Execute request) (PowerOn other) o o' made made' new new' e asks c c' h k = absurd asks
+steps_determined spaces locates old beside (Execute request) FlushTurn o o' made made' new new' e asks c c' h k = absurd asks
+steps_determined spaces locates old beside (Load medium) (Execute other) o o' made made' new new' e asks c c' h k = absurd asks
+steps_determined spaces locates old beside (Load medium) (PowerOn other) o o' made made' new new' e asks c c' h k = absurd asks
+steps_determined spaces locates old beside (Load medium) FlushTurn o o' made made' new new' e asks c c' h k = absurd asks
+steps_determined spaces locates old beside (PowerOn medium) (Execute other) o o' made made' new new' e asks c c' h k = absurd asks
+steps_determined spaces locates old beside (PowerOn medium) (Load other) o o' made made' new new' e asks c c' h k = absurd asks
+steps_determined spaces locates old beside (PowerOn medium) FlushTurn o o' made made' new new' e asks c c' h k = absurd asks
+steps_determined spaces locates old beside FlushTurn (Execute other) o o' made made' new new' e asks c c' h k = absurd asks
+steps_determined spaces locates old beside FlushTurn (Load other) o o' made made' new new' e asks c c' h k = absurd asks
+steps_determined spaces locates old beside FlushTurn (PowerOn other) o o' made made' new new' e asks c c' h k = absurd asks

@@ -8,7 +8,7 @@ pub mod DeterminedRuns
 pub mod SettledLemmas
 pub mod AppendLemmas
 pub mod ReadLemmas
-pub mod CheckLemmas
+pub mod PassLemmas
 pub mod LoadLemmas
 pub mod StepLemmas
 pub mod RunLemmas

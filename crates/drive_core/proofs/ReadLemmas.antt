@@ -5,7 +5,7 @@ use Rattle.volume_core.specs.declared.changes.Change.{Change}
 use Rattle.volume_core.specs.declared.objects.Object.{Object}
 use Rattle.volume_core.specs.declared.objects.Object.TheVariants.{Block, Mark}
 use Rattle.volume_core.specs.Medium.{MediumState}
-use Rattle.drive_core.specs.declared.bays.Position.{Position}
+use Rattle.positioning.specs.declared.positions.Pos.{Pos}
 use Rattle.drive_core.specs.declared.faults.Fault.{Fault}
 use Rattle.drive_core.specs.declared.faults.Fault.TheVariants.{NoMemory, Writing, Reading, SideFull}
 use Rattle.drive_core.specs.State.{Mounted, mounted}
@@ -14,8 +14,8 @@ use Rattle.drive_core.specs.StoredFirst.{IsStored, OnceStored, StoredFirst}
 use Rattle.drive_core.specs.Read.{ReadWork, ReadAnswer, GivesObject, object_at}
 
 -- what is given by an honest medium is given by one that is honest wherever it was
-given_where : (H H' : Type 0) → (H → H') → (object : Option Object) (suppress : Bool) (asked : ℕ) (before : Position)
-    (reply : Reply) (now : Position)
+given_where : (H H' : Type 0) → (H → H') → (object : Option Object) (suppress : Bool) (asked : ℕ) (before : Pos)
+    (reply : Reply) (now : Pos)
     → ReadAnswer H' object suppress asked before reply now → ReadAnswer H object suppress asked before reply now
 given_where H H' so None suppress asked before reply now h = h
 given_where H H' so (Some Mark) suppress asked before reply now h = h
@@ -36,7 +36,7 @@ object_where H H' so suppress asked old (Err Writing) made new h = absurd h
 object_where H H' so suppress asked old (Err (SideFull residue)) made new h = absurd h
 
 -- work that is done once what was pending is stored
-pub stored_first : (W : MediumRelation) (old : MediumState) (between : MediumState) (position : Position)
+pub stored_first : (W : MediumRelation) (old : MediumState) (between : MediumState) (position : Pos)
     (answer : Result Reply Fault) (made : List Change) (new : Mounted)
     → IsStored old between → W (mounted between position) answer made new
     → StoredFirst W (mounted old position) answer made new

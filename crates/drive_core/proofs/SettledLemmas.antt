@@ -1,7 +1,8 @@
 -- A synchronizing command that is acknowledged leaves nothing pending, check by check.
-use Rattle.std.proofs.Common.{◌≡◌, ◌≢◌, ℕ, zero, suc, List, [], ◌∷◌, Option, None, Some, Result, Ok, Bool, true, false, length, ◌==◌, refl, subst, sym, ap, inl, inr, nat_lt, not, ◌&&◌, if◌then◌else◌}
+use Rattle.std.proofs.Common.{◌≡◌, ◌≢◌, ℕ, ℤ, zero, suc, List, [], ◌∷◌, Option, None, Some, Result, Ok, Err, Bool, true, false, length, ◌==◌, refl, subst, sym, ap, inl, inr, nat_lt, not, ◌&&◌, if◌then◌else◌}
 use Rattle.std.specs.Prelude.{IsOkAnd}
 use Rattle.std.proofs.lemmas.Bool.{eqb-true}
+use Rattle.vtl_base.specs.declared.space_codes.SpaceCode.{SpaceCode}
 use Rattle.scsi_sense.specs.declared.replies.Reply.{Reply}
 use Rattle.scsi_sense.specs.declared.sense_data.Sense.{Sense}
 use Rattle.scsi_sense.specs.declared.sense_data.SenseKey.TheVariants.{NoSense}
@@ -9,11 +10,10 @@ use Rattle.scsi_attention.specs.declared.attention_sets.Attention.{Attention}
 use Rattle.scsi_attention.specs.declared.attention_sets.Attention.TheVariants.{PowerOn, MediumChanged, ReservationsPreempted, RegistrationsPreempted, ReservationsReleased, ModeChanged}
 use Rattle.scsi_wire.specs.declared.opcodes.Opcode.{Opcode}
 use Rattle.scsi_wire.specs.declared.commands.Command.{Command}
-use Rattle.scsi_wire.specs.declared.commands.Command.TheVariants.{TestUnitReady, Rewind, Read, Write, WriteFilemarks}
-use Rattle.scsi_attention.specs.Attentions.{attention_of, cleared}
+use Rattle.scsi_wire.specs.declared.commands.Command.TheVariants.{TestUnitReady, Rewind, RequestSense, ReadBlockLimits, Read, Write, WriteFilemarks, Space, Inquiry, Erase, Locate, ReadPosition}
 use Rattle.scsi_wire.specs.Opcodes.{opcode_of, is_exempt, needs_medium, is_stopped_by_reservation}
-use Rattle.scsi_wire.specs.Commands.{command_of, sent_length, checked, decoded_as}
-use Rattle.scsi_sense.specs.Senses.{invalid_field, medium_not_present, medium_failed, deferred_write_error, attention_sense, volume_overflow}
+use Rattle.scsi_wire.specs.Commands.{command_of, sent_length, checked, decoded, decoded_as}
+use Rattle.scsi_sense.specs.Senses.{invalid_field, invalid_operation_code, medium_not_present, medium_failed, deferred_write_error, attention_sense, volume_overflow}
 use Rattle.scsi_sense.specs.Replies.{check_with, conflict}
 use Rattle.volume_core.specs.declared.changes.Change.{Change}
 use Rattle.volume_core.specs.declared.changes.Refusal.{Refusal}
@@ -22,15 +22,22 @@ use Rattle.volume_core.specs.Volume.{refusal_of}
 use Rattle.volume_core.specs.Medium.{MediumState}
 use Rattle.drive_core.specs.declared.bays.Bay.{Bay}
 use Rattle.drive_core.specs.declared.bays.Bay.TheVariants.{Empty, Unloaded, Loaded}
+use Rattle.drive_core.specs.declared.conditions.Condition.{Condition}
+use Rattle.drive_core.specs.declared.conditions.Condition.TheVariants.{DeferredError, UnitAttention}
+use Rattle.drive_core.specs.declared.conditions.Denial.{Denial}
+use Rattle.drive_core.specs.declared.conditions.Denial.TheVariants.{Refused, Reported, Conflict}
 use Rattle.drive_core.specs.State.{Machine, Mounted, mounted, contents_of}
-use Rattle.drive_core.specs.Relations.{Made, Refuses}
+use Rattle.drive_core.specs.Relations.{Made}
 use Rattle.drive_core.specs.StoredFirst.{IsStored}
-use Rattle.drive_core.specs.Append.{AppendAnswer, amount_of}
+use Rattle.drive_core.specs.Append.{AppendAnswer, LacksRoom, amount_of}
+use Rattle.drive_core.specs.Space.{SpaceWhen, is_over_nothing}
+use Rattle.drive_core.specs.Erase.{EraseWork, erase_at}
 use Rattle.drive_core.specs.Write.{WriteWork, put_at}
 use Rattle.drive_core.specs.Marks.{MarksWork, marks_at}
 use Rattle.drive_core.specs.Read.{ReadWork}
-use Rattle.drive_core.specs.Work.{Request, MediumWork, OnMediumIn}
-use Rattle.drive_core.specs.Checks.{AtCode, AtExempt, AtDeferred, AtAttention, AtReservation, AtNeed, AtBay, AtMedium, AtFields, AtMode, AtSent, Executes, suits, keeps_out}
+use Rattle.drive_core.specs.Work.{Request, MediumWork, OnMediumIn, Work}
+use Rattle.drive_core.specs.Conditions.{condition_due, denial_reply, first_some}
+use Rattle.drive_core.specs.Checks.{Executes, ExecutesAs, condition_denial, fields_verdict, keeps_out, medium_denial, need_denial, reservation_denial, state_denial, suits, unless_denied, verdict, verdict_at}
 use Rattle.drive_core.specs.Synchronize.{synchronizes, IsSynchronizing, Acknowledges, NothingPending}
 
 attention_key : (attention : Attention) → (attention_sense attention).key ≢ NoSense
@@ -60,12 +67,19 @@ stored_clean : (old between medium : MediumState) → IsStored old between → m
 stored_clean old between medium h e =
     subst (λ (m : MediumState). IsClean m) (sym e) (h.works.works, h.nothing_pending)
 
+-- want of room acknowledges nothing
+lacks_unacknowledged : (amount : Option ℕ) (old : Mounted) (reply : Reply) (made : List Change) (new : Mounted)
+    → LacksRoom amount old reply made new → Acknowledges reply → ⊥
+lacks_unacknowledged None old reply made new h acknowledged = absurd h
+lacks_unacknowledged (Some amount) old reply made new h acknowledged =
+    unacknowledged (volume_overflow (Some amount)) [] (λ e. cc)
+    (subst (λ (r : Reply). Acknowledges r) h.0 acknowledged)
+
 append_settled : (cause : Option Refusal) (change : Change) (old : Mounted) (reply : Reply) (made : List Change)
     (new : Mounted) → AppendAnswer cause true change old reply made new → Acknowledges reply → IsClean new.medium
 append_settled None change old reply made new h acknowledged = (h.2.medium_is.works, h.3 refl)
 append_settled (Some NoRoom) change old reply made new h acknowledged =
-    absurd (unacknowledged (volume_overflow (Some (amount_of change))) [] (λ e. cc)
-    (subst (λ (r : Reply). Acknowledges r) h.0 acknowledged))
+    absurd (lacks_unacknowledged (amount_of change) old reply made new h acknowledged)
 append_settled (Some NoPartition) change old reply made new h acknowledged = absurd h
 append_settled (Some PastEnd) change old reply made new h acknowledged = absurd h
 append_settled (Some TooLong) change old reply made new h acknowledged = absurd h
@@ -84,6 +98,20 @@ marks_settled zero old reply made new h acknowledged =
 marks_settled (suc n) old reply made new h acknowledged =
     append_settled (refusal_of (contents_of old) (marks_at old.position (suc n))) (marks_at old.position (suc n)) old
     reply made new h acknowledged
+
+-- SPACE that is not over nothing
+space_settled : (nothing : Bool) (code : SpaceCode) (count : ℤ) (old : Mounted) (reply : Reply) (made : List Change)
+    (new : Mounted) → not nothing ≡ true → SpaceWhen nothing code count old (Ok reply) made new → IsClean new.medium
+space_settled true code count old reply made new some h = cc
+space_settled false code count old reply made new some h = stored_clean old.medium h.0 new.medium h.1 h.2.1.medium
+
+-- ERASE in a mode that is not buffered
+erase_settled : (buffered : Bool) (old : Mounted) (reply : Reply) (made : List Change) (new : Mounted)
+    → not buffered ≡ true → EraseWork buffered old (Ok reply) made new → Acknowledges reply → IsClean new.medium
+erase_settled true old reply made new some h acknowledged = cc
+erase_settled false old reply made new some h acknowledged =
+    append_settled (refusal_of (contents_of (mounted h.0 old.position)) (erase_at old.position)) (erase_at old.position)
+    (mounted h.0 old.position) reply made new h.2 acknowledged
 
 module _ (H : Type 0) where
   read_settled : (suppress : Bool) (asked : ℕ) (old : Mounted) (reply : Reply) (made : List Change) (new : Mounted)
@@ -112,96 +140,142 @@ module _ (H : Type 0) where
   work_settled (WriteFilemarks count true) machine sent old reply made new sure counted h acknowledged = cc
   work_settled (WriteFilemarks count false) machine sent old reply made new sure counted h acknowledged =
       marks_settled count old reply made new h acknowledged
+  work_settled (Space code count) machine sent old reply made new sure counted h acknowledged =
+      space_settled (is_over_nothing code count) code count old reply made new sure h
+  work_settled Erase machine sent old reply made new sure counted h acknowledged =
+      erase_settled machine.buffered old reply made new sure h acknowledged
+  work_settled (Locate object part) machine sent old reply made new sure counted h acknowledged =
+      stored_clean old.medium h.0 new.medium h.1 h.2.1.medium
+  work_settled ReadPosition machine sent old reply made new sure counted h acknowledged =
+      stored_clean old.medium h.0 new.medium h.1 (ap (λ (m : Mounted). m.medium) h.2.2)
+  work_settled (RequestSense room) machine sent old reply made new sure counted h acknowledged = cc
+  work_settled ReadBlockLimits machine sent old reply made new sure counted h acknowledged = cc
+  work_settled (Inquiry room) machine sent old reply made new sure counted h acknowledged = cc
 
-  module _ (old : Machine) (request : Request) (reply : Reply) (made : Made) (new : Machine)
+  module _ (old : Machine) (nexus : ℕ) (sent : List ℕ) (reply : Reply) (made : Made) (new : Machine)
       (acknowledged : Acknowledges reply) where
-    refused : (sense : Sense) (left : Machine) → sense.key ≢ NoSense → Refuses sense left (Ok reply) made new
-        → NothingPending new
-    refused sense left other h =
-        let same : reply ≡ check_with sense [] = cc h.0 in
-        absurd (unacknowledged sense [] other (subst (λ (r : Reply). Acknowledges r) same acknowledged))
-
     medium_clean : (bay : Bay MediumState) (command : Command) → synchronizes old command ≡ true
-        → length request.sent ≡ sent_length command
-        → OnMediumIn bay (MediumWork H command old.buffered request.sent) old (Ok reply) made new → NothingPending new
+        → length sent ≡ sent_length command
+        → OnMediumIn bay (MediumWork H command old.buffered sent) old (Ok reply) made new → NothingPending new
     medium_clean (Loaded medium) command sure counted h =
         let clean : IsClean h.0.medium =
-        work_settled command old request.sent (mounted medium old.position) reply made.changes h.0 sure counted h.1
+        work_settled command old sent (mounted medium old.position) reply made.changes h.0 sure counted h.1
         acknowledged in
         rw h.2 clean
     medium_clean Empty command sure counted h = absurd h
     medium_clean (Unloaded medium) command sure counted h = absurd h
 
-    sent_settled : (b : Bool) (command : Command) → (length request.sent == sent_length command) ≡ b
-        → synchronizes old command ≡ true → AtSent H old request (Ok reply) made new b command → NothingPending new
-    sent_settled false command counted sure h = refused invalid_field old (λ e. cc) h
-    sent_settled true command counted sure h =
-        medium_clean old.bay command sure (eqb-true (length request.sent) (sent_length command) counted) h
+    -- the work of a synchronizing command
+    pub command_settled : (command : Command) → synchronizes old command ≡ true → length sent ≡ sent_length command
+        → Work H command nexus sent old (Ok reply) made new → NothingPending new
+    command_settled TestUnitReady sure counted h = cc
+    command_settled Rewind sure counted h = medium_clean old.bay Rewind sure counted h
+    command_settled (Read asked suppress) sure counted h = medium_clean old.bay (Read asked suppress) sure counted h
+    command_settled (Write asked) sure counted h = medium_clean old.bay (Write asked) sure counted h
+    command_settled (WriteFilemarks count immediate) sure counted h =
+        medium_clean old.bay (WriteFilemarks count immediate) sure counted h
+    command_settled (Space code count) sure counted h = medium_clean old.bay (Space code count) sure counted h
+    command_settled Erase sure counted h = medium_clean old.bay Erase sure counted h
+    command_settled (Locate object part) sure counted h = medium_clean old.bay (Locate object part) sure counted h
+    command_settled ReadPosition sure counted h = medium_clean old.bay ReadPosition sure counted h
+    command_settled (RequestSense room) sure counted h = cc
+    command_settled ReadBlockLimits sure counted h = cc
+    command_settled (Inquiry room) sure counted h = cc
 
-    mode_settled : (b : Bool) (command : Command) → synchronizes old command ≡ true
-        → AtMode H old request (Ok reply) made new b command → NothingPending new
-    mode_settled false command sure h = refused invalid_field old (λ e. cc) h
-    mode_settled true command sure h = sent_settled (length request.sent == sent_length command) command refl sure h
+-- a command that is denied is not acknowledged, one that is carried out is the block's and came with its bytes
+abbrev Judged : Request → Result Command Denial → Type 0
+Judged request (Err denial) = Acknowledges (denial_reply denial) → ⊥
+Judged request (Ok command) =
+    (decoded request.cdb ≡ Ok command) × (length request.sent ≡ sent_length command)
 
-    -- a command that is known synchronizes at this drive
-    abbrev Synchronizes : Option Command → Type 0
-    Synchronizes command = IsOkAnd (checked command) (λ known. synchronizes old known ≡ true)
+-- a denial that may be there is not acknowledged
+abbrev IsNoAcknowledgement : Option Denial → Type 0
+IsNoAcknowledgement None = Unit {0}
+IsNoAcknowledgement (Some denial) = Acknowledges (denial_reply denial) → ⊥
 
-    fields_settled : (command : Option Command) → Synchronizes command
-        → AtFields H old request (Ok reply) made new command → NothingPending new
-    fields_settled None sure h = absurd sure
-    fields_settled (Some command) sure h = mode_settled (suits old command) command sure h
+condition_unacknowledged : (due : Option Condition) → IsNoAcknowledgement (condition_denial due)
+condition_unacknowledged None = tt
+condition_unacknowledged (Some DeferredError) = unacknowledged deferred_write_error [] (λ e. cc)
+condition_unacknowledged (Some (UnitAttention attention)) =
+    unacknowledged (attention_sense attention) [] (attention_key attention)
 
-    failed_settled : (b : Bool) (opcode : Opcode) → Synchronizes (command_of opcode request.cdb)
-        → AtMedium H old request (Ok reply) made new b opcode → NothingPending new
-    failed_settled true opcode sure h = refused medium_failed old (λ e. cc) h
-    failed_settled false opcode sure h = fields_settled (command_of opcode request.cdb) sure h
+reservation_unacknowledged : (out : Bool)
+    → IsNoAcknowledgement (if out then Some Conflict else None)
+reservation_unacknowledged true = conflict_unacknowledged
+reservation_unacknowledged false = tt
 
-    bay_settled : (bay : Bay MediumState) (opcode : Opcode) → Synchronizes (command_of opcode request.cdb)
-        → AtBay H old request (Ok reply) made new bay opcode → NothingPending new
-    bay_settled (Loaded medium) opcode sure h = failed_settled medium.failed opcode sure h
-    bay_settled Empty opcode sure h = refused medium_not_present old (λ e. cc) h
-    bay_settled (Unloaded medium) opcode sure h = refused medium_not_present old (λ e. cc) h
+failed_unacknowledged : (failed : Bool) → IsNoAcknowledgement (if failed then Some (Refused medium_failed) else None)
+failed_unacknowledged true = unacknowledged medium_failed [] (λ e. cc)
+failed_unacknowledged false = tt
 
-    need_settled : (b : Bool) (opcode : Opcode) → Synchronizes (command_of opcode request.cdb)
-        → AtNeed H old request (Ok reply) made new b opcode → NothingPending new
-    need_settled false opcode sure h = fields_settled (command_of opcode request.cdb) sure h
-    need_settled true opcode sure h = bay_settled old.bay opcode sure h
+medium_unacknowledged : (bay : Bay MediumState) → IsNoAcknowledgement (medium_denial bay)
+medium_unacknowledged Empty = unacknowledged medium_not_present [] (λ e. cc)
+medium_unacknowledged (Unloaded medium) = unacknowledged medium_not_present [] (λ e. cc)
+medium_unacknowledged (Loaded medium) = failed_unacknowledged medium.failed
 
-    reservation_settled : (b : Bool) (opcode : Opcode) → Synchronizes (command_of opcode request.cdb)
-        → AtReservation H old request (Ok reply) made new b opcode → NothingPending new
-    reservation_settled false opcode sure h = need_settled (needs_medium opcode) opcode sure h
-    reservation_settled true opcode sure h =
-        let same : reply ≡ conflict = cc h.0 in
-        absurd (conflict_unacknowledged (subst (λ (r : Reply). Acknowledges r) same acknowledged))
+need_unacknowledged : (needs : Bool) (bay : Bay MediumState)
+    → IsNoAcknowledgement (if needs then medium_denial bay else None)
+need_unacknowledged true bay = medium_unacknowledged bay
+need_unacknowledged false bay = tt
 
-    attention_settled : (a : Option Attention) (opcode : Opcode) → Synchronizes (command_of opcode request.cdb)
-        → AtAttention H old request (Ok reply) made new a opcode → NothingPending new
-    attention_settled None opcode sure h =
-        reservation_settled
-        (if keeps_out old.reservations request.nexus then is_stopped_by_reservation opcode else false) opcode sure h
-    attention_settled (Some attention) opcode sure h =
-        refused (attention_sense attention)
-        (record old { attentions = cleared old.attentions request.nexus attention }) (attention_key attention) h
+first_unacknowledged : (one other : Option Denial) → IsNoAcknowledgement one → IsNoAcknowledgement other
+    → IsNoAcknowledgement (first_some one other)
+first_unacknowledged None other h k = k
+first_unacknowledged (Some denial) other h k = h
 
-    deferred_settled : (b : Bool) (opcode : Opcode) → Synchronizes (command_of opcode request.cdb)
-        → AtDeferred H old request (Ok reply) made new b opcode → NothingPending new
-    deferred_settled true opcode sure h = refused deferred_write_error (record old { deferred = false }) (λ e. cc) h
-    deferred_settled false opcode sure h = attention_settled (attention_of old.attentions request.nexus) opcode sure h
+unless_exempt : (exempt : Bool) (denial : Option Denial) → IsNoAcknowledgement denial
+    → IsNoAcknowledgement (if exempt then None else denial)
+unless_exempt true denial h = tt
+unless_exempt false denial h = h
 
-    exempt_settled : (b : Bool) (opcode : Opcode) → Synchronizes (command_of opcode request.cdb)
-        → AtExempt H old request (Ok reply) made new b opcode → NothingPending new
-    exempt_settled true opcode sure h = fields_settled (command_of opcode request.cdb) sure h
-    exempt_settled false opcode sure h = deferred_settled old.deferred opcode sure h
+judged_unless : (request : Request) (denial : Option Denial) (next : Result Command Denial)
+    → IsNoAcknowledgement denial → Judged request next → Judged request (unless_denied denial next)
+judged_unless request None next h k = k
+judged_unless request (Some denial) next h k = h
 
-    code_settled : (o : Option Opcode) → IsOkAnd (decoded_as o request.cdb) (λ known. synchronizes old known ≡ true)
-        → AtCode H old request (Ok reply) made new o → NothingPending new
-    code_settled None sure h = absurd sure
-    code_settled (Some opcode) sure h = exempt_settled (is_exempt opcode) opcode sure h
+module _ (machine : Machine) (request : Request) where
+  both_hold : (suited counted : Bool) (command : Command) → (length request.sent == sent_length command) ≡ counted
+      → decoded request.cdb ≡ Ok command
+      → Judged request (if suited && counted then Ok command else Err (Refused invalid_field))
+  both_hold true true command e is = (is, eqb-true (length request.sent) (sent_length command) e)
+  both_hold true false command e is = unacknowledged invalid_field [] (λ e. cc)
+  both_hold false counted command e is = unacknowledged invalid_field [] (λ e. cc)
 
--- a synchronizing command that is acknowledged leaves nothing pending
-pub settled : (H : Type 0) (old : Machine) (request : Request) (reply : Reply) (made : Made) (new : Machine)
-    → Executes H old request (Ok reply) made new → IsSynchronizing old request.cdb → Acknowledges reply
-    → NothingPending new
-settled H old request reply made new h sure acknowledged =
-    code_settled H old request reply made new acknowledged (opcode_of request.cdb) sure h
+  fields_judged : (found : Option Command) → decoded request.cdb ≡ checked found
+      → Judged request (fields_verdict machine request.sent found)
+  fields_judged None is = unacknowledged invalid_field [] (λ e. cc)
+  fields_judged (Some command) is =
+      both_hold (suits machine command) (length request.sent == sent_length command) command refl is
+
+  code_judged : (found : Option Opcode) → opcode_of request.cdb ≡ found → Judged request (verdict_at machine request found)
+  code_judged None is = unacknowledged invalid_operation_code [] (λ e. cc)
+  code_judged (Some opcode) is =
+      judged_unless request (state_denial machine request.nexus opcode)
+      (fields_verdict machine request.sent (command_of opcode request.cdb))
+      (unless_exempt (is_exempt opcode)
+      (first_some (condition_denial (condition_due machine request.nexus))
+      (first_some (reservation_denial machine request.nexus opcode) (need_denial machine opcode)))
+      (first_unacknowledged (condition_denial (condition_due machine request.nexus))
+      (first_some (reservation_denial machine request.nexus opcode) (need_denial machine opcode))
+      (condition_unacknowledged (condition_due machine request.nexus))
+      (first_unacknowledged (reservation_denial machine request.nexus opcode) (need_denial machine opcode)
+      (reservation_unacknowledged
+      (keeps_out machine.reservations request.nexus && is_stopped_by_reservation opcode))
+      (need_unacknowledged (needs_medium opcode) machine.bay))))
+      (fields_judged (command_of opcode request.cdb) (ap (λ (o : Option Opcode). decoded_as o request.cdb) is))
+
+module _ (H : Type 0) (old : Machine) (request : Request) (reply : Reply) (made : Made) (new : Machine) where
+  settled_as : (judged : Result Command Denial) → Judged request judged
+      → ExecutesAs H judged request old (Ok reply) made new → IsSynchronizing old request.cdb → Acknowledges reply
+      → NothingPending new
+  settled_as (Err denial) never h sure acknowledged =
+      let same : reply ≡ denial_reply denial = cc h.0 in
+      absurd (never (subst (λ (r : Reply). Acknowledges r) same acknowledged))
+  settled_as (Ok command) is h sure acknowledged =
+      command_settled H old request.nexus request.sent reply made new acknowledged command (rw is.0 at sure) is.1 h
+
+  -- a synchronizing command that is acknowledged leaves nothing pending
+  pub settled : Executes H request old (Ok reply) made new → IsSynchronizing old request.cdb → Acknowledges reply
+      → NothingPending new
+  settled h sure acknowledged =
+      settled_as (verdict old request) (code_judged old request (opcode_of request.cdb) refl) h sure acknowledged

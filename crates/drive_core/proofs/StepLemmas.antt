@@ -1,13 +1,10 @@
 -- Steps, where more is known of the medium's honesty.
-use Rattle.std.proofs.Common.{ℕ, List, [], Option, None, Some, Result, Ok, Err, Bool, true, false, length, ◌==◌}
+use Rattle.std.proofs.Common.{ℕ, List, [], Option, None, Some, Result, Ok, Err, Bool, true, false}
 use Rattle.scsi_sense.specs.declared.replies.Reply.{Reply}
-use Rattle.scsi_attention.specs.declared.attention_sets.Attention.{Attention}
-use Rattle.scsi_wire.specs.declared.opcodes.Opcode.{Opcode}
 use Rattle.scsi_wire.specs.declared.commands.Command.{Command}
-use Rattle.scsi_wire.specs.declared.commands.Command.TheVariants.{TestUnitReady, Rewind, Read, Write, WriteFilemarks}
-use Rattle.scsi_attention.specs.Attentions.{attention_of}
-use Rattle.scsi_wire.specs.Opcodes.{opcode_of, is_exempt, needs_medium}
-use Rattle.scsi_wire.specs.Commands.{command_of, sent_length}
+use Rattle.scsi_wire.specs.declared.commands.Command.TheVariants.{TestUnitReady, Rewind, RequestSense, ReadBlockLimits, Read, Write, WriteFilemarks, Space, Inquiry, Erase, Locate, ReadPosition}
+use Rattle.scsi_wire.specs.Opcodes.{needs_medium}
+use Rattle.scsi_wire.specs.Commands.{code_of}
 use Rattle.volume_core.specs.declared.changes.Change.{Change}
 use Rattle.volume_core.specs.declared.media.MediumError.{MediumError}
 use Rattle.volume_core.specs.declared.media.MediumError.TheVariants as Errors
@@ -18,8 +15,9 @@ use Rattle.drive_core.specs.declared.bays.Bay.TheVariants.{Empty, Unloaded, Load
 use Rattle.drive_core.specs.declared.faults.Fault.{Fault}
 use Rattle.drive_core.specs.State.{Machine, Mounted, mounted}
 use Rattle.drive_core.specs.Relations.{Made}
-use Rattle.drive_core.specs.Work.{Request, MediumWork, OnMediumIn}
-use Rattle.drive_core.specs.Checks.{AtCode, AtExempt, AtDeferred, AtAttention, AtNeed, AtBay, AtMedium, AtFields, AtMode, AtSent, suits}
+use Rattle.drive_core.specs.declared.conditions.Denial.{Denial}
+use Rattle.drive_core.specs.Work.{Request, MediumWork, OnMediumIn, WorkBy}
+use Rattle.drive_core.specs.Checks.{ExecutesAs, verdict}
 use Rattle.drive_core.specs.Load.{LoadsInto, PowersOn}
 use Rattle.drive_core.specs.Step.{Input, Execute, FlushTurn, Load, PowerOn, Output, Answered, Unanswered, Step}
 use Rattle.drive_core.proofs.ReadLemmas.{read_where}
@@ -35,79 +33,36 @@ module _ (H H' : Type 0) (so : H → H') where
       read_where H H' so suppress asked old answer made new h
   work_where (Write asked) buffered sent old answer made new h = h
   work_where (WriteFilemarks count immediate) buffered sent old answer made new h = h
+  work_where (Space code count) buffered sent old answer made new h = h
+  work_where Erase buffered sent old answer made new h = h
+  work_where (Locate object part) buffered sent old answer made new h = h
+  work_where ReadPosition buffered sent old answer made new h = h
+  work_where (RequestSense room) buffered sent old answer made new h = h
+  work_where ReadBlockLimits buffered sent old answer made new h = h
+  work_where (Inquiry room) buffered sent old answer made new h = h
 
-  module _ (old : Machine) (request : Request) (answer : Result Reply Fault) (made : Made) (new : Machine) where
-    bay_work_where : (bay : Bay MediumState) (command : Command)
-        → OnMediumIn bay (MediumWork H' command old.buffered request.sent) old answer made new
-        → OnMediumIn bay (MediumWork H command old.buffered request.sent) old answer made new
-    bay_work_where (Loaded medium) command h = (
+  module _ (old : Machine) (answer : Result Reply Fault) (made : Made) (new : Machine) where
+    bay_work_where : (bay : Bay MediumState) (command : Command) (sent : List ℕ)
+        → OnMediumIn bay (MediumWork H' command old.buffered sent) old answer made new
+        → OnMediumIn bay (MediumWork H command old.buffered sent) old answer made new
+    bay_work_where (Loaded medium) command sent h = (
       h.0,
-      work_where command old.buffered request.sent (mounted medium old.position) answer made.changes h.0 h.1,
+      work_where command old.buffered sent (mounted medium old.position) answer made.changes h.0 h.1,
       h.2,
     )
-    bay_work_where Empty command h = h
-    bay_work_where (Unloaded medium) command h = h
+    bay_work_where Empty command sent h = h
+    bay_work_where (Unloaded medium) command sent h = h
 
-    sent_where : (b : Bool) (command : Command)
-        → AtSent H' old request answer made new b command
-        → AtSent H old request answer made new b command
-    sent_where false command h = h
-    sent_where true command h = bay_work_where old.bay command h
+    work_by_where : (needs : Bool) (command : Command) (nexus : ℕ) (sent : List ℕ)
+        → WorkBy needs H' command nexus sent old answer made new → WorkBy needs H command nexus sent old answer made new
+    work_by_where true command nexus sent h = bay_work_where old.bay command sent h
+    work_by_where false command nexus sent h = h
 
-    mode_where : (b : Bool) (command : Command)
-        → AtMode H' old request answer made new b command
-        → AtMode H old request answer made new b command
-    mode_where false command h = h
-    mode_where true command h = sent_where (length request.sent == sent_length command) command h
-
-    fields_where : (command : Option Command)
-        → AtFields H' old request answer made new command
-        → AtFields H old request answer made new command
-    fields_where None h = h
-    fields_where (Some command) h = mode_where (suits old command) command h
-
-    medium_where : (b : Bool) (opcode : Opcode)
-        → AtMedium H' old request answer made new b opcode
-        → AtMedium H old request answer made new b opcode
-    medium_where true opcode h = h
-    medium_where false opcode h = fields_where (command_of opcode request.cdb) h
-
-    bay_where : (bay : Bay MediumState) (opcode : Opcode)
-        → AtBay H' old request answer made new bay opcode
-        → AtBay H old request answer made new bay opcode
-    bay_where (Loaded medium) opcode h = medium_where medium.failed opcode h
-    bay_where Empty opcode h = h
-    bay_where (Unloaded medium) opcode h = h
-
-    needs_where : (b : Bool) (opcode : Opcode)
-        → AtNeed H' old request answer made new b opcode
-        → AtNeed H old request answer made new b opcode
-    needs_where false opcode h = fields_where (command_of opcode request.cdb) h
-    needs_where true opcode h = bay_where old.bay opcode h
-
-    attention_where : (a : Option Attention) (opcode : Opcode)
-        → AtAttention H' old request answer made new a opcode
-        → AtAttention H old request answer made new a opcode
-    attention_where (Some attention) opcode h = h
-    attention_where None opcode h = needs_where (needs_medium opcode) opcode h
-
-    deferred_where : (b : Bool) (opcode : Opcode)
-        → AtDeferred H' old request answer made new b opcode
-        → AtDeferred H old request answer made new b opcode
-    deferred_where true opcode h = h
-    deferred_where false opcode h = attention_where (attention_of old.attentions request.nexus) opcode h
-
-    exempt_where : (b : Bool) (opcode : Opcode)
-        → AtExempt H' old request answer made new b opcode
-        → AtExempt H old request answer made new b opcode
-    exempt_where true opcode h = fields_where (command_of opcode request.cdb) h
-    exempt_where false opcode h = deferred_where old.deferred opcode h
-
-    code_where : (o : Option Opcode)
-        → AtCode H' old request answer made new o
-        → AtCode H old request answer made new o
-    code_where None h = h
-    code_where (Some opcode) h = exempt_where (is_exempt opcode) opcode h
+    executes_where : (judged : Result Command Denial) (request : Request)
+        → ExecutesAs H' judged request old answer made new → ExecutesAs H judged request old answer made new
+    executes_where (Err denial) request h = h
+    executes_where (Ok command) request h =
+        work_by_where (needs_medium (code_of command)) command request.nexus request.sent h
 
   parked_where : (stored : Option (List Part)) (torn : List Change) (room : Option ℕ) (taken : List Change)
       (new : MediumState) → IsParked H' stored torn room taken new → IsParked H stored torn room taken new
@@ -156,7 +111,7 @@ module _ (H H' : Type 0) (so : H → H') where
   pub step_where : (old : Machine) (input : Input) (output : Output) (made : Made) (new : Machine)
       → Step H' old input output made new → Step H old input output made new
   step_where old (Execute request) (Answered answer) made new h =
-      code_where old request answer made new (opcode_of request.cdb) h
+      executes_where old answer made new (verdict old request) request h
   step_where old FlushTurn (Unanswered outcome) made new h = h
   step_where old (Load medium) (Answered answer) made new h = loads_where old.bay medium old answer made new h
   step_where old (PowerOn medium) (Unanswered outcome) made new h = powers_where medium outcome made new h

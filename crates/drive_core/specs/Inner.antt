@@ -4,3 +4,4 @@ pub mod Storing
 pub mod Appending
 pub mod Fetching
 pub mod Opening
+pub mod Passing

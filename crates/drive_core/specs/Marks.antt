@@ -2,14 +2,14 @@
 use Rattle.std.specs.Prelude.{ℕ, zero, suc, Bool, true, false, not}
 use Rattle.volume_core.specs.declared.changes.Change.{Change}
 use Rattle.volume_core.specs.declared.changes.Change.TheVariants.{Marks}
-use Rattle.drive_core.specs.declared.bays.Position.{Position}
+use Rattle.positioning.specs.declared.positions.Pos.{Pos}
 use Rattle.drive_core.specs.Relations.{MediumRelation, Idles}
 use Rattle.drive_core.specs.StoredFirst.{StoredFirst}
 use Rattle.drive_core.specs.Append.{AppendWork}
 
 -- filemarks at a position (SSC-4, logical position)
-abbrev pub marks_at : Position → ℕ → Change
-marks_at position count = Marks position.part position.object count
+abbrev pub marks_at : Pos → ℕ → Change
+marks_at position count = Marks position.part position.obj count
 
 -- filemarks are put at the position, and unless the answer is to be immediate it settles; of none the settling is all
 -- (SSC-4, WRITE FILEMARKS(6))

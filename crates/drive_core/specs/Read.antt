@@ -10,7 +10,7 @@ use Rattle.volume_core.specs.declared.objects.Object.{Object}
 use Rattle.volume_core.specs.declared.objects.Object.TheVariants.{Block, Mark}
 use Rattle.volume_core.specs.Volume.{objects_of, kind_at}
 use Rattle.volume_core.specs.Medium.{after_failed_read}
-use Rattle.drive_core.specs.declared.bays.Position.{Position}
+use Rattle.positioning.specs.declared.positions.Pos.{Pos}
 use Rattle.drive_core.specs.declared.faults.Fault.{Fault}
 use Rattle.drive_core.specs.declared.faults.Fault.TheVariants.{NoMemory, Writing, Reading, SideFull}
 use Rattle.drive_core.specs.State.{Mounted, contents_of}
@@ -19,15 +19,15 @@ use Rattle.drive_core.specs.StoredFirst.{StoredFirst}
 
 -- the object at the position, None at end of data (SSC-4, logical position)
 abbrev pub object_at : Mounted → Option Object
-object_at m = slice_get (objects_of (contents_of m) m.position.part) m.position.object
+object_at m = slice_get (objects_of (contents_of m) m.position.part) m.position.obj
 
 -- a block stands at the position (SSC-4, logical position)
 abbrev pub IsAtBlock : Mounted → Type 0
-IsAtBlock m = kind_at (contents_of m) m.position.part m.position.object ≡ Some Kinds.Block
+IsAtBlock m = kind_at (contents_of m) m.position.part m.position.obj ≡ Some Kinds.Block
 
 -- the position behind the object at it (SSC-4, logical position)
-abbrev pub next : Position → Position
-next position = record position { object = position.object + 1 }
+abbrev pub next : Pos → Pos
+next position = record position { obj = position.obj + 1 }
 
 -- the length that was asked minus the block's, in 32-bit two's complement (SSC-4, READ(6))
 abbrev pub residue_of : ℕ → ℕ → ℕ
@@ -52,7 +52,7 @@ pub record GivesBlock
 
 -- reply and position by the object at the position; at end of data the position stays (SSC-4, READ(6))
 abbrev pub ReadAnswer :
-    Type 0 → Option Object → Bool → ℕ → Position → Reply → Position → Type 0
+    Type 0 → Option Object → Bool → ℕ → Pos → Reply → Pos → Type 0
 ReadAnswer honest None suppress asked before reply now =
     (reply ≡ check_with (end_of_data (Some asked)) []) × (now ≡ before)
 ReadAnswer honest (Some Mark) suppress asked before reply now =

@@ -1,8 +1,7 @@
--- What the work of a command is: a relation. What a step makes; nothing done; refusals; what stays at a failure.
+-- What the work of a command is: a relation. What a step makes; nothing done; what stays at a failure.
 use Rattle.std.specs.Prelude.{◌≡◌, ◌≤◌, ◌++◌, List, [], length, Result, Ok}
 use Rattle.scsi_sense.specs.declared.replies.Reply.{Reply}
-use Rattle.scsi_sense.specs.declared.sense_data.Sense.{Sense}
-use Rattle.scsi_sense.specs.Replies.{good_with, check_with}
+use Rattle.scsi_sense.specs.Replies.{good_with}
 use Rattle.volume_core.specs.declared.changes.Change.{Change}
 use Rattle.volume_core.specs.Medium.{Works, Breaks}
 use Rattle.drive_core.specs.declared.faults.Fault.{Fault}
@@ -32,12 +31,6 @@ MachineRelation = Machine → Result Reply Fault → Made → Machine → Type 0
 -- GOOD, and nothing is done (SSC-4)
 abbrev pub Idles : MediumRelation
 Idles old answer made new = (answer ≡ Ok (good_with [])) × (made ≡ []) × (new ≡ old)
-
--- CHECK CONDITION with no data, and nothing is carried out; what is left is the drive as it was, or less the condition
--- that was just reported (SAM-5, SPC-4)
-abbrev pub Refuses : Sense → MachineRelation
-Refuses sense left answer made new =
-    (answer ≡ Ok (check_with sense [])) × (made ≡ made_nothing) × (new ≡ left)
 
 -- volume and position are as they were, and the medium works; what was pending may have been stored (own)
 pub record Stays (old new : Mounted) : Type 0 where

@@ -1,14 +1,15 @@
 -- What a drive is in.
-use Rattle.std.specs.Prelude.{◌≡◌, ◌<◌, ◌≤◌, List, length, replicate, Option, None, Some, Bool, true, false}
+use Rattle.std.specs.Prelude.{◌≡◌, List, [], replicate, Option, None, Some, Bool, true, false}
 use Rattle.vtl_base.specs.declared.limits.TheConstants.{NEXUSES}
 use Rattle.scsi_attention.specs.declared.attention_sets.Attention.TheVariants.{PowerOn, MediumChanged}
 use Rattle.scsi_attention.specs.AttentionSets.{AttentionSet, no_attentions, with_attention}
 use Rattle.scsi_attention.specs.Attentions.{established_for_all}
-use Rattle.volume_core.specs.Volume.{Part, objects_of}
+use Rattle.volume_core.specs.Volume.{Part}
 use Rattle.volume_core.specs.Medium.{MediumState, volume_of}
 use Rattle.drive_core.specs.declared.bays.Bay.{Bay}
 use Rattle.drive_core.specs.declared.bays.Bay.TheVariants.{Empty, Unloaded, Loaded}
-use Rattle.drive_core.specs.declared.bays.Position.{Position}
+use Rattle.positioning.specs.declared.positions.Pos.{Pos}
+use Rattle.positioning.specs.Motion.{IsOnTape}
 
 -- the reservations of a drive that takes no reservation order: there are none (own)
 abbrev pub Reservations : Type 0
@@ -23,7 +24,7 @@ Kept = Unit {0}
 -- the reservations, and what keeps these (SSC-4, SPC-4; the last own)
 pub record DriveState (M K : Type 0) : Type 0 where
   pub bay : Bay M
-  pub position : Position
+  pub position : Pos
   pub buffered : Bool
   pub deferred : Bool
   pub attentions : List AttentionSet
@@ -61,10 +62,10 @@ medium_in (Loaded m) = Some m
 -- a loaded medium, and the position on it (SSC-4, logical position)
 pub record Mounted : Type 0 where
   pub medium : MediumState
-  pub position : Position
+  pub position : Pos
 
 -- a medium loaded, and this position on it (own)
-abbrev pub mounted : MediumState → Position → Mounted
+abbrev pub mounted : MediumState → Pos → Mounted
 mounted medium position = record { medium = medium; position = position }
 
 -- the volume that stands on it (own)
@@ -76,17 +77,21 @@ abbrev pub with_mounted : Machine → Mounted → Machine
 with_mounted machine m = record machine { bay = Loaded m.medium; position = m.position }
 
 -- partition 0, object 0: beginning of the medium (SSC-4)
-abbrev pub start : Position
-start = record { part = 0; object = 0 }
+abbrev pub start : Pos
+start = record { part = 0; obj = 0 }
 
 -- the medium is awake, and the position is on it (own)
-pub record IsPositioned (medium : MediumState) (position : Position) : Type 0 where
+pub record IsPositioned (medium : MediumState) (position : Pos) : Type 0 where
   pub awake : medium.awake ≡ true
-  pub part : position.part < length (volume_of medium)
-  pub object : position.object ≤ length (objects_of (volume_of medium) position.part)
+  pub on_tape : IsOnTape (volume_of medium) position
+
+-- the volume of the medium in a bay, where one is loaded; else one of no partition (own)
+abbrev pub volume_in : Bay MediumState → List Part
+volume_in (Loaded medium) = volume_of medium
+volume_in _ = []
 
 -- the position is on a loaded medium, and one that is not loaded is parked (own)
-abbrev pub IsBayPositioned : {M : Type 0} → (M → MediumState) → Bay M → Position → Type 0
+abbrev pub IsBayPositioned : {M : Type 0} → (M → MediumState) → Bay M → Pos → Type 0
 IsBayPositioned state Empty position = Unit {0}
 IsBayPositioned state (Unloaded m) position = (state m).awake ≡ false
 IsBayPositioned state (Loaded m) position = IsPositioned (state m) position

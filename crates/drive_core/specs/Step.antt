@@ -29,7 +29,7 @@ pub data Output : Type 0 where
 -- gives what stands on it: where that is not known, the bytes of a block and the volume of a side are open, and nothing
 -- else. The machine itself is the one with `Unit {0}`, which holds.
 abbrev pub Step : Type 0 → Machine → Input → Output → Made → Machine → Type 0
-Step honest old (Execute request) (Answered answer) made new = Executes honest old request answer made new
+Step honest old (Execute request) (Answered answer) made new = Executes honest request old answer made new
 Step honest old FlushTurn (Unanswered outcome) made new = FlushTurns old outcome made new
 Step honest old (Load medium) (Answered answer) made new = Loads honest medium old answer made new
 Step honest old (PowerOn medium) (Unanswered outcome) made new = PowersOn honest medium outcome made new

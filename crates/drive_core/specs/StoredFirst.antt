@@ -4,7 +4,7 @@ use Rattle.scsi_sense.specs.declared.replies.Reply.{Reply}
 use Rattle.scsi_sense.specs.Replies.{good_with}
 use Rattle.volume_core.specs.declared.changes.Change.{Change}
 use Rattle.volume_core.specs.Medium.{MediumState, volume_of, Works}
-use Rattle.drive_core.specs.declared.bays.Position.{Position}
+use Rattle.positioning.specs.declared.positions.Pos.{Pos}
 use Rattle.drive_core.specs.declared.faults.Fault.{Fault}
 use Rattle.drive_core.specs.declared.faults.Fault.TheVariants.{Writing}
 use Rattle.drive_core.specs.State.{Mounted, mounted}
@@ -28,6 +28,6 @@ StoredFirst W old (Err Writing) made new =
 StoredFirst W old answer made new = OnceStored W old answer made new
 
 -- GOOD, and the position is this one (SSC-4, logical position)
-abbrev pub GoesTo : (Mounted → Position) → MediumRelation
+abbrev pub GoesTo : (Mounted → Pos) → MediumRelation
 GoesTo where_to old answer made new =
     (answer ≡ Ok (good_with [])) × (made ≡ []) × (new ≡ record old { position = where_to old })

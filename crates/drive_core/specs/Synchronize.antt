@@ -1,22 +1,28 @@
 -- Commands that store all that is pending before they are answered, and answers that acknowledge.
 use Rattle.std.specs.Prelude.{◌≡◌, ◌⊎◌, ℕ, List, [], Bool, true, false, not, ◌&&◌, nat_lt, IsOkAnd, IsSomeAnd, IfSome}
 use Rattle.scsi_wire.specs.declared.commands.Command.{Command}
-use Rattle.scsi_wire.specs.declared.commands.Command.TheVariants.{TestUnitReady, Rewind, Read, Write, WriteFilemarks}
+use Rattle.scsi_wire.specs.declared.commands.Command.TheVariants.{Rewind, Read, Write, WriteFilemarks, Space, Erase, Locate, ReadPosition}
 use Rattle.scsi_sense.specs.declared.replies.Reply.{Reply}
 use Rattle.scsi_sense.specs.declared.replies.Status.TheVariants.{Good, Check}
 use Rattle.scsi_sense.specs.declared.sense_data.Sense.{Sense}
 use Rattle.scsi_sense.specs.declared.sense_data.SenseKey.TheVariants.{NoSense}
 use Rattle.scsi_wire.specs.Commands.{decoded}
+use Rattle.drive_core.specs.Space.{is_over_nothing}
 use Rattle.drive_core.specs.State.{Machine, medium_in}
 
--- whether a command synchronizes at a drive: REWIND; WRITE FILEMARKS without IMMED, of none too; a READ of some bytes;
--- an unbuffered WRITE of some (SSC-4, buffered mode; READ and REWIND own)
+-- whether a command synchronizes at a drive: REWIND, LOCATE, READ POSITION; a SPACE that is not over nothing; WRITE
+-- FILEMARKS without IMMED, of none too; a READ of some bytes; in unbuffered mode a WRITE of some, and an ERASE
+-- (SSC-4, buffered mode; READ, REWIND, READ POSITION and motions own)
 abbrev pub synchronizes : Machine → Command → Bool
-synchronizes machine TestUnitReady = false
 synchronizes machine Rewind = true
+synchronizes machine (Locate object part) = true
+synchronizes machine ReadPosition = true
+synchronizes machine (Space code count) = not (is_over_nothing code count)
+synchronizes machine (WriteFilemarks count immediate) = not immediate
 synchronizes machine (Read length suppress) = nat_lt 0 length
 synchronizes machine (Write length) = not machine.buffered && nat_lt 0 length
-synchronizes machine (WriteFilemarks count immediate) = not immediate
+synchronizes machine Erase = not machine.buffered
+synchronizes machine _ = false
 
 -- a command block of a command that synchronizes at this drive (own)
 abbrev pub IsSynchronizing : Machine → List ℕ → Type 0

@@ -1,16 +1,24 @@
--- The work of each command, once no check stops it.
-use Rattle.std.specs.Prelude.{◌≡◌, ℕ, List, Bool}
+-- The work of each command, once it has passed all checks.
+use Rattle.std.specs.Prelude.{◌≡◌, ℕ, List, Bool, true, false}
 use Rattle.scsi_wire.specs.declared.commands.Command.{Command}
-use Rattle.scsi_wire.specs.declared.commands.Command.TheVariants.{TestUnitReady, Rewind, Read, Write, WriteFilemarks}
+use Rattle.scsi_wire.specs.declared.commands.Command.TheVariants.{TestUnitReady, Rewind, RequestSense, ReadBlockLimits, Read, Write, WriteFilemarks, Space, Inquiry, Erase, Locate, ReadPosition}
+use Rattle.scsi_wire.specs.Answers.{block_limits, cut_to, inquiry_data}
+use Rattle.scsi_wire.specs.Commands.{code_of}
+use Rattle.scsi_wire.specs.Opcodes.{needs_medium}
 use Rattle.volume_core.specs.Medium.{MediumState}
 use Rattle.drive_core.specs.declared.bays.Bay.{Bay}
 use Rattle.drive_core.specs.declared.bays.Bay.TheVariants.{Loaded}
 use Rattle.drive_core.specs.State.{Mounted, mounted, with_mounted}
-use Rattle.drive_core.specs.Relations.{Made, MediumRelation, MachineRelation, Idles}
-use Rattle.drive_core.specs.Rewind.{RewindWork}
-use Rattle.drive_core.specs.Read.{ReadWork}
-use Rattle.drive_core.specs.Write.{WriteWork}
+use Rattle.drive_core.specs.Relations.{Made, made_nothing, MediumRelation, MachineRelation, Idles}
+use Rattle.drive_core.specs.Erase.{EraseWork}
+use Rattle.drive_core.specs.Locate.{LocateWork}
 use Rattle.drive_core.specs.Marks.{MarksWork}
+use Rattle.drive_core.specs.Read.{ReadWork}
+use Rattle.drive_core.specs.RequestSense.{RequestSenseWork}
+use Rattle.drive_core.specs.Rewind.{RewindWork}
+use Rattle.drive_core.specs.Space.{SpaceWork}
+use Rattle.drive_core.specs.Tell.{Gives, ReadPositionWork}
+use Rattle.drive_core.specs.Write.{WriteWork}
 
 -- what a host sends to a drive: who it is, a command block, and data (SAM-5)
 pub record Request : Type 0 where
@@ -18,7 +26,7 @@ pub record Request : Type 0 where
   pub cdb : List ℕ
   pub sent : List ℕ
 
--- the work of a command that concerns the loaded medium and the position alone (SSC-4)
+-- the work of a command that needs a medium, which concerns that and the position alone (SSC-4)
 abbrev pub MediumWork : Type 0 → Command → Bool → List ℕ → MediumRelation
 MediumWork honest TestUnitReady buffered sent old answer made new = Idles old answer made new
 MediumWork honest Rewind buffered sent old answer made new = RewindWork old answer made new
@@ -28,6 +36,14 @@ MediumWork honest (Write length) buffered sent old answer made new =
     WriteWork buffered sent old answer made new
 MediumWork honest (WriteFilemarks count immediate) buffered sent old answer made new =
     MarksWork count immediate old answer made new
+MediumWork honest (Space code count) buffered sent old answer made new = SpaceWork code count old answer made new
+MediumWork honest Erase buffered sent old answer made new = EraseWork buffered old answer made new
+MediumWork honest (Locate object part) buffered sent old answer made new =
+    LocateWork object part old answer made new
+MediumWork honest ReadPosition buffered sent old answer made new = ReadPositionWork old answer made new
+MediumWork honest (RequestSense room) buffered sent old answer made new = ⊥
+MediumWork honest ReadBlockLimits buffered sent old answer made new = ⊥
+MediumWork honest (Inquiry room) buffered sent old answer made new = ⊥
 
 -- work on the medium of this bay; where none is loaded there is no such work (own)
 abbrev pub OnMediumIn : Bay MediumState → MediumRelation → MachineRelation
@@ -39,8 +55,25 @@ OnMediumIn _ W old answer made new = ⊥
 abbrev pub OnMedium : MediumRelation → MachineRelation
 OnMedium W old answer made new = OnMediumIn old.bay W old answer made new
 
--- the work of a command; where it is not known whether the medium is honest, the bytes of a block are open, and nothing
--- else (SSC-4)
-abbrev pub Work : Type 0 → Command → Request → MachineRelation
-Work honest command request old answer made new =
-    OnMedium (MediumWork honest command old.buffered request.sent) old answer made new
+-- these bytes are given, and nothing changes (SPC-4, INQUIRY; SSC-4, READ BLOCK LIMITS)
+abbrev pub Tells : List ℕ → MachineRelation
+Tells bytes old answer made new = Gives bytes answer × (made ≡ made_nothing) × (new ≡ old)
+
+-- the work of a command that needs no medium, for a nexus (SPC-4, SSC-4)
+abbrev pub DriveWork : Command → ℕ → MachineRelation
+DriveWork (RequestSense room) nexus old answer made new = RequestSenseWork room nexus old answer made new
+DriveWork ReadBlockLimits nexus old answer made new = Tells block_limits old answer made new
+DriveWork (Inquiry room) nexus old answer made new = Tells (cut_to room inquiry_data) old answer made new
+DriveWork _ nexus old answer made new = ⊥
+
+-- the work of a command, by whether it needs a medium (own)
+abbrev pub WorkBy : Bool → Type 0 → Command → ℕ → List ℕ → MachineRelation
+WorkBy true honest command nexus sent old answer made new =
+    OnMedium (MediumWork honest command old.buffered sent) old answer made new
+WorkBy false honest command nexus sent old answer made new = DriveWork command nexus old answer made new
+
+-- the work of a command of a nexus that sent these bytes; where it is not known whether the medium is honest, the bytes
+-- of a block are open, and nothing else (SPC-4, SSC-4)
+abbrev pub Work : Type 0 → Command → ℕ → List ℕ → MachineRelation
+Work honest command nexus sent old answer made new =
+    WorkBy (needs_medium (code_of command)) honest command nexus sent old answer made new

@@ -2,13 +2,13 @@
 use Rattle.std.specs.Prelude.{ℕ, List, [], ◌∷◌, Bool, not}
 use Rattle.volume_core.specs.declared.changes.Change.{Change}
 use Rattle.volume_core.specs.declared.changes.Change.TheVariants.{Put}
-use Rattle.drive_core.specs.declared.bays.Position.{Position}
+use Rattle.positioning.specs.declared.positions.Pos.{Pos}
 use Rattle.drive_core.specs.Relations.{MediumRelation, Idles}
 use Rattle.drive_core.specs.Append.{AppendWork}
 
 -- a block at a position (SSC-4, logical position)
-abbrev pub put_at : Position → List ℕ → Change
-put_at position block = Put position.part position.object block
+abbrev pub put_at : Pos → List ℕ → Change
+put_at position block = Put position.part position.obj block
 
 -- what was sent becomes a block at the position, and in unbuffered mode it settles; of no bytes nothing is done
 -- (SSC-4, WRITE(6), buffered mode)

@@ -1,36 +1,40 @@
-//! A change at the position, which adds objects there.
-ghost use Rattle.std.specs.Prelude.{◌≡◌, [], true, false};
+//! A change at the position, which is then behind what the change adds.
+ghost use Rattle.std.specs.Prelude.{◌≡◌, [], true, false, None};
 ghost use Rattle.vtl_base.specs.Below.{Advances};
-ghost use Rattle.volume_core.specs.Volume.{is_well_formed};
+ghost use Rattle.volume_core.specs.Volume.{is_well_formed, refusal_of};
+ghost use Rattle.volume_core.specs.Medium.{volume_of};
 ghost use Rattle.volume_core.specs.Stores.{Stores};
 ghost use Rattle.drive_core.specs.State.{IsPositioned, mounted};
-ghost use Rattle.drive_core.specs.Append.{AppendWork, amount_of};
+ghost use Rattle.drive_core.specs.Append.{AppendWork, amount_of, done_reply, is_warned};
 ghost use Rattle.drive_core.specs.Execute.{is_device_fault};
 ghost use Rattle.drive_core.specs.Inner.Carries.{Carries, IsReady};
 ghost use Rattle.drive_core.specs.Inner.Appending.{IsAt, refused_as, SettlesAfter};
 
-use crate::bays::Position;
 use crate::faults::Fault;
 use crate::storing::store_pending;
+use positioning::{Pos, is_near_end};
 use scsi_sense::{Reply, Sense};
 use std::alloc::Global;
-use volume_core::{Change, Medium, MediumError};
+use volume_core::{Catalog, Change, Medium, MediumError};
 use vtl_base::Bytes;
 
-/// Makes a change at the position, which is then behind what it adds. `settles` is that all is
-/// stored before the answer; `amount` is what the host is told where the change does not fit.
+/// Makes a change at the position, which is then behind what it adds. `amount` is what the host is
+/// told where the change does not fit, None for one that adds nothing, and so always fits and warns
+/// of nothing. `settles` is that all is stored before the answer.
 pub fn append<M: Medium>(
     alloc: Global,
     medium: &mut M,
-    position: &mut Position,
+    position: &mut Pos,
     change: Change,
-    amount: u32,
+    amount: Option<u32>,
     settles: bool,
 ) -> Result<Reply, Fault>
     requires ready { IsReady (mounted (M.state medium.old) position.old) }
     requires at { IsAt position.old change }
     requires formed { is_well_formed change ≡ true }
     requires amount { amount ≡ amount_of change }
+    requires fits { amount_of change ≡ None
+        → refusal_of (volume_of (M.state medium.old)) change ≡ None }
     ensures carries { Carries M.state M.below
         (AppendWork settles change)
         medium.old position.old result medium.new position.new }
@@ -38,26 +42,34 @@ pub fn append<M: Medium>(
 {
     match medium.accept(change) {
         Ok(()) => {
-            position.object = medium.count(position.part);
-            finish(alloc, medium, settles)
+            position.obj = medium.count(position.part);
+            let warned = is_warned(medium, *position, amount);
+            finish(alloc, medium, warned, settles)
         }
         Err(error) => refuse(alloc, error, amount),
     }
 }
 
+// Whether a change that adds this much, behind which the position is, is answered by an early
+// warning.
+fn is_warned<C: Catalog>(medium: &C, position: Pos, amount: Option<u32>) -> bool
+    requires { (C.state medium.now).awake ≡ true }
+    ensures { result ≡ is_warned amount (volume_of (C.state medium.now)) position }
+{
+    amount.is_some() && is_near_end(medium, position)
+}
+
 // What comes of a change that the medium did not accept.
-fn refuse(alloc: Global, error: MediumError, amount: u32) -> Result<Reply, Fault>
+fn refuse(alloc: Global, error: MediumError, amount: Option<u32>) -> Result<Reply, Fault>
     ensures { result ≡ refused_as error amount }
 {
     match error {
         MediumError::Refused(_) => Ok(Reply::check(
-            Sense::volume_overflow(Some(amount)),
+            Sense::volume_overflow(amount),
             Bytes::new(alloc),
         )),
         MediumError::NoMemory => Err(Fault::NoMemory),
-        MediumError::SideFull => Err(Fault::SideFull {
-            residue: Some(amount),
-        }),
+        MediumError::SideFull => Err(Fault::SideFull { residue: amount }),
         MediumError::Device => Err(Fault::Writing),
         MediumError::Failed => Ok(Reply::check(Sense::medium_failed(), Bytes::new(alloc))),
         MediumError::Unreadable => Ok(Reply::check(Sense::medium_failed(), Bytes::new(alloc))),
@@ -65,15 +77,31 @@ fn refuse(alloc: Global, error: MediumError, amount: u32) -> Result<Reply, Fault
 }
 
 // Once a change is accepted: stores it where it is to be stored before the answer.
-fn finish<M: Medium>(alloc: Global, medium: &mut M, settles: bool) -> Result<Reply, Fault>
+fn finish<M: Medium>(
+    alloc: Global,
+    medium: &mut M,
+    warned: bool,
+    settles: bool,
+) -> Result<Reply, Fault>
     requires awake { (M.state medium.old).awake ≡ true }
     requires works { (M.state medium.old).failed ≡ false }
-    ensures answer { SettlesAfter settles (M.state medium.old) result (M.state medium.new) }
+    ensures answer { SettlesAfter settles warned (M.state medium.old) result (M.state medium.new) }
     ensures stores { Stores (M.state medium.old) [] (M.state medium.new) }
     ensures advances { Advances M.below medium.old [] (is_device_fault result) medium.new }
 {
     if settles {
         store_pending(medium)?;
     }
-    Ok(Reply::good(Bytes::new(alloc)))
+    Ok(done_reply(alloc, warned))
+}
+
+// GOOD, or an early warning.
+fn done_reply(alloc: Global, warned: bool) -> Reply
+    ensures { result ≡ done_reply warned }
+{
+    if warned {
+        Reply::check(Sense::early_warning(), Bytes::new(alloc))
+    } else {
+        Reply::good(Bytes::new(alloc))
+    }
 }

@@ -1,17 +1,22 @@
-//! The work of each command.
-ghost use Rattle.std.specs.Prelude.{◌≡◌, ◌≤◌, length};
+//! The work of each command that needs a medium.
+ghost use Rattle.std.specs.Prelude.{◌≡◌, ◌<◌, ◌≤◌, true, length, nat_lt, IfSome};
 ghost use Rattle.vtl_base.specs.declared.limits.TheConstants.{MAX_BLOCK};
-ghost use Rattle.scsi_wire.specs.Commands.{sent_length};
+ghost use Rattle.scsi_wire.specs.Commands.{code_of, sent_length};
+ghost use Rattle.scsi_wire.specs.Opcodes.{needs_medium};
 ghost use Rattle.drive_core.specs.State.{IsPositioned, mounted};
 ghost use Rattle.drive_core.specs.Inner.Carries.{Carries, IsReady};
+ghost use Rattle.drive_core.specs.Inner.Passing.{HasPart};
 ghost use Rattle.drive_core.specs.Work.{MediumWork};
 
-use crate::bays::Position;
+use crate::erases::erase;
 use crate::faults::Fault;
 use crate::marks::write_marks;
+use crate::motions::{locate, space};
 use crate::reads::read;
 use crate::rewinds::rewind;
+use crate::telling::read_position;
 use crate::writes::write;
+use positioning::Pos;
 use scsi_sense::Reply;
 use scsi_wire::Command;
 use std::alloc::Global;
@@ -22,12 +27,14 @@ use vtl_base::Bytes;
 pub fn carry_out<M: Medium>(
     alloc: Global,
     medium: &mut M,
-    position: &mut Position,
+    position: &mut Pos,
     buffered: bool,
     command: Command,
     sent: &[u8],
 ) -> Result<Reply, Fault>
     requires ready { IsReady (mounted (M.state medium.old) position.old) }
+    requires needs { needs_medium (code_of command) ≡ true }
+    requires part { HasPart (M.state medium.old) command }
     requires sent { length sent.now ≡ sent_length command }
     requires short { sent_length command ≤ MAX_BLOCK }
     ensures carries { Carries M.state M.below
@@ -45,6 +52,13 @@ pub fn carry_out<M: Medium>(
         Command::Write { .. } => write(alloc, medium, position, buffered, sent),
         Command::WriteFilemarks { count, immediate } => {
             write_marks(alloc, medium, position, count, immediate)
+        }
+        Command::Space { code, count } => space(alloc, medium, position, code, count),
+        Command::Erase => erase(alloc, medium, position, buffered),
+        Command::Locate { object, part } => locate(alloc, medium, position, object, part),
+        Command::ReadPosition => read_position(alloc, medium, position),
+        Command::RequestSense { .. } | Command::ReadBlockLimits | Command::Inquiry { .. } => {
+            unreachable!()
         }
     }
 }

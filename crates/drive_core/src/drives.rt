@@ -1,19 +1,23 @@
 //! Drives.
 ghost use Rattle.std.specs.Prelude.{◌≡◌, ◌↔◌, IsTrue, IfOk, option_copied};
 ghost use Rattle.drive_core.specs.declared.bays.Bay.TheVariants as Bays;
-ghost use Rattle.drive_core.specs.State.{Machine, machine_of, medium_in, IsBayPositioned};
-ghost use Rattle.drive_core.specs.Checks.{Executes, AtBay, suits};
+ghost use Rattle.drive_core.specs.State.{machine_of, medium_in, IsBayPositioned};
+ghost use Rattle.drive_core.specs.Conditions.{denial_reply, denied, without_condition};
+ghost use Rattle.drive_core.specs.Checks.{Executes};
 ghost use Rattle.drive_core.specs.Synchronize.{IsSynchronizing, Acknowledges, NothingPending};
 ghost use Rattle.drive_core.specs.Execute.{Answers, Takes, HonestIn, asked};
 ghost use Rattle.drive_core.specs.Media.{TakesTurn, TakesIn, LoadSteps, SwitchesOn, PowerOnSteps};
 
-use crate::bays::{Bay, Position};
-use crate::dispatch::carry_out;
+mod performing;
+mod verdicts;
+
+use crate::bays::Bay;
+use crate::conditions::{Condition, Denial};
 use crate::faults::Fault;
-use crate::opening::{START, check, open, start_of, wake_reply};
+use crate::opening::{START, open, start_of, wake_reply};
+use positioning::Pos;
 use scsi_attention::{Attention, Attentions, AttnSet};
-use scsi_sense::{Reply, Sense};
-use scsi_wire::{Command, Opcode};
+use scsi_sense::Reply;
 use std::alloc::Global;
 use std::marker::Model;
 use std::mem;
@@ -26,7 +30,7 @@ use vtl_base::{Nexus, NoMemory};
 pub struct Drive<M: Medium> {
     alloc: Global,
     bay: Bay<M>,
-    position: Position,
+    position: Pos,
     buffered: bool,
     deferred: bool,
     attentions: Attentions,
@@ -148,63 +152,38 @@ impl<M: Medium> Drive<M> {
         Ok(())
     }
 
-    // Code, deferred error and unit attentions, and then the rest.
+    // Checks a command, and carries it out where it passes all checks.
     fn check(&mut self, nexus: Nexus, cdb: &[u8], sent: &[u8]) -> Result<Reply, Fault>
         ensures { Takes M.state M.below
-            (Executes (HonestIn M.below (medium_in self.old.bay)) (machine_of M.state self.old)
-            (asked nexus cdb.now sent.now))
+            (Executes (HonestIn M.below (medium_in self.old.bay))
+            (asked nexus cdb.now sent.now) (machine_of M.state self.old))
             self.old result self.new }
     {
-        let Some(opcode) = Opcode::of(cdb) else {
-            return Ok(check(self.alloc, Sense::invalid_operation_code()));
-        };
-        if self.deferred {
-            self.deferred = false;
-            return Ok(check(self.alloc, Sense::deferred_write_error()));
+        match self.verdict(nexus, cdb, sent) {
+            Ok(command) => self.perform(nexus, command, sent),
+            Err(denial) => Ok(self.deny(nexus, denial)),
         }
-        if let Some(attention) = self.attentions.report(nexus) {
-            return Ok(check(self.alloc, Sense::attention(attention)));
-        }
-        self.perform(nexus, opcode, cdb, sent)
     }
 
-    // Cartridge, medium and fields, and then the work.
-    fn perform(
-        &mut self,
-        nexus: Nexus,
-        opcode: Opcode,
-        cdb: &[u8],
-        sent: &[u8],
-    ) -> Result<Reply, Fault>
-        ensures { Takes M.state M.below
-            (λ answer made new. AtBay (HonestIn M.below (medium_in self.old.bay))
-            (machine_of M.state self.old) (asked nexus cdb.now sent.now)
-            answer made new (machine_of M.state self.old).bay opcode)
-            self.old result self.new }
+    // A command that is not carried out: the condition that is reported is cleared.
+    fn deny(&mut self, nexus: Nexus, denial: Denial) -> Reply
+        ensures reply { result ≡ denial_reply denial }
+        ensures left { self.new ≡ denied denial nexus self.old }
     {
-        let Bay::Loaded(medium) = &mut self.bay else {
-            return Ok(check(self.alloc, Sense::medium_not_present()));
-        };
-        if medium.has_failed() {
-            return Ok(check(self.alloc, Sense::medium_failed()));
+        if let Denial::Reported(condition) = denial {
+            self.clear(nexus, condition);
         }
-        let Some(command) = Command::of(opcode, cdb) else {
-            return Ok(check(self.alloc, Sense::invalid_field()));
-        };
-        if !suits(command, self.buffered) {
-            return Ok(check(self.alloc, Sense::invalid_field()));
+        denial.reply(self.alloc)
+    }
+
+    // A condition that was reported to a nexus is cleared.
+    fn clear(&mut self, nexus: Nexus, condition: Condition)
+        ensures { self.new ≡ without_condition condition nexus self.old }
+    {
+        match condition {
+            Condition::DeferredError => self.deferred = false,
+            Condition::UnitAttention(attention) => self.attentions.clear(nexus, attention),
         }
-        if sent.len() != command.sent_length() as usize {
-            return Ok(check(self.alloc, Sense::invalid_field()));
-        }
-        carry_out(
-            self.alloc,
-            medium,
-            &mut self.position,
-            self.buffered,
-            command,
-            sent,
-        )
     }
 }
 
@@ -229,17 +208,4 @@ fn switch_on<M: Medium>(alloc: Global, medium: Option<M>) -> Result<Drive<M>, (O
         deferred: false,
         attentions: Attentions::all(pending),
     })
-}
-
-// A command whose answer does not wait needs the buffered mode.
-fn suits(command: Command, buffered: bool) -> bool
-    ensures { (machine : Machine) → machine.buffered ≡ buffered → result ≡ suits machine command }
-{
-    match command {
-        Command::WriteFilemarks {
-            immediate: true,
-            ..
-        } => buffered,
-        _ => true,
-    }
 }

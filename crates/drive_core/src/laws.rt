@@ -2,6 +2,7 @@
 ghost use Rattle.drive_core.specs.Determined.{HonestStepsAreSteps, StepsAreDetermined, RunsAreDetermined};
 ghost use Rattle.drive_core.specs.Run.{RunsAppend, ServedByRuns};
 
+use positioning::laws::{each_locate_has_one_end, each_space_has_one_end};
 use volume_core::Medium;
 
 /// Over an honest medium, what `execute` does is a step of the machine itself.
@@ -15,7 +16,10 @@ pub fn honest_steps<M: Medium>()
 pub fn answers_are_determined()
     ensures step { StepsAreDetermined }
     ensures run { RunsAreDetermined }
-{}
+{
+    each_space_has_one_end();
+    each_locate_has_one_end();
+}
 
 /// A run, and one that goes on from where it ended, are one run.
 pub fn runs_append()

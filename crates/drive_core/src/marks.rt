@@ -5,9 +5,9 @@ ghost use Rattle.drive_core.specs.Marks.{MarksWork};
 ghost use Rattle.drive_core.specs.Inner.Carries.{Carries, IsReady};
 
 use crate::appends::append;
-use crate::bays::Position;
 use crate::faults::Fault;
 use crate::storing::store_pending;
+use positioning::Pos;
 use scsi_sense::Reply;
 use std::alloc::Global;
 use volume_core::{Change, Medium};
@@ -18,7 +18,7 @@ use vtl_base::Bytes;
 pub fn write_marks<M: Medium>(
     alloc: Global,
     medium: &mut M,
-    position: &mut Position,
+    position: &mut Pos,
     count: u32,
     immediate: bool,
 ) -> Result<Reply, Fault>
@@ -33,17 +33,17 @@ pub fn write_marks<M: Medium>(
     }
     let change = Change::Marks {
         part: position.part,
-        at: position.object,
+        at: position.obj,
         count,
     };
-    append(alloc, medium, position, change, count, !immediate)
+    append(alloc, medium, position, change, Some(count), !immediate)
 }
 
 // No marks: stores what is pending, unless the answer is to be immediate.
 fn write_none<M: Medium>(
     alloc: Global,
     medium: &mut M,
-    position: &Position,
+    position: &Pos,
     immediate: bool,
 ) -> Result<Reply, Fault>
     requires { IsReady (mounted (M.state medium.old) position.now) }

@@ -7,15 +7,16 @@ ghost use Rattle.drive_core.specs.Faults.{reply_of};
 ghost use Rattle.drive_core.specs.Load.{wake_answer};
 ghost use Rattle.drive_core.specs.Inner.Opening.{OpensInto};
 
-use crate::bays::{Bay, Position};
+use crate::bays::Bay;
 use crate::faults::Fault;
+use positioning::Pos;
 use scsi_sense::{Reply, Sense};
 use std::alloc::Global;
 use volume_core::{Catalog, Medium, MediumError};
 use vtl_base::Bytes;
 
 // The beginning of the medium (SSC-4).
-pub const START: Position = Position { part: 0, object: 0 };
+pub const START: Pos = Pos { part: 0, obj: 0 };
 
 /// Where a medium stands once the power is on: opened and loaded, or unloaded where its side is
 /// refused. It comes back where memory runs out.
@@ -47,7 +48,7 @@ fn loaded<M: Medium>(medium: M) -> Bay<M>
 
 /// Where a medium is loaded: its start, which is on it, since it has at least one partition. The
 /// count of partitions is asked for the proof's sake alone.
-pub fn start_of<M: Catalog>(medium: &M) -> Position
+pub fn start_of<M: Catalog>(medium: &M) -> Pos
     requires { (M.state medium.now).awake ≡ true }
     ensures start { result ≡ start }
     ensures on { IsPositioned (M.state medium.now) result }

@@ -12,9 +12,9 @@ ghost use Rattle.drive_core.specs.Execute.{is_device_fault};
 ghost use Rattle.drive_core.specs.Inner.Carries.{Carries, IsReady};
 ghost use Rattle.drive_core.specs.Inner.Fetching.{FetchesBlock};
 
-use crate::bays::Position;
 use crate::faults::Fault;
 use crate::storing::store_pending;
+use positioning::Pos;
 use scsi_sense::{Reply, Sense};
 use std::alloc::Global;
 use volume_core::{Kind, Medium, MediumError};
@@ -25,7 +25,7 @@ use vtl_base::{Bytes, ObjNo, PartNo};
 pub fn read<M: Medium>(
     alloc: Global,
     medium: &mut M,
-    position: &mut Position,
+    position: &mut Pos,
     length: u32,
     suppress_length: bool,
 ) -> Result<Reply, Fault>
@@ -46,7 +46,7 @@ pub fn read<M: Medium>(
 fn give<M: Medium>(
     alloc: Global,
     medium: &mut M,
-    position: &mut Position,
+    position: &mut Pos,
     length: u32,
     suppress_length: bool,
 ) -> Result<Reply, Fault>
@@ -56,17 +56,17 @@ fn give<M: Medium>(
         medium.old position.old result medium.new position.new }
     ensures on { IsPositioned (M.state medium.new) position.new }
 {
-    if position.object >= medium.count(position.part) {
+    if position.obj >= medium.count(position.part) {
         return Ok(Reply::check(Sense::end_of_data(Some(length)), Bytes::new(alloc)));
     }
-    match medium.kind_at(position.part, position.object) {
+    match medium.kind_at(position.part, position.obj) {
         Some(Kind::Block) => {
-            let block = fetch(alloc, medium, position.part, position.object)?;
-            position.object += 1;
+            let block = fetch(alloc, medium, position.part, position.obj)?;
+            position.obj += 1;
             Ok(block_reply(block, length, suppress_length))
         }
         Some(Kind::Mark) => {
-            position.object += 1;
+            position.obj += 1;
             Ok(Reply::check(Sense::filemark_detected(length), Bytes::new(alloc)))
         }
         None => unreachable!(),

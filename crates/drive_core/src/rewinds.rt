@@ -4,20 +4,16 @@ ghost use Rattle.drive_core.specs.State.{IsPositioned, mounted};
 ghost use Rattle.drive_core.specs.Rewind.{RewindWork};
 ghost use Rattle.drive_core.specs.Inner.Carries.{Carries, IsReady};
 
-use crate::bays::Position;
 use crate::faults::Fault;
 use crate::storing::store_pending;
+use positioning::Pos;
 use scsi_sense::Reply;
 use std::alloc::Global;
 use volume_core::Medium;
 use vtl_base::Bytes;
 
 /// Stores what is pending, and goes to object 0 of the partition (SSC-4, REWIND).
-pub fn rewind<M: Medium>(
-    alloc: Global,
-    medium: &mut M,
-    position: &mut Position,
-) -> Result<Reply, Fault>
+pub fn rewind<M: Medium>(alloc: Global, medium: &mut M, position: &mut Pos) -> Result<Reply, Fault>
     requires { IsReady (mounted (M.state medium.old) position.old) }
     ensures carries { Carries M.state M.below
         RewindWork
@@ -25,6 +21,6 @@ pub fn rewind<M: Medium>(
     ensures on { IsPositioned (M.state medium.new) position.new }
 {
     store_pending(medium)?;
-    position.object = 0;
+    position.obj = 0;
     Ok(Reply::good(Bytes::new(alloc)))
 }

@@ -9,8 +9,8 @@ ghost use Rattle.drive_core.specs.Write.{WriteWork, put_at};
 ghost use Rattle.drive_core.specs.Inner.Carries.{Carries, IsReady};
 
 use crate::appends::append;
-use crate::bays::Position;
 use crate::faults::Fault;
+use positioning::Pos;
 use scsi_sense::{Reply, Sense};
 use std::alloc::Global;
 use volume_core::{Catalog, Change, Medium};
@@ -22,7 +22,7 @@ use vtl_base::limits::{MAX_OBJECTS, OBJECT_COST};
 pub fn write<M: Medium>(
     alloc: Global,
     medium: &mut M,
-    position: &mut Position,
+    position: &mut Pos,
     buffered: bool,
     sent: &[u8],
 ) -> Result<Reply, Fault>
@@ -43,14 +43,14 @@ pub fn write<M: Medium>(
     let block = Bytes::from_slice(alloc, sent)?;
     let change = Change::Put {
         part: position.part,
-        at: position.object,
+        at: position.obj,
         block,
     };
-    append(alloc, medium, position, change, amount, !buffered)
+    append(alloc, medium, position, change, Some(amount), !buffered)
 }
 
 // Whether these bytes fit as a block at the position.
-fn has_room<C: Catalog>(medium: &C, position: Position, sent: &[u8]) -> bool
+fn has_room<C: Catalog>(medium: &C, position: Pos, sent: &[u8]) -> bool
     requires on { IsPositioned (C.state medium.now) position }
     requires some { 1 ≤ length sent.now }
     requires short { length sent.now ≤ MAX_BLOCK }
@@ -58,7 +58,7 @@ fn has_room<C: Catalog>(medium: &C, position: Position, sent: &[u8]) -> bool
         ≡ (if result then None else Some Refusals.NoRoom) }
 {
     let capacity = medium.capacity(position.part);
-    let before = medium.used(position.part, position.object);
+    let before = medium.used(position.part, position.obj);
     let cost = sent.len() as u64 + OBJECT_COST;
-    position.object < MAX_OBJECTS && before + cost <= capacity
+    position.obj < MAX_OBJECTS && before + cost <= capacity
 }

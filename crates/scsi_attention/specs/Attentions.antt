@@ -21,11 +21,6 @@ cleared_in (Some set) sets nexus attention = slice_set sets (nexus - 1) (without
 abbrev pub cleared : List AttentionSet → ℕ → Attention → List AttentionSet
 cleared sets nexus attention = cleared_in (slice_get sets (nexus - 1)) sets nexus attention
 
--- all sets once a condition, if any, was reported to a nexus: it is then cleared for that nexus (SAM-5)
-abbrev pub reported : List AttentionSet → ℕ → Option Attention → List AttentionSet
-reported sets nexus None = sets
-reported sets nexus (Some attention) = cleared sets nexus attention
-
 -- all sets once a condition is established for every nexus (SAM-5, unit attention condition)
 abbrev pub established_for_all : List AttentionSet → Attention → List AttentionSet
 established_for_all sets attention = map (with_attention attention) sets

@@ -1,6 +1,6 @@
 //! The unit attention conditions of every nexus of a drive.
 ghost use Rattle.std.specs.Prelude.{◌≡◌, replicate};
-ghost use Rattle.scsi_attention.specs.Attentions.{attention_of, established_for_all, reported};
+ghost use Rattle.scsi_attention.specs.Attentions.{attention_of, cleared, established_for_all};
 ghost use Rattle.vtl_base.specs.declared.limits.TheConstants.{NEXUSES};
 
 use crate::attention_sets::{Attention, AttnSet};
@@ -31,16 +31,19 @@ impl Attentions {
         Attentions { sets: [set; 64] }
     }
 
-    /// Reports the first condition that is established for a nexus, and clears it; nothing else changes.
-    pub fn report(&mut self, nexus: Nexus) -> Option<Attention>
-        ensures reports { result ≡ attention_of self.old nexus }
-        ensures clears { self.new ≡ reported self.old nexus result }
+    /// The condition that a nexus is reported next, if any is established.
+    pub fn first(&self, nexus: Nexus) -> Option<Attention>
+        ensures { result ≡ attention_of self.now nexus }
     {
-        let place = nexus.place();
-        let attention = self.sets[place].first()?;
-        let set = &mut self.sets[place];
+        self.sets[nexus.place()].first()
+    }
+
+    /// Clears a condition for a nexus; nothing else changes.
+    pub fn clear(&mut self, nexus: Nexus, attention: Attention)
+        ensures { self.new ≡ cleared self.old nexus attention }
+    {
+        let set = &mut self.sets[nexus.place()];
         set.remove(attention);
-        Some(attention)
     }
 
     /// Establishes a condition for every nexus.

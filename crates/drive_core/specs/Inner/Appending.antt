@@ -1,33 +1,34 @@
 -- The parts of a change at the position.
-use Rattle.std.specs.Prelude.{◌≡◌, ◌≤◌, ℕ, List, [], ◌∷◌, length, Some, Bool, true, false, Result, Ok, Err}
+use Rattle.std.specs.Prelude.{◌≡◌, ℕ, [], Option, Bool, true, Result, Ok, Err}
 use Rattle.scsi_sense.specs.declared.replies.Reply.{Reply}
-use Rattle.scsi_sense.specs.Replies.{good_with, check_with}
+use Rattle.scsi_sense.specs.Replies.{check_with}
 use Rattle.scsi_sense.specs.Senses.{volume_overflow, medium_failed}
 use Rattle.volume_core.specs.declared.changes.Change.{Change}
 use Rattle.volume_core.specs.declared.media.MediumError.{MediumError}
 use Rattle.volume_core.specs.declared.media.MediumError.TheVariants as medium
 use Rattle.volume_core.specs.Volume.{part_of, kept_of}
 use Rattle.volume_core.specs.Medium.{MediumState, volume_of, Works, Breaks}
-use Rattle.drive_core.specs.declared.bays.Position.{Position}
+use Rattle.positioning.specs.declared.positions.Pos.{Pos}
 use Rattle.drive_core.specs.declared.faults.Fault.{Fault}
 use Rattle.drive_core.specs.declared.faults.Fault.TheVariants.{NoMemory, Writing, SideFull}
+use Rattle.drive_core.specs.Append.{done_reply}
 
 -- a change is made at a position
-pub record IsAt (position : Position) (change : Change) : Type 0 where
+pub record IsAt (position : Pos) (change : Change) : Type 0 where
   pub part : part_of change ≡ position.part
-  pub object : kept_of change ≡ position.object
+  pub object : kept_of change ≡ position.obj
 
 -- what comes of a change that a medium did not accept
-abbrev pub refused_as : MediumError → ℕ → Result Reply Fault
-refused_as (medium.Refused cause) amount = Ok (check_with (volume_overflow (Some amount)) [])
+abbrev pub refused_as : MediumError → Option ℕ → Result Reply Fault
+refused_as (medium.Refused cause) amount = Ok (check_with (volume_overflow amount) [])
 refused_as medium.NoMemory amount = Err NoMemory
-refused_as medium.SideFull amount = Err (SideFull (Some amount))
+refused_as medium.SideFull amount = Err (SideFull amount)
 refused_as medium.Device amount = Err Writing
 refused_as _ amount = Ok (check_with medium_failed [])
 
--- once a change is accepted, one that settles leaves nothing pending, or the device fails
-abbrev pub SettlesAfter : Bool → MediumState → Result Reply Fault → MediumState → Type 0
-SettlesAfter settles old (Ok reply) new =
-    (reply ≡ good_with []) × Works (volume_of old) new × (settles ≡ true → new.pending ≡ [])
-SettlesAfter settles old (Err Writing) new = (settles ≡ true) × Breaks old new
-SettlesAfter settles old (Err _) new = ⊥
+-- once a change is accepted, one that settles leaves nothing pending, or the device fails; and it is warned or not
+abbrev pub SettlesAfter : Bool → Bool → MediumState → Result Reply Fault → MediumState → Type 0
+SettlesAfter settles warned old (Ok reply) new =
+    (reply ≡ done_reply warned) × Works (volume_of old) new × (settles ≡ true → new.pending ≡ [])
+SettlesAfter settles warned old (Err Writing) new = (settles ≡ true) × Breaks old new
+SettlesAfter settles warned old (Err _) new = ⊥

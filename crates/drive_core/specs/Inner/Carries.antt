@@ -5,7 +5,7 @@ use Rattle.scsi_sense.specs.declared.replies.Reply.{Reply}
 use Rattle.volume_core.specs.declared.changes.Change.{Change}
 use Rattle.volume_core.specs.Medium.{MediumState}
 use Rattle.volume_core.specs.Stores.{Stores}
-use Rattle.drive_core.specs.declared.bays.Position.{Position}
+use Rattle.positioning.specs.declared.positions.Pos.{Pos}
 use Rattle.drive_core.specs.declared.faults.Fault.{Fault}
 use Rattle.drive_core.specs.State.{Mounted, mounted, IsPositioned}
 use Rattle.drive_core.specs.Relations.{MediumRelation}
@@ -19,7 +19,7 @@ pub record IsReady (m : Mounted) : Type 0 where
 -- a medium and the position on it go through such work, and the medium accepts just the changes that it makes
 pub record Carries {M : Type 0}
     (state : M → MediumState) (below : Below M Change)
-    (W : MediumRelation) (old : M) (before : Position) (answer : Result Reply Fault) (new : M) (now : Position) : Type
+    (W : MediumRelation) (old : M) (before : Pos) (answer : Result Reply Fault) (new : M) (now : Pos) : Type
     0 where
   pub made : List Change
   pub work : W (mounted (state old) before) answer made (mounted (state new) now)

@@ -30,11 +30,12 @@ fn a_set_has_its_conditions(rt: HostRuntime) {
 // Whether a nexus is reported just these conditions, in this order, and then none.
 fn reports(attentions: &mut Attentions, nexus: Nexus, conditions: &[Attention]) -> bool {
     for attention in conditions {
-        if attentions.report(nexus) != Some(*attention) {
+        if attentions.first(nexus) != Some(*attention) {
             return false;
         }
+        attentions.clear(nexus, *attention);
     }
-    attentions.report(nexus).is_none()
+    attentions.first(nexus).is_none()
 }
 
 #[test]

@@ -1,7 +1,8 @@
-use Rattle.std.proofs.Common.{◌≡◌, [], ◌∷◌, ◌∙◌, ap, Result, Bool, subst}
+use Rattle.std.proofs.Common.{◌≡◌, ℕ, [], ◌∷◌, ◌∙◌, ap, Option, Result, Bool, subst}
 use Rattle.vtl_base.specs.Below.{Advances, advances_on}
 use Rattle.volume_core.specs.Stores.{stores_on}
-use Rattle.drive_core.specs.Append.{amount_of}
+use Rattle.volume_core.specs.Medium.{volume_of}
+use Rattle.drive_core.specs.Append.{amount_of, is_warned}
 use Rattle.drive_core.specs.Execute.{is_device_fault}
 use Rattle.drive_core.specs.Inner.Appending.{refused_as}
 use Rattle.drive_core.proofs.AppendLemmas.{append_refused, append_accepted, fault_refused}
@@ -20,8 +21,10 @@ returns-in-Ok-clause-carries g c =
       made = change ∷ [];
       work =
           append_accepted c.args.settles change (state old) (state mid) (state new) c.args.position.now
-          c.count-position.result c.finish.result
-          c.requires.ready c.requires.at accepted.answer c.count-position.ensures.count done.answer;
+          c.count-position.result c.is_warned-warned.result c.finish.result
+          c.requires.ready c.requires.at accepted.answer c.count-position.ensures.count
+          (c.is_warned-warned.ensures ∙ ap (λ (a : Option ℕ). is_warned a (volume_of (state mid)) (record c.args.position.now { obj = c.count-position.result })) c.requires.amount)
+          done.answer;
       advances =
           advances_on g.M.Medium.below g.met.M.Medium.moves_on old mid new (change ∷ []) []
           (is_device_fault c.finish.result) accepted.advances done.advances;
@@ -39,7 +42,7 @@ returns-in-Err-clause-carries g c =
     c.refuse.ensures ∙ ap (refused_as error) c.requires.amount in
     let work =
     append_refused c.args.settles c.args.change (state old) (state new) c.args.position.now error
-    c.requires.ready c.requires.at c.requires.formed refused.answer in
+    c.requires.ready c.requires.at c.requires.formed c.requires.fits refused.answer in
     record {
       made = [];
       work = rw replied work;

@@ -1,0 +1,38 @@
+use Rattle.std.proofs.Common.{◌≡◌, ◌∙◌, ap, sym, subst, refl}
+use Rattle.drive_core.specs.declared.bays.Bay.{Bay}
+use Rattle.drive_core.specs.declared.bays.Bay.TheVariants.{Loaded}
+use Rattle.drive_core.specs.State.{DriveState, Kept, machine_of, medium_in}
+use Rattle.drive_core.specs.Work.{MediumWork, OnMedium}
+use Rattle.drive_core.specs.Execute.{HonestIn, Takes}
+use Rattle.drive_core.proofs.TakesLemmas.{carried_takes}
+use Rattle.drive_core.proofs.drives.Drive.on_medium.Goals as goal
+
+pub returns : goal.returns
+returns g c =
+    let state = g.M.Catalog.state in
+    let below = g.M.Medium.below in
+    let inside = c.self.inside in
+    let medium = c.in-Loaded.medium in
+    let old : DriveState g.row.M.Denot Kept = record {
+      bay = Loaded medium;
+      position = inside.position;
+      buffered = inside.buffered;
+      deferred = inside.deferred;
+      attentions = inside.attentions;
+      reservations = tt;
+      keeper = tt;
+    } in
+    let same : old ≡ c.args.self.now =
+    ap (λ (bay : Bay g.row.M.Denot). record old { bay = bay }) (sym c.in-Loaded.is) ∙ c.self.view_is in
+    let W = MediumWork (HonestIn below (medium_in old.bay)) c.args.command inside.buffered c.args.sent.now in
+    let new : DriveState g.row.M.Denot Kept =
+    record old { bay = Loaded c.carry_out.new.medium; position = c.carry_out.new.position } in
+    subst
+    (λ (d : DriveState g.row.M.Denot Kept).
+    Takes state below
+    (OnMedium (MediumWork (HonestIn below (medium_in d.bay)) c.args.command d.buffered c.args.sent.now)
+    (machine_of state d))
+    d c.carry_out.result new)
+    same
+    (carried_takes state below W (OnMedium W (machine_of state old)) old medium c.carry_out.new.medium
+    c.carry_out.new.position c.carry_out.result refl c.carry_out.ensures.carries (λ made work. work))

@@ -1,0 +1,114 @@
+//! The work of a command that has passed all checks.
+ghost use Rattle.std.specs.Prelude.{◌≡◌, true, false};
+ghost use Rattle.scsi_wire.specs.Commands.{code_of};
+ghost use Rattle.scsi_wire.specs.Opcodes.{needs_medium};
+ghost use Rattle.drive_core.specs.State.{machine_of, medium_in};
+ghost use Rattle.drive_core.specs.Work.{MediumWork, OnMedium, DriveWork, Work};
+ghost use Rattle.drive_core.specs.RequestSense.{RequestSenseWork, once_reported, sense_due};
+ghost use Rattle.drive_core.specs.Execute.{Takes, HonestIn};
+ghost use Rattle.drive_core.specs.Inner.Passing.{IsPassed};
+
+use super::Drive;
+use crate::bays::Bay;
+use crate::conditions::Condition;
+use crate::dispatch::carry_out;
+use crate::faults::Fault;
+use crate::telling::give;
+use scsi_sense::{Reply, Sense};
+use scsi_wire::{Command, block_limits, cut_to, inquiry_data};
+use volume_core::Medium;
+use vtl_base::Nexus;
+
+impl<M: Medium> Drive<M> {
+    /// Carries a command out.
+    pub(super) fn perform(
+        &mut self,
+        nexus: Nexus,
+        command: Command,
+        sent: &[u8],
+    ) -> Result<Reply, Fault>
+        requires { IsPassed (machine_of M.state self.old) command sent.now }
+        ensures { Takes M.state M.below
+            (Work (HonestIn M.below (medium_in self.old.bay)) command nexus sent.now
+            (machine_of M.state self.old))
+            self.old result self.new }
+    {
+        if command.opcode().needs_medium() {
+            self.on_medium(command, sent)
+        } else {
+            self.on_drive(nexus, command)
+        }
+    }
+
+    // The work of a command that needs a medium.
+    fn on_medium(&mut self, command: Command, sent: &[u8]) -> Result<Reply, Fault>
+        requires passed { IsPassed (machine_of M.state self.old) command sent.now }
+        requires needs { needs_medium (code_of command) ≡ true }
+        ensures { Takes M.state M.below
+            (OnMedium (MediumWork (HonestIn M.below (medium_in self.old.bay)) command
+            self.old.buffered sent.now) (machine_of M.state self.old))
+            self.old result self.new }
+    {
+        let Bay::Loaded(medium) = &mut self.bay else {
+            unreachable!()
+        };
+        carry_out(
+            self.alloc,
+            medium,
+            &mut self.position,
+            self.buffered,
+            command,
+            sent,
+        )
+    }
+
+    // The work of a command that needs none.
+    fn on_drive(&mut self, nexus: Nexus, command: Command) -> Result<Reply, Fault>
+        requires { needs_medium (code_of command) ≡ false }
+        ensures { Takes M.state M.below
+            (DriveWork command nexus (machine_of M.state self.old))
+            self.old result self.new }
+    {
+        match command {
+            Command::RequestSense { length } => self.request_sense(nexus, length),
+            Command::ReadBlockLimits => give(self.alloc, &block_limits()),
+            Command::Inquiry { length } => give(
+                self.alloc,
+                cut_to(&inquiry_data(), length as usize),
+            ),
+            _ => unreachable!(),
+        }
+    }
+
+    // Reports the condition that is due as data, and clears it (SPC-4, REQUEST SENSE).
+    fn request_sense(&mut self, nexus: Nexus, room: u8) -> Result<Reply, Fault>
+        ensures { Takes M.state M.below
+            (RequestSenseWork room nexus (machine_of M.state self.old))
+            self.old result self.new }
+    {
+        let due = self.condition_due(nexus);
+        let sense = sense_due(due);
+        let reply = give(self.alloc, cut_to(&sense.bytes(), room as usize))?;
+        self.clear_due(nexus, due);
+        Ok(reply)
+    }
+
+    // A condition that was reported to a nexus, if any, is cleared.
+    fn clear_due(&mut self, nexus: Nexus, due: Option<Condition>)
+        ensures { self.new ≡ once_reported due nexus self.old }
+    {
+        if let Some(condition) = due {
+            self.clear(nexus, condition);
+        }
+    }
+}
+
+// The sense data of a condition that may be there.
+fn sense_due(due: Option<Condition>) -> Sense
+    ensures { result ≡ sense_due due }
+{
+    match due {
+        Some(condition) => condition.sense(),
+        None => Sense::no_sense(),
+    }
+}

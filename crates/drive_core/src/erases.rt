@@ -1,0 +1,48 @@
+//! ERASE.
+ghost use Rattle.std.specs.Prelude.{◌≡◌, None, true};
+ghost use Rattle.volume_core.specs.Volume.{refusal_of};
+ghost use Rattle.volume_core.specs.Medium.{volume_of};
+ghost use Rattle.drive_core.specs.State.{IsPositioned, mounted};
+ghost use Rattle.drive_core.specs.Erase.{EraseWork, erase_at};
+ghost use Rattle.drive_core.specs.Inner.Carries.{Carries, IsReady};
+
+use crate::appends::append;
+use crate::faults::Fault;
+use crate::storing::store_pending;
+use positioning::Pos;
+use scsi_sense::Reply;
+use std::alloc::Global;
+use volume_core::{Catalog, Change, Medium};
+
+/// Stores what is pending, and erases what stands behind the position, at the end of data too
+/// (SSC-4, ERASE(6)). In unbuffered mode that is stored before the answer.
+pub fn erase<M: Medium>(
+    alloc: Global,
+    medium: &mut M,
+    position: &mut Pos,
+    buffered: bool,
+) -> Result<Reply, Fault>
+    requires { IsReady (mounted (M.state medium.old) position.old) }
+    ensures carries { Carries M.state M.below
+        (EraseWork buffered)
+        medium.old position.old result medium.new position.new }
+    ensures on { IsPositioned (M.state medium.new) position.new }
+{
+    store_pending(medium)?;
+    note_that_it_fits(medium, *position);
+    let change = Change::Erase {
+        part: position.part,
+        at: position.obj,
+    };
+    append(alloc, medium, position, change, None, !buffered)
+}
+
+// What stays of a partition fits it, by what the catalog says of what is there. Both calls are for
+// the proof's sake alone.
+fn note_that_it_fits<C: Catalog>(medium: &C, position: Pos)
+    requires { IsPositioned (C.state medium.now) position }
+    ensures { refusal_of (volume_of (C.state medium.now)) (erase_at position) ≡ None }
+{
+    let _ = medium.count(position.part);
+    let _ = medium.used(position.part, position.obj);
+}
