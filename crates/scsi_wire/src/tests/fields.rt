@@ -42,9 +42,8 @@ fn locate(object: ObjNo, part: Option<PartNo>) -> Option<Command> {
     Some(Command::Locate { object, part })
 }
 
-// In the rows below each is a block and its command. A block with no command has an invalid field.
-
-// Of these rows each has the bytes too that are sent with the command.
+// Each row below is a block and its command; a block with no command has an invalid field. These have the
+// bytes too that are sent with the command.
 fn of_transfers() -> [(&'static [u8; 6], Option<Command>, u32); 14] {
     [
         (b"\x00\xff\xff\xff\xff\xff", Some(Command::TestUnitReady), 0),
