@@ -17,8 +17,9 @@ ABORTED = "CHECK 70000b000000000a00000000550300000000"
 
 
 def stored(crate, name):
+    """The lines of a stored file but for remarks."""
     with open(os.path.join(TOP, "crates", crate, name), encoding="utf-8") as file:
-        return file.read().splitlines()
+        return [line for line in file.read().splitlines() if not line.startswith("#")]
 
 
 def attempt(crate, lines, growth):

@@ -1,5 +1,6 @@
 #!/usr/bin/env python3
-"""Speed and memory of the built program on scripts, beside cat of the same text. Best of five runs.
+"""Speed and memory of the built program on scripts, beside cat of the same text; the time of a motion over long and
+short tapes. Best of five runs.
 
 Texts are rows of (piece, times), so that this process stays small: the memory of a child counts from its parent's."""
 import os
@@ -43,40 +44,113 @@ def is_text(path, row):
         return all(file.read(len(piece)) == piece for piece, times in row for _ in range(times)) and not file.read(1)
 
 
-def measure(folder, name, script, answers):
+def timed(folder, name, script, answers):
+    """Seconds and greatest memory of the script, which must have these answers, and the bytes of both texts."""
     source, sink = os.path.join(folder, "in"), os.path.join(folder, "out")
     size = written(source, script)
-    lines = sum(piece.count(b"\n") * times for piece, times in script)
     seconds, memory = best([PROGRAM], source, sink)
     if not is_text(sink, answers):
         sys.exit(f"{name}: another answer than expected")
-    moved = (size + os.path.getsize(sink)) / 1e6
-    cat, _ = best(["cat"], source, sink)
+    return seconds, memory, size + os.path.getsize(sink)
+
+
+def measure(folder, name, script, answers):
+    seconds, memory, moved = timed(folder, name, script, answers)
+    lines = sum(piece.count(b"\n") * times for piece, times in script)
+    cat, _ = best(["cat"], os.path.join(folder, "in"), os.path.join(folder, "out"))
     print(f"{name}: {lines} lines, {seconds:.3f} s, {lines / seconds / 1e6:.2f} million lines a second, "
-          f"{moved / seconds:.0f} MB/s of text, {memory / MIB:.0f} MiB; cat {cat:.3f} s")
+          f"{moved / 1e6 / seconds:.0f} MB/s of text, {memory / MIB:.0f} MiB; cat {cat:.3f} s")
+
+
+def line(block, sent=""):
+    return f"1 1 {block} {sent}\n".encode()
+
+
+READY, REWIND, ONE = line("000000000000"), line("010000000000"), line("0a0000000100", "78")
+INQUIRY, POSITION = line("120000002400"), line("34000000000000000000")
+GOOD, BREAK = b"GOOD\n", b"--\n"
+ATTENTION = (b"CHECK 700006000000000a00000000290000000000\n", 1)
+EARLY_WARNING = b"CHECK f00040000000000a00000000000200000000\n"
+DRIVE = b"GOOD 018006021f00000056544c49422020205441504520445249564520202020202030303031\n"
+OBJECT_0 = b"GOOD 8000000000000000000000000000000000000000\n"
+# so many blocks of one byte, 17 each, come before early warning, which begins a sixteenth below 16,777,216 bytes
+BEFORE_WARNING = 15_728_640 // 17
+
+
+def commands(folder):
+    rows = (("TEST UNIT READY", READY, GOOD), ("INQUIRY", INQUIRY, DRIVE), ("READ POSITION", POSITION, OBJECT_0))
+    for name, command, answer in rows:
+        measure(folder, f"3,000,000 {name} in phases of 10,000",
+                [(READY, 1), (command * 10_000 + BREAK, 300)], [ATTENTION, (answer * 10_000, 300)])
+    measure(folder, "1,000,000 TEST UNIT READY in one phase",
+            [(READY, 1), (READY * 10_000, 100)], [ATTENTION, (GOOD * 10_000, 100)])
+
+
+def transfers(folder):
+    block = (bytes(range(256)) * 256).hex()
+    write, read = line("0a0001000000", block), line("080001000000")
+    answers = [ATTENTION, (GOOD, 201), (f"GOOD {block}\n".encode(), 200)]
+    measure(folder, "200 WRITEs and 200 READs of 64 KiB in one phase",
+            [(READY, 1), (write, 200), (REWIND, 1), (read, 200)], answers)
+    measure(folder, "the same in phases of 10 lines",
+            [(READY, 1), (write * 10 + BREAK, 20), (REWIND, 1), (read * 10 + BREAK, 20)], answers)
+    for count in (246_723, 493_447, 986_895):
+        good = min(count, BEFORE_WARNING)
+        measure(folder, f"{count} blocks of one byte in phases of 1,000",
+                [(READY, 1), (ONE * 1_000 + BREAK, count // 1_000), (ONE, count % 1_000)],
+                [ATTENTION, (GOOD, good), (EARLY_WARNING, count - good)])
+
+
+def space(code, count):
+    return line(f"11{code:02x}{count & 0xffffff:06x}00")
+
+
+def locate(to):
+    return line(f"2b0000{to:08x}000000")
+
+
+def blocks(count):
+    """A tape of so many blocks, a multiple of 1,000, at its beginning: script and answers."""
+    return [(READY, 1), (ONE * 1_000 + BREAK, count // 1_000), (REWIND + BREAK, 1)], [ATTENTION, (GOOD, count + 1)]
+
+
+def filemarks(count):
+    return [(READY, 1), (line(f"1000{count:06x}00"), 1), (REWIND + BREAK, 1)], [ATTENTION, (GOOD, 2)]
+
+
+def time_of(folder, name, tape, pair, times):
+    """Seconds of a command of this pair, each GOOD and given so often, less the time of making the tape alone."""
+    script, answers = tape
+    alone, _, _ = timed(folder, name, script, answers)
+    pairs = ((pair[0] + pair[1]) * 10 + BREAK, times // 10)
+    whole, _, _ = timed(folder, name, [*script, pairs], [*answers, (GOOD, 2 * times)])
+    return (whole - alone) / (2 * times)
+
+
+def motions(folder):
+    long, short = 100_000, 1_000
+    for kind, code, tape in (("blocks", 0, blocks), ("filemarks", 1, filemarks)):
+        name = f"SPACE over {long:,} {kind}, both ways"
+        seconds = time_of(folder, name, tape(long), (space(code, long), space(code, -long)), 100)
+        print(f"{name}: {seconds * 1e3:.2f} ms a command, {seconds / long * 1e9:.1f} ns an object")
+    grown = []
+    for name, there in (("LOCATE", locate), ("SPACE to the end of data", lambda _: space(3, 0))):
+        near, far = (time_of(folder, name, blocks(count), (there(count), locate(0)), 500_000)
+                     for count in (short, long))
+        print(f"{name} and LOCATE to object 0: {near * 1e9:.0f} ns a command over {short:,} blocks, "
+              f"{far * 1e9:.0f} ns over {long:,}")
+        grown += [name] if far > 2 * near else []
+    if grown:
+        sys.exit(f"{' and '.join(grown)} takes longer on a longer tape")
 
 
 def main():
     if not os.path.exists(PROGRAM):
         sys.exit("build the program first: make vtl")
-    ready = b"1 1 000000000000\n"
-    attention = (b"CHECK 700006000000000a00000000290000000000\n", 1)
-    good = b"GOOD\n"
     with tempfile.TemporaryDirectory() as folder:
-        measure(folder, "3,000,000 TEST UNIT READY in phases of 10,000",
-                [(ready, 1), (ready * 10_000 + b"--\n", 300)], [attention, (good * 10_000, 300)])
-        measure(folder, "1,000,000 TEST UNIT READY in one phase",
-                [(ready, 1), (ready * 10_000, 100)], [attention, (good * 10_000, 100)])
-        block = (bytes(range(256)) * 256).hex().encode()
-        write, read, rewind = b"1 1 0a0001000000 " + block + b"\n", b"1 1 080001000000\n", b"1 1 010000000000\n"
-        answers = [attention, (good, 201), (b"GOOD " + block + b"\n", 200)]
-        measure(folder, "200 WRITEs and 200 READs of 64 KiB in one phase", [(ready, 1), (write, 200), (rewind, 1), (read, 200)], answers)
-        measure(folder, "the same in phases of 10 lines",
-                [(ready, 1), (write * 10 + b"--\n", 20), (rewind, 1), (read * 10 + b"--\n", 20)], answers)
-        one = b"1 1 0a0000000100 78\n"
-        for count in (246_723, 493_447, 986_895):
-            measure(folder, f"{count} blocks of one byte in phases of 1,000",
-                    [(ready, 1), (one * 1_000 + b"--\n", count // 1_000), (one, count % 1_000)], [attention, (good, count)])
+        commands(folder)
+        transfers(folder)
+        motions(folder)
 
 
 main()

@@ -1,6 +1,6 @@
 //! The fields of command descriptor blocks, command by command. Each block has the length of its code.
 ghost use Rattle.std.specs.Prelude.{◌≡◌, ◌<◌, ◌≤◌, Some, length};
-ghost use Rattle.scsi_wire.specs.Commands.{command_by_fields, is_bit_set, space_code, transfer_length};
+ghost use Rattle.scsi_wire.specs.Commands.{command_by_fields, is_bit_set, is_fixed, space_code, transfer_length};
 
 use crate::commands::Command;
 use crate::opcodes::Opcode;
@@ -13,6 +13,13 @@ fn is_bit_set(byte: u8, bit: u32) -> bool
     ensures { result ≡ is_bit_set byte bit }
 {
     byte >> bit & 1 == 1
+}
+
+fn is_fixed(cdb: &[u8]) -> bool
+    requires { 2 ≤ length cdb.now }
+    ensures { result ≡ is_fixed cdb.now }
+{
+    is_bit_set(cdb[1], 0)
 }
 
 fn transfer_length(cdb: &[u8]) -> u32
@@ -49,7 +56,7 @@ pub fn read(cdb: &[u8]) -> Option<Command>
     requires { 5 ≤ length cdb.now }
     ensures { result ≡ command_by_fields Opcode.Read cdb.now }
 {
-    if is_bit_set(cdb[1], 0) {
+    if is_fixed(cdb) {
         return None;
     }
     Some(Command::Read {
@@ -64,7 +71,7 @@ pub fn write(cdb: &[u8]) -> Option<Command>
     ensures { result ≡ command_by_fields Opcode.Write cdb.now }
 {
     let length = transfer_length(cdb);
-    if is_bit_set(cdb[1], 0) || length > MAX_BLOCK {
+    if is_fixed(cdb) || length > MAX_BLOCK {
         return None;
     }
     Some(Command::Write { length })

@@ -1,15 +1,18 @@
 //! The worked scripts, and the turns of hosts.
 mod borders;
 mod failing;
+mod motions;
 mod programs;
 mod wires;
 
+use crate::drives::HeldDrive;
 use crate::faults::ScriptFault;
 use crate::programs::built_in_drive;
 use crate::scripts::run_script;
 use std::alloc::{AllocError, Global};
 use std::process::Abort;
 use std::test::Fail;
+use volume_core::PlainMedium;
 use wires::{Plan, Wire, WireReader, WireWriter};
 
 const ATTENTION: &str = "CHECK 700006000000000a00000000290000000000\n";
@@ -36,11 +39,19 @@ struct Outcome {
 }
 
 fn answered(alloc: Global, script: &[u8], plan: Plan) -> Result<Outcome, Fail> {
-    let mut drive = built_in_drive(alloc)?;
+    answered_by(alloc, &mut built_in_drive(alloc)?, script, plan)
+}
+
+fn answered_by(
+    alloc: Global,
+    drive: &mut HeldDrive<PlainMedium>,
+    script: &[u8],
+    plan: Plan,
+) -> Result<Outcome, Fail> {
     let wire = Wire::new();
     let mut reader = WireReader::new(script, plan, &wire);
     let mut writer = WireWriter::new(alloc, plan, &wire);
-    let end = run_script(alloc, &mut drive, &mut reader, &mut writer);
+    let end = run_script(alloc, drive, &mut reader, &mut writer);
     Ok(Outcome {
         text: writer.into_text(),
         end,

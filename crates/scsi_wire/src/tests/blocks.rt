@@ -1,18 +1,9 @@
-//! Every operation code in blocks of every length, the borders of fields, and the table.
+//! Every operation code in blocks of every length, and the table.
 use crate::{Cdb, Command, Opcode, length_of};
 use scsi_sense::Sense;
+use vtl_base::SpaceCode;
 
-// What a block of six bytes is that are 0 behind this code.
-fn known(code: u8) -> Option<(Opcode, Command)> {
-    match code {
-        0x00 => Some((Opcode::TestUnitReady, Command::TestUnitReady)),
-        0x01 => Some((Opcode::Rewind, Command::Rewind)),
-        0x08 => Some((Opcode::Read, READ_NOTHING)),
-        0x0a => Some((Opcode::Write, Command::Write { length: 0 })),
-        0x10 => Some((Opcode::WriteFilemarks, NO_FILEMARK)),
-        _ => None,
-    }
-}
+const REQUEST_NOTHING: Command = Command::RequestSense { length: 0 };
 
 const READ_NOTHING: Command = Command::Read {
     length: 0,
@@ -24,84 +15,86 @@ const NO_FILEMARK: Command = Command::WriteFilemarks {
     immediate: false,
 };
 
+const NO_BLOCK: Command = Command::Space {
+    code: SpaceCode::Blocks,
+    count: 0,
+};
+
+const TO_OBJECT_0: Command = Command::Locate {
+    object: 0,
+    part: None,
+};
+
+// What a block is that has this code and is 0 behind it, and how many bytes it has.
+fn known(code: u8) -> Option<(Opcode, Command, usize)> {
+    match code {
+        0x00 => Some((Opcode::TestUnitReady, Command::TestUnitReady, 6)),
+        0x01 => Some((Opcode::Rewind, Command::Rewind, 6)),
+        0x03 => Some((Opcode::RequestSense, REQUEST_NOTHING, 6)),
+        0x05 => Some((Opcode::ReadBlockLimits, Command::ReadBlockLimits, 6)),
+        0x08 => Some((Opcode::Read, READ_NOTHING, 6)),
+        0x0a => Some((Opcode::Write, Command::Write { length: 0 }, 6)),
+        0x10 => Some((Opcode::WriteFilemarks, NO_FILEMARK, 6)),
+        0x11 => Some((Opcode::Space, NO_BLOCK, 6)),
+        0x12 => Some((Opcode::Inquiry, Command::Inquiry { length: 0 }, 6)),
+        0x19 => Some((Opcode::Erase, Command::Erase, 6)),
+        0x2b => Some((Opcode::Locate, TO_OBJECT_0, 10)),
+        0x34 => Some((Opcode::ReadPosition, Command::ReadPosition, 10)),
+        _ => None,
+    }
+}
+
 #[test]
 fn every_code_at_every_length(rt: HostRuntime) {
     for code in 0..=255u8 {
         let mut block = [0u8; 16];
         block[0] = code;
-        assert_eq!(rt; length_of(code), known(code).map(|_| 6usize));
+        let row = known(code);
+        assert_eq!(rt; length_of(code), row.map(|(_, _, bytes)| bytes));
+        if let Some((opcode, command, _)) = row {
+            assert_eq!(rt; command.opcode(), opcode);
+        }
         for length in 0..=16usize {
-            let (opcode, expected) = match known(code) {
-                _ if length == 0 => (None, Err(Sense::invalid_operation_code())),
-                None => (None, Err(Sense::invalid_operation_code())),
-                Some((opcode, command)) if length == 6 => (Some(opcode), Ok(command)),
-                Some((opcode, _)) => (Some(opcode), Err(Sense::invalid_field())),
+            let (opcode, expected) = match row {
+                Some((opcode, command, bytes)) if length == bytes => (Some(opcode), Ok(command)),
+                Some((opcode, _, _)) if length > 0 => (Some(opcode), Err(Sense::invalid_field())),
+                _ => (None, Err(Sense::invalid_operation_code())),
             };
-            assert_eq!(rt; Opcode::of(&block[..length]), opcode);
-            assert_eq!(rt; Cdb::decode(&block[..length]), expected);
+            assert_eq!(rt;
+                Opcode::of(&block[..length]),
+                opcode,
+                "{length} bytes of {code}"
+            );
+            assert_eq!(rt;
+                Cdb::decode(&block[..length]),
+                expected,
+                "{length} bytes of {code}"
+            );
         }
     }
 }
 
-fn read(length: u32, suppress_length: bool) -> Option<Command> {
-    Some(Command::Read {
-        length,
-        suppress_length,
-    })
-}
-
-fn marks(count: u32, immediate: bool) -> Option<Command> {
-    Some(Command::WriteFilemarks { count, immediate })
-}
-
-// Each row is a block, its command, and how many bytes are sent with it. A block with no command has
-// an invalid field.
-fn rows() -> [(&'static [u8; 6], Option<Command>, u32); 14] {
-    let write = |length| Some(Command::Write { length });
-    [
-        (b"\x00\xff\xff\xff\xff\xff", Some(Command::TestUnitReady), 0),
-        (b"\x01\xff\xff\xff\xff\xff", Some(Command::Rewind), 0),
-        (b"\x08\x00\x00\x00\x05\x00", read(5, false), 0),
-        (b"\x08\x02\x12\x34\x56\x00", read(0x12_3456, true), 0),
-        (b"\x08\xfc\xff\xff\xff\xff", read(0xff_ffff, false), 0),
-        (b"\x08\x01\x00\x00\x01\x00", None, 0),
-        (b"\x08\x03\x00\x00\x01\x00", None, 0),
-        (b"\x0a\x00\x00\x00\x05\x00", write(5), 5),
-        (b"\x0a\xfe\x10\x00\x00\xff", write(1_048_576), 1_048_576),
-        (b"\x0a\x00\x10\x00\x01\x00", None, 0),
-        (b"\x0a\x01\x00\x00\x01\x00", None, 0),
-        (b"\x10\x00\x00\x00\x01\x00", marks(1, false), 0),
-        (b"\x10\x01\xff\xff\xff\x00", marks(0xff_ffff, true), 0),
-        (b"\x10\xfe\x00\x00\x00\xff", marks(0, false), 0),
-    ]
-}
-
-#[test]
-fn fields(rt: HostRuntime) {
-    for (block, command, sent) in rows() {
-        let decoded = Cdb::decode(block.as_slice());
-        assert_eq!(rt; decoded, command.ok_or(Sense::invalid_field()));
-        assert_eq!(rt; command.map_or(0, |c| c.sent_length()), sent);
-    }
-}
-
+// Each row is a code, the bytes of its blocks, whether it is exempt from the checks, whether a reservation
+// stops it, and whether it needs a medium.
 #[test]
 fn the_table(rt: HostRuntime) {
-    for (opcode, stopped) in [
-        (Opcode::TestUnitReady, false),
-        (Opcode::Rewind, true),
-        (Opcode::Read, true),
-        (Opcode::Write, true),
-        (Opcode::WriteFilemarks, true),
+    for (opcode, bytes, exempt, stopped, on_medium) in [
+        (Opcode::TestUnitReady, 6, false, false, true),
+        (Opcode::Rewind, 6, false, true, true),
+        (Opcode::RequestSense, 6, true, false, false),
+        (Opcode::ReadBlockLimits, 6, false, false, false),
+        (Opcode::Read, 6, false, true, true),
+        (Opcode::Write, 6, false, true, true),
+        (Opcode::WriteFilemarks, 6, false, true, true),
+        (Opcode::Space, 6, false, true, true),
+        (Opcode::Inquiry, 6, true, false, false),
+        (Opcode::Erase, 6, false, true, true),
+        (Opcode::Locate, 10, false, true, true),
+        (Opcode::ReadPosition, 10, false, false, true),
     ] {
-        assert_eq!(rt;
-            (
-                opcode.block_length(),
-                opcode.is_exempt(),
-                opcode.is_stopped_by_reservation(),
-                opcode.needs_medium()
-            ),
-            (6, false, stopped, true)
-        );
+        assert_eq!(rt; opcode.block_length(), bytes, "{opcode:?}");
+        assert_eq!(rt; opcode.is_exempt(), exempt, "{opcode:?}");
+        assert_eq!(rt; opcode.is_stopped_by_reservation(), stopped, "{opcode:?}");
+        assert_eq!(rt; opcode.needs_medium(), on_medium, "{opcode:?}");
     }
 }
