@@ -145,7 +145,8 @@ module _ (spaces : NoSpaceEndsTwice) (locates : NoLocateEndsTwice)
     drives = ap seen_of h.2 ∙ same ∙ sym (ap seen_of k.2);
   }
 
-  on_medium : (bay bay' : Bay MediumState) (command : Command) (sent : List ℕ) → bay_of sight_of bay ≡ bay_of sight_of bay'
+  on_medium : (bay bay' : Bay MediumState) (command : Command) (sent : List ℕ) → bay_of sight_of bay ≡ bay_of
+  sight_of bay'
       → OnMediumIn bay (MediumWork (Unit {0}) command old.buffered sent) old (Ok reply) made new
       → OnMediumIn bay' (MediumWork (Unit {0}) command beside.buffered sent) beside (Ok reply') made' new'
       → Alike
@@ -154,7 +155,8 @@ module _ (spaces : NoSpaceEndsTwice) (locates : NoLocateEndsTwice)
       subst (λ (b : Bool). MediumWork (Unit {0}) command b sent (mounted m' beside.position)
       (Ok reply') made'.changes k.0) (ap (λ (x : Seen). x.buffered) (sym e)) k.1 in
       let a =
-      commands spaces locates command old.buffered sent (mounted m old.position) (mounted m' beside.position) reply reply'
+      commands spaces locates command old.buffered sent (mounted m old.position) (mounted m' beside.position) reply
+      reply'
       made.changes made'.changes h.0 k.0
       (record { sights = cc same; positions = ap (λ (x : Seen). x.position) e }) h.1 work in
       let left : seen_of (with_mounted old h.0) ≡ seen_of (with_mounted beside k.0) =

@@ -70,7 +70,8 @@ turn_unseen old (Unanswered outcome) made new calm h =
     }
 turn_unseen old (Answered answer) made new calm h = absurd h
 
-module _ (spaces : NoSpaceEndsTwice) (locates : NoLocateEndsTwice) (old beside : Machine) (made made' : Made) (new new' : Machine) (e : seen_of old ≡ seen_of beside) where
+module _ (spaces : NoSpaceEndsTwice) (locates : NoLocateEndsTwice) (old beside : Machine) (made made' : Made) (new
+    new' : Machine) (e : seen_of old ≡ seen_of beside) where
   execute_determined : (request other : Request) (output output' : Output) → request ≡ other
       → IsCalm output → IsCalm output' → Step (Unit {0}) old (Execute request) output made new
       → Step (Unit {0}) beside (Execute other) output' made' new' → AreAlike output output' made made' new new'
@@ -113,23 +114,38 @@ module _ (spaces : NoSpaceEndsTwice) (locates : NoLocateEndsTwice) (old beside :
       }
 
 pub steps_determined : NoSpaceEndsTwice → NoLocateEndsTwice → StepsAreDetermined
-steps_determined spaces locates old beside (Execute request) (Execute other) output output' made made' new new' e asks calm calm' h k =
+steps_determined spaces locates old beside (Execute request) (Execute other) output output' made made' new new' e
+    asks calm calm' h k =
     execute_determined spaces locates old beside made made' new new' e request other output output' asks calm calm' h k
-steps_determined spaces locates old beside (Load medium) (Load other) output output' made made' new new' e asks calm calm' h k =
+steps_determined spaces locates old beside (Load medium) (Load other) output output' made made' new new' e asks calm
+    calm' h k =
     load_determined spaces locates old beside made made' new new' e medium other output output' asks calm calm' h k
-steps_determined spaces locates old beside (PowerOn medium) (PowerOn other) output output' made made' new new' e asks calm calm' h k =
+steps_determined spaces locates old beside (PowerOn medium) (PowerOn other) output output' made made' new new' e asks
+    calm calm' h k =
     power_on_determined spaces locates old beside made made' new new' e medium other output output' asks calm calm' h k
-steps_determined spaces locates old beside FlushTurn FlushTurn output output' made made' new new' e asks calm calm' h k =
+steps_determined spaces locates old beside FlushTurn FlushTurn output output' made made' new new' e asks calm calm' h
+    k =
     turn_determined spaces locates old beside made made' new new' e output output' calm calm' h k
-steps_determined spaces locates old beside (Execute request) (Load other) o o' made made' new new' e asks c c' h k = absurd asks
-steps_determined spaces locates old beside (Execute request) (PowerOn other) o o' made made' new new' e asks c c' h k = absurd asks
-steps_determined spaces locates old beside (Execute request) FlushTurn o o' made made' new new' e asks c c' h k = absurd asks
-steps_determined spaces locates old beside (Load medium) (Execute other) o o' made made' new new' e asks c c' h k = absurd asks
-steps_determined spaces locates old beside (Load medium) (PowerOn other) o o' made made' new new' e asks c c' h k = absurd asks
-steps_determined spaces locates old beside (Load medium) FlushTurn o o' made made' new new' e asks c c' h k = absurd asks
-steps_determined spaces locates old beside (PowerOn medium) (Execute other) o o' made made' new new' e asks c c' h k = absurd asks
-steps_determined spaces locates old beside (PowerOn medium) (Load other) o o' made made' new new' e asks c c' h k = absurd asks
-steps_determined spaces locates old beside (PowerOn medium) FlushTurn o o' made made' new new' e asks c c' h k = absurd asks
-steps_determined spaces locates old beside FlushTurn (Execute other) o o' made made' new new' e asks c c' h k = absurd asks
+steps_determined spaces locates old beside (Execute request) (Load other) o o' made made' new new' e asks c c' h k =
+    absurd asks
+steps_determined spaces locates old beside (Execute request) (PowerOn other) o o' made made' new new' e asks c c' h k =
+    absurd asks
+steps_determined spaces locates old beside (Execute request) FlushTurn o o' made made' new new' e asks c c' h k =
+    absurd asks
+steps_determined spaces locates old beside (Load medium) (Execute other) o o' made made' new new' e asks c c' h k =
+    absurd asks
+steps_determined spaces locates old beside (Load medium) (PowerOn other) o o' made made' new new' e asks c c' h k =
+    absurd asks
+steps_determined spaces locates old beside (Load medium) FlushTurn o o' made made' new new' e asks c c' h k =
+    absurd asks
+steps_determined spaces locates old beside (PowerOn medium) (Execute other) o o' made made' new new' e asks c c' h k =
+    absurd asks
+steps_determined spaces locates old beside (PowerOn medium) (Load other) o o' made made' new new' e asks c c' h k =
+    absurd asks
+steps_determined spaces locates old beside (PowerOn medium) FlushTurn o o' made made' new new' e asks c c' h k =
+    absurd asks
+steps_determined spaces locates old beside FlushTurn (Execute other) o o' made made' new new' e asks c c' h k =
+    absurd asks
 steps_determined spaces locates old beside FlushTurn (Load other) o o' made made' new new' e asks c c' h k = absurd asks
-steps_determined spaces locates old beside FlushTurn (PowerOn other) o o' made made' new new' e asks c c' h k = absurd asks
+steps_determined spaces locates old beside FlushTurn (PowerOn other) o o' made made' new new' e asks c c' h k =
+    absurd asks

@@ -31,7 +31,8 @@ seen_run_from old beside [] (output ∷ outputs) made new e h = absurd h
 seen_run_from old beside (input ∷ inputs) [] made new e h = absurd h
 
 -- what such runs make, leave and answer is one
-seen_runs_alike : StepsAreDetermined → (old beside : Machine) (inputs others : List Input) (outputs outputs' : List Output)
+seen_runs_alike : StepsAreDetermined → (old beside : Machine) (inputs others : List Input) (outputs outputs' : List
+    Output)
     (made made' : Made) (new new' : Machine) → seen_of old ≡ seen_of beside → AllAskAlike inputs others
     → SeenRun old inputs outputs made new → SeenRun beside others outputs' made' new'
     → AreAlike outputs outputs' made made' new new'
@@ -113,7 +114,8 @@ runs_determined steps old beside inputs others outputs outputs' made made' new n
     let one = untimed old inputs outputs made new calm h in
     let two = untimed beside others outputs' made' new' calm' k in
     let alike =
-    seen_runs_alike steps old beside (without_turns inputs) (without_turns others) one.outputs two.outputs made made' new new'
+    seen_runs_alike steps old beside (without_turns inputs) (without_turns others) one.outputs two.outputs made made'
+    new new'
     e asks one.run two.run in
     record {
       outputs = one.replies_are ∙ ap replies_of alike.outputs ∙ sym two.replies_are;

@@ -247,7 +247,8 @@ module _ (machine : Machine) (request : Request) where
   fields_judged (Some command) is =
       both_hold (suits machine command) (length request.sent == sent_length command) command refl is
 
-  code_judged : (found : Option Opcode) → opcode_of request.cdb ≡ found → Judged request (verdict_at machine request found)
+  code_judged : (found : Option Opcode) → opcode_of request.cdb ≡ found → Judged request (verdict_at machine request
+  found)
   code_judged None is = unacknowledged invalid_operation_code [] (λ e. cc)
   code_judged (Some opcode) is =
       judged_unless request (state_denial machine request.nexus opcode)

@@ -97,7 +97,8 @@ module _ {M : Type 0} (state : M → MediumState) (below : Below M Change) where
       (request : Request) (old new : DriveState M Kept) (command : Command) (answer : Result Reply Fault)
       → verdict (machine_of state old) request ≡ Ok command
       → Takes state below
-      (Work (HonestIn below (medium_in old.bay)) command request.nexus request.sent (machine_of state old)) old answer new
+      (Work (HonestIn below (medium_in old.bay)) command request.nexus request.sent (machine_of state old)) old
+      answer new
       → Takes state below (Executes (HonestIn below (medium_in old.bay)) request (machine_of state old)) old answer new
   carried_out_takes request old new command answer judged h =
       record { made = h.made; step = rw judged h.step; advances = h.advances; stores = h.stores }

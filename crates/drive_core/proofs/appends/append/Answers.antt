@@ -23,7 +23,8 @@ returns-in-Ok-clause-carries g c =
           append_accepted c.args.settles change (state old) (state mid) (state new) c.args.position.now
           c.count-position.result c.is_warned-warned.result c.finish.result
           c.requires.ready c.requires.at accepted.answer c.count-position.ensures.count
-          (c.is_warned-warned.ensures ∙ ap (λ (a : Option ℕ). is_warned a (volume_of (state mid)) (record c.args.position.now { obj = c.count-position.result })) c.requires.amount)
+          (c.is_warned-warned.ensures ∙ ap (λ (a : Option ℕ). is_warned a (volume_of (state mid)) (record
+          c.args.position.now { obj = c.count-position.result })) c.requires.amount)
           done.answer;
       advances =
           advances_on g.M.Medium.below g.met.M.Medium.moves_on old mid new (change ∷ []) []

@@ -6,4 +6,5 @@ pub returns-then-position-lt-MAX_OBJECTS : goal.returns-then-position-lt-MAX_OBJ
 returns-then-position-lt-MAX_OBJECTS g c =
     rw (c.used-before.ensures.used, c.capacity-capacity.ensures.capacity)
     (room_for_block (volume_of (g.C.Catalog.state c.args.medium.now)) c.args.position c.args.sent.now
-    c.requires.on.on_tape.part c.requires.on.on_tape.object c.if-position-lt-MAX_OBJECTS.true c.requires.some c.requires.short)
+    c.requires.on.on_tape.part c.requires.on.on_tape.object c.if-position-lt-MAX_OBJECTS.true c.requires.some
+    c.requires.short)

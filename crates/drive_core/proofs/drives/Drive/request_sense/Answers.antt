@@ -16,14 +16,16 @@ returns g c =
     let machine = machine_of state old in
     let due = c.condition_due-due.result in
     let is : due ≡ condition_due machine c.args.nexus = c.condition_due-due.ensures in
-    let bytes : c.cut_to.result.now ≡ cut_to c.args.room (sense_bytes (sense_due (condition_due machine c.args.nexus))) =
+    let bytes : c.cut_to.result.now ≡ cut_to c.args.room (sense_bytes (sense_due (condition_due machine
+    c.args.nexus))) =
     c.cut_to.ensures
     ∙ ap (λ (b : List ℕ). cut_to c.args.room b)
     (c.bytes.ensures ∙ ap sense_bytes (c.sense_due-sense.ensures ∙ ap sense_due is)) in
     senses_takes state g.M.Medium.below g.met.M.Medium.advances_nowhere c.args.room c.args.nexus old
     c.clear_due.new.self (Ok c.in_ok-reply.reply)
     (c.in_ok-reply.ensures ∙ ap good_with bytes)
-    (ap (λ (d : DriveState g.row.M.Denot Kept). d.bay) c.clear_due.ensures ∙ cleared_bay state g.M.Medium.below due c.args.nexus old)
+    (ap (λ (d : DriveState g.row.M.Denot Kept). d.bay) c.clear_due.ensures ∙ cleared_bay state g.M.Medium.below due
+    c.args.nexus old)
     (ap (machine_of state) c.clear_due.ensures
     ∙ cleared_in_machine state g.M.Medium.below due c.args.nexus old
     ∙ ap (λ (d : Option Condition). once_reported d c.args.nexus machine) is)
