@@ -1,0 +1,3 @@
+pub mod SetLemmas
+pub mod LawLemmas
+pub mod RuleLemmas

@@ -6,3 +6,7 @@ pub mod Register
 pub mod Reserve
 pub mod Preempt
 pub mod Orders
+pub mod Saves
+pub mod Reads
+pub mod Keepers
+pub mod Laws

@@ -1,5 +1,5 @@
 -- The machine: what each order makes of a state.
-use Rattle.std.specs.Prelude.{◌≡◌, ℕ, List, Bool}
+use Rattle.std.specs.Prelude.{ℕ, List}
 use Rattle.scsi_attention.specs.AttentionSets.{AttentionSet}
 use Rattle.scsi_lists.specs.declared.pr_lists.PrOut.{PrOut}
 use Rattle.scsi_lists.specs.declared.pr_lists.PrOut.TheVariants.{Register, Reserve, Release, Clear, Preempt, RegisterAndIgnoreExistingKey}
@@ -22,13 +22,3 @@ effect_of state nexus (RegisterAndIgnoreExistingKey new_key aptpl) = register_an
 -- An order of a nexus is answered so, tells each nexus so much, and leaves that state (SPC-4, PERSISTENT RESERVE OUT).
 abbrev pub Orders : PrState → ℕ → PrOut → PrAnswer → List AttentionSet → PrState → Type 0
 Orders old nexus order answer told new = Brings (effect_of old nexus order) answer told new
-
--- what is saved of two states is the same: registrations, reservation and APTPL (own)
-pub record AreSavedAlike (one other : PrState) : Type 0 where
-  pub keys : one.keys ≡ other.keys
-  pub reservation : one.reservation ≡ other.reservation
-  pub aptpl : one.aptpl ≡ other.aptpl
-
--- a state is to be saved in the place of another: registrations, reservation or APTPL have changed (own)
-abbrev pub NeedsSave : PrState → PrState → Type 0
-NeedsSave old new = ¬ AreSavedAlike old new

@@ -6,8 +6,8 @@ use Rattle.scsi_lists.specs.declared.actions.PrType.{PrType}
 use Rattle.pr_core.specs.declared.states.Reservation.{Reservation}
 use Rattle.pr_core.specs.declared.states.PrState.{PrState}
 use Rattle.pr_core.specs.declared.states.PrAnswer.TheVariants.{Good, Conflict, BadType, BadKey}
-use Rattle.pr_core.specs.Sets.{Nexuses, but, is_some_in, minus}
-use Rattle.pr_core.specs.States.{others, has_key, made_by, is_for_all, is_number}
+use Rattle.pr_core.specs.Sets.{Nexuses, but, is_named_in, is_some_in, minus}
+use Rattle.pr_core.specs.States.{others, has_key, made_by, is_for_all}
 use Rattle.pr_core.specs.Effects.{Effect, stays, only, tells, raised, without}
 use Rattle.pr_core.specs.Reserve.{is_same_type}
 
@@ -69,7 +69,7 @@ preempt_registrants state nexus key = record (stays Good state) {
 -- a key is that of the one holder of this reservation (SPC-4, PREEMPT)
 abbrev pub is_key_of_holder : Reservation → PrState → ℕ → Bool
 is_key_of_holder held state key =
-    not (is_for_all held.kind) && is_some_in (λ nexus. is_number held.holder nexus && has_key state key nexus)
+    not (is_for_all held.kind) && is_named_in held.holder (has_key state key)
 
 -- cases 3 and 4, by what is held (SPC-4, PREEMPT)
 abbrev pub preempt_known : Option Reservation → PrState → ℕ → ℕ → Option PrType → Effect

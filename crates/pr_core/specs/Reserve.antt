@@ -14,10 +14,14 @@ use Rattle.pr_core.specs.Effects.{Effect, stays, tells, tells_nobody, raised}
 abbrev pub is_same_type : PrType → PrType → Bool
 is_same_type one other = type_number one == type_number other
 
+-- a reservation is made, and nothing else changes (SPC-4, RESERVE)
+abbrev pub makes : Reservation → PrState → Effect
+makes made state = record (stays Good state) { reservation = Some made }
+
 -- a registered nexus asks for a reservation: none is held, and it is made; or the nexus holds one of that type already,
 -- and nothing changes; else it is a conflict (SPC-4, RESERVE)
 abbrev pub reserve_under : Option Reservation → PrState → ℕ → PrType → Effect
-reserve_under None state nexus kind = record (stays Good state) { reservation = Some (made_by nexus kind) }
+reserve_under None state nexus kind = makes (made_by nexus kind) state
 reserve_under (Some held) state nexus kind =
     if holds_this held state nexus && is_same_type held.kind kind then stays Good state else stays Conflict state
 
