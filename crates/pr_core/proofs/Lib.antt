@@ -1,3 +1,4 @@
 pub mod SetLemmas
 pub mod LawLemmas
 pub mod RuleLemmas
+pub mod ReadLemmas

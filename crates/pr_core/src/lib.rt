@@ -12,6 +12,8 @@ pub mod reservations;
 mod reserving;
 mod rows;
 pub mod states;
+#[cfg(test)]
+mod tests;
 
 pub use attns::Attns;
 pub use keepers::{Keeper, KeeperError, NoKeeper};

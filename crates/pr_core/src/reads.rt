@@ -1,6 +1,7 @@
 //! What PERSISTENT RESERVE IN reads.
 ghost use Rattle.std.specs.Prelude.{◌≡◌, ◌++◌, ◌<◌, ◌≤◌, ◌*◌, ◌^◌, length, IfOk};
 ghost use Rattle.std.specs.List.{flat_map};
+ghost use Rattle.vtl_base.specs.declared.limits.TheConstants.{NEXUSES};
 ghost use Rattle.pr_core.specs.Reads.{headed, holder_key, key_bytes, keys_read, reservation_bytes, reservation_read};
 
 use crate::states::{PrState, Reservation};
@@ -42,6 +43,7 @@ fn headed(alloc: Global, generation: u32, rest: &[u8]) -> Result<Bytes, NoMemory
 
 // The data of READ KEYS.
 pub(crate) fn keys_read(alloc: Global, state: &PrState) -> Result<Bytes, NoMemory>
+    requires { length state.now.keys ≡ NEXUSES }
     ensures { IfOk result (λ bytes. bytes ≡ keys_read state.now) }
 {
     let mut keys = Vec::new(alloc);

@@ -4,6 +4,8 @@
 pub mod actions;
 pub mod laws;
 pub mod pr_lists;
+#[cfg(test)]
+mod tests;
 
 pub use actions::{PrAction, PrType};
 pub use pr_lists::{PrList, PrOut};
