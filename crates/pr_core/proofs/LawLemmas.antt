@@ -32,32 +32,30 @@ pub one_end :
     (new other : PrState)
     → Orders old nexus order answer told new → Orders old nexus order other_answer other_told other
     → (answer ≡ other_answer) × (told ≡ other_told) × (new ≡ other)
-one_end old nexus order answer other_answer told other_told new other first second =
-    (
-      first.answered ∙ sym second.answered,
-      same_rows no_attentions told other_told (effect_of old nexus order).told first.tells second.tells,
-      same_states new other
+one_end old nexus order answer other_answer told other_told new other first second = (
+  first.answered ∙ sym second.answered,
+  same_rows no_attentions told other_told (effect_of old nexus order).told first.tells second.tells,
+  same_states new other
       (same_rows None new.keys other.keys (effect_of old nexus order).keys first.keys second.keys)
       (first.reservation ∙ sym second.reservation) (first.aptpl ∙ sym second.aptpl)
       (first.generation ∙ sym second.generation),
-    )
+)
 
 -- what has an effect
 some_end : (effect : Effect) → (answer : PrAnswer) × (told : List AttentionSet) × (new : PrState) × Brings effect answer told new
-some_end effect =
-    (
-      effect.answer,
-      map effect.told (range_with_len 1 NEXUSES),
-      state_of (map effect.keys (range_with_len 1 NEXUSES)) effect.reservation effect.aptpl effect.generation,
-      record {
-        answered = refl;
-        keys = row_shows None effect.keys;
-        reservation = refl;
-        aptpl = refl;
-        generation = refl;
-        tells = row_shows no_attentions effect.told;
-      },
-    )
+some_end effect = (
+  effect.answer,
+  map effect.told (range_with_len 1 NEXUSES),
+  state_of (map effect.keys (range_with_len 1 NEXUSES)) effect.reservation effect.aptpl effect.generation,
+  record {
+    answered = refl;
+    keys = row_shows None effect.keys;
+    reservation = refl;
+    aptpl = refl;
+    generation = refl;
+    tells = row_shows no_attentions effect.told;
+  },
+)
 
 pub an_end :
     (old : PrState) (nexus : ℕ) (order : PrOut)

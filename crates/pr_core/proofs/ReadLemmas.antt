@@ -12,5 +12,5 @@ keys_short (None ∷ keys) = let rest = keys_short keys in omega (arith, rest)
 keys_short (Some key ∷ keys) =
     let rest = keys_short keys in
     let here : length (key_bytes (Some key) ++ flat_map key_bytes keys) ≡ 8 + length (flat_map key_bytes keys) =
-        length-append (to_be_bytes w64 key) (flat_map key_bytes keys) in
+    length-append (to_be_bytes w64 key) (flat_map key_bytes keys) in
     omega (arith, here, rest)

@@ -18,7 +18,7 @@ pub some_in : (set : Nexuses) (nexus : ℕ) → IsNexus nexus → set nexus ≡ 
 unfolding is_some_in
 some_in set nexus is member =
     let place : nexus - 1 < length (range_with_len 1 NEXUSES) =
-        subst (λ (n : ℕ). nexus - 1 < n) (sym (length-range_with_len 1 NEXUSES)) (omega arith) in
+    subst (λ (n : ℕ). nexus - 1 < n) (sym (length-range_with_len 1 NEXUSES)) (omega arith) in
     let entry = get_or-range_with_len 1 NEXUSES (nexus - 1) 0 (omega arith) ∙ at_place nexus is in
     list_any_at set (range_with_len 1 NEXUSES) (nexus - 1) 0 place (ap set entry ∙ member)
 
@@ -28,7 +28,7 @@ unfolding is_some_in
 who_in set some =
     let any = Any-from_list_any set (range_with_len 1 NEXUSES) some in
     let within : any.0 < NEXUSES =
-        subst (λ (n : ℕ). any.0 < n) (length-range_with_len 1 NEXUSES) any.2 in
+    subst (λ (n : ℕ). any.0 < n) (length-range_with_len 1 NEXUSES) any.2 in
     let is : any.1 ≡ 1 + any.0 = sym any.3 ∙ get_or-range_with_len 1 NEXUSES any.0 any.1 within in
     (any.1, (omega arith, omega arith), any.4)
 
@@ -36,8 +36,8 @@ who_in set some =
 pub none_in : (set : Nexuses) → ((nexus : ℕ) → IsNexus nexus → set nexus ≡ false) → is_some_in set ≡ false
 none_in set none =
     elim (cases_Bool (is_some_in set)) [
-    | inl some ↦ let who = who_in set some in absurd (both_ways (set who.0) (none who.0 who.1) who.2)
-    | inr nobody ↦ nobody
+      | inl some ↦ let who = who_in set some in absurd (both_ways (set who.0) (none who.0 who.1) who.2)
+      | inr nobody ↦ nobody
     ]
 
 -- where nobody is in a set, nobody is a member
@@ -45,8 +45,8 @@ pub nobody_in :
     (set : Nexuses) → is_some_in set ≡ false → (nexus : ℕ) → IsNexus nexus → set nexus ≡ false
 nobody_in set nobody nexus is =
     elim (cases_Bool (set nexus)) [
-    | inl member ↦ absurd (both_ways (is_some_in set) nobody (some_in set nexus is member))
-    | inr not_in ↦ not_in
+      | inl member ↦ absurd (both_ways (is_some_in set) nobody (some_in set nexus is member))
+      | inr not_in ↦ not_in
     ]
 
 -- what stands for a nexus in a row is the entry at the place before its number
@@ -77,9 +77,9 @@ pub same_rows :
 same_rows nothing one other entries first second =
     let long : length one ≡ NEXUSES = first.all in
     ext_get_or nothing one other (first.all ∙ sym second.all) (λ place within.
-        let is : IsNexus (place + 1) = (omega arith, omega arith) in
-        sym (row_at_next nothing one place)
-        ∙ (first.each (place + 1) is ∙ (sym (second.each (place + 1) is) ∙ row_at_next nothing other place)))
+    let is : IsNexus (place + 1) = (omega arith, omega arith) in
+    sym (row_at_next nothing one place)
+    ∙ (first.each (place + 1) is ∙ (sym (second.each (place + 1) is) ∙ row_at_next nothing other place)))
 
 -- a row that shows a map
 pub row_shows :

@@ -98,7 +98,13 @@ impl PrState {
     }
 
     // Removes these nexuses; the requester gets a reservation in the place of one of the type `was`.
-    fn takes_over(&self, nexus: Nexus, removed: &[bool; 64], was: PrType, kind: Option<PrType>) -> Outcome
+    fn takes_over(
+        &self,
+        nexus: Nexus,
+        removed: &[bool; 64],
+        was: PrType,
+        kind: Option<PrType>,
+    ) -> Outcome
         requires { length self.now.keys ≡ NEXUSES }
         ensures { (set : _) → Shows false removed.now set
             → Brings (takes_over_as kind self.now nexus set was) result.answer result.told result.state }
@@ -120,19 +126,34 @@ impl PrState {
     }
 
     // Whether another nexus is told of a new type: it stays, and the type is another.
-    fn is_told_of_type(&self, nexus: Nexus, removed: &[bool; 64], changed: bool, other: Nexus) -> bool
+    fn is_told_of_type(
+        &self,
+        nexus: Nexus,
+        removed: &[bool; 64],
+        changed: bool,
+        other: Nexus,
+    ) -> bool
         ensures { result ≡ changed && minus (others self.now nexus) (row_at false removed.now) other }
     {
         changed && self.is_other(nexus, other) && !is_in(removed, other)
     }
 
     // The others that stay, where the type is another.
-    fn told_of_type(&self, nexus: Nexus, removed: &[bool; 64], was: PrType, kind: PrType) -> [bool; 64]
+    fn told_of_type(
+        &self,
+        nexus: Nexus,
+        removed: &[bool; 64],
+        was: PrType,
+        kind: PrType,
+    ) -> [bool; 64]
         ensures { (set : _) → Shows false removed.now set
             → Shows false result (told_of_type self.now nexus set was kind) }
     {
         let changed = !is_same_type(was, kind);
-        row_of(false, |other| self.is_told_of_type(nexus, removed, changed, other))
+        row_of(
+            false,
+            |other| self.is_told_of_type(nexus, removed, changed, other),
+        )
     }
 
     fn others(&self, nexus: Nexus) -> [bool; 64]

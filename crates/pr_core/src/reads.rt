@@ -66,7 +66,24 @@ fn reservation_bytes(held: &Reservation, state: &PrState) -> [u8; 16]
     ensures { result ≡ reservation_bytes (Some held.now) state.now }
 {
     let [a, b, c, d, e, f, g, h] = holder_key(held.holder, state).to_be_bytes();
-    [a, b, c, d, e, f, g, h, 0, 0, 0, 0, 0, held.kind.number(), 0, 0]
+    [
+        a,
+        b,
+        c,
+        d,
+        e,
+        f,
+        g,
+        h,
+        0,
+        0,
+        0,
+        0,
+        0,
+        held.kind.number(),
+        0,
+        0,
+    ]
 }
 
 // The data of READ RESERVATION.

@@ -52,13 +52,14 @@ impl PrState {
         requires { length self.now.keys ≡ NEXUSES }
         ensures { Brings (makes made self.now) result.answer result.told result.state }
     {
+        let generation = self.generation;
         Outcome {
             answer: PrAnswer::Good,
             state: PrState {
                 keys: self.keys,
                 reservation: Some(made),
                 aptpl: self.aptpl,
-                generation: self.generation,
+                generation,
             },
             told: Attns::none(),
         }
@@ -112,12 +113,13 @@ impl PrState {
     pub(crate) fn clear(&self, nexus: Nexus) -> Outcome
         ensures { Brings (clear self.now nexus) result.answer result.told result.state }
     {
+        let aptpl = self.aptpl;
         Outcome {
             answer: PrAnswer::Good,
             state: PrState {
                 keys: [None; 64],
                 reservation: None,
-                aptpl: self.aptpl,
+                aptpl,
                 generation: raised(self.generation),
             },
             told: self.tells_others(nexus, Attention::ReservationsPreempted),

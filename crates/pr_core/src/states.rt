@@ -146,11 +146,8 @@ impl PrState {
         if !self.aptpl {
             return PrState::empty();
         }
-        PrState {
-            keys: self.keys,
-            reservation: self.reservation,
-            aptpl: self.aptpl,
-            generation: 0,
-        }
+        let mut kept = *self;
+        kept.generation = 0;
+        kept
     }
 }

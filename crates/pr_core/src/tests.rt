@@ -11,7 +11,9 @@ use std::process::Abort;
 use vtl_base::Nexus;
 
 const A: u64 = 0xa1;
+
 const B: u64 = 0xb2;
+
 const C: u64 = 0xc3;
 
 // What is to stand after an order: the registrations, the number of the reservation's type and its
@@ -89,8 +91,16 @@ fn gives(
     assert_eq!(rt; state.generation, after.generation, "{order:?}");
     for number in 1..=64u8 {
         let nexus = host(rt, number);
-        assert_eq!(rt; tells.of(nexus), told_in(told, number), "{order:?} tells {number}");
-        assert_eq!(rt; state.key_of(nexus), listed(after.keys, number), "{order:?}, key of {number}");
+        assert_eq!(rt;
+            tells.of(nexus),
+            told_in(told, number),
+            "{order:?} tells {number}"
+        );
+        assert_eq!(rt;
+            state.key_of(nexus),
+            listed(after.keys, number),
+            "{order:?}, key of {number}"
+        );
     }
 }
 

@@ -41,10 +41,7 @@ impl PrType {
     pub fn of(number: u8) -> Option<Self>
         ensures { result ≡ type_of number }
     {
-        TYPES
-            .iter()
-            .copied()
-            .find(|kind| kind.number() == number)
+        TYPES.iter().copied().find(|kind| kind.number() == number)
     }
 
     /// Its number.

@@ -45,12 +45,17 @@ fn actions_stand_in_the_table(rt: HostRuntime) {
                 6 => Some(PrAction::RegisterAndIgnoreExistingKey),
                 _ => None,
             };
-            assert_eq!(rt; PrAction::of(action, scope_type), wanted, "{action}, {scope_type}");
+            assert_eq!(rt;
+                PrAction::of(action, scope_type),
+                wanted,
+                "{action}, {scope_type}"
+            );
         }
     }
 }
 
-const LIST: [u8; 24] = *b"\x01\x02\x03\x04\x05\x06\x07\x08\0\0\0\0\0\0\x0a\xa1\0\0\0\0\0\xff\xff\xff";
+const LIST: [u8; 24] =
+    *b"\x01\x02\x03\x04\x05\x06\x07\x08\0\0\0\0\0\0\x0a\xa1\0\0\0\0\0\xff\xff\xff";
 
 // The list with this byte 20 is read so.
 fn reads(rt: &impl Abort, action: PrAction, bits: u8, wanted: Result<PrOut, Sense>) {
@@ -122,6 +127,10 @@ fn a_list_has_24_bytes(rt: HostRuntime) {
         } else {
             Sense::parameter_list_length_error()
         };
-        assert_eq!(rt; PrList::decode(PrAction::Register, &long[..length]), Err(wanted), "{length}");
+        assert_eq!(rt;
+            PrList::decode(PrAction::Register, &long[..length]),
+            Err(wanted),
+            "{length}"
+        );
     }
 }

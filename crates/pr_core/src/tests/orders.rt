@@ -57,7 +57,11 @@ fn aptpl_is_set_by_those_who_register(rt: HostRuntime) {
         (3, [(1, set(0, A, true)), (1, set(A, A, false))], false),
         (4, [(1, set(0, A, false)), (1, set(A, 0, true))], true),
         (5, [(1, set(0, A, true)), (2, set(0, 0, false))], true),
-        (6, [(1, set(0, A, true)), (1, PrOut::Clear { key: A })], true),
+        (
+            6,
+            [(1, set(0, A, true)), (1, PrOut::Clear { key: A })],
+            true,
+        ),
     ] {
         let reservations = after(&rt, &orders);
         assert_eq!(rt; reservations.state().aptpl, aptpl, "row {number}");
@@ -119,7 +123,11 @@ fn one_reserves_and_releases(rt: HostRuntime) {
         let gone = (0, 0);
         let stands = (kind.number(), holder);
         let told = [(2, Attention::ReservationsReleased)];
-        let told = if kind.number() >= 5 { &told[..] } else { &told[..0] };
+        let told = if kind.number() >= 5 {
+            &told[..]
+        } else {
+            &told[..0]
+        };
         let mine = |kind| (1, PrOut::Reserve { key: A, kind });
         let theirs = |kind| (2, PrOut::Reserve { key: B, kind });
         let shared = if all { Good } else { Conflict };
@@ -130,15 +138,65 @@ fn one_reserves_and_releases(rt: HostRuntime) {
             (taken, theirs(kind), shared, stands),
             (taken, theirs(other), Conflict, stands),
             (free, (1, PrOut::Release { key: A, kind }), Good, gone),
-            (taken, (1, PrOut::Release { key: A, kind: other }), BadRelease, stands),
+            (
+                taken,
+                (
+                    1,
+                    PrOut::Release {
+                        key: A,
+                        kind: other,
+                    },
+                ),
+                BadRelease,
+                stands,
+            ),
         ] {
-            gives(&rt, before, order, answer, &[], After { keys, held, generation: 2 });
+            gives(
+                &rt,
+                before,
+                order,
+                answer,
+                &[],
+                After {
+                    keys,
+                    held,
+                    generation: 2,
+                },
+            );
         }
         let released = (1, PrOut::Release { key: A, kind });
-        gives(&rt, taken, released, Good, told, After { keys, held: gone, generation: 2 });
+        gives(
+            &rt,
+            taken,
+            released,
+            Good,
+            told,
+            After {
+                keys,
+                held: gone,
+                generation: 2,
+            },
+        );
         if !all {
-            let order = (2, PrOut::Release { key: B, kind: other });
-            gives(&rt, taken, order, Good, &[], After { keys, held: stands, generation: 2 });
+            let order = (
+                2,
+                PrOut::Release {
+                    key: B,
+                    kind: other,
+                },
+            );
+            gives(
+                &rt,
+                taken,
+                order,
+                Good,
+                &[],
+                After {
+                    keys,
+                    held: stands,
+                    generation: 2,
+                },
+            );
         }
     }
 }
@@ -149,13 +207,24 @@ fn one_clears(rt: HostRuntime) {
         key: A,
         kind: PrType::WriteExclusiveRegistrantsOnly,
     };
-    let before = after(&rt, &[(1, register(0, A)), (2, register(0, B)), (64, register(0, B)), (1, order)]);
+    let before = after(
+        &rt,
+        &[
+            (1, register(0, A)),
+            (2, register(0, B)),
+            (64, register(0, B)),
+            (1, order),
+        ],
+    );
     gives(
         &rt,
         before,
         (2, PrOut::Clear { key: B }),
         Good,
-        &[(1, Attention::ReservationsPreempted), (64, Attention::ReservationsPreempted)],
+        &[
+            (1, Attention::ReservationsPreempted),
+            (64, Attention::ReservationsPreempted),
+        ],
         After {
             keys: &[],
             held: (0, 0),

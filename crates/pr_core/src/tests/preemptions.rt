@@ -7,7 +7,9 @@ use scsi_lists::{PrOut, PrType};
 use std::process::Abort;
 
 const ALL: PrType = PrType::WriteExclusiveAllRegistrants;
+
 const ONE: PrType = PrType::WriteExclusive;
+
 const ONLY: PrType = PrType::ExclusiveAccessRegistrantsOnly;
 
 // Host 1 with A, hosts 2 and 3 with B, host 4 with C; a host with A or B reserves.
@@ -36,7 +38,18 @@ const WHOLE: [(u8, u64); 4] = [(1, A), (2, B), (3, B), (4, C)];
 
 // A preemption that changes nothing is answered so.
 fn refuses(rt: &impl Abort, before: Reservations, held: (u8, u8), order: PrOut, answer: PrAnswer) {
-    gives(rt, before, (1, order), answer, &[], After { keys: &WHOLE, held, generation: 4 });
+    gives(
+        rt,
+        before,
+        (1, order),
+        answer,
+        &[],
+        After {
+            keys: &WHOLE,
+            held,
+            generation: 4,
+        },
+    );
 }
 
 #[test]
@@ -54,12 +67,27 @@ fn the_key_is_0(rt: HostRuntime) {
                 (3, RegistrationsPreempted),
                 (4, RegistrationsPreempted),
             ];
-            let left = After { keys: &[(1, A)], held: (6, 1), generation: 5 };
-            gives(&rt, before, (1, preempt(A, 0, Some(ONLY))), Good, told, left);
+            let left = After {
+                keys: &[(1, A)],
+                held: (6, 1),
+                generation: 5,
+            };
+            gives(
+                &rt,
+                before,
+                (1, preempt(A, 0, Some(ONLY))),
+                Good,
+                told,
+                left,
+            );
         }
     }
     let free = after(&rt, &[(1, register(0, A))]);
-    let left = After { keys: &[(1, A)], held: (0, 0), generation: 1 };
+    let left = After {
+        keys: &[(1, A)],
+        held: (0, 0),
+        generation: 1,
+    };
     gives(&rt, free, (1, preempt(A, 0, Some(ALL))), BadKey, &[], left);
 }
 
@@ -86,8 +114,19 @@ fn the_key_is_of_the_holder(rt: HostRuntime) {
         (ONLY, (6, 1), &and_type[..]),
         (ALL, (7, 0), &and_type[..]),
     ] {
-        let left = After { keys, held, generation: 5 };
-        gives(&rt, before, (1, preempt(A, B, Some(kind))), Good, told, left);
+        let left = After {
+            keys,
+            held,
+            generation: 5,
+        };
+        gives(
+            &rt,
+            before,
+            (1, preempt(A, B, Some(kind))),
+            Good,
+            told,
+            left,
+        );
     }
     // The holder preempts its own key: the other with that key goes, and the type may change.
     for (kind, told) in [
@@ -101,8 +140,19 @@ fn the_key_is_of_the_holder(rt: HostRuntime) {
             ][..],
         ),
     ] {
-        let left = After { keys: &[(1, A), (2, B), (4, C)], held: (kind.number(), 2), generation: 5 };
-        gives(&rt, before, (2, preempt(B, B, Some(kind))), Good, told, left);
+        let left = After {
+            keys: &[(1, A), (2, B), (4, C)],
+            held: (kind.number(), 2),
+            generation: 5,
+        };
+        gives(
+            &rt,
+            before,
+            (2, preempt(B, B, Some(kind))),
+            Good,
+            told,
+            left,
+        );
     }
 }
 
@@ -111,13 +161,32 @@ fn the_key_is_of_registrants(rt: HostRuntime) {
     let told: [(u8, Attention); 2] = [(2, RegistrationsPreempted), (3, RegistrationsPreempted)];
     for (kind, held) in [(ONE, (1, 1)), (ONLY, (6, 1)), (ALL, (7, 0))] {
         let before = reserved(&rt, 1, A, kind);
-        let left = After { keys: &[(1, A), (4, C)], held, generation: 5 };
+        let left = After {
+            keys: &[(1, A), (4, C)],
+            held,
+            generation: 5,
+        };
         gives(&rt, before, (1, preempt(A, B, None)), Good, &told, left);
     }
     // The requester's own key: the requester stays, also where nobody else has it.
     let before = reserved(&rt, 1, A, ONE);
-    let left = After { keys: &[(1, A), (2, B), (4, C)], held: (1, 1), generation: 5 };
-    gives(&rt, before, (2, preempt(B, B, None)), Good, &[(3, RegistrationsPreempted)], left);
-    let left = After { keys: &WHOLE, held: (1, 1), generation: 5 };
+    let left = After {
+        keys: &[(1, A), (2, B), (4, C)],
+        held: (1, 1),
+        generation: 5,
+    };
+    gives(
+        &rt,
+        before,
+        (2, preempt(B, B, None)),
+        Good,
+        &[(3, RegistrationsPreempted)],
+        left,
+    );
+    let left = After {
+        keys: &WHOLE,
+        held: (1, 1),
+        generation: 5,
+    };
     gives(&rt, before, (4, preempt(C, C, None)), Good, &[], left);
 }

@@ -11,10 +11,24 @@ fn keys_and_reservations_are_read(rt: HostRuntime) -> Result<(), Fail> {
     let [first, second] = both;
     let reserve = |kind| (1, PrOut::Reserve { key: A, kind });
     let none = Reservations::empty();
-    let only = after(&rt, &[first, reserve(PrType::WriteExclusiveRegistrantsOnly)]);
-    let all = after(&rt, &[first, second, reserve(PrType::ExclusiveAccessAllRegistrants)]);
+    let only = after(
+        &rt,
+        &[first, reserve(PrType::WriteExclusiveRegistrantsOnly)],
+    );
+    let all = after(
+        &rt,
+        &[
+            first,
+            second,
+            reserve(PrType::ExclusiveAccessAllRegistrants),
+        ],
+    );
     for (reservations, keys, reservation) in [
-        (none, b"\0\0\0\0\0\0\0\0".as_slice(), b"\0\0\0\0\0\0\0\0".as_slice()),
+        (
+            none,
+            b"\0\0\0\0\0\0\0\0".as_slice(),
+            b"\0\0\0\0\0\0\0\0".as_slice(),
+        ),
         (
             only,
             b"\0\0\0\x01\0\0\0\x08\0\0\0\0\0\0\0\xa1",
@@ -27,7 +41,10 @@ fn keys_and_reservations_are_read(rt: HostRuntime) -> Result<(), Fail> {
         ),
     ] {
         assert_eq!(rt; reservations.read_keys(alloc)?.as_slice(), keys);
-        assert_eq!(rt; reservations.read_reservation(alloc)?.as_slice(), reservation);
+        assert_eq!(rt;
+            reservations.read_reservation(alloc)?.as_slice(),
+            reservation
+        );
     }
     Ok(())
 }
@@ -42,7 +59,10 @@ fn all_hosts_register(rt: HostRuntime) -> Result<(), Fail> {
         let _ = reservations.pr_out(host(&rt, number), &register(0, key));
         wanted.extend_from_slice(&[0, 0, 0, 0, 0, 0, 1, number])?;
     }
-    assert_eq!(rt; reservations.read_keys(alloc)?.as_slice(), wanted.as_slice());
+    assert_eq!(rt;
+        reservations.read_keys(alloc)?.as_slice(),
+        wanted.as_slice()
+    );
     Ok(())
 }
 

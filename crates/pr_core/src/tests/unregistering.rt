@@ -13,14 +13,30 @@ fn the_holder_and_another_unregister(rt: HostRuntime) {
         let before = after(&rt, &[(1, register(0, A)), (2, register(0, B)), (1, order)]);
         let stands = (kind.number(), if all { 0 } else { 1 });
         let told = [(2, Attention::ReservationsReleased)];
-        let told = if kind.number() == 5 || kind.number() == 6 { &told[..] } else { &told[..0] };
+        let told = if kind.number() == 5 || kind.number() == 6 {
+            &told[..]
+        } else {
+            &told[..0]
+        };
         let held = if all { stands } else { (0, 0) };
-        let left = After { keys: &[(2, B)], held, generation: 3 };
+        let left = After {
+            keys: &[(2, B)],
+            held,
+            generation: 3,
+        };
         gives(&rt, before, (1, register(A, 0)), Good, told, left);
-        let left = After { keys: &[(1, A)], held: stands, generation: 3 };
+        let left = After {
+            keys: &[(1, A)],
+            held: stands,
+            generation: 3,
+        };
         gives(&rt, before, (2, register(B, 0)), Good, &[], left);
         let alone = after(&rt, &[(1, register(0, A)), (1, order)]);
-        let left = After { keys: &[], held: (0, 0), generation: 2 };
+        let left = After {
+            keys: &[],
+            held: (0, 0),
+            generation: 2,
+        };
         gives(&rt, alone, (1, register(A, 0)), Good, &[], left);
     }
 }
@@ -31,7 +47,11 @@ fn a_reservation_lets_through(rt: HostRuntime) {
         let order = PrOut::Reserve { key: A, kind };
         let taken = after(&rt, &[(1, register(0, A)), (2, register(0, B)), (1, order)]);
         for (number, passes) in [(1, true), (2, kind.number() >= 5), (3, false), (64, false)] {
-            assert_eq!(rt; taken.allowed(host(&rt, number)), passes, "{kind:?}, host {number}");
+            assert_eq!(rt;
+                taken.allowed(host(&rt, number)),
+                passes,
+                "{kind:?}, host {number}"
+            );
         }
         assert!(rt; taken.is_held(), "{kind:?}");
         let free = after(&rt, &[(1, register(0, A))]);
@@ -49,16 +69,35 @@ fn the_generation_wraps(rt: HostRuntime) {
 
 #[test]
 fn what_is_saved_of_two_states_differs(rt: HostRuntime) {
-    let keeping = |key, new_key, aptpl| PrOut::Register { key, new_key, aptpl };
+    let keeping = |key, new_key, aptpl| PrOut::Register {
+        key,
+        new_key,
+        aptpl,
+    };
     let one = after(&rt, &[(1, keeping(0, A, true))]);
     for (number, order, due) in [
         (1, keeping(A, A, true), false),
         (1, keeping(A, A, false), true),
         (1, keeping(A, B, true), true),
         (64, keeping(0, A, true), true),
-        (1, PrOut::Preempt { key: A, preempted: A, kind: None }, false),
+        (
+            1,
+            PrOut::Preempt {
+                key: A,
+                preempted: A,
+                kind: None,
+            },
+            false,
+        ),
         (1, PrOut::Clear { key: A }, true),
-        (1, PrOut::Reserve { key: A, kind: scsi_lists::PrType::WriteExclusive }, true),
+        (
+            1,
+            PrOut::Reserve {
+                key: A,
+                kind: scsi_lists::PrType::WriteExclusive,
+            },
+            true,
+        ),
     ] {
         let mut now = one;
         let (answer, _) = now.pr_out(host(&rt, number), &order);

@@ -11,12 +11,12 @@ returns c = λ gone freed removed released.
     let freed_now = row_at false c.args.released.now in
     let entries = told_of_preemption gone freed in
     let row : Shows c.empty.result c.row_of.result entries =
-        c.row_of.ensures entries (λ nexus answer is post.
-            let told : answer ≡ told_of_preemption (row_at false c.args.removed.now) (row_at false c.args.released.now) nexus =
-                search rules in
-            told
-            ∙ ap (λ (out : Bool). if out then only RegistrationsPreempted else if freed_now nexus then only ReservationsReleased else no_attentions)
-            (removed.each nexus is)
-            ∙ ap (λ (free : Bool). if gone nexus then only RegistrationsPreempted else if free then only ReservationsReleased else no_attentions)
-            (released.each nexus is)) in
+    c.row_of.ensures entries (λ nexus answer is post.
+    let told : answer ≡ told_of_preemption (row_at false c.args.removed.now) (row_at false c.args.released.now) nexus =
+    search rules in
+    told
+    ∙ ap (λ (out : Bool). if out then only RegistrationsPreempted else if freed_now nexus then only ReservationsReleased else no_attentions)
+    (removed.each nexus is)
+    ∙ ap (λ (free : Bool). if gone nexus then only RegistrationsPreempted else if free then only ReservationsReleased else no_attentions)
+    (released.each nexus is)) in
     rw c.from_row.ensures (subst (λ (nothing : AttentionSet). Shows nothing c.row_of.result entries) c.empty.ensures row)

@@ -6,4 +6,4 @@ invariant-loop-number g l =
     goal.F-IsAlwaysCallable g l.entry
     × (length l.row ≡ 64)
     × ((nexus : ℕ) → 1 ≤ nexus → nexus < l.number
-        → goal.F-post g l.entry nexus (slice_index_or l.row (nexus - 1) l.fn.nothing))
+    → goal.F-post g l.entry nexus (slice_index_or l.row (nexus - 1) l.fn.nothing))

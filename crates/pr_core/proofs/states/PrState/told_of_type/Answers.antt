@@ -10,5 +10,5 @@ returns c = λ set shows.
     let other_type = not (is_same_type c.args.was c.args.kind) in
     let now = others c.args.self.now c.args.nexus in
     c.row_of.ensures (told_of_type c.args.self.now c.args.nexus set c.args.was c.args.kind) (λ other answer is post.
-        let told : answer ≡ (other_type && minus now (row_at false c.args.removed.now) other) = search rules in
-        told ∙ ap (λ (gone : Bool). other_type && (now other && not gone)) (shows.each other is))
+    let told : answer ≡ (other_type && minus now (row_at false c.args.removed.now) other) = search rules in
+    told ∙ ap (λ (gone : Bool). other_type && (now other && not gone)) (shows.each other is))

@@ -7,5 +7,5 @@ use Rattle.pr_core.proofs.states.PrState.without.Goals as goal
 pub returns : goal.returns
 returns c = λ set shows.
     c.row_of.ensures (without c.args.self.now set) (λ nexus answer is post.
-        let left : answer ≡ without c.args.self.now (row_at false c.args.removed.now) nexus = search rules in
-        left ∙ ap (λ (gone : Bool). if gone then None else key_of c.args.self.now nexus) (shows.each nexus is))
+    let left : answer ≡ without c.args.self.now (row_at false c.args.removed.now) nexus = search rules in
+    left ∙ ap (λ (gone : Bool). if gone then None else key_of c.args.self.now nexus) (shows.each nexus is))
