@@ -15,10 +15,10 @@ pub record Kept : Type 0 where
   -- the bytes that may still be added; None is no bound
   pub room : Option ℕ
 
--- what a state takes of a store as a frame of its own: gate, length, APTPL, type, holder and count in 12 bytes, and 9 for
--- each registration (own)
+-- what a state takes of a store as a frame of its own: gate, length, APTPL, type, holder and count in 9 bytes, and 9
+-- for each registration (own)
 abbrev pub frame_size : PrState → ℕ
-frame_size state = 12 + 9 * count_by is_some state.keys
+frame_size state = 9 + 9 * count_by is_some state.keys
 
 -- a state as a frame of its own exceeds the room (own)
 abbrev pub IsFull : Option ℕ → PrState → Type 0

@@ -18,7 +18,8 @@ const C: u64 = 0xc3;
 
 // What is to stand after an order: the registrations, the number of the reservation's type and its
 // holder, 0 for none, and the generation.
-struct After<'a> {
+#[derive(Drop)]
+struct Standing<'a> {
     keys: &'a [(u8, u64)],
     held: (u8, u8),
     generation: u32,
@@ -81,7 +82,7 @@ fn gives(
     (number, order): (u8, PrOut),
     answer: PrAnswer,
     told: &[(u8, Attention)],
-    after: After,
+    after: Standing,
 ) {
     let mut now = reservations;
     let (answered, tells) = now.pr_out(host(rt, number), &order);

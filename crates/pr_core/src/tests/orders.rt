@@ -1,5 +1,5 @@
 //! REGISTER, RESERVE, RELEASE and CLEAR, row by row.
-use super::{A, After, B, C, TYPES, after, gives, host, register};
+use super::{A, B, C, Standing, TYPES, after, gives, host, register};
 use crate::PrAnswer::{BadRelease, Conflict, Good};
 use scsi_attention::Attention;
 use scsi_lists::{PrOut, PrType};
@@ -35,7 +35,7 @@ fn a_host_registers(rt: HostRuntime) {
             (1, order),
             answer,
             &[],
-            After {
+            Standing {
                 keys,
                 held: (0, 0),
                 generation,
@@ -95,7 +95,7 @@ fn a_host_needs_its_key(rt: HostRuntime) {
                 (number, order),
                 Conflict,
                 &[],
-                After {
+                Standing {
                     keys: &[(1, A)],
                     held: (0, 0),
                     generation: 1,
@@ -128,8 +128,8 @@ fn one_reserves_and_releases(rt: HostRuntime) {
         } else {
             &told[..0]
         };
-        let mine = |kind| (1, PrOut::Reserve { key: A, kind });
-        let theirs = |kind| (2, PrOut::Reserve { key: B, kind });
+        let mine = |kind| (1u8, PrOut::Reserve { key: A, kind });
+        let theirs = |kind| (2u8, PrOut::Reserve { key: B, kind });
         let shared = if all { Good } else { Conflict };
         for (before, order, answer, held) in [
             (free, mine(kind), Good, stands),
@@ -157,7 +157,7 @@ fn one_reserves_and_releases(rt: HostRuntime) {
                 order,
                 answer,
                 &[],
-                After {
+                Standing {
                     keys,
                     held,
                     generation: 2,
@@ -171,7 +171,7 @@ fn one_reserves_and_releases(rt: HostRuntime) {
             released,
             Good,
             told,
-            After {
+            Standing {
                 keys,
                 held: gone,
                 generation: 2,
@@ -191,7 +191,7 @@ fn one_reserves_and_releases(rt: HostRuntime) {
                 order,
                 Good,
                 &[],
-                After {
+                Standing {
                     keys,
                     held: stands,
                     generation: 2,
@@ -225,7 +225,7 @@ fn one_clears(rt: HostRuntime) {
             (1, Attention::ReservationsPreempted),
             (64, Attention::ReservationsPreempted),
         ],
-        After {
+        Standing {
             keys: &[],
             held: (0, 0),
             generation: 4,

@@ -1,8 +1,9 @@
 //! PREEMPT, case by case.
-use super::{A, After, B, C, TYPES, after, gives, register};
+use super::{A, B, C, Standing, TYPES, after, gives, register};
 use crate::PrAnswer::{BadKey, BadType, Conflict, Good};
 use crate::{PrAnswer, Reservations};
-use scsi_attention::Attention::{self, RegistrationsPreempted, ReservationsReleased};
+use scsi_attention::Attention;
+use scsi_attention::Attention::{RegistrationsPreempted, ReservationsReleased};
 use scsi_lists::{PrOut, PrType};
 use std::process::Abort;
 
@@ -44,7 +45,7 @@ fn refuses(rt: &impl Abort, before: Reservations, held: (u8, u8), order: PrOut, 
         (1, order),
         answer,
         &[],
-        After {
+        Standing {
             keys: &WHOLE,
             held,
             generation: 4,
@@ -67,7 +68,7 @@ fn the_key_is_0(rt: HostRuntime) {
                 (3, RegistrationsPreempted),
                 (4, RegistrationsPreempted),
             ];
-            let left = After {
+            let left = Standing {
                 keys: &[(1, A)],
                 held: (6, 1),
                 generation: 5,
@@ -83,7 +84,7 @@ fn the_key_is_0(rt: HostRuntime) {
         }
     }
     let free = after(&rt, &[(1, register(0, A))]);
-    let left = After {
+    let left = Standing {
         keys: &[(1, A)],
         held: (0, 0),
         generation: 1,
@@ -114,7 +115,7 @@ fn the_key_is_of_the_holder(rt: HostRuntime) {
         (ONLY, (6, 1), &and_type[..]),
         (ALL, (7, 0), &and_type[..]),
     ] {
-        let left = After {
+        let left = Standing {
             keys,
             held,
             generation: 5,
@@ -129,18 +130,14 @@ fn the_key_is_of_the_holder(rt: HostRuntime) {
         );
     }
     // The holder preempts its own key: the other with that key goes, and the type may change.
-    for (kind, told) in [
-        (ONE, &[(3, RegistrationsPreempted)][..]),
-        (
-            ONLY,
-            &[
-                (1, ReservationsReleased),
-                (3, RegistrationsPreempted),
-                (4, ReservationsReleased),
-            ][..],
-        ),
-    ] {
-        let left = After {
+    let own: [(u8, Attention); 1] = [(3, RegistrationsPreempted)];
+    let own_and_type: [(u8, Attention); 3] = [
+        (1, ReservationsReleased),
+        (3, RegistrationsPreempted),
+        (4, ReservationsReleased),
+    ];
+    for (kind, told) in [(ONE, &own[..]), (ONLY, &own_and_type[..])] {
+        let left = Standing {
             keys: &[(1, A), (2, B), (4, C)],
             held: (kind.number(), 2),
             generation: 5,
@@ -161,7 +158,7 @@ fn the_key_is_of_registrants(rt: HostRuntime) {
     let told: [(u8, Attention); 2] = [(2, RegistrationsPreempted), (3, RegistrationsPreempted)];
     for (kind, held) in [(ONE, (1, 1)), (ONLY, (6, 1)), (ALL, (7, 0))] {
         let before = reserved(&rt, 1, A, kind);
-        let left = After {
+        let left = Standing {
             keys: &[(1, A), (4, C)],
             held,
             generation: 5,
@@ -170,7 +167,7 @@ fn the_key_is_of_registrants(rt: HostRuntime) {
     }
     // The requester's own key: the requester stays, also where nobody else has it.
     let before = reserved(&rt, 1, A, ONE);
-    let left = After {
+    let left = Standing {
         keys: &[(1, A), (2, B), (4, C)],
         held: (1, 1),
         generation: 5,
@@ -183,7 +180,7 @@ fn the_key_is_of_registrants(rt: HostRuntime) {
         &[(3, RegistrationsPreempted)],
         left,
     );
-    let left = After {
+    let left = Standing {
         keys: &WHOLE,
         held: (1, 1),
         generation: 5,

@@ -1,5 +1,5 @@
 //! Unregistering under each type, who is let through, and the generation.
-use super::{A, After, B, TYPES, after, gives, host, register};
+use super::{A, B, Standing, TYPES, after, gives, host, register};
 use crate::PrAnswer::Good;
 use crate::PrState;
 use scsi_attention::Attention;
@@ -19,20 +19,20 @@ fn the_holder_and_another_unregister(rt: HostRuntime) {
             &told[..0]
         };
         let held = if all { stands } else { (0, 0) };
-        let left = After {
+        let left = Standing {
             keys: &[(2, B)],
             held,
             generation: 3,
         };
         gives(&rt, before, (1, register(A, 0)), Good, told, left);
-        let left = After {
+        let left = Standing {
             keys: &[(1, A)],
             held: stands,
             generation: 3,
         };
         gives(&rt, before, (2, register(B, 0)), Good, &[], left);
         let alone = after(&rt, &[(1, register(0, A)), (1, order)]);
-        let left = After {
+        let left = Standing {
             keys: &[],
             held: (0, 0),
             generation: 2,
