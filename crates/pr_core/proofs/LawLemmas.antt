@@ -1,0 +1,74 @@
+-- Each order has one end; two losses of power are as one.
+use Rattle.std.proofs.Common.{◌≡◌, ℕ, Bool, true, false, List, Option, None, refl, sym, ◌∙◌, ap, map}
+use Rattle.std.specs.List.{range_with_len}
+use Rattle.vtl_base.specs.declared.limits.TheConstants.{NEXUSES}
+use Rattle.scsi_attention.specs.AttentionSets.{AttentionSet, no_attentions}
+use Rattle.scsi_lists.specs.declared.pr_lists.PrOut.{PrOut}
+use Rattle.pr_core.specs.declared.states.Reservation.{Reservation}
+use Rattle.pr_core.specs.declared.states.PrState.{PrState}
+use Rattle.pr_core.specs.declared.states.PrAnswer.{PrAnswer}
+use Rattle.pr_core.specs.States.{power_loss}
+use Rattle.pr_core.specs.Effects.{Effect, Brings}
+use Rattle.pr_core.specs.Orders.{Orders, effect_of}
+use Rattle.pr_core.proofs.SetLemmas.{row_shows, same_rows}
+
+-- a state by its fields
+abbrev state_of : List (Option ℕ) → Option Reservation → Bool → ℕ → PrState
+state_of keys reservation aptpl generation =
+    record { keys = keys; reservation = reservation; aptpl = aptpl; generation = generation }
+
+-- states with the same fields are the same
+same_states :
+    (one other : PrState) → one.keys ≡ other.keys → one.reservation ≡ other.reservation → one.aptpl ≡ other.aptpl
+    → one.generation ≡ other.generation → one ≡ other
+same_states one other keys reservation aptpl generation =
+    ap (λ (row : List (Option ℕ)). state_of row one.reservation one.aptpl one.generation) keys
+    ∙ (ap (λ (held : Option Reservation). state_of other.keys held one.aptpl one.generation) reservation
+    ∙ (ap (λ (stays : Bool). state_of other.keys other.reservation stays one.generation) aptpl
+    ∙ ap (λ (count : ℕ). state_of other.keys other.reservation other.aptpl count) generation))
+
+pub one_end :
+    (old : PrState) (nexus : ℕ) (order : PrOut) (answer other_answer : PrAnswer) (told other_told : List AttentionSet)
+    (new other : PrState)
+    → Orders old nexus order answer told new → Orders old nexus order other_answer other_told other
+    → (answer ≡ other_answer) × (told ≡ other_told) × (new ≡ other)
+one_end old nexus order answer other_answer told other_told new other first second = (
+  first.answered ∙ sym second.answered,
+  same_rows no_attentions told other_told (effect_of old nexus order).told first.tells second.tells,
+  same_states new other
+      (same_rows None new.keys other.keys (effect_of old nexus order).keys first.keys second.keys)
+      (first.reservation ∙ sym second.reservation) (first.aptpl ∙ sym second.aptpl)
+      (first.generation ∙ sym second.generation),
+)
+
+-- what has an effect
+some_end : (effect : Effect) → (answer : PrAnswer) × (told : List AttentionSet) × (new : PrState) × Brings effect answer told new
+some_end effect = (
+  effect.answer,
+  map effect.told (range_with_len 1 NEXUSES),
+  state_of (map effect.keys (range_with_len 1 NEXUSES)) effect.reservation effect.aptpl effect.generation,
+  record {
+    answered = refl;
+    keys = row_shows None effect.keys;
+    reservation = refl;
+    aptpl = refl;
+    generation = refl;
+    tells = row_shows no_attentions effect.told;
+  },
+)
+
+pub an_end :
+    (old : PrState) (nexus : ℕ) (order : PrOut)
+    → (answer : PrAnswer) × (told : List AttentionSet) × (new : PrState) × Orders old nexus order answer told new
+an_end old nexus order = some_end (effect_of old nexus order)
+
+-- a loss of power of a state by its fields
+lost_once :
+    (keys : List (Option ℕ)) (reservation : Option Reservation) (aptpl : Bool) (generation : ℕ)
+    → power_loss (power_loss (state_of keys reservation aptpl generation))
+    ≡ power_loss (state_of keys reservation aptpl generation)
+lost_once keys reservation true generation = refl
+lost_once keys reservation false generation = refl
+
+pub loss_is_once : (state : PrState) → power_loss (power_loss state) ≡ power_loss state
+loss_is_once state = lost_once state.keys state.reservation state.aptpl state.generation

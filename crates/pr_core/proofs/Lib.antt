@@ -1,0 +1,5 @@
+pub mod SetLemmas
+pub mod LawLemmas
+pub mod HeldLemmas
+pub mod RuleLemmas
+pub mod ReadLemmas

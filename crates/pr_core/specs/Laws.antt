@@ -1,0 +1,41 @@
+-- Laws of the machine.
+use Rattle.std.specs.Prelude.{◌≡◌, ℕ, List}
+use Rattle.scsi_attention.specs.AttentionSets.{AttentionSet}
+use Rattle.scsi_lists.specs.declared.pr_lists.PrOut.{PrOut}
+use Rattle.pr_core.specs.declared.states.PrState.{PrState}
+use Rattle.pr_core.specs.declared.states.PrAnswer.{PrAnswer}
+use Rattle.pr_core.specs.States.{empty_state, power_loss}
+use Rattle.pr_core.specs.Sound.{IsSound}
+use Rattle.pr_core.specs.Orders.{Orders}
+
+-- each order has an answer, tells each nexus something, and leaves a state (own)
+abbrev pub EachOrderEnds : Type 0
+EachOrderEnds =
+    (old : PrState) (nexus : ℕ) (order : PrOut)
+    → (answer : PrAnswer) × (told : List AttentionSet) × (new : PrState) × Orders old nexus order answer told new
+
+-- and no second one (own)
+abbrev pub NoOrderEndsTwice : Type 0
+NoOrderEndsTwice =
+    (old : PrState) (nexus : ℕ) (order : PrOut) (answer other_answer : PrAnswer) (told other_told : List AttentionSet)
+    (new other : PrState)
+    → Orders old nexus order answer told new → Orders old nexus order other_answer other_told other
+    → (answer ≡ other_answer) × (told ≡ other_told) × (new ≡ other)
+
+-- a state that keeps the rules leads to such a state (own)
+abbrev pub OrdersKeepRules : Type 0
+OrdersKeepRules =
+    (old : PrState) (nexus : ℕ) (order : PrOut) (answer : PrAnswer) (told : List AttentionSet) (new : PrState)
+    → IsSound old → Orders old nexus order answer told new → IsSound new
+
+-- nothing registered and reserved keeps the rules (own)
+abbrev pub EmptyKeepsRules : Type 0
+EmptyKeepsRules = IsSound empty_state
+
+-- what a loss of power leaves keeps the rules (own)
+abbrev pub PowerLossKeepsRules : Type 0
+PowerLossKeepsRules = (state : PrState) → IsSound state → IsSound (power_loss state)
+
+-- a second loss of power takes nothing more (own)
+abbrev pub PowerLossIsOnce : Type 0
+PowerLossIsOnce = (state : PrState) → power_loss (power_loss state) ≡ power_loss state

@@ -1,0 +1,12 @@
+pub mod Sets
+pub mod States
+pub mod Sound
+pub mod Effects
+pub mod Register
+pub mod Reserve
+pub mod Preempt
+pub mod Orders
+pub mod Saves
+pub mod Reads
+pub mod Keepers
+pub mod Laws

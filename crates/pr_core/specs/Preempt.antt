@@ -1,0 +1,86 @@
+-- PREEMPT, in four cases, of which the first that fits holds.
+use Rattle.std.specs.Prelude.{ℕ, ◌==◌, ◌&&◌, not, Bool, Option, None, Some, if◌then◌else◌}
+use Rattle.scsi_attention.specs.AttentionSets.{AttentionSet, no_attentions}
+use Rattle.scsi_attention.specs.declared.attention_sets.Attention.TheVariants.{RegistrationsPreempted, ReservationsReleased}
+use Rattle.scsi_lists.specs.declared.actions.PrType.{PrType}
+use Rattle.pr_core.specs.declared.states.Reservation.{Reservation}
+use Rattle.pr_core.specs.declared.states.PrState.{PrState}
+use Rattle.pr_core.specs.declared.states.PrAnswer.TheVariants.{Good, Conflict, BadType, BadKey}
+use Rattle.pr_core.specs.Sets.{Nexuses, but, is_named_in, is_some_in, minus}
+use Rattle.pr_core.specs.States.{others, has_key, made_by, is_for_all}
+use Rattle.pr_core.specs.Effects.{Effect, stays, only, tells, raised, without}
+use Rattle.pr_core.specs.Reserve.{is_same_type}
+
+-- the nexuses that a key names: those registered with it, but not the requester (SPC-4, PREEMPT; the requester own)
+abbrev pub preempted_by : PrState → ℕ → ℕ → Nexuses
+preempted_by state nexus key = but (has_key state key) nexus
+
+-- the nexuses that are told of a new type: the others that stay, where the type is another (own)
+abbrev pub told_of_type : PrState → ℕ → Nexuses → PrType → PrType → Nexuses
+told_of_type state nexus removed was kind other =
+    not (is_same_type was kind) && minus (others state nexus) removed other
+
+-- what a preemption tells each nexus: those removed that their registration was preempted, and some others that the
+-- reservation was released (SPC-4, PREEMPT)
+abbrev pub told_of_preemption : Nexuses → Nexuses → ℕ → AttentionSet
+told_of_preemption removed released nexus =
+    if removed nexus then only RegistrationsPreempted
+    else if released nexus then only ReservationsReleased else no_attentions
+
+-- some registrations go, and the requester gets a reservation of this type in the place of one of another
+-- (SPC-4, PREEMPT)
+abbrev pub takes_over : PrState → ℕ → Nexuses → PrType → PrType → Effect
+takes_over state nexus removed was kind = record (stays Good state) {
+  keys = without state removed;
+  reservation = Some (made_by nexus kind);
+  generation = raised state.generation;
+  told = told_of_preemption removed (told_of_type state nexus removed was kind);
+}
+
+-- the same by the block's scope and type: where they are none of a reservation, it is refused (own)
+abbrev pub takes_over_as : Option PrType → PrState → ℕ → Nexuses → PrType → Effect
+takes_over_as None state nexus removed was = stays BadType state
+takes_over_as (Some kind) state nexus removed was = takes_over state nexus removed was kind
+
+-- Case 1: the key is 0. Under types 7 and 8 all others are removed and the requester's reservation replaces the old;
+-- else the key is refused (SPC-4, PREEMPT).
+abbrev pub preempt_zero : Option Reservation → PrState → ℕ → Option PrType → Effect
+preempt_zero None state nexus kind = stays BadKey state
+preempt_zero (Some held) state nexus kind =
+    if is_for_all held.kind then takes_over_as kind state nexus (others state nexus) held.kind else stays BadKey state
+
+-- Case 2: nobody is registered with the key, which is a conflict (SPC-4, PREEMPT).
+abbrev pub preempt_unknown : PrState → Effect
+preempt_unknown state = stays Conflict state
+
+-- Case 3: the key is that of the one holder. Registrations with it go, and the requester gets a reservation of the
+-- block's type (SPC-4, PREEMPT).
+abbrev pub preempt_holder : Reservation → PrState → ℕ → ℕ → Option PrType → Effect
+preempt_holder held state nexus key kind = takes_over_as kind state nexus (preempted_by state nexus key) held.kind
+
+-- Case 4: registrations with the key go, and the reservation stays (SPC-4, PREEMPT).
+abbrev pub preempt_registrants : PrState → ℕ → ℕ → Effect
+preempt_registrants state nexus key = record (stays Good state) {
+  keys = without state (preempted_by state nexus key);
+  generation = raised state.generation;
+  told = tells (preempted_by state nexus key) RegistrationsPreempted;
+}
+
+-- a key is that of the one holder of this reservation (SPC-4, PREEMPT)
+abbrev pub is_key_of_holder : Reservation → PrState → ℕ → Bool
+is_key_of_holder held state key =
+    not (is_for_all held.kind) && is_named_in held.holder (has_key state key)
+
+-- cases 3 and 4, by what is held (SPC-4, PREEMPT)
+abbrev pub preempt_known : Option Reservation → PrState → ℕ → ℕ → Option PrType → Effect
+preempt_known None state nexus key kind = preempt_registrants state nexus key
+preempt_known (Some held) state nexus key kind =
+    if is_key_of_holder held state key then preempt_holder held state nexus key kind
+    else preempt_registrants state nexus key
+
+-- PREEMPT by a registered nexus: the first case that fits (SPC-4)
+abbrev pub preempt : PrState → ℕ → ℕ → Option PrType → Effect
+preempt state nexus key kind =
+    if key == 0 then preempt_zero state.reservation state nexus kind
+    else if is_some_in (has_key state key) then preempt_known state.reservation state nexus key kind
+    else preempt_unknown state

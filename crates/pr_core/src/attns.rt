@@ -1,0 +1,77 @@
+//! What an order tells each nexus.
+ghost use Rattle.std.specs.Prelude.{◌≡◌, length};
+ghost use Rattle.vtl_base.specs.declared.limits.TheConstants.{NEXUSES};
+ghost use Rattle.scsi_attention.specs.AttentionSets.{no_attentions};
+ghost use Rattle.pr_core.specs.Sets.{Shows, row_at};
+ghost use Rattle.pr_core.specs.Effects.{only, tells_nobody};
+
+use crate::rows::place_of;
+use scsi_attention::{Attention, AttnSet};
+use std::marker::Model;
+use vtl_base::Nexus;
+
+/// The unit attention conditions that an order establishes for each nexus. To a contract they are the
+/// list of the sets, by rising nexus.
+#[derive(Clone, Copy)]
+pub struct Attns {
+    sets: [AttnSet; 64],
+}
+
+impl Model for Attns {
+    ghost use Rattle.std.specs.Prelude.{◌≡◌, List, length};
+    ghost use Rattle.vtl_base.specs.declared.limits.TheConstants.{NEXUSES};
+    ghost use Rattle.scsi_attention.specs.AttentionSets.{AttentionSet};
+
+    ghost Value = { List AttentionSet };
+
+    ghost view = { λ attns. attns.sets };
+
+    ghost invariant = { λ attns. length attns.sets ≡ NEXUSES };
+
+    ghost inverse = { λ sets. record { sets = sets } };
+}
+
+// The set of one condition.
+pub(crate) fn only(attention: Attention) -> AttnSet
+    ensures { result ≡ only attention }
+{
+    let mut set = AttnSet::empty();
+    set.insert(attention);
+    set
+}
+
+impl Attns {
+    /// Nobody is told anything.
+    pub fn none() -> Self
+        ensures { Shows no_attentions result tells_nobody }
+    {
+        Attns {
+            sets: [AttnSet::empty(); 64],
+        }
+    }
+
+    /// What a nexus is told.
+    pub fn of(&self, nexus: Nexus) -> AttnSet
+        ensures { result ≡ row_at no_attentions self.now nexus }
+    {
+        match place_of(nexus) {
+            Some(place) => self.sets[place],
+            None => AttnSet::empty(),
+        }
+    }
+
+    /// What each nexus is told, by rising nexus.
+    pub fn sets(&self) -> &[AttnSet]
+        ensures sets { result.now ≡ self.now }
+        ensures all { length self.now ≡ NEXUSES }
+    {
+        &self.sets
+    }
+
+    // A set for each nexus.
+    pub(crate) fn from_row(sets: [AttnSet; 64]) -> Self
+        ensures { result ≡ sets }
+    {
+        Attns { sets }
+    }
+}

@@ -1,0 +1,187 @@
+//! PREEMPT, by a registered nexus.
+ghost use Rattle.std.specs.Prelude.{◌≡◌, ◌&&◌, false, length};
+ghost use Rattle.vtl_base.specs.declared.limits.TheConstants.{NEXUSES};
+ghost use Rattle.scsi_attention.specs.AttentionSets.{no_attentions};
+ghost use Rattle.pr_core.specs.Sets.{Shows, minus, row_at};
+ghost use Rattle.pr_core.specs.States.{others};
+ghost use Rattle.pr_core.specs.Effects.{Brings};
+ghost use Rattle.pr_core.specs.Preempt.{is_key_of_holder, preempt, preempt_registrants, preempt_zero, preempted_by, takes_over_as, told_of_preemption, told_of_type};
+
+use crate::attns::{Attns, only};
+use crate::machine::{Outcome, is_in, raised};
+use crate::reserving::is_same_type;
+use crate::rows::row_of;
+use crate::states::{PrAnswer, PrState, Reservation, is_for_all};
+use scsi_attention::{Attention, AttnSet};
+use scsi_lists::PrType;
+use vtl_base::Nexus;
+
+// What a preemption tells a nexus: one that it removes, or one that it tells of a release.
+fn told_by_preemption(removed: &[bool; 64], released: &[bool; 64], nexus: Nexus) -> AttnSet
+    ensures { result ≡ told_of_preemption (row_at false removed.now) (row_at false released.now) nexus }
+{
+    if is_in(removed, nexus) {
+        only(Attention::RegistrationsPreempted)
+    } else if is_in(released, nexus) {
+        only(Attention::ReservationsReleased)
+    } else {
+        AttnSet::empty()
+    }
+}
+
+// What a preemption tells each nexus.
+fn told_of_preemption(removed: &[bool; 64], released: &[bool; 64]) -> Attns
+    ensures { (gone freed : _) → Shows false removed.now gone → Shows false released.now freed
+        → Shows no_attentions result (told_of_preemption gone freed) }
+{
+    Attns::from_row(row_of(AttnSet::empty(), |nexus| {
+        told_by_preemption(removed, released, nexus)
+    }))
+}
+
+impl PrState {
+    pub(crate) fn preempt(&self, nexus: Nexus, key: u64, kind: Option<PrType>) -> Outcome
+        requires { length self.now.keys ≡ NEXUSES }
+        ensures { Brings (preempt self.now nexus key kind) result.answer result.told result.state }
+    {
+        if key == 0 {
+            return self.preempt_zero(nexus, kind);
+        }
+        if !self.is_known(key) {
+            return self.stays(PrAnswer::Conflict);
+        }
+        let Some(held) = &self.reservation else {
+            return self.preempt_registrants(nexus, key);
+        };
+        if self.is_key_of_holder(held, key) {
+            let removed = self.preempted_by(nexus, key);
+            self.takes_over(nexus, &removed, held.kind, kind)
+        } else {
+            self.preempt_registrants(nexus, key)
+        }
+    }
+
+    // The key is 0.
+
+    fn preempt_zero(&self, nexus: Nexus, kind: Option<PrType>) -> Outcome
+        requires { length self.now.keys ≡ NEXUSES }
+        ensures { Brings (preempt_zero self.now.reservation self.now nexus kind)
+            result.answer result.told result.state }
+    {
+        let Some(held) = &self.reservation else {
+            return self.stays(PrAnswer::BadKey);
+        };
+        if is_for_all(held.kind) {
+            let removed = self.others(nexus);
+            self.takes_over(nexus, &removed, held.kind, kind)
+        } else {
+            self.stays(PrAnswer::BadKey)
+        }
+    }
+
+    // Registrations with the key go, and the reservation stays.
+
+    fn preempt_registrants(&self, nexus: Nexus, key: u64) -> Outcome
+        ensures { Brings (preempt_registrants self.now nexus key) result.answer result.told result.state }
+    {
+        let removed = self.preempted_by(nexus, key);
+        Outcome {
+            answer: PrAnswer::Good,
+            state: PrState {
+                keys: self.without(&removed),
+                reservation: self.reservation,
+                aptpl: self.aptpl,
+                generation: raised(self.generation),
+            },
+            told: told_of_preemption(&removed, &[false; 64]),
+        }
+    }
+
+    // Removes these nexuses; the requester gets a reservation in the place of one of the type `was`.
+    fn takes_over(
+        &self,
+        nexus: Nexus,
+        removed: &[bool; 64],
+        was: PrType,
+        kind: Option<PrType>,
+    ) -> Outcome
+        requires { length self.now.keys ≡ NEXUSES }
+        ensures { (set : _) → Shows false removed.now set
+            → Brings (takes_over_as kind self.now nexus set was) result.answer result.told result.state }
+    {
+        let Some(kind) = kind else {
+            return self.stays(PrAnswer::BadType);
+        };
+        let released = self.told_of_type(nexus, removed, was, kind);
+        Outcome {
+            answer: PrAnswer::Good,
+            state: PrState {
+                keys: self.without(removed),
+                reservation: Some(Reservation::made_by(nexus, kind)),
+                aptpl: self.aptpl,
+                generation: raised(self.generation),
+            },
+            told: told_of_preemption(removed, &released),
+        }
+    }
+
+    // Whether another nexus is told of a new type: it stays, and the type is another.
+    fn is_told_of_type(
+        &self,
+        nexus: Nexus,
+        removed: &[bool; 64],
+        changed: bool,
+        other: Nexus,
+    ) -> bool
+        ensures { result ≡ changed && minus (others self.now nexus) (row_at false removed.now) other }
+    {
+        changed && self.is_other(nexus, other) && !is_in(removed, other)
+    }
+
+    // The others that stay, where the type is another.
+    fn told_of_type(
+        &self,
+        nexus: Nexus,
+        removed: &[bool; 64],
+        was: PrType,
+        kind: PrType,
+    ) -> [bool; 64]
+        ensures { (set : _) → Shows false removed.now set
+            → Shows false result (told_of_type self.now nexus set was kind) }
+    {
+        let changed = !is_same_type(was, kind);
+        row_of(
+            false,
+            |other| self.is_told_of_type(nexus, removed, changed, other),
+        )
+    }
+
+    fn others(&self, nexus: Nexus) -> [bool; 64]
+        ensures { Shows false result (others self.now nexus) }
+    {
+        row_of(false, |other| self.is_other(nexus, other))
+    }
+
+    fn is_preempted(&self, nexus: Nexus, key: u64, other: Nexus) -> bool
+        ensures { result ≡ preempted_by self.now nexus key other }
+    {
+        self.has_key(key, other) && other != nexus
+    }
+
+    // The nexuses registered with a key, but not the requester.
+    fn preempted_by(&self, nexus: Nexus, key: u64) -> [bool; 64]
+        ensures { Shows false result (preempted_by self.now nexus key) }
+    {
+        row_of(false, |other| self.is_preempted(nexus, key, other))
+    }
+
+    // Whether a key is that of the one holder.
+    fn is_key_of_holder(&self, held: &Reservation, key: u64) -> bool
+        ensures { result ≡ is_key_of_holder held.now self.now key }
+    {
+        match held.holder {
+            Some(holder) => !is_for_all(held.kind) && self.has_key(key, holder),
+            None => false,
+        }
+    }
+}

@@ -1,0 +1,140 @@
+//! The reservations of a drive.
+ghost use Rattle.std.specs.Prelude.{◌≡◌, ◌||◌, not, is_some, IfOk};
+ghost use Rattle.pr_core.specs.Sound.{IsSound};
+ghost use Rattle.pr_core.specs.States.{empty_state, is_allowed, power_loss};
+ghost use Rattle.pr_core.specs.Orders.{Orders};
+ghost use Rattle.pr_core.specs.Saves.{differ_at, is_same_reservation, needs_save};
+ghost use Rattle.pr_core.specs.Reads.{keys_read, reservation_read};
+
+use crate::attns::Attns;
+use crate::reads::{keys_read, reservation_read};
+use crate::reserving::is_same_type;
+use crate::rows::any;
+use crate::states::{PrAnswer, PrState, Reservation};
+use scsi_lists::PrOut;
+use std::alloc::Global;
+use std::marker::Model;
+use vtl_base::{Bytes, Nexus, NoMemory};
+
+/// What is registered and reserved at a drive. To a contract it is its state, which keeps the rules.
+#[derive(Clone, Copy)]
+pub struct Reservations {
+    state: PrState,
+}
+
+impl Model for Reservations {
+    ghost use Rattle.pr_core.specs.declared.states.PrState.{PrState};
+    ghost use Rattle.pr_core.specs.Sound.{IsSound};
+
+    ghost Value = { PrState };
+
+    ghost view = { λ reservations. reservations.state };
+
+    ghost invariant = { λ reservations. IsSound reservations.state };
+
+    ghost inverse = { λ state. record { state = state } };
+}
+
+impl Reservations {
+    /// Nothing is registered or reserved.
+    pub fn empty() -> Self
+        ensures { result ≡ empty_state }
+    {
+        Reservations {
+            state: PrState::empty(),
+        }
+    }
+
+    /// The state, to be read.
+    pub fn state(&self) -> &PrState
+        ensures state { result.now ≡ self.now }
+        ensures sound { IsSound self.now }
+    {
+        &self.state
+    }
+
+    /// Carries an order of a nexus out: how it is answered, and what each nexus is told. It takes no
+    /// memory.
+    pub fn pr_out(&mut self, nexus: Nexus, order: &PrOut) -> (PrAnswer, Attns)
+        ensures { Orders self.old nexus order.now result.0 result.1 self.new }
+    {
+        let outcome = self.state.ordered(nexus, order);
+        self.state = outcome.state;
+        (outcome.answer, outcome.told)
+    }
+
+    /// Whether a nexus's commands are let through, under a reservation of any type (own).
+    pub fn allowed(&self, nexus: Nexus) -> bool
+        ensures { result ≡ is_allowed self.now nexus }
+    {
+        self.state.allows(nexus)
+    }
+
+    /// Whether there is a reservation.
+    pub fn is_held(&self) -> bool
+        ensures { result ≡ is_some self.now.reservation }
+    {
+        self.state.reservation.is_some()
+    }
+
+    /// Whether these are to be saved in the place of others: registrations, reservation or APTPL are not
+    /// the same.
+    pub fn needs_save(&self, old: &Reservations) -> bool
+        ensures { result ≡ needs_save old.now self.now }
+    {
+        self.state.needs_save(&old.state)
+    }
+
+    /// The data of READ KEYS, whole: PRGENERATION, the length of what follows, the keys by rising nexus.
+    pub fn read_keys(&self, alloc: Global) -> Result<Bytes, NoMemory>
+        ensures { IfOk result (λ bytes. bytes ≡ keys_read self.now) }
+    {
+        keys_read(alloc, &self.state)
+    }
+
+    /// The data of READ RESERVATION, whole: PRGENERATION, the length of what follows, the reservation.
+    pub fn read_reservation(&self, alloc: Global) -> Result<Bytes, NoMemory>
+        ensures { IfOk result (λ bytes. bytes ≡ reservation_read self.now) }
+    {
+        reservation_read(alloc, &self.state)
+    }
+
+    /// What a loss of power leaves of them.
+    pub fn power_loss(&self) -> Self
+        ensures { result ≡ power_loss self.now }
+    {
+        Reservations {
+            state: self.state.power_loss(),
+        }
+    }
+}
+
+// Whether two reservations are the same.
+fn is_same_reservation(one: &Option<Reservation>, other: &Option<Reservation>) -> bool
+    ensures { result ≡ is_same_reservation one.now other.now }
+{
+    match (one, other) {
+        (None, None) => true,
+        (Some(one), Some(other)) => {
+            is_same_type(one.kind, other.kind) && one.holder == other.holder
+        }
+        _ => false,
+    }
+}
+
+impl PrState {
+    // Whether a nexus has another key in an older state.
+    fn differs_at(&self, old: &PrState, nexus: Nexus) -> bool
+        ensures { result ≡ differ_at old.now self.now nexus }
+    {
+        self.key_of(nexus) != old.key_of(nexus)
+    }
+
+    fn needs_save(&self, old: &PrState) -> bool
+        ensures { result ≡ needs_save old.now self.now }
+    {
+        any(|nexus| self.differs_at(old, nexus))
+            || !is_same_reservation(&old.reservation, &self.reservation)
+            || self.aptpl != old.aptpl
+    }
+}

@@ -1,0 +1,153 @@
+//! What is registered and reserved at a drive.
+ghost use Rattle.std.specs.Prelude.{◌≡◌};
+ghost use Rattle.pr_core.specs.Sets.{is_some_in};
+ghost use Rattle.pr_core.specs.States.{has_key, is_allowed, is_for_all, is_for_registrants, is_for_registrants_only, is_registered, holds, holds_this, key_of, made_by, others, power_loss, empty_state};
+
+use crate::rows::{any, place_of};
+use scsi_lists::PrType;
+use vtl_base::Nexus;
+
+/// A persistent reservation (SPC-4). Types 7 and 8 are held by every registered nexus, and name no holder;
+/// each other type names one.
+#[derive(Clone, Copy, PartialEq, Eq, Debug)]
+pub struct Reservation {
+    pub kind: PrType,
+    pub holder: Option<Nexus>,
+}
+
+/// Registrations, reservation, APTPL and PRGENERATION (SPC-4), as plain data: any values.
+#[derive(Clone, Copy)]
+pub struct PrState {
+    /// The key of each nexus, by rising nexus. None is not registered.
+    pub keys: [Option<u64>; 64],
+    pub reservation: Option<Reservation>,
+    /// Whether registrations and reservation outlive a loss of power.
+    pub aptpl: bool,
+    /// How many orders raised it, from 0 on, wrapping at 2^32.
+    pub generation: u32,
+}
+
+/// How an order is answered.
+#[derive(Clone, Copy, PartialEq, Eq, Debug)]
+pub enum PrAnswer {
+    Good,
+    /// RESERVATION CONFLICT. Nothing has changed.
+    Conflict,
+    /// A reservation of a bad scope or type would be made (24/00). Nothing has changed.
+    BadType,
+    /// The key 0 is preempted where not every registered nexus holds the reservation (26/00). Nothing has
+    /// changed.
+    BadKey,
+    /// A reservation is released under another type than its own (26/04). Nothing has changed.
+    BadRelease,
+}
+
+pub(crate) fn is_for_all(kind: PrType) -> bool
+    ensures { result ≡ is_for_all kind }
+{
+    matches!(
+        kind,
+        PrType::WriteExclusiveAllRegistrants | PrType::ExclusiveAccessAllRegistrants
+    )
+}
+
+pub(crate) fn is_for_registrants_only(kind: PrType) -> bool
+    ensures { result ≡ is_for_registrants_only kind }
+{
+    matches!(
+        kind,
+        PrType::WriteExclusiveRegistrantsOnly | PrType::ExclusiveAccessRegistrantsOnly
+    )
+}
+
+pub(crate) fn is_for_registrants(kind: PrType) -> bool
+    ensures { result ≡ is_for_registrants kind }
+{
+    is_for_registrants_only(kind) || is_for_all(kind)
+}
+
+impl PrState {
+    pub(crate) fn key_of(&self, nexus: Nexus) -> Option<u64>
+        ensures { result ≡ key_of self.now nexus }
+    {
+        self.keys[place_of(nexus)?]
+    }
+
+    pub(crate) fn is_registered(&self, nexus: Nexus) -> bool
+        ensures { result ≡ is_registered self.now nexus }
+    {
+        self.key_of(nexus).is_some()
+    }
+
+    pub(crate) fn has_key(&self, key: u64, nexus: Nexus) -> bool
+        ensures { result ≡ has_key self.now key nexus }
+    {
+        self.key_of(nexus) == Some(key)
+    }
+
+    // Whether a nexus is another than this one, and registered.
+    pub(crate) fn is_other(&self, nexus: Nexus, other: Nexus) -> bool
+        ensures { result ≡ others self.now nexus other }
+    {
+        self.is_registered(other) && other != nexus
+    }
+
+    pub(crate) fn holds_this(&self, held: &Reservation, nexus: Nexus) -> bool
+        ensures { result ≡ holds_this held.now self.now nexus }
+    {
+        if is_for_all(held.kind) {
+            self.is_registered(nexus)
+        } else {
+            held.holder == Some(nexus)
+        }
+    }
+
+    pub(crate) fn has_others(&self, nexus: Nexus) -> bool
+        ensures { result ≡ is_some_in (others self.now nexus) }
+    {
+        any(|other| self.is_other(nexus, other))
+    }
+
+    pub(crate) fn is_known(&self, key: u64) -> bool
+        ensures { result ≡ is_some_in (has_key self.now key) }
+    {
+        any(|other| self.has_key(key, other))
+    }
+
+    // Whether a nexus's commands are let through.
+    pub(crate) fn allows(&self, nexus: Nexus) -> bool
+        ensures { result ≡ is_allowed self.now nexus }
+    {
+        match &self.reservation {
+            Some(held) => {
+                self.holds_this(held, nexus)
+                    || is_for_registrants(held.kind) && self.is_registered(nexus)
+            }
+            None => true,
+        }
+    }
+
+    // Nothing is registered or reserved.
+    pub(crate) fn empty() -> Self
+        ensures { result ≡ empty_state }
+    {
+        PrState {
+            keys: [None; 64],
+            reservation: None,
+            aptpl: false,
+            generation: 0,
+        }
+    }
+
+    // What a loss of power leaves.
+    pub(crate) fn power_loss(&self) -> Self
+        ensures { result ≡ power_loss self.now }
+    {
+        if !self.aptpl {
+            return PrState::empty();
+        }
+        let mut kept = *self;
+        kept.generation = 0;
+        kept
+    }
+}

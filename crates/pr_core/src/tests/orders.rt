@@ -1,0 +1,234 @@
+//! REGISTER, RESERVE, RELEASE and CLEAR, row by row.
+use super::{A, B, C, Standing, TYPES, after, gives, host, register};
+use crate::PrAnswer::{BadRelease, Conflict, Good};
+use scsi_attention::Attention;
+use scsi_lists::{PrOut, PrType};
+
+#[test]
+fn a_host_registers(rt: HostRuntime) {
+    let none = after(&rt, &[]);
+    let one = after(&rt, &[(1, register(0, A))]);
+    let ignoring = |new_key| PrOut::RegisterAndIgnoreExistingKey {
+        new_key,
+        aptpl: false,
+    };
+    for (before, order, answer, key, generation) in [
+        (none, register(A, B), Conflict, 0, 0),
+        (none, register(0, 0), Good, 0, 0),
+        (none, register(0, A), Good, A, 1),
+        (one, register(B, C), Conflict, A, 1),
+        (one, register(0, C), Conflict, A, 1),
+        (one, register(B, 0), Conflict, A, 1),
+        (one, register(A, 0), Good, 0, 2),
+        (one, register(A, C), Good, C, 2),
+        (one, register(A, A), Good, A, 2),
+        (none, ignoring(0), Good, 0, 0),
+        (none, ignoring(A), Good, A, 1),
+        (one, ignoring(0), Good, 0, 2),
+        (one, ignoring(C), Good, C, 2),
+    ] {
+        let keys = [(1, key)];
+        let keys = if key == 0 { &keys[..0] } else { &keys[..] };
+        gives(
+            &rt,
+            before,
+            (1, order),
+            answer,
+            &[],
+            Standing {
+                keys,
+                held: (0, 0),
+                generation,
+            },
+        );
+    }
+}
+
+#[test]
+fn aptpl_is_set_by_those_who_register(rt: HostRuntime) {
+    let set = |key, new_key, aptpl| PrOut::Register {
+        key,
+        new_key,
+        aptpl,
+    };
+    for (number, orders, aptpl) in [
+        (1, [(1, set(0, 0, true)), (1, set(0, 0, true))], false),
+        (2, [(1, set(0, A, true)), (1, set(B, C, false))], true),
+        (3, [(1, set(0, A, true)), (1, set(A, A, false))], false),
+        (4, [(1, set(0, A, false)), (1, set(A, 0, true))], true),
+        (5, [(1, set(0, A, true)), (2, set(0, 0, false))], true),
+        (
+            6,
+            [(1, set(0, A, true)), (1, PrOut::Clear { key: A })],
+            true,
+        ),
+    ] {
+        let reservations = after(&rt, &orders);
+        assert_eq!(rt; reservations.state().aptpl, aptpl, "row {number}");
+        let lost = reservations.power_loss();
+        assert_eq!(rt; lost.state().generation, 0, "row {number}");
+        assert_eq!(rt;
+            lost.state().key_of(host(&rt, 1)).is_some(),
+            number == 2 || number == 5,
+            "row {number}"
+        );
+    }
+}
+
+#[test]
+fn a_host_needs_its_key(rt: HostRuntime) {
+    let kind = PrType::WriteExclusive;
+    for (number, key) in [(1, B), (1, 0), (2, A), (2, 0)] {
+        for order in [
+            PrOut::Reserve { key, kind },
+            PrOut::Release { key, kind },
+            PrOut::Clear { key },
+            PrOut::Preempt {
+                key,
+                preempted: A,
+                kind: Some(kind),
+            },
+        ] {
+            gives(
+                &rt,
+                after(&rt, &[(1, register(0, A))]),
+                (number, order),
+                Conflict,
+                &[],
+                Standing {
+                    keys: &[(1, A)],
+                    held: (0, 0),
+                    generation: 1,
+                },
+            );
+        }
+    }
+}
+
+#[test]
+fn one_reserves_and_releases(rt: HostRuntime) {
+    let keys = &[(1, A), (2, B)];
+    for kind in TYPES {
+        let all = kind.number() >= 7;
+        let holder = if all { 0 } else { 1 };
+        let other = if kind.number() == 1 {
+            PrType::ExclusiveAccess
+        } else {
+            PrType::WriteExclusive
+        };
+        let both = [(1, register(0, A)), (2, register(0, B))];
+        let free = after(&rt, &both);
+        let [first, second] = both;
+        let taken = after(&rt, &[first, second, (1, PrOut::Reserve { key: A, kind })]);
+        let gone = (0, 0);
+        let stands = (kind.number(), holder);
+        let told = [(2, Attention::ReservationsReleased)];
+        let told = if kind.number() >= 5 {
+            &told[..]
+        } else {
+            &told[..0]
+        };
+        let mine = |kind| (1u8, PrOut::Reserve { key: A, kind });
+        let theirs = |kind| (2u8, PrOut::Reserve { key: B, kind });
+        let shared = if all { Good } else { Conflict };
+        for (before, order, answer, held) in [
+            (free, mine(kind), Good, stands),
+            (taken, mine(kind), Good, stands),
+            (taken, mine(other), Conflict, stands),
+            (taken, theirs(kind), shared, stands),
+            (taken, theirs(other), Conflict, stands),
+            (free, (1, PrOut::Release { key: A, kind }), Good, gone),
+            (
+                taken,
+                (
+                    1,
+                    PrOut::Release {
+                        key: A,
+                        kind: other,
+                    },
+                ),
+                BadRelease,
+                stands,
+            ),
+        ] {
+            gives(
+                &rt,
+                before,
+                order,
+                answer,
+                &[],
+                Standing {
+                    keys,
+                    held,
+                    generation: 2,
+                },
+            );
+        }
+        let released = (1, PrOut::Release { key: A, kind });
+        gives(
+            &rt,
+            taken,
+            released,
+            Good,
+            told,
+            Standing {
+                keys,
+                held: gone,
+                generation: 2,
+            },
+        );
+        if !all {
+            let order = (
+                2,
+                PrOut::Release {
+                    key: B,
+                    kind: other,
+                },
+            );
+            gives(
+                &rt,
+                taken,
+                order,
+                Good,
+                &[],
+                Standing {
+                    keys,
+                    held: stands,
+                    generation: 2,
+                },
+            );
+        }
+    }
+}
+
+#[test]
+fn one_clears(rt: HostRuntime) {
+    let order = PrOut::Reserve {
+        key: A,
+        kind: PrType::WriteExclusiveRegistrantsOnly,
+    };
+    let before = after(
+        &rt,
+        &[
+            (1, register(0, A)),
+            (2, register(0, B)),
+            (64, register(0, B)),
+            (1, order),
+        ],
+    );
+    gives(
+        &rt,
+        before,
+        (2, PrOut::Clear { key: B }),
+        Good,
+        &[
+            (1, Attention::ReservationsPreempted),
+            (64, Attention::ReservationsPreempted),
+        ],
+        Standing {
+            keys: &[],
+            held: (0, 0),
+            generation: 4,
+        },
+    );
+}

@@ -1,0 +1,82 @@
+//! What the command block of PERSISTENT RESERVE OUT asks for: its service action, scope and type.
+ghost use Rattle.std.specs.Prelude.{◌≡◌, ◌<◌};
+ghost use Rattle.scsi_lists.specs.Actions.{action_of, type_in, type_number, type_of};
+
+/// The type of a persistent reservation (SPC-4).
+#[derive(Clone, Copy, PartialEq, Eq, Debug)]
+pub enum PrType {
+    WriteExclusive = 1,
+    ExclusiveAccess = 3,
+    WriteExclusiveRegistrantsOnly = 5,
+    ExclusiveAccessRegistrantsOnly = 6,
+    WriteExclusiveAllRegistrants = 7,
+    ExclusiveAccessAllRegistrants = 8,
+}
+
+const TYPES: [PrType; 6] = [
+    PrType::WriteExclusive,
+    PrType::ExclusiveAccess,
+    PrType::WriteExclusiveRegistrantsOnly,
+    PrType::ExclusiveAccessRegistrantsOnly,
+    PrType::WriteExclusiveAllRegistrants,
+    PrType::ExclusiveAccessAllRegistrants,
+];
+
+/// A service action of PERSISTENT RESERVE OUT, with what else of the command block counts for it (SPC-4;
+/// which actions there are, own).
+#[derive(Clone, Copy, PartialEq, Eq, Debug)]
+pub enum PrAction {
+    Register,
+    Reserve(PrType),
+    Release(PrType),
+    Clear,
+    /// The type of the reservation that a preemption may make, None where scope or type is none of a
+    /// reservation. It is looked at only where one is made.
+    Preempt(Option<PrType>),
+    RegisterAndIgnoreExistingKey,
+}
+
+impl PrType {
+    /// The type of this number, where there is one.
+    pub fn of(number: u8) -> Option<Self>
+        ensures { result ≡ type_of number }
+    {
+        TYPES.iter().copied().find(|kind| kind.number() == number)
+    }
+
+    /// Its number.
+    pub fn number(self) -> u8
+        ensures number { result ≡ type_number self }
+        ensures range { result < 16 }
+    {
+        self as u8
+    }
+
+    // The type in byte 2 of a command block, of scope 0.
+    fn within(scope_type: u8) -> Option<Self>
+        ensures { result ≡ type_in scope_type }
+    {
+        if scope_type / 16 != 0 {
+            return None;
+        }
+        PrType::of(scope_type % 16)
+    }
+}
+
+impl PrAction {
+    /// The action of a command block, by its service action, bits 4 to 0 of byte 1, and its scope and
+    /// type, byte 2. None is an invalid field in the command block.
+    pub fn of(service_action: u8, scope_type: u8) -> Option<Self>
+        ensures { result ≡ action_of service_action scope_type }
+    {
+        match service_action {
+            0 => Some(PrAction::Register),
+            1 => Some(PrAction::Reserve(PrType::within(scope_type)?)),
+            2 => Some(PrAction::Release(PrType::within(scope_type)?)),
+            3 => Some(PrAction::Clear),
+            4 => Some(PrAction::Preempt(PrType::within(scope_type))),
+            6 => Some(PrAction::RegisterAndIgnoreExistingKey),
+            _ => None,
+        }
+    }
+}

@@ -1,0 +1,11 @@
+//! The parameter lists that a host sends with a command.
+#![tactic(auto)]
+
+pub mod actions;
+pub mod laws;
+pub mod pr_lists;
+#[cfg(test)]
+mod tests;
+
+pub use actions::{PrAction, PrType};
+pub use pr_lists::{PrList, PrOut};
