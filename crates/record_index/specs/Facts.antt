@@ -166,31 +166,31 @@ shape_changed volume change =
         target = sym (target_by_shape change)
 
 -- what a record adds to a partition of an index, with its blocks by what a read gives
-added_filled : (read : Reading) (item : Record) (place : ℕ)
+pub added_filled : (read : Reading) (item : Record) (place : ℕ)
     → map (filled read) (placed_by item place) ≡ added_by (change_by read item place)
 added_filled read (Records.Put part at size) place = refl
 added_filled read (Records.Marks part at count) place = map-replicate (filled read) count Placeds.Mark
 added_filled read (Records.Erase part at) place = refl
 
-target_filled : (read : Reading) (item : Record) (place : ℕ) → part_of (change_by read item place) ≡ places.part_of item
+pub target_filled : (read : Reading) (item : Record) (place : ℕ) → part_of (change_by read item place) ≡ places.part_of item
 target_filled read (Records.Put part at size) place = refl
 target_filled read (Records.Marks part at count) place = refl
 target_filled read (Records.Erase part at) place = refl
 
-kept_filled : (read : Reading) (item : Record) (place : ℕ) → kept_of (change_by read item place) ≡ places.kept_of item
+pub kept_filled : (read : Reading) (item : Record) (place : ℕ) → kept_of (change_by read item place) ≡ places.kept_of item
 kept_filled read (Records.Put part at size) place = refl
 kept_filled read (Records.Marks part at count) place = refl
 kept_filled read (Records.Erase part at) place = refl
 
 -- what a record makes of the volume of an index, by what a read gives
 module _ (read : Reading) (parts : List PlacedPart) (item : Record) (place reserved : ℕ) where
-  abbrev now : Option PlacedPart → List Placed
+  abbrev pub now : Option PlacedPart → List Placed
   now part = take (places.kept_of item) (placed_objects_in part) ++ placed_by item place
 
-  abbrev placed : PlacedPart → PlacedPart
+  abbrev pub placed : PlacedPart → PlacedPart
   placed part = record { capacity = part.capacity; objects = now (Some part); reserved = reserved }
 
-  filled_now : (part : PlacedPart)
+  pub filled_now : (part : PlacedPart)
       → map (filled read) (now (Some part)) ≡ objects_after (map (filled read) part.objects) (change_by read item place)
   filled_now part =
       map-append (filled read) (take (places.kept_of item) part.objects) (placed_by item place)
