@@ -38,9 +38,14 @@ module _ (bytes : List ℕ) (changes : List Change) (at : ℕ) (so_far : IsDecod
           ∙ sym (append_assoc (spell_all changes) (spell change) (drop (at + size_of item) bytes))
           ∙ ap (λ (l : List ℕ). l ++ drop (at + size_of item) bytes) (sym more);
       at_is =
-          omega
-          (arith, so_far.at_is, ap length more, length-append (spell_all changes) (spell change), there.sized,
-          ap (λ (c : Change). length (spell c)) is);
+          omega (
+            arith,
+            so_far.at_is,
+            ap length more,
+            length-append (spell_all changes) (spell change),
+            there.sized,
+            ap (λ (c : Change). length (spell c)) is,
+          );
     }
       where
         is' : change_in item (drop at bytes) ≡ change

@@ -1,5 +1,5 @@
 -- The partitions of an index, as those of a volume.
-use Rattle.std.proofs.Common.{◌≡◌, ℕ, ◌<◌, ◌≤◌, ◌+◌, ◌-◌, List, [], ◌∷◌, ◌++◌, length, take, drop, map, replicate, refl, sym, ◌∙◌, ap, subst, arith, length-append, take-append-drop, Some, None, Ok, Err, Result, Bool, true, false}
+use Rattle.std.proofs.Common.{◌≡◌, ℕ, ◌<◌, ◌≤◌, ◌+◌, ◌-◌, ◌^◌, List, [], ◌∷◌, ◌++◌, length, take, drop, map, replicate, refl, sym, ◌∙◌, ap, subst, arith, length-append, take-append-drop, Some, None, Ok, Err, Result, Bool, true, false}
 use Rattle.std.specs.Prelude.{slice_get, slice_set, Option, nat_lt, nat_le, not, ◌&&◌, if◌then◌else◌, sum_by}
 use Rattle.std.specs.List.{All}
 use Rattle.std.specs.Option.{option_map}
@@ -24,9 +24,14 @@ use Rattle.record_index.specs.declared.records.Record.{Record}
 use Rattle.record_index.specs.declared.records.Record.TheVariants as Records
 use Rattle.record_index.specs.Places as places
 use Rattle.record_index.specs.Places.{PlacedPart, blank, filled, filled_part, outline, outlined, placed_after, placed_by, placed_objects, placed_objects_in, reserved_in, reserved_of, with_objects, with_objects_in}
+use Rattle.record_index.specs.Inner.Table.{Table}
 use Rattle.record_index.specs.Inner.Tables.{cost_of_objects, cost_of_placed}
 use Rattle.record_index.specs.Facts.{added_filled, filled_now, kept_filled, target_filled}
 use Rattle.record_index.proofs.Rows.{set_here, slice_get_set}
+
+-- a partition by its capacity and its table
+abbrev pub placed_of : ℕ → Table → PlacedPart
+placed_of capacity table = record { capacity = capacity; objects = table.objects; reserved = table.reserved }
 
 blank_length : (size : ℕ) → length (blank 0 size) ≡ size
 blank_length size = length-replicate {A = ℕ} size 0
@@ -195,8 +200,13 @@ cost_fits part item place limits none =
     let after = cost_after part item none in
     let added = ap used_of (sym (added_filled blank item place)) ∙ used_filled (placed_by item place) in
     let room = and_parts (nat_le MIN_CAPACITY part.capacity) (nat_le part.capacity MAX_CAPACITY) limits.capacity_fits in
-    omega (arith, after, added, leb-true part.capacity MAX_CAPACITY room.1,
-    sum_by-append cost_of_placed (take (places.kept_of item) part.objects) (placed_by item place))
+    omega (
+      arith,
+      after,
+      added,
+      leb-true part.capacity MAX_CAPACITY room.1,
+      sum_by-append cost_of_placed (take (places.kept_of item) part.objects) (placed_by item place),
+    )
 
 -- what a partition takes is below the greatest number
 pub capacity_fits : (part : PlacedPart) → IsPart (filled_part blank part) → part.capacity < 2 ^ 64

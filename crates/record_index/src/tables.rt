@@ -73,7 +73,11 @@ fn end_of(entries: &[Entry], count: usize) -> ObjNo
     requires table { IsTable entries.now }
     ensures { result ≡ length (objects_of (take count entries.now)) }
 {
-    if count == 0 { 0 } else { entries[count - 1].end }
+    if count == 0 {
+        0
+    } else {
+        entries[count - 1].end
+    }
 }
 
 // What the objects of the first so many entries take, in bytes.
@@ -82,7 +86,11 @@ fn cost_of(entries: &[Entry], count: usize) -> u64
     requires table { IsTable entries.now }
     ensures { result ≡ cost_of_objects (objects_of (take count entries.now)) }
 {
-    if count == 0 { 0 } else { entries[count - 1].cost }
+    if count == 0 {
+        0
+    } else {
+        entries[count - 1].cost
+    }
 }
 
 // Puts an entry for the run behind the others.
@@ -93,8 +101,7 @@ fn push_run(entries: &mut Vec<Entry>, run: Run)
     requires end { length (objects_of entries.old.items ++ objects_of_run run) < 2 ^ 32 }
     requires cost { cost_of_objects (objects_of entries.old.items ++ objects_of_run run) < 2 ^ 64 }
     ensures table { IsTable entries.new.items }
-    ensures objects {
-        objects_of entries.new.items ≡ objects_of entries.old.items ++ objects_of_run run }
+    ensures objects { objects_of entries.new.items ≡ objects_of entries.old.items ++ objects_of_run run }
     ensures len { vec_len entries.new ≡ vec_len entries.old + 1 }
     ensures capacity { vec_capacity entries.new ≡ vec_capacity entries.old }
 {

@@ -50,9 +50,9 @@ begins bytes = by (told bytes) refl
     by None none = inr (λ w. let e : None ≡ Some (record_of w.0) = sym none ∙ told_by w in cc)
     by (Some item) some = elim (both (is_record (change_in item bytes))
         (same bytes (spell (change_in item bytes) ++ drop (size_of item) bytes))) [
-      | inl w ↦ inl (change_in item bytes, drop (size_of item) bytes, w.0, w.1)
-      | inr never ↦ inr (λ w. never (found item some w))
-    ]
+          | inl w ↦ inl (change_in item bytes, drop (size_of item) bytes, w.0, w.1)
+          | inr never ↦ inr (λ w. never (found item some w))
+        ]
       where
         found : (item : Record) → told bytes ≡ Some item → (w : BeginsWithRecord bytes)
             → IsRecord (change_in item bytes) × (bytes ≡ spell (change_in item bytes) ++ drop (size_of item) bytes)
@@ -98,15 +98,18 @@ split_within (suc n) bytes short = elim (begins bytes) [
 
 decide : (bytes : List ℕ) → Split bytes → IsDecided bytes
 decide bytes (changes, [], ok, is, never) = inl (changes, (ok, is ∙ append-nil (spell_all changes)))
-decide bytes (changes, x ∷ rest, ok, is, never) = inr (length (spell_all changes), record {
-  changes = changes;
-  rest = x ∷ rest;
-  spelled = ok;
-  begins = is;
-  at_is = refl;
-  some = λ e. cc;
-  bad = never;
-})
+decide bytes (changes, x ∷ rest, ok, is, never) = inr (
+  length (spell_all changes),
+  record {
+    changes = changes;
+    rest = x ∷ rest;
+    spelled = ok;
+    begins = is;
+    at_is = refl;
+    some = λ e. cc;
+    bad = never;
+  },
+)
 
 pub decided : (bytes : List ℕ) → IsDecided bytes
 decided bytes = decide bytes (split_within (length bytes) bytes (omega arith))

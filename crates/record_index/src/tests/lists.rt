@@ -1,47 +1,52 @@
 //! An index against a plain list of objects.
 use crate::{Index, Placed, Record};
-use std::alloc::Global;
 use std::process::Abort;
 use std::test::Fail;
 use volume_core::{ApplyError, Kind, Refusal};
+use vtl_base::{ObjNo, PartNo};
 
-// A record for partition 1, the place of its block, and why it is refused.
-type Row = (Record, u64, Option<Refusal>);
-
-const fn put(at: u32, length: u32) -> Record {
-    Record::Put { part: 1, at, length }
+// What a record adds: a block of so many bytes, so many marks, or nothing.
+#[derive(Clone, Copy, Debug)]
+enum Add {
+    Block(u32),
+    Marks(u32),
+    Nothing,
 }
 
-const fn marks(at: u32, count: u32) -> Record {
-    Record::Marks { part: 1, at, count }
+fn record(part: PartNo, at: ObjNo, add: Add) -> Record {
+    match add {
+        Add::Block(length) => Record::Put { part, at, length },
+        Add::Marks(count) => Record::Marks { part, at, count },
+        Add::Nothing => Record::Erase { part, at },
+    }
 }
 
-const fn erase(at: u32) -> Record {
-    Record::Erase { part: 1, at }
-}
+// A record by its partition, object number and what it adds, the place of its block, and why it is
+// refused.
+type Row = (PartNo, ObjNo, Add, u64, Option<Refusal>);
 
 // Blocks and runs of marks; changes behind runs, inside them and at their borders; refusals.
 const ROWS: [Row; 20] = [
-    (put(0, 5), 45, None),
-    (marks(1, 3), 0, None),
-    (put(4, 1), 100, None),
-    (marks(5, 1), 0, None),
-    (marks(6, 2), 0, None),
-    (put(3, 7), 200, None),
-    (erase(2), 0, None),
-    (marks(2, 4), 0, None),
-    (erase(6), 0, None),
-    (erase(4), 0, None),
-    (put(4, 4_012), 300, Some(Refusal::NoRoom)),
-    (put(5, 1), 300, Some(Refusal::PastEnd)),
-    (put(4, 0), 300, Some(Refusal::TooLong)),
-    (marks(4, 0), 0, Some(Refusal::TooLong)),
-    (marks(4, 16_000_000), 0, Some(Refusal::NoRoom)),
-    (Record::Erase { part: 2, at: 0 }, 0, Some(Refusal::NoPartition)),
-    (put(4, 3_979), 1_099_511_627_775, None),
-    (marks(5, 1), 0, None),
-    (put(0, 4_080), 27, None),
-    (erase(0), 0, None),
+    (1, 0, Add::Block(5), 45, None),
+    (1, 1, Add::Marks(3), 0, None),
+    (1, 4, Add::Block(1), 100, None),
+    (1, 5, Add::Marks(1), 0, None),
+    (1, 6, Add::Marks(2), 0, None),
+    (1, 3, Add::Block(7), 200, None),
+    (1, 2, Add::Nothing, 0, None),
+    (1, 2, Add::Marks(4), 0, None),
+    (1, 6, Add::Nothing, 0, None),
+    (1, 4, Add::Nothing, 0, None),
+    (1, 4, Add::Block(4_012), 300, Some(Refusal::NoRoom)),
+    (1, 5, Add::Block(1), 300, Some(Refusal::PastEnd)),
+    (1, 4, Add::Block(0), 300, Some(Refusal::TooLong)),
+    (1, 4, Add::Marks(0), 0, Some(Refusal::TooLong)),
+    (1, 4, Add::Marks(16_000_000), 0, Some(Refusal::NoRoom)),
+    (2, 0, Add::Nothing, 0, Some(Refusal::NoPartition)),
+    (1, 4, Add::Block(3_979), 1_099_511_627_775, None),
+    (1, 5, Add::Marks(1), 0, None),
+    (1, 0, Add::Block(4_080), 27, None),
+    (1, 0, Add::Nothing, 0, None),
 ];
 
 // The plain list after a record that was not refused.
@@ -79,22 +84,24 @@ fn assert_same(rt: &impl Abort, index: &Index, list: &[Placed]) {
 }
 
 #[test]
-fn index_against_a_list(rt: &impl Abort, alloc: Global) -> Result<(), Fail> {
+fn index_against_a_list(rt: HostRuntime) -> Result<(), Fail> {
+    let alloc = rt.alloc();
     let mut index = Index::new(alloc, &[4_096, 4_096])?;
     let mut list = Vec::new(alloc);
-    for (item, place, refusal) in &ROWS {
-        assert_eq!(rt; index.refusal(*item), *refusal, "{item:?}");
+    for (part, at, add, place, refusal) in &ROWS {
+        let item = record(*part, *at, *add);
+        assert_eq!(rt; index.refusal(item), *refusal, "{add:?} at {at}");
         let wanted = match refusal {
             Some(cause) => Err(ApplyError::Refused(*cause)),
             None => Ok(()),
         };
         if *place < u64::MAX {
-            assert_eq!(rt; index.apply(*item, *place), wanted, "{item:?}");
+            assert_eq!(rt; index.apply(item, *place), wanted, "{add:?} at {at}");
         }
         if refusal.is_none() {
-            follow(&mut list, *item, *place)?;
+            follow(&mut list, item, *place)?;
         }
-        assert_same(rt, &index, &list);
+        assert_same(&rt, &index, &list);
         assert_eq!(rt; index.count(0), 0);
     }
     Ok(())
@@ -102,17 +109,30 @@ fn index_against_a_list(rt: &impl Abort, alloc: Global) -> Result<(), Fail> {
 
 // As many marks as a partition takes are one entry.
 #[test]
-fn a_run_of_all_marks(rt: &impl Abort, alloc: Global) -> Result<(), Fail> {
+fn a_run_of_all_marks(rt: HostRuntime) -> Result<(), Fail> {
+    let alloc = rt.alloc();
     let mut index = Index::new(alloc, &[4_096, 1_099_511_627_776])?;
-    assert_eq!(rt; index.apply(marks(0, 16_000_000), 0), Ok(()));
+    assert_eq!(rt;
+        index.apply(record(1, 0, Add::Marks(16_000_000)), 0),
+        Ok(())
+    );
     assert_eq!(rt; index.count(1), 16_000_000);
     assert_eq!(rt; index.place(1, 15_999_999), Some(Placed::Mark));
     assert_eq!(rt; index.kind_at(1, 16_000_000), None::<Kind>);
     assert_eq!(rt; index.used(1, 7_000_000), 112_000_000);
-    assert_eq!(rt; index.refusal(marks(16_000_000, 1)), Some(Refusal::NoRoom));
-    assert_eq!(rt; index.apply(put(8_000_000, 9), 5), Ok(()));
+    assert_eq!(rt;
+        index.refusal(record(1, 16_000_000, Add::Marks(1))),
+        Some(Refusal::NoRoom)
+    );
+    assert_eq!(rt; index.apply(record(1, 8_000_000, Add::Block(9)), 5), Ok(()));
     assert_eq!(rt; index.count(1), 8_000_001);
-    assert_eq!(rt; index.place(1, 8_000_000), Some(Placed::Block { place: 5, length: 9 }));
+    assert_eq!(rt;
+        index.place(1, 8_000_000),
+        Some(Placed::Block {
+            place: 5,
+            length: 9
+        })
+    );
     assert_eq!(rt; index.used(1, 8_000_001), 128_000_025);
     Ok(())
 }

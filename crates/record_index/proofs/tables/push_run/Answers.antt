@@ -1,4 +1,4 @@
-use Rattle.std.proofs.Common.{◌≡◌, ◌<◌, ℕ, length, subst, sym, ap, ◌∙◌, List, arith, rules, vec_len}
+use Rattle.std.proofs.Common.{◌≡◌, ◌<◌, ℕ, length, take, subst, sym, ap, ◌∙◌, List, arith, rules, vec_len}
 use Rattle.record_index.specs.declared.places.Run.{Run}
 use Rattle.record_index.specs.declared.tables.Entry.{Entry}
 use Rattle.record_index.specs.declared.tables.TheConstants.{NOWHERE}
@@ -17,11 +17,17 @@ returns-clause-table c =
     let entries = c.args.entries.now in
     let len : vec_len entries ≡ length entries.items = search rules in
     let all = all_taken entries.items (vec_len entries) len in
-    let end : c.end_of-end.result ≡ length (objects_of entries.items) = ? in
-    let cost : c.cost_of-cost.result ≡ cost_of_objects (objects_of entries.items) = ? in
+    let end : c.end_of-end.result ≡ length (objects_of entries.items) =
+    c.end_of-end.ensures
+    ∙ (λ i. length (objects_of (take (c.len.ensures i) (c.deref.ensures.value i))))
+    ∙ ap (λ (l : List Entry). length (objects_of l)) all in
+    let cost : c.cost_of-cost.result ≡ cost_of_objects (objects_of entries.items) =
+    c.cost_of-cost.ensures
+    ∙ (λ i. cost_of_objects (objects_of (take (c.len-2.ensures i) (c.deref-2.ensures.value i))))
+    ∙ ap (λ (l : List Entry). cost_of_objects (objects_of l)) all in
     subst (λ (l : List Entry). IsTable l) (sym c.push_reserved.ensures.items)
     (elim c.match-run.branch [
-      in-Block w ↦ push_block entries.items c.match-run.push_reserved w.in-Block.place w.in-Block.length c.end_of-end.result
+      | in-Block w ↦ push_block entries.items c.match-run.push_reserved w.in-Block.place w.in-Block.length c.end_of-end.result
           c.cost_of-cost.result c.requires.table w.push_reserved-is
           (subst (λ (r : Run). IsPlace r) w.in-Block.is c.requires.place) end cost
       | in-Marks w ↦ push_marks entries.items c.match-run.push_reserved w.in-Marks.count c.end_of-end.result

@@ -28,5 +28,9 @@ returns-clause-reserved c =
     let there = rw (← c.self.view_is) at c.requires.there in
     let here : slice_get parts.items c.args.part ≡ Some part =
     slice_get_read parts.items (vec_len parts) c.args.part part len (omega (arith, there, len)) c.index_mut-partition.ensures.value in
-    rw (← c.self.view_is) (omega (arith, c.in_ok-add.ensures.reserved, reserved_here parts.items c.args.part part c.add.new.self here,
-    reserved_set parts.items c.args.part part c.add.new.self here))
+    rw (← c.self.view_is) (omega (
+      arith,
+      c.in_ok-add.ensures.reserved,
+      reserved_here parts.items c.args.part part c.add.new.self here,
+      reserved_set parts.items c.args.part part c.add.new.self here,
+    ))

@@ -32,8 +32,12 @@ returns-clause-reserved c =
     let here = rw c.part-part.ensures at read in
     let number = places.part_of c.args.item in
     rw (← c.self.view_is, c.part-part.ensures)
-    (omega (arith, c.apply.ensures.reserved, reserved_here parts.items number part c.apply.new.self here,
-    reserved_set parts.items number part c.apply.new.self here))
+    (omega (
+      arith,
+      c.apply.ensures.reserved,
+      reserved_here parts.items number part c.apply.new.self here,
+      reserved_set parts.items number part c.apply.new.self here,
+    ))
 
 pub returns-clause-memory : goal.returns-clause-memory
 returns-clause-memory c =

@@ -28,5 +28,9 @@ returns-clause-reserved c =
     let there = rw (← c.self.view_is) at c.requires in
     let here : slice_get parts.items c.args.part ≡ Some part =
     slice_get_read parts.items (vec_len parts) c.args.part part len (omega (arith, there, len)) c.index_mut-partition.ensures.value in
-    rw (← c.self.view_is) (omega (arith, c.cut.ensures.reserved, reserved_here parts.items c.args.part part c.cut.new.self here,
-    reserved_set parts.items c.args.part part c.cut.new.self here))
+    rw (← c.self.view_is) (omega (
+      arith,
+      c.cut.ensures.reserved,
+      reserved_here parts.items c.args.part part c.cut.new.self here,
+      reserved_set parts.items c.args.part part c.cut.new.self here,
+    ))

@@ -28,8 +28,12 @@ returns-clause-grows c =
     let there = rw (← c.self.view_is) at c.requires in
     let here : slice_get parts.items c.args.part ≡ Some part =
     slice_get_read parts.items (vec_len parts) c.args.part part len (omega (arith, there, len)) c.index_mut-partition.ensures.value in
-    rw (← c.self.view_is) (omega (arith, c.in_ok-reserve.ensures.grows, reserved_here parts.items c.args.part part c.reserve.new.self here,
-    reserved_set parts.items c.args.part part c.reserve.new.self here))
+    rw (← c.self.view_is) (omega (
+      arith,
+      c.in_ok-reserve.ensures.grows,
+      reserved_here parts.items c.args.part part c.reserve.new.self here,
+      reserved_set parts.items c.args.part part c.reserve.new.self here,
+    ))
 
 pub returns-clause-ok : goal.returns-clause-ok
 returns-clause-ok c =
@@ -39,5 +43,4 @@ returns-clause-ok c =
     let there = rw (← c.self.view_is) at c.requires in
     let here : slice_get parts.items c.args.part ≡ Some part =
     slice_get_read parts.items (vec_len parts) c.args.part part len (omega (arith, there, len)) c.index_mut-partition.ensures.value in
-    rw (← c.self.view_is) (omega (arith, c.in_ok-reserve.ensures.ok, reserved_here parts.items c.args.part part c.reserve.new.self here,
-    reserved_set parts.items c.args.part part c.reserve.new.self here))
+    omega (arith, c.in_ok-reserve.ensures.ok, reserved_set parts.items c.args.part part c.reserve.new.self here)

@@ -4,12 +4,12 @@ use Rattle.record_index.specs.declared.places.Placed.{Placed}
 use Rattle.record_index.specs.Places as places
 use Rattle.record_index.specs.Places.{PlacedPart, objects_of_run, placed_by}
 use Rattle.record_index.specs.Inner.Tables.{cost_of_objects}
-use Rattle.record_index.proofs.Parts.{cost_fits, limits_placed}
+use Rattle.record_index.proofs.Parts.{placed_of, cost_fits, limits_placed}
 use Rattle.record_index.proofs.partitions.PlacedPartition.apply.Goals as goal
 
 pub add-requires-clause-cost : goal.add-requires-clause-cost
 add-requires-clause-cost c =
-    let part : PlacedPart = record { capacity = c.self.inside.capacity; objects = c.self.inside.table.objects; reserved = c.self.inside.table.reserved } in
+    let part : PlacedPart = placed_of c.self.inside.capacity c.self.inside.table in
     let none = rw (← c.self.view_is) at (sym c.refusal.ensures ∙ c.in_default.is) in
     let made : c.cut.new.self.objects ++ objects_of_run c.in-Some-run.run'
     ≡ take (places.kept_of c.args.item) part.objects ++ placed_by c.args.item c.args.place =
@@ -21,7 +21,7 @@ add-requires-clause-cost c =
 
 pub invariant_of-self-in-Some-run : goal.invariant_of-self-in-Some-run
 invariant_of-self-in-Some-run c =
-    let part : PlacedPart = record { capacity = c.self.inside.capacity; objects = c.self.inside.table.objects; reserved = c.self.inside.table.reserved } in
+    let part : PlacedPart = placed_of c.self.inside.capacity c.self.inside.table in
     let none = rw (← c.self.view_is) at (sym c.refusal.ensures ∙ c.in_default.is) in
     let made : c.add.new.self.objects ≡ take (places.kept_of c.args.item) part.objects ++ placed_by c.args.item c.args.place =
     c.add.ensures.objects
@@ -32,7 +32,7 @@ invariant_of-self-in-Some-run c =
 
 pub invariant_of-self-in_default-run : goal.invariant_of-self-in_default-run
 invariant_of-self-in_default-run c =
-    let part : PlacedPart = record { capacity = c.self.inside.capacity; objects = c.self.inside.table.objects; reserved = c.self.inside.table.reserved } in
+    let part : PlacedPart = placed_of c.self.inside.capacity c.self.inside.table in
     let none = rw (← c.self.view_is) at (sym c.refusal.ensures ∙ c.in_default.is) in
     let made : c.cut-in_default-run.new.self.objects
     ≡ take (places.kept_of c.args.item) part.objects ++ placed_by c.args.item c.args.place =
@@ -44,7 +44,7 @@ invariant_of-self-in_default-run c =
 
 pub returns-in_ok-reserve-clause-limits : goal.returns-in_ok-reserve-clause-limits
 returns-in_ok-reserve-clause-limits c =
-    let part : PlacedPart = record { capacity = c.self.inside.capacity; objects = c.self.inside.table.objects; reserved = c.self.inside.table.reserved } in
+    let part : PlacedPart = placed_of c.self.inside.capacity c.self.inside.table in
     let none = rw (← c.self.view_is) at (sym c.refusal.ensures ∙ c.in_default.is) in
     let made : c.add.new.self.objects ≡ take (places.kept_of c.args.item) part.objects ++ placed_by c.args.item c.args.place =
     c.add.ensures.objects
@@ -55,7 +55,7 @@ returns-in_ok-reserve-clause-limits c =
 
 pub returns-in_default-run-clause-limits : goal.returns-in_default-run-clause-limits
 returns-in_default-run-clause-limits c =
-    let part : PlacedPart = record { capacity = c.self.inside.capacity; objects = c.self.inside.table.objects; reserved = c.self.inside.table.reserved } in
+    let part : PlacedPart = placed_of c.self.inside.capacity c.self.inside.table in
     let none = rw (← c.self.view_is) at (sym c.refusal.ensures ∙ c.in_default.is) in
     let made : c.cut-in_default-run.new.self.objects
     ≡ take (places.kept_of c.args.item) part.objects ++ placed_by c.args.item c.args.place =
