@@ -146,7 +146,7 @@ module _ (spaces : NoSpaceEndsTwice) (locates : NoLocateEndsTwice)
   }
 
   on_medium : (bay bay' : Bay MediumState) (command : Command) (sent : List ℕ) → bay_of sight_of bay ≡ bay_of
-  sight_of bay'
+      sight_of bay'
       → OnMediumIn bay (MediumWork (Unit {0}) command old.buffered sent) old (Ok reply) made new
       → OnMediumIn bay' (MediumWork (Unit {0}) command beside.buffered sent) beside (Ok reply') made' new'
       → Alike

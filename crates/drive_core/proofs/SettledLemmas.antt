@@ -248,7 +248,7 @@ module _ (machine : Machine) (request : Request) where
       both_hold (suits machine command) (length request.sent == sent_length command) command refl is
 
   code_judged : (found : Option Opcode) → opcode_of request.cdb ≡ found → Judged request (verdict_at machine request
-  found)
+      found)
   code_judged None is = unacknowledged invalid_operation_code [] (λ e. cc)
   code_judged (Some opcode) is =
       judged_unless request (state_denial machine request.nexus opcode)

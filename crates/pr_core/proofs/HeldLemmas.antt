@@ -54,7 +54,8 @@ none_is (Some nexus) is = absurd (false≢true is)
 
 pub held_as_from :
     (all : Bool) (state : PrState) (holder : Option ℕ) → length state.keys ≡ NEXUSES
-    → (if all then is_none holder && is_some_in (is_registered state) else is_named_in holder (is_registered state)) ≡ true
+    → (if all then is_none holder && is_some_in (is_registered state)
+    else is_named_in holder (is_registered state)) ≡ true
     → HeldAs all (key_of state) holder
 held_as_from true state holder long right =
     let parts = and_parts (is_none holder) (is_some_in (is_registered state)) right in
@@ -138,7 +139,9 @@ pub more_no_zero :
 more_no_zero true key old not_zero is = not_zero
 more_no_zero false key old not_zero is = is
 
-pub more_some : (same : Bool) (key : ℕ) (old : Option ℕ) → is_some old ≡ true → is_some (if same then Some key else old) ≡ true
+pub more_some :
+    (same : Bool) (key : ℕ) (old : Option ℕ) → is_some old ≡ true
+    → is_some (if same then Some key else old) ≡ true
 more_some true key old is = refl
 more_some false key old is = is
 

@@ -42,7 +42,9 @@ one_end old nexus order answer other_answer told other_told new other first seco
 )
 
 -- what has an effect
-some_end : (effect : Effect) → (answer : PrAnswer) × (told : List AttentionSet) × (new : PrState) × Brings effect answer told new
+some_end :
+    (effect : Effect)
+    → (answer : PrAnswer) × (told : List AttentionSet) × (new : PrState) × Brings effect answer told new
 some_end effect = (
   effect.answer,
   map effect.told (range_with_len 1 NEXUSES),

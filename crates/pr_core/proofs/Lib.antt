@@ -3,3 +3,4 @@ pub mod LawLemmas
 pub mod HeldLemmas
 pub mod RuleLemmas
 pub mod ReadLemmas
+pub mod SaveLemmas

@@ -12,7 +12,7 @@ use Rattle.pr_core.specs.declared.states.PrAnswer.TheVariants.{Good, Conflict, B
 use Rattle.pr_core.specs.Sets.{IsNexus, Nexuses, but, is_named_in, is_some_in}
 use Rattle.pr_core.specs.States.{empty_state, has_key, is_for_all, is_number, is_registered, key_of, others, power_loss, holds_this}
 use Rattle.pr_core.specs.Sound.{IsSound, is_held_rightly}
-use Rattle.pr_core.specs.Effects.{Effect, of_registrant, stays, with_key, without}
+use Rattle.pr_core.specs.Effects.{Effect, of_registrant, stays, with_key, keys_without}
 use Rattle.pr_core.specs.Register.{ends_without, left_without, register, register_and_ignore, registers, shows_key, unregisters, zero_key}
 use Rattle.pr_core.specs.Reserve.{clear, is_same_type, makes, release, release_held, release_under, reserve, reserve_under}
 use Rattle.pr_core.specs.Preempt.{is_key_of_holder, preempt, preempt_holder, preempt_known, preempt_registrants, preempt_zero, preempted_by, takes_over_as}
@@ -37,11 +37,12 @@ registers_keeps state nexus key aptpl sound not_zero =
 unregistered_as :
     (all : Bool) (state : PrState) (nexus : ℕ) (holder : Option ℕ) → HeldAs all (key_of state) holder
     → (if all then not (is_some_in (others state nexus)) else is_number holder nexus) ≡ false
-    → HeldAs all (without state (λ other. other == nexus)) holder
+    → HeldAs all (keys_without state (λ other. other == nexus)) holder
 unregistered_as true state nexus holder held stays =
     let who = who_in (others state nexus) (not-false (is_some_in (others state nexus)) stays) in
     let parts = and_parts (is_registered state who.0) (not (who.0 == nexus)) who.2 in
-    (held.0, (who.0, who.1, left_some (who.0 == nexus) (key_of state who.0) (not-true (who.0 == nexus) parts.1) parts.0))
+    let apart = not-true (who.0 == nexus) parts.1 in
+    (held.0, (who.0, who.1, left_some (who.0 == nexus) (key_of state who.0) apart parts.0))
 unregistered_as false state nexus holder held stays =
     let apart : (held.0 == nexus) ≡ false = sym (ap (λ (named : Option ℕ). is_number named nexus) held.2) ∙ stays in
     (held.0, held.1, held.2, left_some (held.0 == nexus) (key_of state held.0) apart held.3)
@@ -54,10 +55,10 @@ held_unless false keys made held = held refl
 
 left_held :
     (state : PrState) (nexus : ℕ) (reservation : Option Reservation) → Held (key_of state) reservation
-    → Held (without state (λ other. other == nexus)) (left_without reservation state nexus)
+    → Held (keys_without state (λ other. other == nexus)) (left_without reservation state nexus)
 left_held state nexus None held = tt
 left_held state nexus (Some made) held =
-    held_unless (ends_without made state nexus) (without state (λ other. other == nexus)) made
+    held_unless (ends_without made state nexus) (keys_without state (λ other. other == nexus)) made
     (λ stays. unregistered_as (is_for_all made.kind) state nexus made.holder held stays)
 
 unregisters_keeps :
@@ -70,7 +71,8 @@ unregisters_keeps state nexus aptpl sound =
     }
 
 zero_key_keeps :
-    (own : Option ℕ) (state : PrState) (nexus : ℕ) (aptpl : Bool) → IsSound state → Kept (zero_key own state nexus aptpl)
+    (own : Option ℕ) (state : PrState) (nexus : ℕ) (aptpl : Bool) → IsSound state
+    → Kept (zero_key own state nexus aptpl)
 zero_key_keeps None state nexus aptpl sound = from_sound state sound
 zero_key_keeps (Some own) state nexus aptpl sound = unregisters_keeps state nexus aptpl sound
 
@@ -144,7 +146,7 @@ takes_over_keeps None state nexus removed was sound is registered stays = from_s
 takes_over_keeps (Some kind) state nexus removed was sound is registered stays = record {
   no_zero = λ other is. left_no_zero (removed other) (key_of state other) ((from_sound state sound).no_zero other is);
   held =
-      made_as (is_for_all kind) (without state removed) nexus is
+      made_as (is_for_all kind) (keys_without state removed) nexus is
       (left_some (removed nexus) (key_of state nexus) stays registered);
 }
 
@@ -164,7 +166,7 @@ preempted_as :
     (all : Bool) (state : PrState) (nexus key : ℕ) (holder : Option ℕ) → IsNexus nexus
     → is_registered state nexus ≡ true → HeldAs all (key_of state) holder
     → (not all && is_named_in holder (has_key state key)) ≡ false
-    → HeldAs all (without state (preempted_by state nexus key)) holder
+    → HeldAs all (keys_without state (preempted_by state nexus key)) holder
 preempted_as true state nexus key holder is registered held other = (
   held.0,
   (
@@ -186,10 +188,12 @@ preempted_as false state nexus key holder is registered held other =
 
 registrants_keep :
     (state : PrState) (nexus key : ℕ) → IsSound state
-    → Held (without state (preempted_by state nexus key)) state.reservation → Kept (preempt_registrants state nexus key)
+    → Held (keys_without state (preempted_by state nexus key)) state.reservation → Kept (preempt_registrants state
+        nexus key)
 registrants_keep state nexus key sound held = record {
   no_zero = λ other is.
-      left_no_zero (preempted_by state nexus key other) (key_of state other) ((from_sound state sound).no_zero other is);
+      left_no_zero (preempted_by state nexus key other) (key_of state other)
+      ((from_sound state sound).no_zero other is);
   held = held;
 }
 
@@ -199,7 +203,7 @@ preempt_known_keeps :
     → Held (key_of state) reservation → Kept (preempt_known reservation state nexus key kind)
 preempt_known_keeps None state nexus key kind sound is registered same held =
     registrants_keep state nexus key sound
-    (subst (λ (made : Option Reservation). Held (without state (preempted_by state nexus key)) made) (sym same) tt)
+    (subst (λ (made : Option Reservation). Held (keys_without state (preempted_by state nexus key)) made) (sym same) tt)
 preempt_known_keeps (Some made) state nexus key kind sound is registered same held =
     choose (is_key_of_holder made state key) (preempt_holder made state nexus key kind)
     (preempt_registrants state nexus key)
@@ -208,7 +212,7 @@ preempt_known_keeps (Some made) state nexus key kind sound is registered same he
     (but_itself (has_key state key) nexus))
     (λ other.
     registrants_keep state nexus key sound
-    (subst (λ (made : Option Reservation). Held (without state (preempted_by state nexus key)) made) (sym same)
+    (subst (λ (made : Option Reservation). Held (keys_without state (preempted_by state nexus key)) made) (sym same)
     (preempted_as (is_for_all made.kind) state nexus key made.holder is registered held other)))
 
 preempt_keeps :
@@ -228,7 +232,8 @@ preempt_keeps state nexus key kind sound is registered =
 keeps : (state : PrState) (nexus : ℕ) (order : PrOut) → IsSound state → Kept (effect_of state nexus order)
 keeps state nexus (Register key new_key aptpl) sound = register_keeps state nexus key new_key aptpl sound
 keeps state nexus (Reserve key kind) sound =
-    registrant_keeps state nexus key (reserve state nexus kind) sound (reserve_keeps state.reservation state nexus kind sound)
+    registrant_keeps state nexus key (reserve state nexus kind) sound
+    (reserve_keeps state.reservation state nexus kind sound)
 keeps state nexus (Release key kind) sound =
     registrant_keeps state nexus key (release state nexus kind) sound
     (λ is registered. release_keeps state.reservation state nexus kind sound)

@@ -54,9 +54,9 @@ stays answer state = record {
 abbrev pub raised : ℕ → ℕ
 raised generation = (generation + 1) % 2 ^ 32
 
--- the registrations without those of some nexuses (own)
-abbrev pub without : PrState → Nexuses → ℕ → Option ℕ
-without state removed nexus = if removed nexus then None else key_of state nexus
+-- the registrations keys_without those of some nexuses (own)
+abbrev pub keys_without : PrState → Nexuses → ℕ → Option ℕ
+keys_without state removed nexus = if removed nexus then None else key_of state nexus
 
 -- the registrations, a nexus being registered with a key (own)
 abbrev pub with_key : PrState → ℕ → ℕ → ℕ → Option ℕ

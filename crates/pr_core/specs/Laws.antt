@@ -1,5 +1,5 @@
 -- Laws of the machine.
-use Rattle.std.specs.Prelude.{◌≡◌, ℕ, List}
+use Rattle.std.specs.Prelude.{◌≡◌, ◌↔◌, ℕ, List, false}
 use Rattle.scsi_attention.specs.AttentionSets.{AttentionSet}
 use Rattle.scsi_lists.specs.declared.pr_lists.PrOut.{PrOut}
 use Rattle.pr_core.specs.declared.states.PrState.{PrState}
@@ -7,6 +7,7 @@ use Rattle.pr_core.specs.declared.states.PrAnswer.{PrAnswer}
 use Rattle.pr_core.specs.States.{empty_state, power_loss}
 use Rattle.pr_core.specs.Sound.{IsSound}
 use Rattle.pr_core.specs.Orders.{Orders}
+use Rattle.pr_core.specs.Saves.{AreSavedAlike, needs_save}
 
 -- each order has an answer, tells each nexus something, and leaves a state (own)
 abbrev pub EachOrderEnds : Type 0
@@ -39,3 +40,8 @@ PowerLossKeepsRules = (state : PrState) → IsSound state → IsSound (power_los
 -- a second loss of power takes nothing more (own)
 abbrev pub PowerLossIsOnce : Type 0
 PowerLossIsOnce = (state : PrState) → power_loss (power_loss state) ≡ power_loss state
+
+-- a save is due exactly where what is saved is not the same (own)
+abbrev pub SavesAreDueByChange : Type 0
+SavesAreDueByChange =
+    (old new : PrState) → IsSound old → IsSound new → (needs_save old new ≡ false) ↔ AreSavedAlike old new

@@ -8,7 +8,7 @@ use Rattle.pr_core.specs.declared.states.PrState.{PrState}
 use Rattle.pr_core.specs.declared.states.PrAnswer.TheVariants.{Good, Conflict, BadType, BadKey}
 use Rattle.pr_core.specs.Sets.{Nexuses, but, is_named_in, is_some_in, minus}
 use Rattle.pr_core.specs.States.{others, has_key, made_by, is_for_all}
-use Rattle.pr_core.specs.Effects.{Effect, stays, only, tells, raised, without}
+use Rattle.pr_core.specs.Effects.{Effect, stays, only, tells, raised, keys_without}
 use Rattle.pr_core.specs.Reserve.{is_same_type}
 
 -- the nexuses that a key names: those registered with it, but not the requester (SPC-4, PREEMPT; the requester own)
@@ -31,7 +31,7 @@ told_of_preemption removed released nexus =
 -- (SPC-4, PREEMPT)
 abbrev pub takes_over : PrState → ℕ → Nexuses → PrType → PrType → Effect
 takes_over state nexus removed was kind = record (stays Good state) {
-  keys = without state removed;
+  keys = keys_without state removed;
   reservation = Some (made_by nexus kind);
   generation = raised state.generation;
   told = told_of_preemption removed (told_of_type state nexus removed was kind);
@@ -61,7 +61,7 @@ preempt_holder held state nexus key kind = takes_over_as kind state nexus (preem
 -- Case 4: registrations with the key go, and the reservation stays (SPC-4, PREEMPT).
 abbrev pub preempt_registrants : PrState → ℕ → ℕ → Effect
 preempt_registrants state nexus key = record (stays Good state) {
-  keys = without state (preempted_by state nexus key);
+  keys = keys_without state (preempted_by state nexus key);
   generation = raised state.generation;
   told = tells (preempted_by state nexus key) RegistrationsPreempted;
 }

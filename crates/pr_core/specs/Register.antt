@@ -7,7 +7,7 @@ use Rattle.pr_core.specs.declared.states.PrState.{PrState}
 use Rattle.pr_core.specs.declared.states.PrAnswer.TheVariants.{Good, Conflict}
 use Rattle.pr_core.specs.Sets.{is_some_in}
 use Rattle.pr_core.specs.States.{key_of, others, is_for_all, is_for_registrants_only, is_number}
-use Rattle.pr_core.specs.Effects.{Effect, stays, tells, tells_nobody, raised, without, with_key}
+use Rattle.pr_core.specs.Effects.{Effect, stays, tells, tells_nobody, raised, keys_without, with_key}
 
 -- a nexus is registered with a key, or its key is replaced by that (SPC-4, REGISTER)
 abbrev pub registers : PrState → ℕ → ℕ → Bool → Effect
@@ -38,7 +38,7 @@ told_without (Some reservation) state nexus =
 abbrev pub unregisters : PrState → ℕ → Bool → Effect
 unregisters state nexus aptpl = record {
   answer = Good;
-  keys = without state (λ other. other == nexus);
+  keys = keys_without state (λ other. other == nexus);
   reservation = left_without state.reservation state nexus;
   aptpl = aptpl;
   generation = raised state.generation;

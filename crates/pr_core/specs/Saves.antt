@@ -1,5 +1,5 @@
 -- When a state is to be saved.
-use Rattle.std.specs.Prelude.{◌==◌, ◌&&◌, ◌||◌, not, ℕ, Bool, true, false, Option, None, Some}
+use Rattle.std.specs.Prelude.{◌≡◌, ◌==◌, ◌&&◌, ◌||◌, not, ℕ, Bool, true, false, Option, None, Some}
 use Rattle.pr_core.specs.declared.states.Reservation.{Reservation}
 use Rattle.pr_core.specs.declared.states.PrState.{PrState}
 use Rattle.pr_core.specs.Sets.{Nexuses, is_some_in}
@@ -32,3 +32,9 @@ abbrev pub needs_save : PrState → PrState → Bool
 needs_save old new =
     is_some_in (differ_at old new) || (not (is_same_reservation old.reservation new.reservation)
     || is_other_aptpl old.aptpl new.aptpl)
+
+-- what is saved of two states is the same: registrations, reservation and APTPL (own)
+pub record AreSavedAlike (one other : PrState) : Type 0 where
+  pub keys : one.keys ≡ other.keys
+  pub reservation : one.reservation ≡ other.reservation
+  pub aptpl : one.aptpl ≡ other.aptpl

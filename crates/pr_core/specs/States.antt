@@ -44,19 +44,10 @@ has_key state key nexus = is_number (key_of state nexus) key
 abbrev pub others : PrState → ℕ → Nexuses
 others state nexus = but (is_registered state) nexus
 
--- who holds this reservation: one nexus, or every registered one (SPC-4, persistent reservation holder)
+-- who is_holder this reservation: one nexus, or every registered one (SPC-4, persistent reservation holder)
 abbrev pub holds_this : Reservation → PrState → Nexuses
 holds_this reservation state nexus =
     if is_for_all reservation.kind then is_registered state nexus else is_number reservation.holder nexus
-
--- who holds the reservation, if there is one (SPC-4, persistent reservation holder)
-abbrev pub holds_in : Option Reservation → PrState → Nexuses
-holds_in None state nexus = false
-holds_in (Some reservation) state nexus = holds_this reservation state nexus
-
--- who holds the reservation (SPC-4, persistent reservation holder)
-abbrev pub holds : PrState → Nexuses
-holds state nexus = holds_in state.reservation state nexus
 
 -- a reservation that a nexus makes; of types 7 and 8 no holder is named (SPC-4, persistent reservation holder)
 abbrev pub made_by : ℕ → PrType → Reservation

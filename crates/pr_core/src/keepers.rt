@@ -2,7 +2,7 @@
 ghost use Rattle.std.specs.Prelude.{◌≡◌, [], ◌++◌, List, Ok, false};
 ghost use Rattle.vtl_base.specs.Below.{Below, Advances};
 ghost use Rattle.pr_core.specs.declared.states.PrState.{PrState};
-ghost use Rattle.pr_core.specs.Keepers.{Kept, Saves, met_fault, saved_by};
+ghost use Rattle.pr_core.specs.Keepers.{KeeperState, Saves, save_met_fault, saved_by};
 
 use crate::reservations::Reservations;
 use thiserror::Error;
@@ -28,7 +28,7 @@ pub enum KeeperError {
 /// What keeps the reservations of a drive through a loss of power.
 pub trait Keeper {
     /// What it holds.
-    ghost kept: { Self → Kept };
+    ghost kept: { Self → KeeperState };
 
     /// What a contract sees below it: the failures of its device, whether that keeps to what a disk
     /// promises, and which states it saved from one value to another.
@@ -38,7 +38,7 @@ pub trait Keeper {
     fn save(&mut self, reservations: &Reservations) -> Result<(), KeeperError>
         ensures answer { Saves (kept self.old) reservations.now result (kept self.new) }
         ensures advances { Advances below
-            self.old (saved_by result reservations.now) (met_fault result) self.new };
+            self.old (saved_by result reservations.now) (save_met_fault result) self.new };
 
     /// Whether the device has failed since the keeper was opened. Then nothing is saved.
     fn has_failed(&self) -> bool
@@ -68,7 +68,7 @@ impl Keeper for NoKeeper {
         ensures ok { result ≡ Ok tt }
         ensures answer { Saves nothing_kept reservations.now result nothing_kept }
         ensures advances { Advances nothing_below
-            self.old (saved_by result reservations.now) (met_fault result) self.new }
+            self.old (saved_by result reservations.now) (save_met_fault result) self.new }
     {
         Ok(())
     }

@@ -1,5 +1,5 @@
 //! Laws of the machine. Each is a function that does nothing, and its contract is the law.
-ghost use Rattle.pr_core.specs.Laws.{EachOrderEnds, EmptyKeepsRules, NoOrderEndsTwice, OrdersKeepRules, PowerLossIsOnce, PowerLossKeepsRules};
+ghost use Rattle.pr_core.specs.Laws.{EachOrderEnds, EmptyKeepsRules, NoOrderEndsTwice, OrdersKeepRules, PowerLossIsOnce, PowerLossKeepsRules, SavesAreDueByChange};
 
 /// Each order of each nexus in each state has one answer, one set of conditions that it tells, and one next
 /// state.
@@ -18,4 +18,9 @@ pub fn rules_are_kept()
 /// Two losses of power are as one.
 pub fn power_loss_is_once()
     ensures { PowerLossIsOnce }
+{}
+
+/// A save is due exactly where registrations, reservation or APTPL are not the same.
+pub fn saves_are_due_by_change()
+    ensures { SavesAreDueByChange }
 {}

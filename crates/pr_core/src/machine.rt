@@ -4,7 +4,7 @@ ghost use Rattle.vtl_base.specs.declared.limits.TheConstants.{NEXUSES};
 ghost use Rattle.scsi_attention.specs.AttentionSets.{no_attentions};
 ghost use Rattle.pr_core.specs.Sets.{Shows, row_at};
 ghost use Rattle.pr_core.specs.States.{others};
-ghost use Rattle.pr_core.specs.Effects.{Brings, raised, stays, tells, without};
+ghost use Rattle.pr_core.specs.Effects.{Brings, raised, stays, tells, keys_without};
 ghost use Rattle.pr_core.specs.Orders.{Orders};
 
 use crate::attns::{Attns, only};
@@ -92,7 +92,7 @@ impl PrState {
 
     // The key of a nexus, where it is none of those removed.
     fn key_left(&self, removed: &[bool; 64], nexus: Nexus) -> Option<u64>
-        ensures { result ≡ without self.now (row_at false removed.now) nexus }
+        ensures { result ≡ keys_without self.now (row_at false removed.now) nexus }
     {
         if is_in(removed, nexus) {
             None
@@ -101,9 +101,9 @@ impl PrState {
         }
     }
 
-    // The registrations without those of some nexuses.
+    // The registrations keys_without those of some nexuses.
     pub(crate) fn without(&self, removed: &[bool; 64]) -> [Option<u64>; 64]
-        ensures { (set : _) → Shows false removed.now set → Shows None result (without self.now set) }
+        ensures { (set : _) → Shows false removed.now set → Shows None result (keys_without self.now set) }
     {
         row_of(None, |nexus| self.key_left(removed, nexus))
     }

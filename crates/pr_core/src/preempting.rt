@@ -62,7 +62,6 @@ impl PrState {
     }
 
     // The key is 0.
-
     fn preempt_zero(&self, nexus: Nexus, kind: Option<PrType>) -> Outcome
         requires { length self.now.keys ≡ NEXUSES }
         ensures { Brings (preempt_zero self.now.reservation self.now nexus kind)
@@ -80,7 +79,6 @@ impl PrState {
     }
 
     // Registrations with the key go, and the reservation stays.
-
     fn preempt_registrants(&self, nexus: Nexus, key: u64) -> Outcome
         ensures { Brings (preempt_registrants self.now nexus key) result.answer result.told result.state }
     {
@@ -133,7 +131,7 @@ impl PrState {
         changed: bool,
         other: Nexus,
     ) -> bool
-        ensures { result ≡ changed && minus (others self.now nexus) (row_at false removed.now) other }
+        ensures { result ≡ (changed && minus (others self.now nexus) (row_at false removed.now) other) }
     {
         changed && self.is_other(nexus, other) && !is_in(removed, other)
     }
@@ -156,12 +154,14 @@ impl PrState {
         )
     }
 
+    // The other registered nexuses.
     fn others(&self, nexus: Nexus) -> [bool; 64]
         ensures { Shows false result (others self.now nexus) }
     {
         row_of(false, |other| self.is_other(nexus, other))
     }
 
+    // Whether another nexus is registered with a key, and is not the requester.
     fn is_preempted(&self, nexus: Nexus, key: u64, other: Nexus) -> bool
         ensures { result ≡ preempted_by self.now nexus key other }
     {

@@ -1,7 +1,7 @@
 //! What is registered and reserved at a drive.
 ghost use Rattle.std.specs.Prelude.{◌≡◌};
 ghost use Rattle.pr_core.specs.Sets.{is_some_in};
-ghost use Rattle.pr_core.specs.States.{has_key, is_allowed, is_for_all, is_for_registrants, is_for_registrants_only, is_registered, holds, holds_this, key_of, made_by, others, power_loss, empty_state};
+ghost use Rattle.pr_core.specs.States.{has_key, is_allowed, is_for_all, is_for_registrants, is_for_registrants_only, is_registered, holds_this, key_of, others, power_loss, empty_state};
 
 use crate::rows::{any, place_of};
 use scsi_lists::PrType;

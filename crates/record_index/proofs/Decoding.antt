@@ -1,13 +1,12 @@
 -- Records in a row.
-use Rattle.std.proofs.Common.{◌≡◌, ◌≢◌, ℕ, ◌<◌, ◌≤◌, ◌+◌, List, [], ◌∷◌, ◌++◌, length, take, drop, refl, sym, ◌∙◌, ap, subst, arith, append_assoc, length-append, length-drop}
-use Rattle.std.specs.List.{All, flat_map}
+use Rattle.std.proofs.Common.{◌≡◌, ℕ, ◌<◌, ◌≤◌, ◌+◌, List, [], ◌∷◌, ◌++◌, length, drop, refl, sym, ◌∙◌, ap, subst, arith, append_assoc, length-append, length-drop}
+use Rattle.std.specs.List.{All}
 use Rattle.std.proofs.lemmas.List.{append-nil, drop-drop, drop_all}
 use Rattle.std.proofs.lemmas.List.Concat.{flat_map-append}
-use Rattle.std.proofs.lemmas.List.Elements.{All-nil, All-cons, All-head, All-tail, All-push}
+use Rattle.std.proofs.lemmas.List.Elements.{All-nil, All-head, All-push}
 use Rattle.volume_core.specs.declared.changes.Change.{Change}
 use Rattle.record_index.specs.declared.records.Record.{Record}
-use Rattle.record_index.specs.Records.{IsRecord, IsAtFront, IsBadAt, BeginsWithRecord, SpellsAll, change_in, size_of, spell, spell_all}
-use Rattle.record_index.specs.Inner.Spelled.{length-spell}
+use Rattle.record_index.specs.Records.{IsRecord, IsAtFront, IsBadAt, BeginsWithRecord, SpellsAll, change_in, size_of, spell_change, spell_all}
 
 -- the changes so far are spelled up to this place
 pub record IsDecodedTo (bytes : List ℕ) (changes : List Change) (at : ℕ) : Type 0 where
@@ -22,10 +21,10 @@ none_decoded bytes = record { within = omega arith; spelled = All-nil IsRecord; 
 module _ (bytes : List ℕ) (changes : List Change) (at : ℕ) (so_far : IsDecodedTo bytes changes at) where
   module _ (item : Record) (change : Change) (there : IsAtFront item (drop at bytes))
       (is : change ≡ change_in item (drop at bytes)) where
-    more : spell_all (changes ++ change ∷ []) ≡ spell_all changes ++ spell change
+    more : spell_all (changes ++ change ∷ []) ≡ spell_all changes ++ spell_change change
     more =
-        flat_map-append spell changes (change ∷ [])
-        ∙ ap (λ (l : List ℕ). spell_all changes ++ l) (append-nil (spell change))
+        flat_map-append spell_change changes (change ∷ [])
+        ∙ ap (λ (l : List ℕ). spell_all changes ++ l) (append-nil (spell_change change))
 
     pub one_decoded : IsDecodedTo bytes (changes ++ change ∷ []) (at + size_of item)
     one_decoded = record {
@@ -34,17 +33,17 @@ module _ (bytes : List ℕ) (changes : List Change) (at : ℕ) (so_far : IsDecod
       begins =
           so_far.begins
           ∙ ap (λ (l : List ℕ). spell_all changes ++ l)
-          (there.spelled ∙ (λ i. spell (is' i) ++ drop-drop (size_of item) at bytes i))
-          ∙ sym (append_assoc (spell_all changes) (spell change) (drop (at + size_of item) bytes))
+          (there.spelled ∙ (λ i. spell_change (is' i) ++ drop-drop (size_of item) at bytes i))
+          ∙ sym (append_assoc (spell_all changes) (spell_change change) (drop (at + size_of item) bytes))
           ∙ ap (λ (l : List ℕ). l ++ drop (at + size_of item) bytes) (sym more);
       at_is =
           omega (
             arith,
             so_far.at_is,
             ap length more,
-            length-append (spell_all changes) (spell change),
+            length-append (spell_all changes) (spell_change change),
             there.sized,
-            ap (λ (c : Change). length (spell c)) is,
+            ap (λ (c : Change). length (spell_change c)) is,
           );
     }
       where
@@ -76,7 +75,7 @@ first_record : (bytes rest : List ℕ) (changes : List Change) → All IsRecord 
     → BeginsWithRecord rest → BeginsWithRecord bytes
 first_record bytes rest [] ok is w = (w.0, w.1, w.2, is ∙ w.3)
 first_record bytes rest (c ∷ cs) ok is w =
-    (c, spell_all cs ++ rest, All-head IsRecord c cs ok, is ∙ append_assoc (spell c) (spell_all cs) rest)
+    (c, spell_all cs ++ rest, All-head IsRecord c cs ok, is ∙ append_assoc (spell_change c) (spell_all cs) rest)
 
 pub has_first : (bytes : List ℕ) (changes : List Change) (at : ℕ) (item : Record) → IsDecodedTo bytes changes at
     → IsAtFront item (drop at bytes) → BeginsWithRecord bytes

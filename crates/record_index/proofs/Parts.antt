@@ -1,10 +1,10 @@
 -- The partitions of an index, as those of a volume.
-use Rattle.std.proofs.Common.{◌≡◌, ℕ, ◌<◌, ◌≤◌, ◌+◌, ◌-◌, ◌^◌, List, [], ◌∷◌, ◌++◌, length, take, drop, map, replicate, refl, sym, ◌∙◌, ap, subst, arith, length-append, take-append-drop, Some, None, Ok, Err, Result, Bool, true, false}
-use Rattle.std.specs.Prelude.{slice_get, slice_set, Option, nat_lt, nat_le, not, ◌&&◌, if◌then◌else◌, sum_by}
+use Rattle.std.proofs.Common.{◌≡◌, ℕ, ◌<◌, ◌≤◌, ◌+◌, ◌^◌, List, [], ◌∷◌, ◌++◌, length, take, drop, map, refl, sym, ◌∙◌, ap, subst, arith, length-append, take-append-drop, Some, None, Ok, Err, Result, Bool, true, false}
+use Rattle.std.specs.Prelude.{slice_get, slice_set, Option, nat_lt, nat_le, not, if◌then◌else◌}
 use Rattle.std.specs.List.{All}
 use Rattle.std.specs.Option.{option_map}
 use Rattle.std.proofs.lemmas.Bool.{and_parts, and_from, and_left, and_right, cond-true, cond-false, le-leb, le-ltb, leb-true, lt-leb, not_from_true, not_from_false}
-use Rattle.std.proofs.lemmas.List.{length-map, length-replicate, length-set, length-take, map-append, map-set, take-map}
+use Rattle.std.proofs.lemmas.List.{length-map, length-replicate, length-set, length-take, map-set, take-map}
 use Rattle.std.proofs.lemmas.List.Elements.{All-append, All-cons, All-nil, All-replicate, All-set, All-take}
 use Rattle.std.proofs.lemmas.List.Sums.{sum_by-append, sum_by-cons}
 use Rattle.std.proofs.lemmas.Option.{slice_get-map, slice_get_within}
@@ -13,15 +13,13 @@ use Rattle.volume_core.specs.declared.objects.Object.{Object}
 use Rattle.volume_core.specs.declared.objects.Object.TheVariants as Objects
 use Rattle.volume_core.specs.declared.changes.Change.{Change}
 use Rattle.volume_core.specs.declared.changes.Change.TheVariants as Changes
-use Rattle.volume_core.specs.declared.changes.Refusal.{Refusal}
-use Rattle.volume_core.specs.declared.changes.Refusal.TheVariants.{NoPartition, PastEnd, NoRoom, TooLong}
+use Rattle.volume_core.specs.declared.changes.Refusal.TheVariants.{PastEnd, NoRoom, TooLong}
 use Rattle.volume_core.specs.declared.volumes.ApplyError.{ApplyError}
 use Rattle.volume_core.specs.declared.volumes.ApplyError.TheVariants as Errors
-use Rattle.volume_core.specs.Volume.{AppliesUnless, IsObject, IsPart, IsVolume, Part, added_by, cost_of, has_room, is_well_formed, kept_of, objects_after, part_after, part_of, refusal_in, refusal_of, used_of}
+use Rattle.volume_core.specs.Volume.{AppliesUnless, IsObject, IsPart, IsVolume, Part, added_by, cost_of, has_room, is_well_formed, kept_of, objects_after, part_after, refusal_in, refusal_of, used_of}
 use Rattle.record_index.specs.declared.places.Placed.{Placed}
 use Rattle.record_index.specs.declared.places.Placed.TheVariants.{Block, Mark}
 use Rattle.record_index.specs.declared.records.Record.{Record}
-use Rattle.record_index.specs.declared.records.Record.TheVariants as Records
 use Rattle.record_index.specs.Places as places
 use Rattle.record_index.specs.Places.{PlacedPart, blank, filled, filled_part, outline, outlined, placed_after, placed_by, placed_objects, placed_objects_in, reserved_in, reserved_of, with_objects, with_objects_in}
 use Rattle.record_index.specs.Inner.Table.{Table}
@@ -65,7 +63,8 @@ used_within part n limits = omega (arith, limits.fits, used_filled part.objects,
 
 -- what a refusal is made of
 not_refused : (past room formed : Bool)
-    → (if past then Some PastEnd else (if not room then Some NoRoom else (if not formed then Some TooLong else None))) ≡ None
+    → (if past then Some PastEnd else
+    (if not room then Some NoRoom else (if not formed then Some TooLong else None))) ≡ None
     → (past ≡ false) × (room ≡ true) × (formed ≡ true)
 not_refused true room formed e = absurd (cc)
 not_refused false false formed e = absurd (cc)
@@ -80,7 +79,7 @@ module _ (part : PlacedPart) (item : Record) where
   change = outlined item
 
   abbrev kept : ℕ
-  kept = places.kept_of item
+  kept = places.record_kept item
 
   abbrev kept_objects : List Placed
   kept_objects = take kept part.objects
@@ -145,10 +144,12 @@ module _ (part : PlacedPart) (item : Record) where
         (not_from_true room roomy)
 
     pub too_long : is_well_formed change ≡ false → refusal_in (Some seen) change ≡ Some TooLong
-    too_long bad = up_to_form ∙ cond-true (not (is_well_formed change)) (Some TooLong) None (not_from_false (is_well_formed change) bad)
+    too_long bad = up_to_form
+        ∙ cond-true (not (is_well_formed change)) (Some TooLong) None (not_from_false (is_well_formed change) bad)
 
     pub no_refusal : is_well_formed change ≡ true → refusal_in (Some seen) change ≡ None
-    no_refusal good = up_to_form ∙ cond-false (not (is_well_formed change)) (Some TooLong) None (not_from_true (is_well_formed change) good)
+    no_refusal good = up_to_form
+        ∙ cond-false (not (is_well_formed change)) (Some TooLong) None (not_from_true (is_well_formed change) good)
 
   formed_objects : (c : Change) → is_well_formed c ≡ true → All IsObject (added_by c)
   formed_objects (Changes.Put p n block) formed =
@@ -195,7 +196,7 @@ module _ (part : PlacedPart) (item : Record) where
 -- what a partition takes after a record is below the greatest number
 pub cost_fits : (part : PlacedPart) (item : Record) (place : ℕ) → IsPart (filled_part blank part)
     → refusal_in (Some (filled_part blank part)) (outlined item) ≡ None
-    → cost_of_objects (take (places.kept_of item) part.objects ++ placed_by item place) < 2 ^ 64
+    → cost_of_objects (take (places.record_kept item) part.objects ++ placed_by item place) < 2 ^ 64
 cost_fits part item place limits none =
     let after = cost_after part item none in
     let added = ap used_of (sym (added_filled blank item place)) ∙ used_filled (placed_by item place) in
@@ -205,7 +206,7 @@ cost_fits part item place limits none =
       after,
       added,
       leb-true part.capacity MAX_CAPACITY room.1,
-      sum_by-append cost_of_placed (take (places.kept_of item) part.objects) (placed_by item place),
+      sum_by-append cost_of_placed (take (places.record_kept item) part.objects) (placed_by item place),
     )
 
 -- what a partition takes is below the greatest number
@@ -216,7 +217,8 @@ capacity_fits part limits =
 
 -- the first objects of a partition keep its limits
 pub limits_cut : (part : PlacedPart) (n reserved : ℕ) → IsPart (filled_part blank part)
-    → IsPart (filled_part blank (record { capacity = part.capacity; objects = take n part.objects; reserved = reserved }))
+    → IsPart
+    (filled_part blank (record { capacity = part.capacity; objects = take n part.objects; reserved = reserved }))
 limits_cut part n reserved limits =
     subst (λ (objects : List Object). IsPart (record { capacity = part.capacity; objects = objects }))
     (take-map (filled blank) n part.objects) (record {
@@ -274,31 +276,33 @@ module _ (parts : List PlacedPart) (number : ℕ) (old new : PlacedPart) (here :
 
 -- a partition's answer is the index's
 module _ (parts : List PlacedPart) (item : Record) (place : ℕ) (old new : PlacedPart)
-    (here : slice_get parts (places.part_of item) ≡ Some old) where
+    (here : slice_get parts (places.record_part item) ≡ Some old) where
   refusal_here : refusal_of (outline parts) (outlined item) ≡ refusal_in (Some (filled_part blank old)) (outlined item)
   refusal_here =
       (λ i. refusal_in (slice_get (outline parts) (target_filled blank item 0 i)) (outlined item))
       ∙ ap (λ (p : Option Part). refusal_in p (outlined item))
-      (slice_get-map (filled_part blank) parts (places.part_of item) ∙ ap (option_map (filled_part blank)) here)
+      (slice_get-map (filled_part blank) parts (places.record_part item) ∙ ap (option_map (filled_part blank)) here)
 
   pub applies_here : (result : Result Unit ApplyError)
       → AppliesUnless (refusal_in (Some (filled_part blank old)) (outlined item)) old (record {
         capacity = old.capacity;
-        objects = take (places.kept_of item) old.objects ++ placed_by item place;
+        objects = take (places.record_kept item) old.objects ++ placed_by item place;
         reserved = new.reserved;
       }) result new
       → AppliesUnless (refusal_of (outline parts) (outlined item)) parts
-      (placed_after parts item place (reserved_of (slice_set parts (places.part_of item) new) (places.part_of item))) result
-      (slice_set parts (places.part_of item) new)
+      (placed_after parts item place
+      (reserved_of (slice_set parts (places.record_part item) new) (places.record_part item))) result
+      (slice_set parts (places.record_part item) new)
   applies_here (Ok done) answer = (
     refusal_here ∙ answer.0,
-    set_is parts (places.part_of item) old new here (take (places.kept_of item) old.objects ++ placed_by item place) answer.1
-        ∙ ap (λ (l : List Placed). with_objects parts (places.part_of item)
-        (take (places.kept_of item) l ++ placed_by item place)
-        (reserved_of (slice_set parts (places.part_of item) new) (places.part_of item)))
-        (sym (objects_here parts (places.part_of item) old new here)),
+    set_is parts (places.record_part item) old new here
+        (take (places.record_kept item) old.objects ++ placed_by item place) answer.1
+        ∙ ap (λ (l : List Placed). with_objects parts (places.record_part item)
+        (take (places.record_kept item) l ++ placed_by item place)
+        (reserved_of (slice_set parts (places.record_part item) new) (places.record_part item)))
+        (sym (objects_here parts (places.record_part item) old new here)),
   )
   applies_here (Err (Errors.Refused cause)) answer =
-      (refusal_here ∙ answer.0, set_same parts (places.part_of item) old new here answer.1)
+      (refusal_here ∙ answer.0, set_same parts (places.record_part item) old new here answer.1)
   applies_here (Err Errors.NoMemory) answer =
-      (refusal_here ∙ answer.0, set_same parts (places.part_of item) old new here answer.1)
+      (refusal_here ∙ answer.0, set_same parts (places.record_part item) old new here answer.1)

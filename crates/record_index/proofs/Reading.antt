@@ -1,18 +1,17 @@
 -- What the first ten bytes tell is a record, where they are bytes.
-use Rattle.std.proofs.Common.{◌≡◌, ◌⊎◌, inl, inr, ℕ, zero, suc, ◌<◌, ◌≤◌, ◌+◌, ◌-◌, ◌^◌, List, [], ◌∷◌, ◌++◌, length, get_or, take, drop, refl, sym, ◌∙◌, ap, subst, arith, append_assoc, length-append, take-append-drop, Some, None, Bool, true, false}
-use Rattle.std.specs.Prelude.{Option, if◌then◌else◌, slice_index, nat_lt, nat_le, ◌&&◌, ◌==◌}
+use Rattle.std.proofs.Common.{◌≡◌, inl, inr, ℕ, zero, suc, ◌<◌, ◌≤◌, ◌+◌, ◌-◌, ◌^◌, List, [], ◌∷◌, ◌++◌, length, get_or, take, drop, refl, sym, ◌∙◌, ap, subst, arith, take-append-drop, Some, None, false}
+use Rattle.std.specs.Prelude.{if◌then◌else◌, slice_index, nat_lt, nat_le, ◌&&◌, ◌==◌}
 use Rattle.std.specs.Int.{to_be_bytes, w32}
-use Rattle.std.proofs.lemmas.Bool.{and_parts, cases_Bool, cases_lt, cond-true, cond-false, eqb-true, leb-true, le-ltb, lt-ltb}
+use Rattle.std.proofs.lemmas.Bool.{and_parts, cases_Bool, cond-true, cond-false, eqb-true, leb-true, le-ltb, lt-ltb}
 use Rattle.std.proofs.lemmas.List.{drop-drop, length-take-le}
 use Rattle.std.proofs.lemmas.Nat.{be_bytes_4}
 use Rattle.std.proofs.lemmas.Option.{cond_some}
 use Rattle.byteorder.specs.Endian.{big_number}
 use Rattle.vtl_base.specs.declared.limits.TheConstants.{MAX_BLOCK, MAX_OBJECTS}
-use Rattle.volume_core.specs.declared.changes.Change.{Change}
 use Rattle.volume_core.specs.declared.changes.Change.TheVariants as Changes
 use Rattle.record_index.specs.declared.records.Record.{Record}
 use Rattle.record_index.specs.declared.records.Record.TheVariants.{Put, Marks, Erase}
-use Rattle.record_index.specs.Records.{IsRecord, IsAtFront, BeginsWithRecord, spell, record_of, size_of, change_in}
+use Rattle.record_index.specs.Records.{IsAtFront, BeginsWithRecord, record_of}
 use Rattle.record_index.specs.Inner.Told.{told, kind_told, block_told, marks_told, erase_told}
 use Rattle.record_index.specs.Inner.Spelled.{length-spell, told_again}
 
@@ -32,7 +31,8 @@ Tells kind part at number there (Erase p a) = (kind ≡ 3) × (p ≡ part) × (a
 block_tells : (part at number there : ℕ) (item : Record) → block_told part at number there ≡ Some item
     → Tells 1 part at number there item
 block_tells part at number there item is =
-    let found = cond_some (nat_le 1 number && nat_le number MAX_BLOCK && nat_le number there) (Put part at number) item is in
+    let found =
+    cond_some (nat_le 1 number && nat_le number MAX_BLOCK && nat_le number there) (Put part at number) item is in
     let parts = and_parts (nat_le 1 number && nat_le number MAX_BLOCK) (nat_le number there) found.0 in
     let few = and_parts (nat_le 1 number) (nat_le number MAX_BLOCK) parts.0 in
     subst (λ (i : Record). Tells 1 part at number there i) found.1 (
@@ -71,11 +71,13 @@ third kind part at number there item is = elim (cases_Bool (kind == 3)) [
   | inl holds ↦ subst (λ (k : ℕ). Tells k part at number there item) (sym (eqb-true kind 3 holds))
       (erase_tells part at number there item (sym (cond-true (kind == 3) (erase_told part at number) None holds) ∙ is))
   | inr fails ↦
-      let none : None ≡ Some item = sym (cond-false (kind == 3) (erase_told part at number) None fails) ∙ is in absurd (cc)
+      let none : None ≡ Some item = sym (cond-false (kind == 3) (erase_told part at number) None fails) ∙ is in
+      absurd (cc)
 ]
 
 second : (kind part at number there : ℕ) (item : Record)
-    → (if kind == 2 then marks_told part at number else (if kind == 3 then erase_told part at number else None)) ≡ Some item
+    → (if kind == 2 then marks_told part at number else (if kind == 3 then erase_told part at number else None))
+    ≡ Some item
     → Tells kind part at number there item
 second kind part at number there item is = elim (cases_Bool (kind == 2)) [
   | inl holds ↦ subst (λ (k : ℕ). Tells k part at number there item) (sym (eqb-true kind 2 holds))
@@ -90,9 +92,11 @@ kind_tells : (kind part at number there : ℕ) (item : Record) → kind_told kin
 kind_tells kind part at number there item is = elim (cases_Bool (kind == 1)) [
   | inl holds ↦ subst (λ (k : ℕ). Tells k part at number there item) (sym (eqb-true kind 1 holds))
       (block_tells part at number there item (sym (cond-true (kind == 1) (block_told part at number there)
-      (if kind == 2 then marks_told part at number else (if kind == 3 then erase_told part at number else None)) holds) ∙ is))
+      (if kind == 2 then marks_told part at number else
+      (if kind == 3 then erase_told part at number else None)) holds) ∙ is))
   | inr fails ↦ second kind part at number there item (sym (cond-false (kind == 1) (block_told part at number there)
-      (if kind == 2 then marks_told part at number else (if kind == 3 then erase_told part at number else None)) fails) ∙ is)
+      (if kind == 2 then marks_told part at number else
+      (if kind == 3 then erase_told part at number else None)) fails) ∙ is)
 ]
 
 four : (a b c d : ℕ) → a < 256 → b < 256 → c < 256 → d < 256
@@ -193,7 +197,8 @@ short_tells bytes item short is =
 -- what bytes tell stands at their front
 pub told_found : (bytes : List ℕ) → ((k : ℕ) → get_or bytes k 0 < 256) → (item : Record) → told bytes ≡ Some item
     → IsAtFront item bytes
-told_found (a ∷ b ∷ c ∷ d ∷ e ∷ f ∷ g ∷ h ∷ i ∷ j ∷ tail) fits item is = told_cells a b c d e f g h i j tail fits item is
+told_found (a ∷ b ∷ c ∷ d ∷ e ∷ f ∷ g ∷ h ∷ i ∷ j ∷ tail) fits item is =
+    told_cells a b c d e f g h i j tail fits item is
 told_found [] fits item is = short_tells [] item (omega arith) is
 told_found (a ∷ []) fits item is = short_tells (a ∷ []) item (omega arith) is
 told_found (a ∷ b ∷ []) fits item is = short_tells (a ∷ b ∷ []) item (omega arith) is
@@ -201,6 +206,9 @@ told_found (a ∷ b ∷ c ∷ []) fits item is = short_tells (a ∷ b ∷ c ∷ 
 told_found (a ∷ b ∷ c ∷ d ∷ []) fits item is = short_tells (a ∷ b ∷ c ∷ d ∷ []) item (omega arith) is
 told_found (a ∷ b ∷ c ∷ d ∷ e ∷ []) fits item is = short_tells (a ∷ b ∷ c ∷ d ∷ e ∷ []) item (omega arith) is
 told_found (a ∷ b ∷ c ∷ d ∷ e ∷ f ∷ []) fits item is = short_tells (a ∷ b ∷ c ∷ d ∷ e ∷ f ∷ []) item (omega arith) is
-told_found (a ∷ b ∷ c ∷ d ∷ e ∷ f ∷ g ∷ []) fits item is = short_tells (a ∷ b ∷ c ∷ d ∷ e ∷ f ∷ g ∷ []) item (omega arith) is
-told_found (a ∷ b ∷ c ∷ d ∷ e ∷ f ∷ g ∷ h ∷ []) fits item is = short_tells (a ∷ b ∷ c ∷ d ∷ e ∷ f ∷ g ∷ h ∷ []) item (omega arith) is
-told_found (a ∷ b ∷ c ∷ d ∷ e ∷ f ∷ g ∷ h ∷ i ∷ []) fits item is = short_tells (a ∷ b ∷ c ∷ d ∷ e ∷ f ∷ g ∷ h ∷ i ∷ []) item (omega arith) is
+told_found (a ∷ b ∷ c ∷ d ∷ e ∷ f ∷ g ∷ []) fits item is =
+    short_tells (a ∷ b ∷ c ∷ d ∷ e ∷ f ∷ g ∷ []) item (omega arith) is
+told_found (a ∷ b ∷ c ∷ d ∷ e ∷ f ∷ g ∷ h ∷ []) fits item is =
+    short_tells (a ∷ b ∷ c ∷ d ∷ e ∷ f ∷ g ∷ h ∷ []) item (omega arith) is
+told_found (a ∷ b ∷ c ∷ d ∷ e ∷ f ∷ g ∷ h ∷ i ∷ []) fits item is =
+    short_tells (a ∷ b ∷ c ∷ d ∷ e ∷ f ∷ g ∷ h ∷ i ∷ []) item (omega arith) is

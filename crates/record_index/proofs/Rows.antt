@@ -1,6 +1,6 @@
 -- Rows by their places.
-use Rattle.std.proofs.Common.{◌≡◌, ℕ, zero, suc, ◌<◌, ◌≤◌, ◌+◌, ◌-◌, List, [], ◌∷◌, ◌++◌, length, take, drop, replicate, refl, sym, ◌∙◌, ap, arith, zero-add, Some, None}
-use Rattle.std.specs.Prelude.{slice_get, slice_set, Option}
+use Rattle.std.proofs.Common.{◌≡◌, ℕ, zero, suc, ◌<◌, ◌≤◌, ◌-◌, List, [], ◌∷◌, ◌++◌, length, take, drop, replicate, refl, ◌∙◌, ap, arith, Some}
+use Rattle.std.specs.Prelude.{slice_get, slice_set}
 
 pub slice_get_left : {A : Type 0} (xs ys : List A) (k : ℕ) → k < length xs → slice_get (xs ++ ys) k ≡ slice_get xs k
 slice_get_left [] ys k within = absurd (omega (arith, within))
@@ -49,7 +49,8 @@ at_within (x ∷ xs) zero within = (x, refl)
 at_within (x ∷ xs) (suc k) within = at_within xs k (omega (arith, within))
 
 -- so many of two rows, where the first is no longer than that
-pub take_past : {A : Type 0} (xs ys : List A) (n : ℕ) → length xs ≤ n → take n (xs ++ ys) ≡ xs ++ take (n - length xs) ys
+pub take_past : {A : Type 0} (xs ys : List A) (n : ℕ) → length xs ≤ n → take n (xs ++ ys)
+    ≡ xs ++ take (n - length xs) ys
 take_past [] ys n past = (let same : n ≡ n - 0 = omega arith in ap (λ m. take m ys) same)
 take_past (x ∷ xs) ys zero past = absurd (omega (arith, past))
 take_past (x ∷ xs) ys (suc n) past =

@@ -1,9 +1,8 @@
 -- A table of runs: which objects its first entries have, and what those take.
-use Rattle.std.proofs.Common.{◌≡◌, ◌⊎◌, inl, inr, ℕ, zero, suc, ◌<◌, ◌≤◌, ◌+◌, ◌-◌, ◌*◌, List, [], ◌∷◌, ◌++◌, length, take, drop, replicate, refl, sym, ◌∙◌, ap, subst, arith, add-one, append_assoc, length-append, Some, None, Bool, true, false}
-use Rattle.std.specs.Prelude.{slice_get, Option, ◌==◌, sum_by}
-use Rattle.std.specs.List.{flat_map}
-use Rattle.std.proofs.lemmas.Bool.{cases_Bool, cases_lt, cond-true, cond-false, ne_eqb}
-use Rattle.std.proofs.lemmas.List.{append-nil, length-replicate, length-take-le, take-append-drop, take-append-le, take-take, take_all, take-replicate}
+use Rattle.std.proofs.Common.{◌≡◌, inl, inr, ℕ, zero, suc, ◌<◌, ◌≤◌, ◌+◌, ◌-◌, ◌*◌, List, [], ◌∷◌, ◌++◌, length, take, drop, replicate, refl, sym, ◌∙◌, ap, subst, arith, length-append, Some, Bool, true, false}
+use Rattle.std.specs.Prelude.{slice_get, Option, ◌==◌}
+use Rattle.std.proofs.lemmas.Bool.{cases_lt, cond-true, cond-false, ne_eqb}
+use Rattle.std.proofs.lemmas.List.{append-nil, length-replicate, take-append-drop, take-append-le, take-take, take_all, take-replicate}
 use Rattle.std.proofs.lemmas.List.Concat.{flat_map-append}
 use Rattle.std.proofs.lemmas.List.Sums.{sum_by-append}
 use Rattle.std.proofs.lemmas.List.Folds.{sum_by-replicate}
@@ -37,7 +36,8 @@ table_push entries entry table last k found is = elim (cases_lt k (length entrie
       let near = slice_get_within (entries ++ entry ∷ []) k found is in
       let none : k - length entries ≡ 0 = omega (arith, past, near, length-append entries (entry ∷ [])) in
       let same : entry ≡ found =
-      same_some entry found (ap (slice_get (entry ∷ [])) (sym none) ∙ sym (slice_get_right entries (entry ∷ []) k past) ∙ is) in
+      same_some entry found
+      (ap (slice_get (entry ∷ [])) (sym none) ∙ sym (slice_get_right entries (entry ∷ []) k past) ∙ is) in
       subst (λ (l : List Entry). IsEntryAfter l found) (sym (take_all (k + 1) (entries ++ entry ∷ []) all))
       (subst (λ (e : Entry). IsEntryAfter (entries ++ entry ∷ []) e) same last)
 ]
@@ -87,7 +87,14 @@ module _ (entries : List Entry) (at count : ℕ) (entry : Entry) (table : IsTabl
   pub inside : at < length front + length (objects_of_entry entry)
   inside =
       let behind = subst (λ (o : Option Entry). EndsBehind o at) here split.behind in
-      omega (arith, behind, (table count entry here).end_is, ap length up_to_it, length-append front (objects_of_entry entry))
+      omega (
+        arith,
+        behind,
+        (table count entry here).end_is,
+        ap length up_to_it,
+        length-append front
+            (objects_of_entry entry),
+      )
 
   -- the object of that number is the entry's
   pub object_is : slice_get (objects_of entries) at ≡ slice_get (objects_of_entry entry) (at - length front)
@@ -140,7 +147,8 @@ pub all_before : (entries : List Entry) (at count : ℕ) → IsTable entries →
     → count ≡ length entries → (length (objects_of entries) ≤ at) × (take count entries ≡ entries)
 all_before entries at count table split all =
     let whole : take count entries ≡ entries = take_all count entries (omega (arith, all)) in (
-      subst (λ (l : List Entry). length (objects_of l) ≤ at) whole (ends_before entries at count table split (omega (arith, all))),
+      subst (λ (l : List Entry). length (objects_of l) ≤ at) whole
+          (ends_before entries at count table split (omega (arith, all))),
       whole,
     )
 

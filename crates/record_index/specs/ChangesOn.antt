@@ -1,6 +1,6 @@
 -- The changes that bytes spell, as a function: what a law decides of each row of bytes.
 use Rattle.std.specs.Prelude.{◌≡◌, ℕ, List, Option, None, Some}
-use Rattle.std.proofs.Common.{◌⊎◌, inl, inr, ap, subst, refl}
+use Rattle.std.proofs.Common.{inl, inr, ap, subst}
 use Rattle.volume_core.specs.declared.changes.Change.{Change}
 use Rattle.record_index.specs.Records.{SpellsAll, IsBadAt}
 use Rattle.record_index.specs.Inner.Decided.{IsDecided, decided, same_list, never_both}
@@ -23,7 +23,8 @@ changes_on_is bytes changes spells = by (decided bytes)
     by (inr bad) = absurd (never_both bytes changes bad.0 spells bad.1)
 
 -- bytes spell the list on them (own)
-pub changes_on_spelled : (bytes : List ℕ) (changes : List Change) → changes_on bytes ≡ Some changes → SpellsAll bytes changes
+pub changes_on_spelled : (bytes : List ℕ) (changes : List Change) → changes_on bytes ≡ Some changes
+    → SpellsAll bytes changes
 changes_on_spelled bytes changes = by (decided bytes)
   where
     pick : Option (List Change) → List Change

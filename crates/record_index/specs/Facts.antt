@@ -1,26 +1,22 @@
 -- What no byte of a block decides, and what applies: the laws of shapes as lemmas, for the crates above.
-use Rattle.std.specs.Prelude.{◌≡◌, ◌≤◌, ◌<◌, ◌+◌, ◌^◌, ℕ, zero, suc, List, [], ◌∷◌, ◌++◌, length, take, map, replicate, sum_by, Option, None, Some, slice_get, slice_set, All, nat_lt, nat_le, not, ◌&&◌, Bool, true, false, if◌then◌else◌, refl}
+use Rattle.std.specs.Prelude.{◌≡◌, ◌+◌, ℕ, zero, suc, List, [], ◌∷◌, ◌++◌, length, take, map, replicate, Option, None, Some, slice_get, slice_set, nat_lt, nat_le, not, ◌&&◌, if◌then◌else◌, refl}
 use Rattle.std.specs.Option.{option_map}
-use Rattle.std.proofs.Common.{ap, sym, subst, ◌∙◌, inl, inr, arith, length-append}
-use Rattle.std.proofs.lemmas.Bool.{cases_Bool, ltb-false, leb-true, and_parts, false≢true, not-false}
-use Rattle.std.proofs.lemmas.List.{map-append, map-set, length-map, length-replicate, length-take-le, take-map}
+use Rattle.std.proofs.Common.{ap, sym, ◌∙◌}
+use Rattle.std.proofs.lemmas.List.{map-append, map-set, length-map, length-replicate, take-map}
 use Rattle.std.proofs.lemmas.List.Sums.{sum_by-cons}
-use Rattle.std.proofs.lemmas.List.Elements.{All-get_or}
-use Rattle.std.proofs.lemmas.Option.{slice_get-map, slice_get_within, get_or_from_slice_get}
-use Rattle.vtl_base.specs.declared.limits.TheConstants.{MAX_BLOCK, MAX_OBJECTS, MAX_PARTITIONS}
+use Rattle.std.proofs.lemmas.Option.{slice_get-map}
+use Rattle.vtl_base.specs.declared.limits.TheConstants.{MAX_BLOCK, MAX_OBJECTS}
 use Rattle.volume_core.specs.declared.objects.Object.{Object}
 use Rattle.volume_core.specs.declared.objects.Object.TheVariants.{Block, Mark}
-use Rattle.volume_core.specs.declared.objects.Kind.{Kind}
 use Rattle.volume_core.specs.declared.changes.Change.{Change}
 use Rattle.volume_core.specs.declared.changes.Change.TheVariants.{Put, Marks, Erase}
-use Rattle.volume_core.specs.declared.changes.Refusal.{Refusal}
-use Rattle.volume_core.specs.declared.changes.Refusal.TheVariants.{NoPartition, PastEnd, NoRoom, TooLong}
-use Rattle.volume_core.specs.Volume.{Part, IsPart, IsVolume, added_by, capacity_in, capacity_of, changed, changed_in, cost_of, count_of, has_room, is_well_formed, kept_of, kind_at, kind_in, objects_after, objects_in, objects_of, part_after, part_of, refusal_in, refusal_of, used_of, used_up_to}
+use Rattle.volume_core.specs.declared.changes.Refusal.TheVariants.{PastEnd, NoRoom, TooLong}
+use Rattle.volume_core.specs.Volume.{Part, added_by, capacity_in, capacity_of, changed, changed_in, cost_of, count_of, has_room, is_well_formed, kept_of, kind_at, kind_in, objects_after, objects_in, objects_of, part_after, part_of, refusal_in, refusal_of, used_of, used_up_to}
 use Rattle.record_index.specs.declared.places.Placed.{Placed}
 use Rattle.record_index.specs.declared.places.Placed.TheVariants as Placeds
 use Rattle.record_index.specs.declared.records.Record.{Record}
 use Rattle.record_index.specs.declared.records.Record.TheVariants as Records
-use Rattle.record_index.specs.Records.{IsRecord, record_of}
+use Rattle.record_index.specs.Records.{record_of}
 use Rattle.record_index.specs.Places as places
 use Rattle.record_index.specs.Places.{PlacedPart, Reading, blank, change_by, filled, filled_part, outline, placed_after, placed_by, placed_objects, placed_objects_in, volume_by, with_objects, with_objects_in}
 use Rattle.record_index.specs.Shapes.{IsIndexOf, blanked, shape_of, shape_of_change, shape_of_part}
@@ -35,13 +31,16 @@ part_by_shape : (volume : List Part) (number : ℕ)
     → slice_get (shape_of volume) number ≡ option_map shape_of_part (slice_get volume number)
 part_by_shape volume number = slice_get-map shape_of_part volume number
 
-pub capacity_by_shape : (volume : List Part) (number : ℕ) → capacity_of (shape_of volume) number ≡ capacity_of volume number
+-- capacities are those of the shape (own)
+pub capacity_by_shape : (volume : List Part) (number : ℕ) → capacity_of (shape_of volume) number
+    ≡ capacity_of volume number
 capacity_by_shape volume number = ap capacity_in (part_by_shape volume number) ∙ of_it (slice_get volume number)
   where
     of_it : (part : Option Part) → capacity_in (option_map shape_of_part part) ≡ capacity_in part
     of_it None = refl
     of_it (Some part) = refl
 
+-- the objects of a shape are those of the volume, their bytes 0 (own)
 pub objects_by_shape : (volume : List Part) (number : ℕ)
     → objects_of (shape_of volume) number ≡ map blanked (objects_of volume number)
 objects_by_shape volume number = ap objects_in (part_by_shape volume number) ∙ of_it (slice_get volume number)
@@ -50,10 +49,12 @@ objects_by_shape volume number = ap objects_in (part_by_shape volume number) ∙
     of_it None = refl
     of_it (Some part) = refl
 
+-- counts are those of the shape (own)
 pub count_by_shape : (volume : List Part) (number : ℕ) → count_of (shape_of volume) number ≡ count_of volume number
 count_by_shape volume number =
     ap length (objects_by_shape volume number) ∙ length-map (objects_of volume number) blanked
 
+-- kinds are those of the shape (own)
 pub kind_by_shape : (volume : List Part) (number at : ℕ)
     → kind_at (shape_of volume) number at ≡ kind_at volume number at
 kind_by_shape volume number at =
@@ -70,6 +71,7 @@ cost_by_shape : (object : Object) → cost_of (blanked object) ≡ cost_of objec
 cost_by_shape (Block bytes) = ap (λ (n : ℕ). n + 16) (length-replicate (length bytes) 0)
 cost_by_shape Mark = refl
 
+-- what objects take hangs on no byte of a block (own)
 pub used_blanked : (objects : List Object) → used_of (map blanked objects) ≡ used_of objects
 used_blanked [] = refl
 used_blanked (object ∷ objects) =
@@ -77,6 +79,7 @@ used_blanked (object ∷ objects) =
     ∙ (λ i. cost_by_shape object i + used_blanked objects i)
     ∙ sym (sum_by-cons cost_of object objects)
 
+-- what the first objects take is as in the shape (own)
 pub used_by_shape : (volume : List Part) (number n : ℕ)
     → used_up_to (shape_of volume) number n ≡ used_up_to volume number n
 used_by_shape volume number n =
@@ -127,6 +130,7 @@ refusal_by_part part change =
     else (if not (formed_by_shape change i) then Some TooLong
     else None))
 
+-- a change is refused as its shape is by the shape of the volume (own)
 pub refusal_by_shape : (volume : List Part) (change : Change)
     → refusal_of (shape_of volume) (shape_of_change change) ≡ refusal_of volume change
 refusal_by_shape volume change =
@@ -159,7 +163,8 @@ shape_changed volume change =
       where
         after_part : shape_of_part (part_after part change) ≡ part_after (shape_of_part part) (shape_of_change change)
         after_part =
-            ap (λ (objects : List Object). let made : Part = record { capacity = part.capacity; objects = objects } in made)
+            ap (λ (objects : List Object). let made : Part =
+            record { capacity = part.capacity; objects = objects } in made)
             (sym (after_by_shape part.objects change))
 
         target : part_of change ≡ part_of (shape_of_change change)
@@ -172,59 +177,69 @@ added_filled read (Records.Put part at size) place = refl
 added_filled read (Records.Marks part at count) place = map-replicate (filled read) count Placeds.Mark
 added_filled read (Records.Erase part at) place = refl
 
-pub target_filled : (read : Reading) (item : Record) (place : ℕ) → part_of (change_by read item place) ≡ places.part_of item
+-- a record's change concerns the record's partition (own)
+pub target_filled : (read : Reading) (item : Record) (place : ℕ) → part_of (change_by read item place)
+    ≡ places.record_part item
 target_filled read (Records.Put part at size) place = refl
 target_filled read (Records.Marks part at count) place = refl
 target_filled read (Records.Erase part at) place = refl
 
-pub kept_filled : (read : Reading) (item : Record) (place : ℕ) → kept_of (change_by read item place) ≡ places.kept_of item
+-- and keeps as many objects (own)
+pub kept_filled : (read : Reading) (item : Record) (place : ℕ) → kept_of (change_by read item place)
+    ≡ places.record_kept item
 kept_filled read (Records.Put part at size) place = refl
 kept_filled read (Records.Marks part at count) place = refl
 kept_filled read (Records.Erase part at) place = refl
 
 -- what a record makes of the volume of an index, by what a read gives
 module _ (read : Reading) (parts : List PlacedPart) (item : Record) (place reserved : ℕ) where
+  -- the objects of a partition that may be there, after a record (own)
   abbrev pub now : Option PlacedPart → List Placed
-  now part = take (places.kept_of item) (placed_objects_in part) ++ placed_by item place
+  now part = take (places.record_kept item) (placed_objects_in part) ++ placed_by item place
 
+  -- the partition after a record (own)
   abbrev pub placed : PlacedPart → PlacedPart
   placed part = record { capacity = part.capacity; objects = now (Some part); reserved = reserved }
 
+  -- its objects, filled by what a read gives, are those after the change (own)
   pub filled_now : (part : PlacedPart)
       → map (filled read) (now (Some part)) ≡ objects_after (map (filled read) part.objects) (change_by read item place)
   filled_now part =
-      map-append (filled read) (take (places.kept_of item) part.objects) (placed_by item place)
+      map-append (filled read) (take (places.record_kept item) part.objects) (placed_by item place)
       ∙ (λ i. kept i ++ added_filled read item place i)
     where
-      kept : map (filled read) (take (places.kept_of item) part.objects)
+      kept : map (filled read) (take (places.record_kept item) part.objects)
           ≡ take (kept_of (change_by read item place)) (map (filled read) part.objects)
       kept =
-          sym (take-map (filled read) (places.kept_of item) part.objects)
+          sym (take-map (filled read) (places.record_kept item) part.objects)
           ∙ ap (λ (n : ℕ). take n (map (filled read) part.objects)) (sym (kept_filled read item place))
 
   by_part : (part : Option PlacedPart)
-      → volume_by read (with_objects_in part parts (places.part_of item) (now part) reserved)
+      → volume_by read (with_objects_in part parts (places.record_part item) (now part) reserved)
       ≡ changed_in (option_map (filled_part read) part) (volume_by read parts) (change_by read item place)
   by_part None = refl
   by_part (Some part) =
-      map-set (filled_part read) parts (places.part_of item) (placed part)
+      map-set (filled_part read) parts (places.record_part item) (placed part)
       ∙ (λ i. slice_set (volume_by read parts) (target i) (after_part i))
     where
       after_part : filled_part read (placed part) ≡ part_after (filled_part read part) (change_by read item place)
       after_part =
-          ap (λ (objects : List Object). let made : Part = record { capacity = part.capacity; objects = objects } in made)
+          ap (λ (objects : List Object). let made : Part = record { capacity = part.capacity; objects = objects } in
+          made)
           (filled_now part)
 
-      target : places.part_of item ≡ part_of (change_by read item place)
+      target : places.record_part item ≡ part_of (change_by read item place)
       target = sym (target_filled read item place)
 
+  -- the volume of an index after a record is the volume after its change (own)
   pub volume_after : volume_by read (placed_after parts item place reserved)
       ≡ changed (volume_by read parts) (change_by read item place)
   volume_after =
-      by_part (slice_get parts (places.part_of item))
+      by_part (slice_get parts (places.record_part item))
       ∙ ap (λ (part : Option Part). changed_in part (volume_by read parts) (change_by read item place))
-      (sym (slice_get-map (filled_part read) parts (places.part_of item)))
-      ∙ ap (λ (number : ℕ). changed_in (slice_get (volume_by read parts) number) (volume_by read parts) (change_by read item place))
+      (sym (slice_get-map (filled_part read) parts (places.record_part item)))
+      ∙ ap (λ (number : ℕ). changed_in (slice_get (volume_by read parts) number) (volume_by read parts)
+      (change_by read item place))
       (sym (target_filled read item place))
 
 -- an index of a volume's shape has it after a change too

@@ -1,6 +1,6 @@
 -- An index of a volume: object by object it has the same kinds and lengths, and a fact holds of each block's bytes and
 -- place. The lemmas are for the crates above: the fact is any, and no clause can range over facts.
-use Rattle.std.specs.Prelude.{◌≡◌, ◌≤◌, ℕ, zero, suc, List, [], ◌∷◌, ◌++◌, length, take, map, replicate, Option, None, Some, slice_get, slice_set, refl}
+use Rattle.std.specs.Prelude.{◌≡◌, ℕ, zero, suc, List, [], ◌∷◌, ◌++◌, length, take, map, replicate, Option, None, Some, slice_get, slice_set, refl}
 use Rattle.std.proofs.Common.{ap, sym, subst, ◌∙◌}
 use Rattle.volume_core.specs.declared.objects.Object.{Object}
 use Rattle.volume_core.specs.declared.objects.Object.TheVariants.{Block, Mark}
@@ -67,10 +67,15 @@ indexes_shape P [] [] lies = refl
 indexes_shape P [] (q ∷ qs) lies = absurd lies
 indexes_shape P (p ∷ ps) [] lies = absurd lies
 indexes_shape P (p ∷ ps) (q ∷ qs) lies =
-    λ i. record { capacity = lies.0 i; objects = lie_shape P p.objects q.objects lies.1 i } ∷ indexes_shape P ps qs lies.2 i
+    λ i. record {
+      capacity = lies.0 i;
+      objects =
+          lie_shape P p.objects q.objects lies.1 i;
+    } ∷ indexes_shape P ps qs lies.2 i
 
 lie_by : (P Q : List ℕ → ℕ → Type 0) (objects : List Object) (placed : List Placed)
-    → ((bytes : List ℕ) (place : ℕ) → P bytes place → Q bytes place) → AllLieAs P objects placed → AllLieAs Q objects placed
+    → ((bytes : List ℕ) (place : ℕ) → P bytes place → Q bytes place) → AllLieAs P objects placed
+    → AllLieAs Q objects placed
 lie_by P Q [] [] follows lies = tt
 lie_by P Q [] (q ∷ qs) follows lies = absurd lies
 lie_by P Q (o ∷ os) [] follows lies = absurd lies
@@ -141,12 +146,12 @@ both_at P (p ∷ ps) [] number lies = absurd lies
 both_at P (p ∷ ps) (q ∷ qs) zero lies = (lies.0, lies.1)
 both_at P (p ∷ ps) (q ∷ qs) (suc n) lies = both_at P ps qs n lies.2
 
-same_target : (change : Change) → places.part_of (record_of change) ≡ part_of change
+same_target : (change : Change) → places.record_part (record_of change) ≡ part_of change
 same_target (Put part at block) = refl
 same_target (Marks part at count) = refl
 same_target (Erase part at) = refl
 
-same_kept : (change : Change) → places.kept_of (record_of change) ≡ kept_of change
+same_kept : (change : Change) → places.record_kept (record_of change) ≡ kept_of change
 same_kept (Put part at block) = refl
 same_kept (Marks part at count) = refl
 same_kept (Erase part at) = refl
@@ -158,25 +163,26 @@ pub indexes_after : (P : List ℕ → ℕ → Type 0) (volume : List Part) (part
 indexes_after P volume parts change place reserved here lies =
     subst (λ (number : ℕ). Indexes P (changed volume change)
     (with_objects parts number
-    (take (places.kept_of (record_of change)) (placed_objects parts number) ++ placed_by (record_of change) place)
+    (take (places.record_kept (record_of change)) (placed_objects parts number) ++ placed_by (record_of change) place)
     reserved)) (sym (same_target change))
     (by (slice_get volume (part_of change)) (slice_get parts (part_of change))
     (both_at P volume parts (part_of change) lies))
   where
     by : (part : Option Part) (placed : Option PlacedPart) → BothAt P part placed
         → Indexes P (changed_in part volume change) (with_objects_in placed parts (part_of change)
-        (take (places.kept_of (record_of change)) (placed_objects_in placed) ++ placed_by (record_of change) place) reserved)
+        (take (places.record_kept (record_of change)) (placed_objects_in placed) ++ placed_by
+        (record_of change) place) reserved)
     by None None both = lies
     by None (Some q) both = absurd both
     by (Some p) None both = absurd both
     by (Some p) (Some q) both =
         set_one P volume parts (part_of change) (part_after p change) (record {
           capacity = q.capacity;
-          objects = take (places.kept_of (record_of change)) q.objects ++ placed_by (record_of change) place;
+          objects = take (places.record_kept (record_of change)) q.objects ++ placed_by (record_of change) place;
           reserved = reserved;
         }) lies both.0
         (lie_append P (take (kept_of change) p.objects) (added_by change)
-        (take (places.kept_of (record_of change)) q.objects) (placed_by (record_of change) place)
+        (take (places.record_kept (record_of change)) q.objects) (placed_by (record_of change) place)
         (subst (λ (n : ℕ). AllLieAs P (take (kept_of change) p.objects) (take n q.objects)) (sym (same_kept change))
         (lie_take P (kept_of change) p.objects q.objects both.1))
         (lie_added P change place here))
@@ -203,7 +209,8 @@ indexes_reserved P volume parts number reserved lies =
           objects = q.objects;
           reserved = reserved;
         }))) (written volume number p is)
-        (set_one P volume parts number p (record { capacity = q.capacity; objects = q.objects; reserved = reserved }) lies
+        (set_one P volume parts number p
+        (record { capacity = q.capacity; objects = q.objects; reserved = reserved }) lies
         both.0 both.1)
 
 -- a block of the index is a block of the volume, of that length, and of its bytes and place the fact holds
@@ -233,7 +240,8 @@ indexes_block P volume parts number at place size lies there =
   where
     by : (part : Option Part) (placed : Option PlacedPart) → BothAt P part placed
         → slice_get (placed_objects_in placed) at ≡ Some (Placeds.Block place size)
-        → (bytes : List ℕ) × (block_in (slice_get (objects_in part) at) ≡ Some bytes) × (size ≡ length bytes) × P bytes place
+        → (bytes : List ℕ) × (block_in (slice_get (objects_in part) at) ≡ Some bytes) ×
+        (size ≡ length bytes) × P bytes place
     by None None both is = absurd (cc)
     by None (Some q) both is = absurd both
     by (Some p) None both is = absurd both

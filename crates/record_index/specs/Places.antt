@@ -1,6 +1,5 @@
 -- Where the objects of a cartridge lie: what contracts see of an index.
-use Rattle.std.specs.Prelude.{◌≡◌, ◌<◌, ◌≤◌, ◌+◌, ◌-◌, ◌*◌, ◌^◌, ℕ, List, [], ◌∷◌, ◌++◌, length, take, map, replicate, Option, None, Some, slice_get, slice_set}
-use Rattle.vtl_base.specs.declared.limits.TheConstants.{MAX_OBJECTS}
+use Rattle.std.specs.Prelude.{◌<◌, ◌-◌, ◌^◌, ℕ, List, [], ◌∷◌, ◌++◌, length, take, map, replicate, Option, None, Some, slice_get, slice_set}
 use Rattle.volume_core.specs.declared.objects.Object.{Object}
 use Rattle.volume_core.specs.declared.objects.Object.TheVariants.{Block, Mark}
 use Rattle.volume_core.specs.declared.changes.Change.{Change}
@@ -11,7 +10,7 @@ use Rattle.record_index.specs.declared.places.Run.{Run}
 use Rattle.record_index.specs.declared.places.Run.TheVariants as Runs
 use Rattle.record_index.specs.declared.records.Record.{Record}
 use Rattle.record_index.specs.declared.records.Record.TheVariants as Records
-use Rattle.record_index.specs.Records.{change_with, block_length}
+use Rattle.record_index.specs.Records.{change_with, record_length}
 
 -- A partition of an index: how many bytes it takes, its objects from object 0 on, of each block its place and its
 -- length, and how many runs may be added without memory (own).
@@ -48,11 +47,11 @@ outline parts = volume_by blank parts
 
 -- the change of a record with each byte of its block 00h (own)
 abbrev pub outlined : Record → Change
-outlined item = change_with item (blank 0 (block_length item))
+outlined item = change_with item (blank 0 (record_length item))
 
 -- the change of a record whose block lies at that place, by what a read gives (own)
 abbrev pub change_by : Reading → Record → ℕ → Change
-change_by read item place = change_with item (read place (block_length item))
+change_by read item place = change_with item (read place (record_length item))
 
 -- the objects of a partition that may be there (own)
 abbrev pub placed_objects_in : Option PlacedPart → List Placed
@@ -109,16 +108,16 @@ runs_of (Records.Marks part at count) = 1
 runs_of (Records.Erase part at) = 0
 
 -- the partition that a record concerns (own)
-abbrev pub part_of : Record → ℕ
-part_of (Records.Put part at length) = part
-part_of (Records.Marks part at count) = part
-part_of (Records.Erase part at) = part
+abbrev pub record_part : Record → ℕ
+record_part (Records.Put part at length) = part
+record_part (Records.Marks part at count) = part
+record_part (Records.Erase part at) = part
 
 -- how many of its objects stay (own)
-abbrev pub kept_of : Record → ℕ
-kept_of (Records.Put part at length) = at
-kept_of (Records.Marks part at count) = at
-kept_of (Records.Erase part at) = at
+abbrev pub record_kept : Record → ℕ
+record_kept (Records.Put part at length) = at
+record_kept (Records.Marks part at count) = at
+record_kept (Records.Erase part at) = at
 
 -- the index with these objects, and so many runs reserved, in a partition that may be there (own)
 abbrev pub with_objects_in : Option PlacedPart → List PlacedPart → ℕ → List Placed → ℕ → List PlacedPart
@@ -134,5 +133,5 @@ with_objects parts number objects reserved =
 -- the index after a record whose block lies at that place, with so many runs reserved then (own)
 abbrev pub placed_after : List PlacedPart → Record → ℕ → ℕ → List PlacedPart
 placed_after parts item place reserved =
-    with_objects parts (part_of item)
-    (take (kept_of item) (placed_objects parts (part_of item)) ++ placed_by item place) reserved
+    with_objects parts (record_part item)
+    (take (record_kept item) (placed_objects parts (record_part item)) ++ placed_by item place) reserved

@@ -1,4 +1,4 @@
--- Which bytes spell a change, and which a list of changes.
+-- Which bytes spell_change a change, and which a list of changes.
 use Rattle.std.specs.Prelude.{◌≡◌, ◌≢◌, ◌≤◌, ◌<◌, ◌+◌, ◌^◌, ℕ, List, [], ◌∷◌, ◌++◌, length, take, drop}
 use Rattle.std.specs.List.{All, flat_map}
 use Rattle.std.specs.Int.{to_be_bytes, w32}
@@ -15,10 +15,10 @@ abbrev pub spell_head : ℕ → ℕ → ℕ → ℕ → List ℕ
 spell_head kind part at number = kind ∷ part ∷ to_be_bytes w32 at ++ to_be_bytes w32 number
 
 -- A change in bytes: of a block its length and itself, of marks their count, of an erase the number 0 (own).
-abbrev pub spell : Change → List ℕ
-spell (Put part at block) = spell_head 1 part at (length block) ++ block
-spell (Marks part at count) = spell_head 2 part at count
-spell (Erase part at) = spell_head 3 part at 0
+abbrev pub spell_change : Change → List ℕ
+spell_change (Put part at block) = spell_head 1 part at (length block) ++ block
+spell_change (Marks part at count) = spell_head 2 part at count
+spell_change (Erase part at) = spell_head 3 part at 0
 
 -- the numbers of a record's head that say where it works are of their width (own)
 abbrev pub IsTarget : ℕ → ℕ → Type 0
@@ -31,21 +31,21 @@ IsRecord (Put part at block) = IsTarget part at × (1 ≤ length block) × (leng
 IsRecord (Marks part at count) = IsTarget part at × (1 ≤ count) × (count ≤ MAX_OBJECTS)
 IsRecord (Erase part at) = IsTarget part at
 
--- the bytes spell the change (own)
+-- the bytes spell_change the change (own)
 abbrev pub Spells : List ℕ → Change → Type 0
-Spells bytes change = IsRecord change × (bytes ≡ spell change)
+Spells bytes change = IsRecord change × (bytes ≡ spell_change change)
 
 -- changes in bytes, one after the other (own)
 abbrev pub spell_all : List Change → List ℕ
-spell_all changes = flat_map spell changes
+spell_all changes = flat_map spell_change changes
 
--- the bytes spell these changes, in this order, and nothing more (own)
+-- the bytes spell_change these changes, in this order, and nothing more (own)
 abbrev pub SpellsAll : List ℕ → List Change → Type 0
 SpellsAll bytes changes = All IsRecord changes × (bytes ≡ spell_all changes)
 
 -- some change's spelling begins the bytes (own)
 abbrev pub BeginsWithRecord : List ℕ → Type 0
-BeginsWithRecord bytes = (change : Change) × (rest : List ℕ) × IsRecord change × (bytes ≡ spell change ++ rest)
+BeginsWithRecord bytes = (change : Change) × (rest : List ℕ) × IsRecord change × (bytes ≡ spell_change change ++ rest)
 
 -- The bytes begin with the spelling of a list of changes, of that length. The rest is not empty, and begins with no
 -- change's spelling (own).
@@ -82,20 +82,20 @@ change_with (Records.Marks part at count) block = Marks part at count
 change_with (Records.Erase part at) block = Erase part at
 
 -- how many bytes its block has, none where it has no block (own)
-abbrev pub block_length : Record → ℕ
-block_length (Records.Put part at length) = length
-block_length (Records.Marks part at count) = 0
-block_length (Records.Erase part at) = 0
+abbrev pub record_length : Record → ℕ
+record_length (Records.Put part at length) = length
+record_length (Records.Marks part at count) = 0
+record_length (Records.Erase part at) = 0
 
 -- the change of a record that stands at the front of these bytes: its block lies behind the ten bytes of its head
 -- (own)
 abbrev pub change_in : Record → List ℕ → Change
-change_in item bytes = change_with item (take (block_length item) (drop 10 bytes))
+change_in item bytes = change_with item (take (record_length item) (drop 10 bytes))
 
 -- the bytes begin with this record: with the spelling of the change that it is there, whose record it is (own)
 pub record IsAtFront (item : Record) (bytes : List ℕ) : Type 0 where
   pub valid : IsRecord (change_in item bytes)
-  pub spelled : bytes ≡ spell (change_in item bytes) ++ drop (size_of item) bytes
-  pub sized : length (spell (change_in item bytes)) ≡ size_of item
+  pub spelled : bytes ≡ spell_change (change_in item bytes) ++ drop (size_of item) bytes
+  pub sized : length (spell_change (change_in item bytes)) ≡ size_of item
   pub within : size_of item ≤ length bytes
   pub of_it : record_of (change_in item bytes) ≡ item

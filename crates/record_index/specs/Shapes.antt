@@ -1,5 +1,5 @@
 -- The shape of a volume, its capacities, kinds and lengths, which an index has in common with it.
-use Rattle.std.specs.Prelude.{◌≡◌, ℕ, List, length, map, replicate}
+use Rattle.std.specs.Prelude.{◌≡◌, List, length, map, replicate}
 use Rattle.volume_core.specs.declared.objects.Object.{Object}
 use Rattle.volume_core.specs.declared.objects.Object.TheVariants.{Block, Mark}
 use Rattle.volume_core.specs.declared.changes.Change.{Change}

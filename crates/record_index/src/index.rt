@@ -3,7 +3,7 @@ ghost use Rattle.std.specs.Prelude.{◌≡◌, ◌≤◌, ◌<◌, ◌+◌, ◌-
 ghost use Rattle.std.specs.Option.{option_copied};
 ghost use Rattle.vtl_base.specs.declared.limits.TheConstants.{MAX_CAPACITY, MAX_OBJECTS, MAX_PARTITIONS};
 ghost use Rattle.volume_core.specs.Volume.{AppliesUnless, IsVolume, are_capacities, capacity_of, count_of, kind_at, refusal_of, used_up_to};
-ghost use Rattle.record_index.specs.Places.{CanAdd, empty_placed, objects_of_run, outline, outlined, part_of, placed_after, placed_objects, reserved_of, runs_of, with_objects};
+ghost use Rattle.record_index.specs.Places.{CanAdd, empty_placed, objects_of_run, outline, outlined, record_part, placed_after, placed_objects, reserved_of, runs_of, with_objects};
 ghost use Rattle.volume_core.specs.declared.volumes.ApplyError.TheVariants as Errors;
 
 use crate::partitions::PlacedPartition;
@@ -174,12 +174,12 @@ impl Index {
     pub fn apply(&mut self, item: Record, place: u64) -> Result<(), ApplyError>
         requires { place < 2 ^ 64 - 1 }
         ensures answer { AppliesUnless (refusal_of (outline self.old) (outlined item)) self.old
-            (placed_after self.old item place (reserved_of self.new (part_of item)))
+            (placed_after self.old item place (reserved_of self.new (record_part item)))
             result self.new }
-        ensures reserved { reserved_of self.old (part_of item)
-            ≤ reserved_of self.new (part_of item) + runs_of item }
+        ensures reserved { reserved_of self.old (record_part item)
+            ≤ reserved_of self.new (record_part item) + runs_of item }
         ensures memory { result ≡ Err Errors.NoMemory →
-            reserved_of self.old (part_of item) < runs_of item }
+            reserved_of self.old (record_part item) < runs_of item }
     {
         let part = item.part() as usize;
         if part >= self.partitions.len() {

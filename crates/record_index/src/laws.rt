@@ -2,7 +2,7 @@
 ghost use Rattle.std.specs.Prelude.{◌≡◌, ◌⊎◌, ◌↔◌, ◌++◌, ℕ, List, Some, None, length};
 ghost use Rattle.volume_core.specs.declared.changes.Change.{Change};
 ghost use Rattle.volume_core.specs.Volume.{Part, IsVolume, capacity_of, changed, count_of, kind_at, refusal_of, used_up_to};
-ghost use Rattle.record_index.specs.Records.{IsBadAt, IsRecord, Spells, SpellsAll, record_of, size_of, spell};
+ghost use Rattle.record_index.specs.Records.{IsBadAt, IsRecord, Spells, SpellsAll, record_of, size_of, spell_change};
 ghost use Rattle.record_index.specs.ChangesOn.{changes_on};
 ghost use Rattle.record_index.specs.Places.{PlacedPart, Reading, change_by, outline, placed_after, volume_by};
 ghost use Rattle.record_index.specs.Shapes.{IsIndexOf, shape_of, shape_of_change};
@@ -14,7 +14,7 @@ pub fn a_change_has_one_spelling()
 
 /// The size of a change's record is the length of its spelling.
 pub fn the_size_of_a_record()
-    ensures { (change : Change) → size_of (record_of change) ≡ length (spell change) }
+    ensures { (change : Change) → size_of (record_of change) ≡ length (spell_change change) }
 {}
 
 /// No change's spelling begins another's: what begins with two of them begins with one.
@@ -23,7 +23,7 @@ pub fn no_spelling_begins_another()
         a ++ x ≡ b ++ y → (change ≡ other) × (a ≡ b) × (x ≡ y) }
 {}
 
-/// Bytes spell at most one list of changes, are bad at one place at most, and never both.
+/// Bytes spell_change at most one list of changes, are bad at one place at most, and never both.
 pub fn bytes_spell_at_most_one_list()
     ensures one_list { (bytes : List ℕ) (changes others : List Change) →
         SpellsAll bytes changes → SpellsAll bytes others → changes ≡ others }
@@ -32,7 +32,7 @@ pub fn bytes_spell_at_most_one_list()
         SpellsAll bytes changes → IsBadAt bytes at → ⊥ }
 {}
 
-/// The changes on bytes are those that they spell; where they spell none, they are bad at a place.
+/// The changes on bytes are those that they spell_change; where they spell_change none, they are bad at a place.
 pub fn the_changes_on_bytes()
     ensures spelled { (bytes : List ℕ) (changes : List Change) →
         (changes_on bytes ≡ Some changes) ↔ SpellsAll bytes changes }

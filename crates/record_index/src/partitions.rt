@@ -4,7 +4,7 @@ ghost use Rattle.vtl_base.specs.declared.limits.TheConstants.{MAX_CAPACITY, MAX_
 ghost use Rattle.vtl_base.specs.Limits.{is_capacity};
 ghost use Rattle.volume_core.specs.Volume.{AppliesUnless, IsPart, refusal_in, used_of};
 ghost use Rattle.volume_core.specs.declared.volumes.ApplyError.TheVariants as Errors;
-ghost use Rattle.record_index.specs.Places.{CanAdd, IsPlace, blank, empty_placed, filled_part, kept_of, objects_of_run, outlined, placed_by, runs_of, with_run};
+ghost use Rattle.record_index.specs.Places.{CanAdd, IsPlace, blank, empty_placed, filled_part, record_kept, objects_of_run, outlined, placed_by, runs_of, with_run};
 
 use crate::places::{Placed, Run};
 use crate::records::Record;
@@ -148,7 +148,7 @@ impl PlacedPartition {
         ensures answer { AppliesUnless (refusal_in (Some (filled_part blank self.old)) (outlined item))
             self.old (record {
               capacity = self.old.capacity;
-              objects = take (kept_of item) self.old.objects ++ placed_by item place;
+              objects = take (record_kept item) self.old.objects ++ placed_by item place;
               reserved = self.new.reserved;
             }) result self.new }
         ensures reserved { self.old.reserved ≤ self.new.reserved + runs_of item }

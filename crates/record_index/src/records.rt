@@ -11,7 +11,7 @@
 ghost use Rattle.std.specs.Prelude.{◌≡◌, ◌≤◌, ◌<◌, ◌-◌, ◌^◌, IfOk, IfSome, IfNone, length};
 ghost use Rattle.record_index.specs.Records.{BeginsWithRecord, IsAtFront, IsRecord, change_in, record_of, size_of};
 ghost use Rattle.volume_core.specs.Volume.{added_by, is_well_formed, used_of};
-ghost use Rattle.record_index.specs.Places.{kept_of, outlined, part_of};
+ghost use Rattle.record_index.specs.Places.{record_kept, outlined, record_part};
 ghost use Rattle.record_index.specs.Inner.Tables.{AddsRun};
 ghost use Rattle.record_index.specs.Inner.Told.{block_told, erase_told, marks_told, told};
 
@@ -134,7 +134,7 @@ impl Record {
 
     /// The partition that it concerns.
     pub fn part(self) -> PartNo
-        ensures { result ≡ part_of self }
+        ensures { result ≡ record_part self }
     {
         match self {
             Record::Put { part, .. } | Record::Marks { part, .. } | Record::Erase { part, .. } => {
@@ -145,7 +145,7 @@ impl Record {
 
     /// How many of its objects stay.
     pub fn kept(self) -> ObjNo
-        ensures { result ≡ kept_of self }
+        ensures { result ≡ record_kept self }
     {
         match self {
             Record::Put { at, .. } | Record::Marks { at, .. } | Record::Erase { at, .. } => at,

@@ -1,7 +1,7 @@
 //! Changes to bytes, and bytes to changes.
 ghost use Rattle.std.specs.Prelude.{◌≡◌, ◌≤◌, ◌<◌, ◌+◌, ◌++◌, ◌∷◌, [], IfOk, IfErr, OnOk, OnErr, length, vec_len, vec_capacity};
 ghost use Rattle.std.specs.Int.{to_be_bytes, w32};
-ghost use Rattle.record_index.specs.Records.{IsRecord, NotDecoded, SpellsAll, spell, spell_head};
+ghost use Rattle.record_index.specs.Records.{IsRecord, NotDecoded, SpellsAll, spell_change, spell_head};
 
 use crate::records::{BLOCK, ERASE, HEAD_BYTES, MARKS, Record, RecordError};
 use byteorder::{BigEndian, ByteOrder};
@@ -13,10 +13,10 @@ use vtl_base::{NoMemory, ObjNo, PartNo};
 /// an `Err`, which comes only where that is too small, `into` has what it had.
 pub fn encode_change(change: &Change, into: &mut Vec<u8>) -> Result<(), NoMemory>
     requires { IsRecord change.now }
-    ensures ok { OnOk result (into.new.items ≡ into.old.items ++ spell change.now) }
+    ensures ok { OnOk result (into.new.items ≡ into.old.items ++ spell_change change.now) }
     ensures err { OnErr result (into.new.items ≡ into.old.items) }
     ensures memory { OnErr result
-        (vec_capacity into.old < vec_len into.old + length (spell change.now)) }
+        (vec_capacity into.old < vec_len into.old + length (spell_change change.now)) }
     ensures room { vec_capacity into.old ≤ vec_capacity into.new }
 {
     into.reserve(Record::of(change).size())?;
@@ -45,8 +45,8 @@ fn head(kind: u8, part: PartNo, at: ObjNo, number: u32) -> [u8; HEAD_BYTES]
     head
 }
 
-/// The changes that these bytes spell, with a copy of each block. `BadRecord` names the first byte
-/// of the first record that is wrong or not whole; no bytes spell no changes.
+/// The changes that these bytes spell_change, with a copy of each block. `BadRecord` names the first byte
+/// of the first record that is wrong or not whole; no bytes spell_change no changes.
 pub fn decode_changes(alloc: Global, bytes: &[u8]) -> Result<Vec<Change>, RecordError>
     ensures ok { IfOk result (λ changes. SpellsAll bytes.now changes.items) }
     ensures err { IfErr result (λ error. NotDecoded bytes.now error) }

@@ -38,14 +38,14 @@ abbrev pub activates_persistence : List ℕ → Bool
 activates_persistence list = has_bit list 0
 
 -- the actions that register a host (SPC-4, PERSISTENT RESERVE OUT)
-abbrev pub registers : PrAction → Bool
-registers action.Register = true
-registers action.RegisterAndIgnoreExistingKey = true
-registers _ = false
+abbrev pub is_registering : PrAction → Bool
+is_registering action.Register = true
+is_registering action.RegisterAndIgnoreExistingKey = true
+is_registering _ = false
 
 -- a bit is 1 that has to be 0: SPEC_I_PT, and ALL_TG_PT where a host is registered (own)
 abbrev pub has_refused_bit : PrAction → List ℕ → Bool
-has_refused_bit action list = specifies_initiators list || (registers action && is_for_all_targets list)
+has_refused_bit action list = specifies_initiators list || (is_registering action && is_for_all_targets list)
 
 -- what a list of 24 bytes orders; APTPL counts where a host is registered alone (SPC-4, PERSISTENT RESERVE OUT)
 abbrev pub order_of : PrAction → List ℕ → PrOut
@@ -59,7 +59,7 @@ order_of action.RegisterAndIgnoreExistingKey list =
     RegisterAndIgnoreExistingKey (service_action_key list) (activates_persistence list)
 
 -- what a list orders, or why it orders nothing: first its length, then its bits (own, the order of checks)
-abbrev pub decoded : PrAction → List ℕ → Result PrOut Sense
-decoded action list =
+abbrev pub list_decoded : PrAction → List ℕ → Result PrOut Sense
+list_decoded action list =
     if length list == 24 then (if has_refused_bit action list then Err invalid_parameter else Ok (order_of action list))
     else Err parameter_list_length_error

@@ -1,6 +1,6 @@
 //! The parameter list of PERSISTENT RESERVE OUT.
 ghost use Rattle.std.specs.Prelude.{◌≡◌, ◌<◌, ◌≤◌, length};
-ghost use Rattle.scsi_lists.specs.PrLists.{decoded, has_bit, has_refused_bit, key_in, order_of};
+ghost use Rattle.scsi_lists.specs.PrLists.{list_decoded, has_bit, has_refused_bit, key_in, order_of};
 
 use crate::actions::{PrAction, PrType};
 use byteorder::{BigEndian, ByteOrder};
@@ -108,7 +108,7 @@ impl PrList {
     /// What a list orders under this action of its command block, or why it orders nothing: a length
     /// other than 24 (1A/00), then SPEC_I_PT, or ALL_TG_PT where a host is registered (26/00).
     pub fn decode(action: PrAction, list: &[u8]) -> Result<PrOut, Sense>
-        ensures { result ≡ decoded action list.now }
+        ensures { result ≡ list_decoded action list.now }
     {
         if list.len() != PR_LIST_BYTES {
             return Err(Sense::parameter_list_length_error());

@@ -27,8 +27,8 @@ fn a_host_registers(rt: HostRuntime) {
         (one, ignoring(0), Good, 0, 2),
         (one, ignoring(C), Good, C, 2),
     ] {
-        let keys = [(1, key)];
-        let keys = if key == 0 { &keys[..0] } else { &keys[..] };
+        // Host 0 is nobody.
+        let keys = [(if key == 0 { 0 } else { 1 }, key)];
         gives(
             &rt,
             before,
@@ -36,7 +36,7 @@ fn a_host_registers(rt: HostRuntime) {
             answer,
             &[],
             Standing {
-                keys,
+                keys: &keys,
                 held: (0, 0),
                 generation,
             },
@@ -122,12 +122,11 @@ fn one_reserves_and_releases(rt: HostRuntime) {
         let taken = after(&rt, &[first, second, (1, PrOut::Reserve { key: A, kind })]);
         let gone = (0, 0);
         let stands = (kind.number(), holder);
-        let told = [(2, Attention::ReservationsReleased)];
-        let told = if kind.number() >= 5 {
-            &told[..]
-        } else {
-            &told[..0]
-        };
+        // Host 0 is nobody.
+        let told = [(
+            if kind.number() >= 5 { 2 } else { 0 },
+            Attention::ReservationsReleased,
+        )];
         let mine = |kind| (1u8, PrOut::Reserve { key: A, kind });
         let theirs = |kind| (2u8, PrOut::Reserve { key: B, kind });
         let shared = if all { Good } else { Conflict };
@@ -170,7 +169,7 @@ fn one_reserves_and_releases(rt: HostRuntime) {
             taken,
             released,
             Good,
-            told,
+            &told,
             Standing {
                 keys,
                 held: gone,

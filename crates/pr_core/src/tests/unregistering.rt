@@ -12,19 +12,16 @@ fn the_holder_and_another_unregister(rt: HostRuntime) {
         let order = PrOut::Reserve { key: A, kind };
         let before = after(&rt, &[(1, register(0, A)), (2, register(0, B)), (1, order)]);
         let stands = (kind.number(), if all { 0 } else { 1 });
-        let told = [(2, Attention::ReservationsReleased)];
-        let told = if kind.number() == 5 || kind.number() == 6 {
-            &told[..]
-        } else {
-            &told[..0]
-        };
+        let only = kind.number() == 5 || kind.number() == 6;
+        // Host 0 is nobody.
+        let told = [(if only { 2 } else { 0 }, Attention::ReservationsReleased)];
         let held = if all { stands } else { (0, 0) };
         let left = Standing {
             keys: &[(2, B)],
             held,
             generation: 3,
         };
-        gives(&rt, before, (1, register(A, 0)), Good, told, left);
+        gives(&rt, before, (1, register(A, 0)), Good, &told, left);
         let left = Standing {
             keys: &[(1, A)],
             held: stands,

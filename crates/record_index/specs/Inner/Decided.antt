@@ -1,5 +1,5 @@
 -- Each row of bytes spells one list of changes, or is bad at one place.
-use Rattle.std.proofs.Common.{◌≡◌, ◌≢◌, ◌⊎◌, inl, inr, ⊎_elim, ℕ, zero, suc, ◌<◌, ◌≤◌, ◌+◌, ◌^◌, List, [], ◌∷◌, ◌++◌, length, drop, refl, sym, ◌∙◌, ap, subst, arith, append_assoc, length-append}
+use Rattle.std.proofs.Common.{◌≡◌, ◌⊎◌, inl, inr, ℕ, zero, suc, ◌<◌, ◌≤◌, ◌^◌, List, [], ◌∷◌, ◌++◌, length, drop, refl, sym, ◌∙◌, ap, subst, arith, append_assoc, length-append}
 use Rattle.std.specs.Prelude.{Option, None, Some}
 use Rattle.std.specs.List.{All}
 use Rattle.std.proofs.lemmas.List.{append-nil}
@@ -9,12 +9,12 @@ use Rattle.volume_core.specs.declared.changes.Change.{Change}
 use Rattle.volume_core.specs.declared.changes.Change.TheVariants.{Put, Marks, Erase}
 use Rattle.record_index.specs.declared.records.Record.{Record}
 use Rattle.record_index.specs.declared.records.Record.TheVariants as Records
-use Rattle.record_index.specs.Records.{IsRecord, IsBadAt, BeginsWithRecord, SpellsAll, change_in, record_of, size_of, spell, spell_all}
+use Rattle.record_index.specs.Records.{IsRecord, IsBadAt, BeginsWithRecord, SpellsAll, change_in, record_of, size_of, spell_change, spell_all}
 use Rattle.record_index.specs.Inner.Deciding.{Decidable, both, both3, below, less, same}
 use Rattle.record_index.specs.Inner.Spelled.{change_again, length-spell, one_front, rest_again, told_again}
 use Rattle.record_index.specs.Inner.Told.{told}
 
--- the bytes spell a list of changes, or are bad at a place (own)
+-- the bytes spell_change a list of changes, or are bad at a place (own)
 abbrev pub IsDecided : List ℕ → Type 0
 IsDecided bytes = ((changes : List Change) × SpellsAll bytes changes) ⊎ ((at : ℕ) × IsBadAt bytes at)
 
@@ -24,7 +24,7 @@ ten_at_least (Records.Marks part at count) = omega arith
 ten_at_least (Records.Erase part at) = omega arith
 
 -- there is a byte in each record
-pub some_byte : (change : Change) (rest : List ℕ) → spell change ++ rest ≡ [] → ⊥
+pub some_byte : (change : Change) (rest : List ℕ) → spell_change change ++ rest ≡ [] → ⊥
 some_byte (Put part at block) rest e = cc
 some_byte (Marks part at count) rest e = cc
 some_byte (Erase part at) rest e = cc
@@ -49,13 +49,14 @@ begins bytes = by (told bytes) refl
     by : (item : Option Record) → told bytes ≡ item → Decidable (BeginsWithRecord bytes)
     by None none = inr (λ w. let e : None ≡ Some (record_of w.0) = sym none ∙ told_by w in cc)
     by (Some item) some = elim (both (is_record (change_in item bytes))
-        (same bytes (spell (change_in item bytes) ++ drop (size_of item) bytes))) [
+        (same bytes (spell_change (change_in item bytes) ++ drop (size_of item) bytes))) [
           | inl w ↦ inl (change_in item bytes, drop (size_of item) bytes, w.0, w.1)
           | inr never ↦ inr (λ w. never (found item some w))
         ]
       where
         found : (item : Record) → told bytes ≡ Some item → (w : BeginsWithRecord bytes)
-            → IsRecord (change_in item bytes) × (bytes ≡ spell (change_in item bytes) ++ drop (size_of item) bytes)
+            → IsRecord (change_in item bytes) × (bytes ≡ spell_change (change_in item bytes) ++ drop (size_of item)
+                bytes)
         found item some w =
             let items : item ≡ record_of w.0 =
             (let e : Some item ≡ Some (record_of w.0) = sym some ∙ told_by w in cc) in
@@ -64,7 +65,7 @@ begins bytes = by (told bytes) refl
             let rest : w.1 ≡ drop (size_of item) bytes =
             sym (rest_again w.0 w.1) ∙ (λ i. drop (size_of (sym items i)) (sym w.3 i)) in (
               subst (λ (c : Change). IsRecord c) change w.2,
-              w.3 ∙ (λ i. spell (change i) ++ rest i),
+              w.3 ∙ (λ i. spell_change (change i) ++ rest i),
             )
 
 -- records, and then what begins with none
@@ -78,13 +79,13 @@ one_more bytes w s = (
   w.0 ∷ s.0,
   s.1,
   All-cons IsRecord w.0 s.0 w.2 s.2,
-  w.3 ∙ ap (λ (l : List ℕ). spell w.0 ++ l) s.3 ∙ sym (append_assoc (spell w.0) (spell_all s.0) s.1),
+  w.3 ∙ ap (λ (l : List ℕ). spell_change w.0 ++ l) s.3 ∙ sym (append_assoc (spell_change w.0) (spell_all s.0) s.1),
   s.4,
 )
 
 shorter : (bytes : List ℕ) (w : BeginsWithRecord bytes) → length w.1 < length bytes
 shorter bytes w =
-    omega (arith, ap length w.3, length-append (spell w.0) w.1, length-spell w.0, ten_at_least (record_of w.0))
+    omega (arith, ap length w.3, length-append (spell_change w.0) w.1, length-spell w.0, ten_at_least (record_of w.0))
 
 split_within : (n : ℕ) (bytes : List ℕ) → length bytes ≤ n → Split bytes
 split_within zero bytes short = elim (begins bytes) [
@@ -120,12 +121,15 @@ pub one_end : (changes others : List Change) (r s : List ℕ) → All IsRecord c
     → (changes ≡ others) × (r ≡ s)
 one_end [] [] r s okc oko is noner nones = (refl, is)
 one_end (c ∷ cs) [] r s okc oko is noner nones =
-    absurd (nones (c, spell_all cs ++ r, All-head IsRecord c cs okc, sym is ∙ append_assoc (spell c) (spell_all cs) r))
+    absurd (nones (c, spell_all cs ++ r, All-head IsRecord c cs okc, sym is ∙ append_assoc (spell_change c)
+        (spell_all cs) r))
 one_end [] (d ∷ ds) r s okc oko is noner nones =
-    absurd (noner (d, spell_all ds ++ s, All-head IsRecord d ds oko, is ∙ append_assoc (spell d) (spell_all ds) s))
+    absurd (noner (d, spell_all ds ++ s, All-head IsRecord d ds oko, is ∙ append_assoc (spell_change d) (spell_all
+        ds) s))
 one_end (c ∷ cs) (d ∷ ds) r s okc oko is noner nones =
-    let first = one_front c d (spell_all cs ++ r) (spell_all ds ++ s) (All-head IsRecord c cs okc) (All-head IsRecord d ds oko)
-    (sym (append_assoc (spell c) (spell_all cs) r) ∙ is ∙ append_assoc (spell d) (spell_all ds) s) in
+    let first =
+    one_front c d (spell_all cs ++ r) (spell_all ds ++ s) (All-head IsRecord c cs okc) (All-head IsRecord d ds oko)
+    (sym (append_assoc (spell_change c) (spell_all cs) r) ∙ is ∙ append_assoc (spell_change d) (spell_all ds) s) in
     let others = one_end cs ds r s (All-tail IsRecord c cs okc) (All-tail IsRecord d ds oko) first.1 noner nones in
     (λ i. first.0 i ∷ others.0 i, others.1)
 

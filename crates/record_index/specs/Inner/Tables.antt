@@ -1,5 +1,5 @@
 -- A table of runs, as rows of numbers.
-use Rattle.std.specs.Prelude.{◌≡◌, ◌<◌, ◌≤◌, ◌⊎◌, ◌+◌, ◌-◌, ◌==◌, ℕ, List, [], ◌∷◌, length, take, replicate, sum_by, slice_get, Option, None, Some, if◌then◌else◌}
+use Rattle.std.specs.Prelude.{◌≡◌, ◌<◌, ◌≤◌, ◌+◌, ◌-◌, ◌==◌, ℕ, List, [], ◌∷◌, length, take, replicate, sum_by, slice_get, Option, None, Some, if◌then◌else◌}
 use Rattle.std.specs.List.{flat_map}
 use Rattle.vtl_base.specs.declared.limits.TheConstants.{OBJECT_COST}
 use Rattle.record_index.specs.declared.places.Placed.{Placed}
@@ -9,7 +9,6 @@ use Rattle.record_index.specs.Places.{IsPlace, objects_of_run, placed_by, runs_o
 use Rattle.record_index.specs.declared.tables.Entry.{Entry}
 use Rattle.record_index.specs.declared.tables.TheConstants.{NOWHERE}
 use Rattle.record_index.specs.declared.places.Run.{Run}
-use Rattle.record_index.specs.declared.places.Run.TheVariants as Runs
 
 -- the objects of an entry: a run of marks, or the block that lies at its place (own)
 abbrev pub objects_of_entry : Entry → List Placed

@@ -9,14 +9,17 @@ use Rattle.pr_core.proofs.preempting.told_of_preemption.Goals as goal
 pub returns : goal.returns
 returns c = λ gone freed removed released.
     let freed_now = row_at false c.args.released.now in
+    let gone_set = only RegistrationsPreempted in
+    let freed_set = only ReservationsReleased in
     let entries = told_of_preemption gone freed in
     let row : Shows c.empty.result c.row_of.result entries =
     c.row_of.ensures entries (λ nexus answer is post.
     let told : answer ≡ told_of_preemption (row_at false c.args.removed.now) (row_at false c.args.released.now) nexus =
     search rules in
     told
-    ∙ ap (λ (out : Bool). if out then only RegistrationsPreempted else if freed_now nexus then only ReservationsReleased else no_attentions)
+    ∙ ap (λ (out : Bool). if out then gone_set else if freed_now nexus then freed_set else no_attentions)
     (removed.each nexus is)
-    ∙ ap (λ (free : Bool). if gone nexus then only RegistrationsPreempted else if free then only ReservationsReleased else no_attentions)
+    ∙ ap (λ (free : Bool). if gone nexus then gone_set else if free then freed_set else no_attentions)
     (released.each nexus is)) in
-    rw c.from_row.ensures (subst (λ (nothing : AttentionSet). Shows nothing c.row_of.result entries) c.empty.ensures row)
+    rw c.from_row.ensures
+    (subst (λ (nothing : AttentionSet). Shows nothing c.row_of.result entries) c.empty.ensures row)

@@ -1,9 +1,9 @@
-use Rattle.std.proofs.Common.{◌≡◌, ◌+◌, ◌-◌, ℕ, List, [], ◌∷◌, ◌++◌, length, take, drop, sym, ap, ◌∙◌, subst, arith, length-drop}
+use Rattle.std.proofs.Common.{◌≡◌, ◌-◌, ℕ, List, [], ◌∷◌, ◌++◌, length, take, drop, ap, ◌∙◌, subst, arith, length-drop}
 use Rattle.std.proofs.lemmas.List.{take_all}
 use Rattle.std.proofs.lemmas.Result.{err_from_is_err_and}
 use Rattle.volume_core.specs.declared.changes.Change.{Change}
 use Rattle.record_index.specs.Records.{IsAtFront, change_in}
-use Rattle.record_index.proofs.Decoding.{IsDecodedTo, has_first, one_decoded}
+use Rattle.record_index.proofs.Decoding.{has_first, one_decoded}
 use Rattle.record_index.proofs.spelling.decode_changes.Goals as goal
 
 pub returns-in_err-change-clause-err : goal.returns-in_err-change-clause-err

@@ -1,11 +1,10 @@
-use Rattle.std.proofs.Common.{◌≡◌, ◌<◌, ◌≤◌, ◌-◌, ℕ, length, take, replicate, ◌++◌, subst, sym, ap, ◌∙◌, List, arith, rules, vec_len}
+use Rattle.std.proofs.Common.{◌≡◌, ◌≤◌, ◌-◌, ℕ, length, take, replicate, ◌++◌, subst, sym, ap, ◌∙◌, List, arith, rules, vec_len}
 use Rattle.std.proofs.lemmas.List.{append-nil, take_all}
-use Rattle.record_index.specs.declared.places.Placed.{Placed}
 use Rattle.record_index.specs.declared.places.Placed.TheVariants.{Mark}
 use Rattle.record_index.specs.declared.tables.Entry.{Entry}
 use Rattle.record_index.specs.Inner.Tables.{IsSplitAt, IsTable, cost_of_objects, objects_of}
 use Rattle.record_index.proofs.Rows.{at_within}
-use Rattle.record_index.proofs.TableLemmas.{all_before, cost_within, front_length, table_take, taken}
+use Rattle.record_index.proofs.TableLemmas.{all_before, cost_within, table_take, taken}
 use Rattle.record_index.proofs.tables.cut_entries.Goals as goal
 
 pub returns-then-kept-len-clause-objects : goal.returns-then-kept-len-clause-objects

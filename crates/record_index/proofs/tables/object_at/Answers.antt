@@ -1,11 +1,10 @@
-use Rattle.std.proofs.Common.{◌≡◌, ◌<◌, ◌-◌, ℕ, take, refl, arith, ap, sym, subst, ◌∙◌, length, replicate, List, [], ◌∷◌, Some}
+use Rattle.std.proofs.Common.{◌≡◌, ◌<◌, ◌-◌, take, refl, arith, ap, sym, ◌∙◌, length, replicate, [], ◌∷◌}
 use Rattle.std.specs.Prelude.{slice_get}
 use Rattle.std.proofs.lemmas.Bool.{ltb-true, ltb-false}
 use Rattle.std.proofs.lemmas.List.{length-replicate}
 use Rattle.std.proofs.lemmas.Option.{slice_get_past, slice_get_read}
 use Rattle.record_index.specs.declared.places.Placed.{Placed}
 use Rattle.record_index.specs.declared.places.Placed.TheVariants.{Block, Mark}
-use Rattle.record_index.specs.declared.places.Run.{Run}
 use Rattle.record_index.specs.Places.{objects_of_run}
 use Rattle.record_index.specs.Inner.Tables.{objects_of, objects_of_entry}
 use Rattle.record_index.proofs.Rows.{slice_get_row}

@@ -1,7 +1,6 @@
-use Rattle.std.proofs.Common.{◌≡◌, ◌<◌, ℕ, length, take, subst, sym, ap, ◌∙◌, List, arith, rules, vec_len}
+use Rattle.std.proofs.Common.{◌≡◌, length, take, subst, sym, ap, ◌∙◌, List, rules, vec_len}
 use Rattle.record_index.specs.declared.places.Run.{Run}
 use Rattle.record_index.specs.declared.tables.Entry.{Entry}
-use Rattle.record_index.specs.declared.tables.TheConstants.{NOWHERE}
 use Rattle.record_index.specs.Places.{IsPlace}
 use Rattle.record_index.specs.Inner.Tables.{IsTable, cost_of_objects, objects_of}
 use Rattle.record_index.proofs.TableLemmas.{all_taken, push_block, push_marks}
@@ -27,7 +26,8 @@ returns-clause-table c =
     ∙ ap (λ (l : List Entry). cost_of_objects (objects_of l)) all in
     subst (λ (l : List Entry). IsTable l) (sym c.push_reserved.ensures.items)
     (elim c.match-run.branch [
-      | in-Block w ↦ push_block entries.items c.match-run.push_reserved w.in-Block.place w.in-Block.length c.end_of-end.result
+      | in-Block w ↦
+          push_block entries.items c.match-run.push_reserved w.in-Block.place w.in-Block.length c.end_of-end.result
           c.cost_of-cost.result c.requires.table w.push_reserved-is
           (subst (λ (r : Run). IsPlace r) w.in-Block.is c.requires.place) end cost
       | in-Marks w ↦ push_marks entries.items c.match-run.push_reserved w.in-Marks.count c.end_of-end.result

@@ -10,4 +10,5 @@ returns c =
     let entries = tells (others c.args.self.now c.args.nexus) c.args.attention in
     let row : Shows c.empty.result c.row_of.result entries =
     c.row_of.ensures entries (λ other answer is post. search rules) in
-    rw c.from_row.ensures (subst (λ (nothing : AttentionSet). Shows nothing c.row_of.result entries) c.empty.ensures row)
+    rw c.from_row.ensures
+    (subst (λ (nothing : AttentionSet). Shows nothing c.row_of.result entries) c.empty.ensures row)

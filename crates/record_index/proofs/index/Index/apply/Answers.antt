@@ -7,7 +7,8 @@ use Rattle.record_index.proofs.index.Index.apply.Goals as goal
 
 pub invariant_of-self : goal.invariant_of-self
 invariant_of-self c =
-    limits_set c.self.inside.partitions.items c.part-part.result c.apply.new.self c.self.invariant c.apply.ensures.limits
+    limits_set c.self.inside.partitions.items c.part-part.result c.apply.new.self c.self.invariant
+    c.apply.ensures.limits
 
 pub returns-clause-answer : goal.returns-clause-answer
 returns-clause-answer c =
@@ -30,7 +31,7 @@ returns-clause-reserved c =
     let read : slice_get parts.items c.part-part.result ≡ Some part =
     slice_get_read parts.items (vec_len parts) c.part-part.result part len within c.index_mut-partition.ensures.value in
     let here = rw c.part-part.ensures at read in
-    let number = places.part_of c.args.item in
+    let number = places.record_part c.args.item in
     rw (← c.self.view_is, c.part-part.ensures)
     (omega (
       arith,
@@ -48,6 +49,6 @@ returns-clause-memory c =
     let read : slice_get parts.items c.part-part.result ≡ Some part =
     slice_get_read parts.items (vec_len parts) c.part-part.result part len within c.index_mut-partition.ensures.value in
     let here = rw c.part-part.ensures at read in
-    let number = places.part_of c.args.item in
+    let number = places.record_part c.args.item in
     rw (← c.self.view_is)
     (λ none. omega (arith, c.apply.ensures.memory none, reserved_here parts.items number part c.apply.new.self here))

@@ -1,13 +1,13 @@
-use Rattle.std.proofs.Common.{◌≡◌, ◌<◌, ℕ, List, ◌++◌, length, take, arith, rules, sym, ◌∙◌, Some, vec_len}
+use Rattle.std.proofs.Common.{◌≡◌, List, length, arith, rules, Some, vec_len}
 use Rattle.std.specs.Prelude.{slice_get}
 use Rattle.std.proofs.lemmas.Option.{slice_get_read}
 use Rattle.record_index.specs.declared.places.Placed.{Placed}
-use Rattle.record_index.specs.Places.{objects_of_run}
 use Rattle.record_index.proofs.Parts.{limits_set, reserved_here, reserved_set, set_by}
 use Rattle.record_index.proofs.index.Index.reserve.Goals as goal
 
 pub invariant_of-self-2 : goal.invariant_of-self-2
-invariant_of-self-2 c = limits_set c.self.inside.partitions.items c.args.part c.reserve.new.self c.self.invariant c.reserve.ensures.limits
+invariant_of-self-2 c =
+    limits_set c.self.inside.partitions.items c.args.part c.reserve.new.self c.self.invariant c.reserve.ensures.limits
 
 pub returns-clause-same : goal.returns-clause-same
 returns-clause-same c =
@@ -16,7 +16,8 @@ returns-clause-same c =
     let len : vec_len parts ≡ length parts.items = search rules in
     let there = rw (← c.self.view_is) at c.requires in
     let here : slice_get parts.items c.args.part ≡ Some part =
-    slice_get_read parts.items (vec_len parts) c.args.part part len (omega (arith, there, len)) c.index_mut-partition.ensures.value in
+    slice_get_read parts.items (vec_len parts) c.args.part part len
+    (omega (arith, there, len)) c.index_mut-partition.ensures.value in
     rw (← c.self.view_is)
     (set_by parts.items c.args.part part c.reserve.new.self here (λ (l : List Placed). l) c.in_ok-reserve.ensures.same)
 
@@ -27,7 +28,8 @@ returns-clause-grows c =
     let len : vec_len parts ≡ length parts.items = search rules in
     let there = rw (← c.self.view_is) at c.requires in
     let here : slice_get parts.items c.args.part ≡ Some part =
-    slice_get_read parts.items (vec_len parts) c.args.part part len (omega (arith, there, len)) c.index_mut-partition.ensures.value in
+    slice_get_read parts.items (vec_len parts) c.args.part part len
+    (omega (arith, there, len)) c.index_mut-partition.ensures.value in
     rw (← c.self.view_is) (omega (
       arith,
       c.in_ok-reserve.ensures.grows,
@@ -42,5 +44,6 @@ returns-clause-ok c =
     let len : vec_len parts ≡ length parts.items = search rules in
     let there = rw (← c.self.view_is) at c.requires in
     let here : slice_get parts.items c.args.part ≡ Some part =
-    slice_get_read parts.items (vec_len parts) c.args.part part len (omega (arith, there, len)) c.index_mut-partition.ensures.value in
+    slice_get_read parts.items (vec_len parts) c.args.part part len
+    (omega (arith, there, len)) c.index_mut-partition.ensures.value in
     omega (arith, c.in_ok-reserve.ensures.ok, reserved_set parts.items c.args.part part c.reserve.new.self here)
