@@ -200,7 +200,7 @@ erase_in part number at inside few fits =
     let used : used_of (take at part.objects ++ []) ≤ part.capacity = rw (append-nil (take at part.objects)) fits in
     grind (arith, nat_tests)
 
--- an erasing at a position on the medium always fits
+-- an ERASE at a position on the medium always fits
 pub erase_fits : (volume : List Part) (position : Pos) → position.part < length volume
     → position.obj ≤ length (objects_of volume position.part)
     → length (objects_of volume position.part) ≤ MAX_OBJECTS

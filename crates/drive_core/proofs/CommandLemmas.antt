@@ -210,7 +210,8 @@ gives_position old old' reply reply' made made' m m' e h k = record {
 
 -- ERASE
 erases : (buffered : Bool) → IsDetermined (EraseWork buffered)
-erases buffered = stored_first (Erases buffered) (appends (not buffered) erase_at)
+erases buffered = stored_first (Erases buffered) (λ old old' reply reply' made made' m m' e h k.
+    appends (not buffered) erase_at old old' reply reply' made made' m m' e h.0 k.0)
 
 -- a position in a partition, at an object
 at_place : (p q : Pos) → p.part ≡ q.part → p.obj ≡ q.obj → p ≡ q

@@ -111,7 +111,7 @@ erase_settled : (buffered : Bool) (old : Mounted) (reply : Reply) (made : List C
 erase_settled true old reply made new some h acknowledged = cc
 erase_settled false old reply made new some h acknowledged =
     append_settled (refusal_of (contents_of (mounted h.0 old.position)) (erase_at old.position)) (erase_at old.position)
-    (mounted h.0 old.position) reply made new h.2 acknowledged
+    (mounted h.0 old.position) reply made new h.2.0 acknowledged
 
 module _ (H : Type 0) where
   read_settled : (suppress : Bool) (asked : ℕ) (old : Mounted) (reply : Reply) (made : List Change) (new : Mounted)

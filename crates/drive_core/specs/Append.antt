@@ -34,7 +34,7 @@ pub record IsAppended (change : Change) (old : Mounted) (medium : MediumState) (
   pub position_is : position ≡ behind change old.position
 
 -- whether a change that adds this much is answered by an early warning: what stands before the position behind it
--- reaches into the early zone; an erasing warns of nothing (SSC-4, early warning; the zone own)
+-- reaches into the early zone; an ERASE warns of nothing (SSC-4, early warning; the zone own)
 abbrev pub is_warned : Option ℕ → List Part → Pos → Bool
 is_warned None volume position = false
 is_warned (Some amount) volume position = is_near_end volume position
@@ -48,7 +48,7 @@ abbrev pub made_reply : Change → Mounted → Reply
 made_reply change old =
     done_reply (is_warned (amount_of change) (changed (contents_of old) change) (behind change old.position))
 
--- what does not fit is not there, and the host is told how much that is; an erasing always fits (SSC-4, WRITE(6);
+-- what does not fit is not there, and the host is told how much that is; an ERASE always fits (SSC-4, WRITE(6);
 -- nothing is written that does not fit whole, own)
 abbrev pub LacksRoom : Option ℕ → Mounted → Reply → List Change → Mounted → Type 0
 LacksRoom None old reply made new = ⊥

@@ -39,6 +39,6 @@ abbrev pub LocateMotion : ℕ → Option ℕ → MediumRelation
 LocateMotion object part old (Ok reply) made new = (made ≡ []) × IsLocated object part old reply new
 LocateMotion object part old (Err fault) made new = ⊥
 
--- what is pending is stored, and then the motion is done (SSC-4, LOCATE(10); the storing own)
+-- what is pending is stored, and then the motion is done (SSC-4, LOCATE(10); that it stores first, own)
 abbrev pub LocateWork : ℕ → Option ℕ → MediumRelation
 LocateWork object part = StoredFirst (LocateMotion object part)

@@ -72,7 +72,7 @@ GivesObject honest suppress asked old (Err Reading) made new =
 GivesObject honest suppress asked old (Err _) made new = ⊥
 
 -- what is pending is stored, and then the object at the position is given; of no bytes nothing is done
--- (SSC-4, READ(6); the storing own)
+-- (SSC-4, READ(6); that it stores first, own)
 abbrev pub ReadWork : Type 0 → Bool → ℕ → MediumRelation
 ReadWork honest suppress zero old answer made new = Idles old answer made new
 ReadWork honest suppress (suc n) old answer made new =

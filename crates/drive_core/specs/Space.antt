@@ -44,7 +44,8 @@ abbrev pub SpaceMotion : SpaceCode → ℤ → MediumRelation
 SpaceMotion code count old (Ok reply) made new = (made ≡ []) × IsSpaced code count old reply new
 SpaceMotion code count old (Err fault) made new = ⊥
 
--- what is pending is stored, and then the motion is done; over nothing, neither (SSC-4, SPACE(6); the storing own)
+-- what is pending is stored, and then the motion is done; over nothing, neither (SSC-4, SPACE(6); that it stores
+-- first, own)
 abbrev pub SpaceWhen : Bool → SpaceCode → ℤ → MediumRelation
 SpaceWhen true code count = Idles
 SpaceWhen false code count = StoredFirst (SpaceMotion code count)

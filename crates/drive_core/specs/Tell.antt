@@ -21,6 +21,6 @@ GivesPosition old answer made new =
     Gives (report_of (contents_of old) old.position) answer × (made ≡ []) × (new ≡ old)
 
 -- what is pending is stored, and the position is told; since nothing is pending then, first and last location are one
--- (SSC-4, READ POSITION; the storing own)
+-- (SSC-4, READ POSITION; that it stores first, own)
 abbrev pub ReadPositionWork : MediumRelation
 ReadPositionWork = StoredFirst GivesPosition

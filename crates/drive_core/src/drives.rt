@@ -100,7 +100,7 @@ impl<M: Medium> Drive<M> {
     }
 
     /// A flusher's turn: stores what is pending. A fault establishes a deferred error, which the
-    /// next command reports. It takes no memory.
+    /// next command that is not exempt reports, or REQUEST SENSE gives as data. It takes no memory.
     pub fn turn(&mut self) -> Turn
         ensures { TakesTurn M.state M.below self.old result self.new }
     {

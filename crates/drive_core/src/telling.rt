@@ -1,4 +1,4 @@
-//! Commands that give data and change nothing but what they report: INQUIRY, READ BLOCK LIMITS, READ POSITION.
+//! Commands that give data: READ POSITION, and the giving that INQUIRY, READ BLOCK LIMITS and REQUEST SENSE share.
 ghost use Rattle.std.specs.Prelude.{◌≡◌};
 ghost use Rattle.drive_core.specs.State.{IsPositioned, mounted};
 ghost use Rattle.drive_core.specs.Tell.{Gives, ReadPositionWork};

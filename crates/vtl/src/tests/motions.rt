@@ -121,11 +121,9 @@ const UP_TO_THE_ZONE: &[Row] = &[
     ("0a000003e800 ", 1_000, "GOOD"),
     ("0a000003e800 ", 1_000, "GOOD"),
     ("0a0000030800 ", 776, "GOOD"),
-    (
-        POSITION,
-        0,
-        "GOOD 0000000000000004000000040000000000000000",
-    ),
+    (POSITION, 0, "GOOD 0000000000000004000000040000000000000000"),
+    ("100000000100 ", 0, EARLY_WARNING),
+    ("190000000000 ", 0, "GOOD"),
 ];
 
 // Four blocks use 4,064 bytes; a block of 17 does not fit, one of 16 does, and then no filemark.

@@ -19,7 +19,7 @@ returns-clause-carries g c =
       made = given.made;
       work =
           stored_first (Erases c.args.buffered) (state old) (state mid) c.args.position.now c.append.result given.made
-          (mounted (state new) c.append.new.position) stored.answer given.work;
+          (mounted (state new) c.append.new.position) stored.answer (given.work, given.stores);
       advances =
           advances_on g.M.Medium.below g.met.M.Medium.moves_on old mid new [] given.made
           (is_device_fault c.append.result) stored.advances given.advances;
