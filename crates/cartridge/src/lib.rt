@@ -1,0 +1,12 @@
+//! A cartridge on a disk: its changes are stored a frame at a time, each frame whole or not at all.
+#![tactic(auto)]
+
+pub mod cartridges;
+mod creating;
+pub mod error;
+mod noted;
+pub mod shelved;
+
+pub use cartridges::Cartridge;
+pub use error::{CartridgeError, NotCreated, NotOpened};
+pub use shelved::Shelved;
