@@ -12,7 +12,7 @@ use Rattle.cartridge.specs.declared.error.CartridgeError.TheVariants.{NotOurs, D
 use Rattle.cartridge.specs.declared.error.NotCreated.{NotCreated}
 use Rattle.cartridge.specs.declared.error.NotOpened.{NotOpened}
 use Rattle.cartridge.specs.Contents.{Contents, Gives, IsBadAt, IsNoCartridge, with_frames}
-use Rattle.cartridge.specs.Records.{spell_changes}
+use Rattle.record_index.specs.Records.{spell_all}
 use Rattle.cartridge.specs.State.{ClosedCartridge, OpenCartridge, Reserved}
 
 -- A fact for each answer of a call on an open cartridge: done, out of memory, a full side, a fault, a fault in an
@@ -49,7 +49,7 @@ pub record TakesReserved (old : Reserved) (changes : List Change) (new : Reserve
 -- less is reserved than these changes take as a frame (own)
 abbrev pub LacksReserved : Reserved → List Change → Type 0
 LacksReserved old changes =
-    (old.frames ≡ 0) ⊎ ((old.body < length (spell_changes changes))
+    (old.frames ≡ 0) ⊎ ((old.body < length (spell_all changes))
     ⊎ ((part : ℕ) × (slice_index_or old.entries part 0 < sum_by (entries_of part) changes)))
 
 module _ {D : Type 0} where
@@ -59,13 +59,13 @@ module _ {D : Type 0} where
     pub is_fine : new.failed ≡ false
     pub contents : new.contents ≡ with_frames old.contents (changes ∷ [])
     pub torn : new.torn ≡ old.torn
-    pub room : new.room + (length (spell_changes changes) + 5) ≡ old.room
+    pub room : new.room + (length (spell_all changes) + 5) ≡ old.room
     pub reserved : TakesReserved old.reserved changes new.reserved
 
   -- the disk failed while these changes were stored: the cartridge keeps its contents, and what was under way (own)
   pub record IsBroken (old : OpenCartridge D) (changes : List Change) (new : OpenCartridge D) : Type 0 where
     pub was_fine : old.failed ≡ false
-    pub fitted : length (spell_changes changes) + 5 ≤ old.room
+    pub fitted : length (spell_all changes) + 5 ≤ old.room
     pub failed : new.failed ≡ true
     pub contents : new.contents ≡ old.contents
     pub torn : new.torn ≡ changes ∷ []
@@ -75,7 +75,7 @@ module _ {D : Type 0} where
   -- memory ran out, since less was reserved than these changes take; nothing but what is reserved has changed (own)
   pub record LacksMemory (old : OpenCartridge D) (changes : List Change) (new : OpenCartridge D) : Type 0 where
     pub was_fine : old.failed ≡ false
-    pub fitted : length (spell_changes changes) + 5 ≤ old.room
+    pub fitted : length (spell_all changes) + 5 ≤ old.room
     pub lacked : LacksReserved old.reserved changes
     pub same : new ≡ record old { reserved = new.reserved }
     pub reserved : KeepsReserved old.reserved new.reserved

@@ -5,7 +5,7 @@ use Rattle.volume_core.specs.declared.changes.Change.{Change}
 use Rattle.volume_core.specs.Volume.{Part, AllApply, after, empty_volume}
 use Rattle.gate_journal.specs.declared.header.SideKind.TheVariants.{Cartridge, Store}
 use Rattle.gate_journal.specs.Side.{Heading, IsNotOurs, StandsFor, padded, spell}
-use Rattle.cartridge.specs.Records.{IsRecord, spell_changes}
+use Rattle.record_index.specs.Records.{IsRecord, spell_all}
 
 -- What the side of a cartridge holds (own).
 pub record Contents : Type 0 where
@@ -49,7 +49,7 @@ pub record IsContents (contents : Contents) : Type 0 where
 
 -- the bodies of frames that spell these changes (own)
 abbrev pub bodies_of : List (List Change) → List (List ℕ)
-bodies_of frames = map spell_changes frames
+bodies_of frames = map spell_all frames
 
 -- what is found on the image is just this (own)
 abbrev pub Gives : Contents → List ℕ → Type 0
@@ -74,7 +74,7 @@ pub record IsBadFrame (heading : Heading) (bodies : List (List ℕ)) (good : Lis
   pub spelled : bodies_of good ≡ take (length good) bodies
   pub gate : at ≡ length (spell heading (bodies_of good))
   pub bad : (changes : List Change) → All IsRecord changes
-      → slice_index_or bodies (length good) [] ≡ spell_changes changes
+      → slice_index_or bodies (length good) [] ≡ spell_all changes
       → AllApply (volume_in (contents_from heading good)) changes → ⊥
 
 -- the image stands for a side whose first bad frame has its gate at that place (own)

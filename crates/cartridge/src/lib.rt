@@ -4,8 +4,12 @@
 pub mod cartridges;
 mod creating;
 pub mod error;
+mod fetching;
 mod noted;
+mod placing;
 pub mod shelved;
+mod spelling;
+mod storing;
 
 pub use cartridges::Cartridge;
 pub use error::{CartridgeError, NotCreated, NotOpened};

@@ -1,0 +1,3 @@
+-- What only private contracts and invariants use.
+pub mod Growing
+pub mod Open

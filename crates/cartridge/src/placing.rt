@@ -1,0 +1,51 @@
+//! The objects of a new frame get their places.
+ghost use Rattle.std.specs.Prelude.{◌≡◌, ◌+◌, ◌<◌, ◌≤◌, ◌++◌, [], ◌∷◌, ℕ, List, length, slice_index_or};
+ghost use Rattle.std.specs.List.{All};
+ghost use Rattle.volume_core.specs.Volume.{AllApply, after};
+ghost use Rattle.record_index.specs.Records.{IsRecord, spell_all};
+ghost use Rattle.record_index.specs.Places.{reserved_of};
+ghost use Rattle.cartridge.specs.Answers.{entries_of};
+ghost use Rattle.cartridge.specs.Contents.{volume_in};
+ghost use Rattle.cartridge.specs.Inner.Growing.{HasRoomFor, TakesEntries};
+ghost use Rattle.cartridge.specs.Inner.Open.{LiesOnSide};
+ghost use Rattle.cartridge.specs.Lying.{VolumeLies};
+ghost use Rattle.cartridge.specs.Notes.{noted_contents, with_frame};
+
+use crate::noted::Noted;
+use gate_journal::Journal;
+use record_index::{HEAD_BYTES, Index, Record};
+use tape_disk::Disk;
+use volume_core::{ApplyError, Change};
+
+// Enters the changes of the side's last frame into the index, which has room for them.
+pub(crate) fn place_frame<D: Disk>(
+    index: &mut Index,
+    journal: &Journal<D>,
+    noted: &Noted,
+    changes: &[Change],
+)
+    requires apply { AllApply (volume_in (noted_contents noted.now.notes)) changes.now }
+    requires records { All IsRecord changes.now }
+    requires room { HasRoomFor index.old changes.now }
+    requires counted { length journal.now.extents ≡ length noted.now.notes.frames + 1 }
+    requires sized { (slice_index_or journal.now.extents (length noted.now.notes.frames) (0, 0)).1
+        ≡ length (spell_all changes.now) }
+    requires lies { VolumeLies (LiesOnSide (with_frame noted.now.notes changes.now) journal.now.extents)
+        (volume_in (noted_contents noted.now.notes)) index.old }
+    ensures lies { VolumeLies (LiesOnSide (with_frame noted.now.notes changes.now) journal.now.extents)
+        (after (volume_in (noted_contents noted.now.notes)) changes.now) index.new }
+    ensures reserved { TakesEntries index.old changes.now index.new }
+{
+    let frame = journal.frames() - 1;
+    let (place, _) = journal.body_at(frame);
+    let mut at = place;
+    for change in changes {
+        let record = Record::of(change);
+        match index.apply(record, at + HEAD_BYTES as u64) {
+            Ok(()) => {}
+            Err(ApplyError::Refused(_)) => unreachable!(),
+            Err(ApplyError::NoMemory) => unreachable!(),
+        }
+        at += record.size() as u64;
+    }
+}
