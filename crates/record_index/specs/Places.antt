@@ -1,0 +1,138 @@
+-- Where the objects of a cartridge lie: what contracts see of an index.
+use Rattle.std.specs.Prelude.{◌≡◌, ◌<◌, ◌≤◌, ◌+◌, ◌-◌, ◌*◌, ◌^◌, ℕ, List, [], ◌∷◌, ◌++◌, length, take, map, replicate, Option, None, Some, slice_get, slice_set}
+use Rattle.vtl_base.specs.declared.limits.TheConstants.{MAX_OBJECTS}
+use Rattle.volume_core.specs.declared.objects.Object.{Object}
+use Rattle.volume_core.specs.declared.objects.Object.TheVariants.{Block, Mark}
+use Rattle.volume_core.specs.declared.changes.Change.{Change}
+use Rattle.volume_core.specs.Volume.{Part, IsPart}
+use Rattle.record_index.specs.declared.places.Placed.{Placed}
+use Rattle.record_index.specs.declared.places.Placed.TheVariants as Placeds
+use Rattle.record_index.specs.declared.places.Run.{Run}
+use Rattle.record_index.specs.declared.places.Run.TheVariants as Runs
+use Rattle.record_index.specs.declared.records.Record.{Record}
+use Rattle.record_index.specs.declared.records.Record.TheVariants as Records
+use Rattle.record_index.specs.Records.{change_with, block_length}
+
+-- A partition of an index: how many bytes it takes, its objects from object 0 on, of each block its place and its
+-- length, and how many runs may be added without memory (own).
+pub record PlacedPart : Type 0 where
+  pub capacity : ℕ
+  pub objects : List Placed
+  pub reserved : ℕ
+
+-- what a read gives of a place and a length (own)
+abbrev pub Reading : Type 0
+Reading = ℕ → ℕ → List ℕ
+
+-- the object that lies there, by what a read gives (own)
+abbrev pub filled : Reading → Placed → Object
+filled read (Placeds.Block place length) = Block (read place length)
+filled read Placeds.Mark = Mark
+
+-- a partition with its blocks, by what a read gives (own)
+abbrev pub filled_part : Reading → PlacedPart → Part
+filled_part read part = record { capacity = part.capacity; objects = map (filled read) part.objects }
+
+-- the volume of an index, by what a read gives (own)
+abbrev pub volume_by : Reading → List PlacedPart → List Part
+volume_by read parts = map (filled_part read) parts
+
+-- a read that gives bytes 00h alone (own)
+abbrev pub blank : Reading
+blank place length = replicate length 0
+
+-- The volume of an index with each byte of its blocks 00h: its capacities, kinds and lengths. No byte of a block
+-- decides what `Volume` says of counts, kinds, costs and refusals (own).
+abbrev pub outline : List PlacedPart → List Part
+outline parts = volume_by blank parts
+
+-- the change of a record with each byte of its block 00h (own)
+abbrev pub outlined : Record → Change
+outlined item = change_with item (blank 0 (block_length item))
+
+-- the change of a record whose block lies at that place, by what a read gives (own)
+abbrev pub change_by : Reading → Record → ℕ → Change
+change_by read item place = change_with item (read place (block_length item))
+
+-- the objects of a partition that may be there (own)
+abbrev pub placed_objects_in : Option PlacedPart → List Placed
+placed_objects_in None = []
+placed_objects_in (Some part) = part.objects
+
+-- the objects of a partition, none where there is no such partition (own)
+abbrev pub placed_objects : List PlacedPart → ℕ → List Placed
+placed_objects parts number = placed_objects_in (slice_get parts number)
+
+-- how many runs may be added without memory to a partition that may be there (own)
+abbrev pub reserved_in : Option PlacedPart → ℕ
+reserved_in None = 0
+reserved_in (Some part) = part.reserved
+
+-- how many runs may be added to a partition without memory, 0 where there is no such partition (own)
+abbrev pub reserved_of : List PlacedPart → ℕ → ℕ
+reserved_of parts number = reserved_in (slice_get parts number)
+
+-- the objects of a run (own)
+abbrev pub objects_of_run : Run → List Placed
+objects_of_run (Runs.Block place length) = Placeds.Block place length ∷ []
+objects_of_run (Runs.Marks count) = replicate count Placeds.Mark
+
+-- a block's place is below the greatest number of its width (own)
+abbrev pub IsPlace : Run → Type 0
+IsPlace (Runs.Block place length) = place < 2 ^ 64 - 1
+IsPlace (Runs.Marks count) = Unit {0}
+
+-- a partition of an index with no object (own)
+abbrev pub empty_placed : ℕ → PlacedPart
+empty_placed capacity = record { capacity = capacity; objects = []; reserved = 0 }
+
+-- a partition with a run behind its objects, and so many runs reserved (own)
+abbrev pub with_run : PlacedPart → Run → ℕ → PlacedPart
+with_run part run reserved =
+    record { capacity = part.capacity; objects = part.objects ++ objects_of_run run; reserved = reserved }
+
+-- the run may be added to the partition: it keeps the limits of its objects and its capacity (own)
+pub record CanAdd (part : PlacedPart) (run : Run) : Type 0 where
+  pub place : IsPlace run
+  pub fits : IsPart (filled_part blank (with_run part run part.reserved))
+
+-- the objects that a record adds, a block lying at that place (own)
+abbrev pub placed_by : Record → ℕ → List Placed
+placed_by (Records.Put part at length) place = Placeds.Block place length ∷ []
+placed_by (Records.Marks part at count) place = replicate count Placeds.Mark
+placed_by (Records.Erase part at) place = []
+
+-- how many runs a record adds (own)
+abbrev pub runs_of : Record → ℕ
+runs_of (Records.Put part at length) = 1
+runs_of (Records.Marks part at count) = 1
+runs_of (Records.Erase part at) = 0
+
+-- the partition that a record concerns (own)
+abbrev pub part_of : Record → ℕ
+part_of (Records.Put part at length) = part
+part_of (Records.Marks part at count) = part
+part_of (Records.Erase part at) = part
+
+-- how many of its objects stay (own)
+abbrev pub kept_of : Record → ℕ
+kept_of (Records.Put part at length) = at
+kept_of (Records.Marks part at count) = at
+kept_of (Records.Erase part at) = at
+
+-- the index with these objects, and so many runs reserved, in a partition that may be there (own)
+abbrev pub with_objects_in : Option PlacedPart → List PlacedPart → ℕ → List Placed → ℕ → List PlacedPart
+with_objects_in None parts number objects reserved = parts
+with_objects_in (Some part) parts number objects reserved =
+    slice_set parts number (record { capacity = part.capacity; objects = objects; reserved = reserved })
+
+-- the index with these objects, and so many runs reserved, in a partition; without that partition, as it was (own)
+abbrev pub with_objects : List PlacedPart → ℕ → List Placed → ℕ → List PlacedPart
+with_objects parts number objects reserved =
+    with_objects_in (slice_get parts number) parts number objects reserved
+
+-- the index after a record whose block lies at that place, with so many runs reserved then (own)
+abbrev pub placed_after : List PlacedPart → Record → ℕ → ℕ → List PlacedPart
+placed_after parts item place reserved =
+    with_objects parts (part_of item)
+    (take (kept_of item) (placed_objects parts (part_of item)) ++ placed_by item place) reserved

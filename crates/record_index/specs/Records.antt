@@ -1,0 +1,101 @@
+-- Which bytes spell a change, and which a list of changes.
+use Rattle.std.specs.Prelude.{◌≡◌, ◌≢◌, ◌≤◌, ◌<◌, ◌+◌, ◌^◌, ℕ, List, [], ◌∷◌, ◌++◌, length, take, drop}
+use Rattle.std.specs.List.{All, flat_map}
+use Rattle.std.specs.Int.{to_be_bytes, w32}
+use Rattle.vtl_base.specs.declared.limits.TheConstants.{MAX_BLOCK, MAX_OBJECTS}
+use Rattle.volume_core.specs.declared.changes.Change.{Change}
+use Rattle.volume_core.specs.declared.changes.Change.TheVariants.{Put, Marks, Erase}
+use Rattle.record_index.specs.declared.records.Record.{Record}
+use Rattle.record_index.specs.declared.records.Record.TheVariants as Records
+use Rattle.record_index.specs.declared.records.RecordError.{RecordError}
+use Rattle.record_index.specs.declared.records.RecordError.TheVariants.{BadRecord, NoMemory}
+
+-- what each record begins with: kind, partition, object number, number (own)
+abbrev pub spell_head : ℕ → ℕ → ℕ → ℕ → List ℕ
+spell_head kind part at number = kind ∷ part ∷ to_be_bytes w32 at ++ to_be_bytes w32 number
+
+-- A change in bytes: of a block its length and itself, of marks their count, of an erase the number 0 (own).
+abbrev pub spell : Change → List ℕ
+spell (Put part at block) = spell_head 1 part at (length block) ++ block
+spell (Marks part at count) = spell_head 2 part at count
+spell (Erase part at) = spell_head 3 part at 0
+
+-- the numbers of a record's head that say where it works are of their width (own)
+abbrev pub IsTarget : ℕ → ℕ → Type 0
+IsTarget part at = (part < 2 ^ 8) × (at < 2 ^ 32)
+
+-- a change that has a spelling: partition and object number are any numbers of their width, a block has 1 to
+-- 1,048,576 bytes, and there are 1 to 16,000,000 marks (own)
+abbrev pub IsRecord : Change → Type 0
+IsRecord (Put part at block) = IsTarget part at × (1 ≤ length block) × (length block ≤ MAX_BLOCK)
+IsRecord (Marks part at count) = IsTarget part at × (1 ≤ count) × (count ≤ MAX_OBJECTS)
+IsRecord (Erase part at) = IsTarget part at
+
+-- the bytes spell the change (own)
+abbrev pub Spells : List ℕ → Change → Type 0
+Spells bytes change = IsRecord change × (bytes ≡ spell change)
+
+-- changes in bytes, one after the other (own)
+abbrev pub spell_all : List Change → List ℕ
+spell_all changes = flat_map spell changes
+
+-- the bytes spell these changes, in this order, and nothing more (own)
+abbrev pub SpellsAll : List ℕ → List Change → Type 0
+SpellsAll bytes changes = All IsRecord changes × (bytes ≡ spell_all changes)
+
+-- some change's spelling begins the bytes (own)
+abbrev pub BeginsWithRecord : List ℕ → Type 0
+BeginsWithRecord bytes = (change : Change) × (rest : List ℕ) × IsRecord change × (bytes ≡ spell change ++ rest)
+
+-- The bytes begin with the spelling of a list of changes, of that length. The rest is not empty, and begins with no
+-- change's spelling (own).
+pub record IsBadAt (bytes : List ℕ) (at : ℕ) : Type 0 where
+  pub changes : List Change
+  pub rest : List ℕ
+  pub spelled : All IsRecord changes
+  pub begins : bytes ≡ spell_all changes ++ rest
+  pub at_is : at ≡ length (spell_all changes)
+  pub some : rest ≢ []
+  pub bad : BeginsWithRecord rest → ⊥
+
+-- why bytes are not decoded: a bad record at that place; or memory ran out, where there is a record to be kept (own)
+abbrev pub NotDecoded : List ℕ → RecordError → Type 0
+NotDecoded bytes (BadRecord at) = IsBadAt bytes at
+NotDecoded bytes NoMemory = BeginsWithRecord bytes
+
+-- the record of a change: all of it but a block's bytes (own)
+abbrev pub record_of : Change → Record
+record_of (Put part at block) = Records.Put part at (length block)
+record_of (Marks part at count) = Records.Marks part at count
+record_of (Erase part at) = Records.Erase part at
+
+-- how many bytes a record has, a block's included (own)
+abbrev pub size_of : Record → ℕ
+size_of (Records.Put part at length) = 10 + length
+size_of (Records.Marks part at count) = 10
+size_of (Records.Erase part at) = 10
+
+-- the change of a record whose block's bytes are these (own)
+abbrev pub change_with : Record → List ℕ → Change
+change_with (Records.Put part at length) block = Put part at block
+change_with (Records.Marks part at count) block = Marks part at count
+change_with (Records.Erase part at) block = Erase part at
+
+-- how many bytes its block has, none where it has no block (own)
+abbrev pub block_length : Record → ℕ
+block_length (Records.Put part at length) = length
+block_length (Records.Marks part at count) = 0
+block_length (Records.Erase part at) = 0
+
+-- the change of a record that stands at the front of these bytes: its block lies behind the ten bytes of its head
+-- (own)
+abbrev pub change_in : Record → List ℕ → Change
+change_in item bytes = change_with item (take (block_length item) (drop 10 bytes))
+
+-- the bytes begin with this record: with the spelling of the change that it is there, whose record it is (own)
+pub record IsAtFront (item : Record) (bytes : List ℕ) : Type 0 where
+  pub valid : IsRecord (change_in item bytes)
+  pub spelled : bytes ≡ spell (change_in item bytes) ++ drop (size_of item) bytes
+  pub sized : length (spell (change_in item bytes)) ≡ size_of item
+  pub within : size_of item ≤ length bytes
+  pub of_it : record_of (change_in item bytes) ≡ item

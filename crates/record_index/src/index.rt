@@ -1,0 +1,191 @@
+//! The index of a cartridge: where each object lies.
+ghost use Rattle.std.specs.Prelude.{◌≡◌, ◌≤◌, ◌<◌, ◌+◌, ◌-◌, ◌^◌, ◌++◌, IsTrue, Err, IfOk, IfSome, OnOk, OnErr, Some, length, map, take, slice_get};
+ghost use Rattle.std.specs.Option.{option_copied};
+ghost use Rattle.vtl_base.specs.declared.limits.TheConstants.{MAX_CAPACITY, MAX_OBJECTS, MAX_PARTITIONS};
+ghost use Rattle.volume_core.specs.Volume.{AppliesUnless, IsVolume, are_capacities, capacity_of, count_of, kind_at, refusal_of, used_up_to};
+ghost use Rattle.record_index.specs.Places.{CanAdd, empty_placed, objects_of_run, outline, outlined, part_of, placed_after, placed_objects, reserved_of, runs_of, with_objects};
+ghost use Rattle.volume_core.specs.declared.volumes.ApplyError.TheVariants as Errors;
+
+use crate::partitions::PlacedPartition;
+use crate::places::{Placed, Run};
+use crate::records::Record;
+use std::alloc::Global;
+use std::marker::Model;
+use volume_core::{ApplyError, Kind, Refusal};
+use vtl_base::{NoMemory, ObjNo, PartNo};
+
+/// Where each object of a cartridge lies: 1 to 4 partitions, with an entry of 24 bytes for each
+/// block and each run of filemarks. To a contract it is the list of its partitions, each with the
+/// list of its objects and their places. No call walks over a partition.
+#[derive(Drop)]
+pub struct Index {
+    partitions: Vec<PlacedPartition>,
+}
+
+impl Model for Index {
+    ghost use Rattle.std.specs.Prelude.{List};
+    ghost use Rattle.volume_core.specs.Volume.{IsVolume};
+    ghost use Rattle.record_index.specs.Places.{PlacedPart, outline};
+
+    ghost Value = { List PlacedPart };
+
+    ghost view = { λ index. index.partitions.items };
+
+    ghost invariant = { λ index. IsVolume (outline index.partitions.items) };
+}
+
+impl Index {
+    /// An index of empty partitions with these capacities in bytes. `volume_core::are_capacities`
+    /// tests the condition.
+    pub fn new(alloc: Global, capacities: &[u64]) -> Result<Self, NoMemory>
+        requires { IsTrue (are_capacities capacities.now) }
+        ensures { IfOk result (λ index. index ≡ map empty_placed capacities.now) }
+    {
+        let mut partitions = Vec::with_capacity(alloc, capacities.len())?;
+        for capacity in capacities {
+            partitions.push_reserved(PlacedPartition::new(alloc, *capacity));
+        }
+        Ok(Index { partitions })
+    }
+
+    // The partition of this number, if there is one.
+    fn partition(&self, part: PartNo) -> Option<&PlacedPartition>
+        ensures { option_copied result ≡ slice_get self.now part }
+    {
+        self.partitions.get(part as usize)
+    }
+
+    /// How many partitions there are, 1 to 4.
+    pub fn parts(&self) -> PartNo
+        ensures parts { result ≡ length self.now }
+        ensures some { 1 ≤ result }
+        ensures few { result ≤ MAX_PARTITIONS }
+        ensures limits { IsVolume (outline self.now) }
+    {
+        self.partitions.len() as PartNo
+    }
+
+    /// The capacity of a partition in bytes, 0 where there is no such partition.
+    pub fn capacity(&self, part: PartNo) -> u64
+        ensures capacity { result ≡ capacity_of (outline self.now) part }
+        ensures bound { result ≤ MAX_CAPACITY }
+    {
+        match self.partition(part) {
+            Some(partition) => partition.capacity(),
+            None => 0,
+        }
+    }
+
+    /// How many objects a partition has, 0 where there is no such partition.
+    pub fn count(&self, part: PartNo) -> ObjNo
+        ensures count { result ≡ count_of (outline self.now) part }
+        ensures bound { result ≤ MAX_OBJECTS }
+    {
+        match self.partition(part) {
+            Some(partition) => partition.count(),
+            None => 0,
+        }
+    }
+
+    /// The object of a number: of a block its place and its length. None where there is none.
+    pub fn place(&self, part: PartNo, at: ObjNo) -> Option<Placed>
+        ensures { result ≡ slice_get (placed_objects self.now part) at }
+    {
+        self.partition(part)?.place(at)
+    }
+
+    /// The kind of the object of a number, None where there is none.
+    pub fn kind_at(&self, part: PartNo, at: ObjNo) -> Option<Kind>
+        ensures { result ≡ kind_at (outline self.now) part at }
+    {
+        Some(self.place(part, at)?.kind())
+    }
+
+    /// What the first n objects of a partition take of its capacity, in bytes; all of them where
+    /// there are fewer.
+    pub fn used(&self, part: PartNo, n: ObjNo) -> u64
+        ensures used { result ≡ used_up_to (outline self.now) part n }
+        ensures bound { result ≤ capacity_of (outline self.now) part }
+    {
+        match self.partition(part) {
+            Some(partition) => partition.used(n),
+            None => 0,
+        }
+    }
+
+    /// Why a change with this record is refused: the first cause that holds, None where there is
+    /// none.
+    pub fn refusal(&self, item: Record) -> Option<Refusal>
+        ensures { result ≡ refusal_of (outline self.now) (outlined item) }
+    {
+        match self.partition(item.part()) {
+            Some(partition) => partition.refusal(item),
+            None => Some(Refusal::NoPartition),
+        }
+    }
+
+    /// Makes room in memory for so many blocks and runs of marks more in a partition, which then
+    /// take none: 24 bytes each.
+    pub fn reserve(&mut self, part: PartNo, runs: usize) -> Result<(), NoMemory>
+        requires { part < length self.old }
+        ensures same { self.new ≡ with_objects self.old part (placed_objects self.old part)
+            (reserved_of self.new part) }
+        ensures grows { reserved_of self.old part ≤ reserved_of self.new part }
+        ensures ok { OnOk result (runs ≤ reserved_of self.new part) }
+        ensures err { OnErr result
+            ((reserved_of self.old part < runs) × (self.new ≡ self.old)) }
+    {
+        let partition = &mut self.partitions[part as usize];
+        partition.reserve(runs)?;
+        Ok(())
+    }
+
+    /// Keeps the first n objects of a partition; all of them where there are fewer.
+    pub fn cut_at(&mut self, part: PartNo, n: ObjNo)
+        requires { part < length self.old }
+        ensures objects { self.new ≡ with_objects self.old part
+            (take n (placed_objects self.old part)) (reserved_of self.new part) }
+        ensures reserved { reserved_of self.old part ≤ reserved_of self.new part }
+    {
+        let partition = &mut self.partitions[part as usize];
+        partition.cut(n);
+    }
+
+    /// Puts a block or a run of marks behind the objects of a partition. It takes memory only where
+    /// nothing is reserved there; after an `Err` nothing has changed.
+    pub fn add(&mut self, part: PartNo, run: Run) -> Result<(), NoMemory>
+        requires there { part < length self.old }
+        requires fits { IfSome (slice_get self.old part) (λ p. CanAdd p run) }
+        ensures ok { OnOk result (self.new ≡ with_objects self.old part
+            (placed_objects self.old part ++ objects_of_run run) (reserved_of self.new part)) }
+        ensures reserved { OnOk result
+            (reserved_of self.old part ≤ reserved_of self.new part + 1) }
+        ensures err { OnErr result ((reserved_of self.old part ≡ 0) × (self.new ≡ self.old)) }
+    {
+        let partition = &mut self.partitions[part as usize];
+        partition.add(run)?;
+        Ok(())
+    }
+
+    /// Carries the change of a record out, its block lying at that place, or refuses it for the
+    /// first cause that holds. It takes memory only where nothing is reserved in the record's
+    /// partition, and none for an erase; that it runs out is returned where no cause holds. Nothing
+    /// has changed after an `Err`.
+    pub fn apply(&mut self, item: Record, place: u64) -> Result<(), ApplyError>
+        requires { place < 2 ^ 64 - 1 }
+        ensures answer { AppliesUnless (refusal_of (outline self.old) (outlined item)) self.old
+            (placed_after self.old item place (reserved_of self.new (part_of item)))
+            result self.new }
+        ensures reserved { reserved_of self.old (part_of item)
+            ≤ reserved_of self.new (part_of item) + runs_of item }
+        ensures memory { result ≡ Err Errors.NoMemory →
+            reserved_of self.old (part_of item) < runs_of item }
+    {
+        let part = item.part() as usize;
+        if part >= self.partitions.len() {
+            return Err(ApplyError::Refused(Refusal::NoPartition));
+        }
+        let partition = &mut self.partitions[part];
+        partition.apply(item, place)
+    }
+}

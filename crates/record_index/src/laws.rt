@@ -1,0 +1,71 @@
+//! Laws of the definitions. Each is a function that does nothing, and its contract is the law.
+ghost use Rattle.std.specs.Prelude.{◌≡◌, ◌⊎◌, ◌↔◌, ◌++◌, ℕ, List, Some, None, length};
+ghost use Rattle.volume_core.specs.declared.changes.Change.{Change};
+ghost use Rattle.volume_core.specs.Volume.{Part, IsVolume, capacity_of, changed, count_of, kind_at, refusal_of, used_up_to};
+ghost use Rattle.record_index.specs.Records.{IsBadAt, IsRecord, Spells, SpellsAll, record_of, size_of, spell};
+ghost use Rattle.record_index.specs.ChangesOn.{changes_on};
+ghost use Rattle.record_index.specs.Places.{PlacedPart, Reading, change_by, outline, placed_after, volume_by};
+ghost use Rattle.record_index.specs.Shapes.{IsIndexOf, shape_of, shape_of_change};
+
+/// A change has one spelling.
+pub fn a_change_has_one_spelling()
+    ensures { (a b : List ℕ) (change : Change) → Spells a change → Spells b change → a ≡ b }
+{}
+
+/// The size of a change's record is the length of its spelling.
+pub fn the_size_of_a_record()
+    ensures { (change : Change) → size_of (record_of change) ≡ length (spell change) }
+{}
+
+/// No change's spelling begins another's: what begins with two of them begins with one.
+pub fn no_spelling_begins_another()
+    ensures { (a b x y : List ℕ) (change other : Change) → Spells a change → Spells b other →
+        a ++ x ≡ b ++ y → (change ≡ other) × (a ≡ b) × (x ≡ y) }
+{}
+
+/// Bytes spell at most one list of changes, are bad at one place at most, and never both.
+pub fn bytes_spell_at_most_one_list()
+    ensures one_list { (bytes : List ℕ) (changes others : List Change) →
+        SpellsAll bytes changes → SpellsAll bytes others → changes ≡ others }
+    ensures one_place { (bytes : List ℕ) (a b : ℕ) → IsBadAt bytes a → IsBadAt bytes b → a ≡ b }
+    ensures sound { (bytes : List ℕ) (changes : List Change) (at : ℕ) →
+        SpellsAll bytes changes → IsBadAt bytes at → ⊥ }
+{}
+
+/// The changes on bytes are those that they spell; where they spell none, they are bad at a place.
+pub fn the_changes_on_bytes()
+    ensures spelled { (bytes : List ℕ) (changes : List Change) →
+        (changes_on bytes ≡ Some changes) ↔ SpellsAll bytes changes }
+    ensures bad { (bytes : List ℕ) → changes_on bytes ≡ None → (at : ℕ) × IsBadAt bytes at }
+{}
+
+/// A change that a volume does not refuse has a spelling.
+pub fn what_applies_has_a_spelling()
+    ensures { (volume : List Part) (change : Change) → IsVolume volume →
+        refusal_of volume change ≡ None → IsRecord change }
+{}
+
+/// What no byte of a block decides: counts, kinds, costs and refusals.
+pub fn a_volume_is_seen_by_its_shape()
+    ensures capacity { (volume : List Part) (part : ℕ) →
+        capacity_of (shape_of volume) part ≡ capacity_of volume part }
+    ensures count { (volume : List Part) (part : ℕ) →
+        count_of (shape_of volume) part ≡ count_of volume part }
+    ensures kind { (volume : List Part) (part at : ℕ) →
+        kind_at (shape_of volume) part at ≡ kind_at volume part at }
+    ensures used { (volume : List Part) (part n : ℕ) →
+        used_up_to (shape_of volume) part n ≡ used_up_to volume part n }
+    ensures refusal { (volume : List Part) (change : Change) →
+        refusal_of (shape_of volume) (shape_of_change change) ≡ refusal_of volume change }
+{}
+
+/// An index follows a volume through a change: it keeps its shape, and gives the same blocks.
+pub fn an_index_follows_a_volume()
+    ensures shape { (parts : List PlacedPart) (volume : List Part) (change : Change)
+        (place reserved : ℕ) → IsIndexOf parts volume →
+        IsIndexOf (placed_after parts (record_of change) place reserved) (changed volume change) }
+    ensures blocks { (read : Reading) (parts : List PlacedPart) (change : Change)
+        (place reserved : ℕ) → change_by read (record_of change) place ≡ change →
+        volume_by read (placed_after parts (record_of change) place reserved)
+        ≡ changed (volume_by read parts) change }
+{}

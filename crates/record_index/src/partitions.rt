@@ -1,0 +1,164 @@
+//! The partitions of an index.
+ghost use Rattle.std.specs.Prelude.{◌≡◌, ◌≤◌, ◌<◌, ◌+◌, ◌-◌, ◌^◌, ◌++◌, [], IsTrue, OnOk, OnErr, Some, Err, length, take, slice_get};
+ghost use Rattle.vtl_base.specs.declared.limits.TheConstants.{MAX_CAPACITY, MAX_OBJECTS};
+ghost use Rattle.vtl_base.specs.Limits.{is_capacity};
+ghost use Rattle.volume_core.specs.Volume.{AppliesUnless, IsPart, refusal_in, used_of};
+ghost use Rattle.volume_core.specs.declared.volumes.ApplyError.TheVariants as Errors;
+ghost use Rattle.record_index.specs.Places.{CanAdd, IsPlace, blank, empty_placed, filled_part, kept_of, objects_of_run, outlined, placed_by, runs_of, with_run};
+
+use crate::places::{Placed, Run};
+use crate::records::Record;
+use crate::tables::RunTable;
+use std::alloc::{AllocError, Global};
+use std::marker::Model;
+use volume_core::{ApplyError, Refusal};
+use vtl_base::ObjNo;
+use vtl_base::limits::{MAX_OBJECTS, OBJECT_COST};
+
+// A partition. To a contract it is its capacity, its objects with their places, and how many runs
+// may be added without memory.
+#[derive(Drop)]
+pub(crate) struct PlacedPartition {
+    capacity: u64,
+    table: RunTable,
+}
+
+impl Model for PlacedPartition {
+    ghost use Rattle.volume_core.specs.Volume.{IsPart};
+    ghost use Rattle.record_index.specs.Places.{PlacedPart, blank, filled_part};
+
+    ghost Value = { PlacedPart };
+
+    ghost view = { λ p. record {
+      capacity = p.capacity;
+      objects = p.table.objects;
+      reserved = p.table.reserved;
+    } };
+
+    ghost invariant = { λ p. IsPart (filled_part blank (record {
+      capacity = p.capacity;
+      objects = p.table.objects;
+      reserved = p.table.reserved;
+    })) };
+}
+
+impl PlacedPartition {
+    pub(crate) fn new(alloc: Global, capacity: u64) -> Self
+        requires { IsTrue (is_capacity capacity) }
+        ensures { result ≡ empty_placed capacity }
+    {
+        PlacedPartition {
+            capacity,
+            table: RunTable::new(alloc),
+        }
+    }
+
+    pub(crate) fn capacity(&self) -> u64
+        ensures capacity { result ≡ self.now.capacity }
+        ensures bound { result ≤ MAX_CAPACITY }
+    {
+        self.capacity
+    }
+
+    pub(crate) fn count(&self) -> ObjNo
+        ensures count { result ≡ length self.now.objects }
+        ensures bound { result ≤ MAX_OBJECTS }
+    {
+        self.table.count()
+    }
+
+    pub(crate) fn place(&self, at: ObjNo) -> Option<Placed>
+        ensures { result ≡ slice_get self.now.objects at }
+    {
+        self.table.place(at)
+    }
+
+    // What the first n objects take, in bytes; all of them where there are fewer.
+    pub(crate) fn used(&self, n: ObjNo) -> u64
+        ensures used { result ≡ used_of (take n (filled_part blank self.now).objects) }
+        ensures bound { result ≤ self.now.capacity }
+    {
+        self.table.used(n)
+    }
+
+    // Why a record that is meant for this partition is refused; None where it is not.
+    pub(crate) fn refusal(&self, item: Record) -> Option<Refusal>
+        ensures { result ≡ refusal_in (Some (filled_part blank self.now)) (outlined item) }
+    {
+        let at = item.kept();
+        if at > self.table.count() {
+            return Some(Refusal::PastEnd);
+        }
+        let used = self.table.used(at);
+        let fits =
+            item.added() <= MAX_OBJECTS - at && item.cost() <= self.capacity - used;
+        if !fits {
+            return Some(Refusal::NoRoom);
+        }
+        if !item.is_well_formed() {
+            return Some(Refusal::TooLong);
+        }
+        None
+    }
+
+    // Makes room for so many runs more, which then take no memory.
+    pub(crate) fn reserve(&mut self, runs: usize) -> Result<(), AllocError>
+        ensures same { self.new ≡ record self.old { reserved = self.new.reserved } }
+        ensures grows { self.old.reserved ≤ self.new.reserved }
+        ensures ok { OnOk result (runs ≤ self.new.reserved) }
+        ensures err { OnErr result ((self.old.reserved < runs) × (self.new ≡ self.old)) }
+    {
+        self.table.reserve(runs)
+    }
+
+    // Keeps the first n objects; all of them where there are fewer.
+    pub(crate) fn cut(&mut self, n: ObjNo)
+        ensures objects { self.new ≡ record self.old {
+          objects = take n self.old.objects;
+          reserved = self.new.reserved;
+        } }
+        ensures reserved { self.old.reserved ≤ self.new.reserved }
+    {
+        self.table.cut(n);
+    }
+
+    // Puts a run behind the objects.
+    pub(crate) fn add(&mut self, run: Run) -> Result<(), AllocError>
+        requires { CanAdd self.old run }
+        ensures ok { OnOk result (self.new ≡ record self.old {
+          objects = self.old.objects ++ objects_of_run run;
+          reserved = self.new.reserved;
+        }) }
+        ensures reserved { OnOk result (self.old.reserved ≤ self.new.reserved + 1) }
+        ensures err { OnErr result ((self.old.reserved ≡ 0) × (self.new ≡ self.old)) }
+    {
+        self.table.reserve(1)?;
+        self.table.add(run);
+        Ok(())
+    }
+
+    // Carries a record out that is meant for this partition, or refuses it.
+    pub(crate) fn apply(&mut self, item: Record, place: u64) -> Result<(), ApplyError>
+        requires { place < 2 ^ 64 - 1 }
+        ensures answer { AppliesUnless (refusal_in (Some (filled_part blank self.old)) (outlined item))
+            self.old (record {
+              capacity = self.old.capacity;
+              objects = take (kept_of item) self.old.objects ++ placed_by item place;
+              reserved = self.new.reserved;
+            }) result self.new }
+        ensures reserved { self.old.reserved ≤ self.new.reserved + runs_of item }
+        ensures memory { result ≡ Err Errors.NoMemory → self.old.reserved < runs_of item }
+    {
+        if let Some(cause) = self.refusal(item) {
+            return Err(ApplyError::Refused(cause));
+        }
+        if let Some(run) = item.run(place) {
+            self.table.reserve(1)?;
+            self.table.cut(item.kept());
+            self.table.add(run);
+        } else {
+            self.table.cut(item.kept());
+        }
+        Ok(())
+    }
+}

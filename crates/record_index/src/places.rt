@@ -1,0 +1,54 @@
+//! Objects and where they lie.
+ghost use Rattle.std.specs.Prelude.{◌≡◌, length};
+ghost use Rattle.volume_core.specs.Volume.{kind_of};
+ghost use Rattle.record_index.specs.Places.{blank, filled, objects_of_run};
+
+use volume_core::Kind;
+use vtl_base::ObjNo;
+
+/// An object of a partition: a block of so many bytes, which lies at that place of a disk, or a
+/// filemark.
+#[derive(Clone, Copy, PartialEq, Eq, Debug)]
+pub enum Placed {
+    Block {
+        place: u64,
+        length: u32,
+    },
+    Mark,
+}
+
+/// A row of objects of one entry: a block, or filemarks.
+#[derive(Clone, Copy, PartialEq, Eq, Debug)]
+pub enum Run {
+    Block {
+        place: u64,
+        length: u32,
+    },
+    Marks {
+        count: u32,
+    },
+}
+
+impl Placed {
+    /// Whether it is a block or a mark.
+    pub fn kind(self) -> Kind
+        ensures { result ≡ kind_of (filled blank self) }
+    {
+        match self {
+            Placed::Block { .. } => Kind::Block,
+            Placed::Mark => Kind::Mark,
+        }
+    }
+}
+
+impl Run {
+    /// How many objects it has.
+    pub fn count(self) -> ObjNo
+        ensures { result ≡ length (objects_of_run self) }
+    {
+        match self {
+            Run::Block { .. } => 1,
+            Run::Marks { count } => count,
+        }
+    }
+}

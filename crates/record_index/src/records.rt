@@ -1,0 +1,266 @@
+//! Records: the changes of a frame's body, format 1 (own). Numbers are big-endian. A body is one
+//! record after the other.
+//!
+//! | Place | Content |
+//! |---|---|
+//! | 0 | kind: 01h a block, 02h marks, 03h an erase |
+//! | 1 | the partition |
+//! | 2 to 5 | how many of its objects stay |
+//! | 6 to 9 | the block's length, 1 to 1,048,576; the count of marks, 1 to 16,000,000; 0 of an erase |
+//! | 10 on | the block |
+ghost use Rattle.std.specs.Prelude.{◌≡◌, ◌≤◌, ◌<◌, ◌-◌, ◌^◌, IfOk, IfSome, IfNone, length};
+ghost use Rattle.record_index.specs.Records.{BeginsWithRecord, IsAtFront, IsRecord, change_in, record_of, size_of};
+ghost use Rattle.volume_core.specs.Volume.{added_by, is_well_formed, used_of};
+ghost use Rattle.record_index.specs.Places.{kept_of, outlined, part_of};
+ghost use Rattle.record_index.specs.Inner.Tables.{AddsRun};
+ghost use Rattle.record_index.specs.Inner.Told.{block_told, erase_told, marks_told, told};
+
+use crate::places::Run;
+use byteorder::{BigEndian, ByteOrder};
+use std::alloc::{AllocError, Global};
+use thiserror::Error;
+use volume_core::Change;
+use vtl_base::limits::{MAX_BLOCK, MAX_OBJECTS, OBJECT_COST};
+use vtl_base::{Bytes, NoMemory, ObjNo, PartNo};
+
+/// The bytes of a record before its block: kind, partition, object number, number.
+pub const HEAD_BYTES: usize = 10;
+
+// The kinds.
+pub(crate) const BLOCK: u8 = 1;
+pub(crate) const MARKS: u8 = 2;
+pub(crate) const ERASE: u8 = 3;
+
+/// A record without its block's bytes: these stay where they lie, directly behind its head of 10
+/// bytes.
+#[derive(Clone, Copy, PartialEq, Eq, Debug)]
+pub enum Record {
+    /// The first `at` objects, then a block of so many bytes.
+    Put {
+        part: PartNo,
+        at: ObjNo,
+        length: u32,
+    },
+    /// The first `at` objects, then this many filemarks.
+    Marks {
+        part: PartNo,
+        at: ObjNo,
+        count: u32,
+    },
+    /// The first `at` objects.
+    Erase {
+        part: PartNo,
+        at: ObjNo,
+    },
+}
+
+/// Why bytes are not decoded.
+#[derive(Clone, Copy, PartialEq, Eq, Debug, Error)]
+pub enum RecordError {
+    /// From this place on the bytes begin with no record; up to it they are records.
+    #[error("bad record at {at}")]
+    BadRecord {
+        at: usize,
+    },
+    /// Memory ran out.
+    #[error("out of memory")]
+    NoMemory,
+}
+
+impl From<AllocError> for RecordError {
+    ghost use Rattle.std.specs.Prelude.{◌≡◌};
+    ghost use Rattle.record_index.specs.declared.records.RecordError.TheVariants as Errors;
+
+    ghost from_gives = { λ _ error. error ≡ Errors.NoMemory };
+
+    fn from(_: AllocError) -> Self {
+        RecordError::NoMemory
+    }
+}
+
+impl From<NoMemory> for RecordError {
+    ghost use Rattle.std.specs.Prelude.{◌≡◌};
+    ghost use Rattle.record_index.specs.declared.records.RecordError.TheVariants as Errors;
+
+    ghost from_gives = { λ _ error. error ≡ Errors.NoMemory };
+
+    fn from(_: NoMemory) -> Self {
+        RecordError::NoMemory
+    }
+}
+
+impl Record {
+    /// The record of a change.
+    pub fn of(change: &Change) -> Self
+        requires { IsRecord change.now }
+        ensures { result ≡ record_of change.now }
+    {
+        match change {
+            Change::Put { part, at, block } => Record::Put {
+                part: *part,
+                at: *at,
+                length: block.len() as u32,
+            },
+            Change::Marks { part, at, count } => Record::Marks {
+                part: *part,
+                at: *at,
+                count: *count,
+            },
+            Change::Erase { part, at } => Record::Erase {
+                part: *part,
+                at: *at,
+            },
+        }
+    }
+
+    /// The record that these bytes begin with, its block's bytes included. None where they begin
+    /// with no record, however they go on. It takes no memory, and reads 10 bytes at most.
+    pub fn read(bytes: &[u8]) -> Option<Self>
+        ensures found { IfSome result (λ item. IsAtFront item bytes.now) }
+        ensures none { IfNone result (BeginsWithRecord bytes.now → ⊥) }
+    {
+        told(bytes)
+    }
+
+    /// Its bytes, a block's included.
+    pub fn size(self) -> usize
+        ensures { result ≡ size_of self }
+    {
+        match self {
+            Record::Put { length, .. } => HEAD_BYTES + length as usize,
+            Record::Marks { .. } | Record::Erase { .. } => HEAD_BYTES,
+        }
+    }
+
+    /// The partition that it concerns.
+    pub fn part(self) -> PartNo
+        ensures { result ≡ part_of self }
+    {
+        match self {
+            Record::Put { part, .. } | Record::Marks { part, .. } | Record::Erase { part, .. } => {
+                part
+            }
+        }
+    }
+
+    /// How many of its objects stay.
+    pub fn kept(self) -> ObjNo
+        ensures { result ≡ kept_of self }
+    {
+        match self {
+            Record::Put { at, .. } | Record::Marks { at, .. } | Record::Erase { at, .. } => at,
+        }
+    }
+
+    /// The change of a record that stands at the front of these bytes, with a copy of its block.
+    pub fn change(self, alloc: Global, bytes: &[u8]) -> Result<Change, NoMemory>
+        requires { size_of self ≤ length bytes.now }
+        ensures { IfOk result (λ change. change ≡ change_in self bytes.now) }
+    {
+        Ok(match self {
+            Record::Put { part, at, length } => {
+                let end = HEAD_BYTES + length as usize;
+                let block = Bytes::from_slice(alloc, &bytes[HEAD_BYTES..end])?;
+                Change::Put { part, at, block }
+            }
+            Record::Marks { part, at, count } => Change::Marks { part, at, count },
+            Record::Erase { part, at } => Change::Erase { part, at },
+        })
+    }
+
+    // The run that it adds, its block lying at that place.
+    pub(crate) fn run(self, place: u64) -> Option<Run>
+        requires { place < 2 ^ 64 - 1 }
+        ensures { AddsRun self place result }
+    {
+        match self {
+            Record::Put { length, .. } => Some(Run::Block { place, length }),
+            Record::Marks { count, .. } => Some(Run::Marks { count }),
+            Record::Erase { .. } => None,
+        }
+    }
+
+    // How many objects it adds.
+    pub(crate) fn added(self) -> u32
+        ensures { result ≡ length (added_by (outlined self)) }
+    {
+        match self {
+            Record::Put { .. } => 1,
+            Record::Marks { count, .. } => count,
+            Record::Erase { .. } => 0,
+        }
+    }
+
+    // What the objects that it adds take, in bytes.
+    pub(crate) fn cost(self) -> u64
+        ensures { result ≡ used_of (added_by (outlined self)) }
+    {
+        match self {
+            Record::Put { length, .. } => length as u64 + OBJECT_COST,
+            Record::Marks { count, .. } => count as u64 * OBJECT_COST,
+            Record::Erase { .. } => 0,
+        }
+    }
+
+    // Its block has 1 to 1,048,576 bytes, and its marks are at least one.
+    pub(crate) fn is_well_formed(self) -> bool
+        ensures { result ≡ is_well_formed (outlined self) }
+    {
+        match self {
+            Record::Put { length, .. } => length >= 1 && length <= MAX_BLOCK,
+            Record::Marks { count, .. } => count > 0,
+            Record::Erase { .. } => true,
+        }
+    }
+}
+
+// The record that the bytes begin with, by its head and by how many bytes there are.
+fn told(bytes: &[u8]) -> Option<Record>
+    ensures { result ≡ told bytes.now }
+{
+    if bytes.len() < HEAD_BYTES {
+        return None;
+    }
+    let part = bytes[1];
+    let at = BigEndian::read_u32(&bytes[2..]);
+    let number = BigEndian::read_u32(&bytes[6..]);
+    match bytes[0] {
+        BLOCK => block_told(part, at, number, bytes.len() - HEAD_BYTES),
+        MARKS => marks_told(part, at, number),
+        ERASE => erase_told(part, at, number),
+        _ => None,
+    }
+}
+
+// A block of 1 to 1,048,576 bytes, which are all there.
+fn block_told(part: PartNo, at: ObjNo, length: u32, there: usize) -> Option<Record>
+    ensures { result ≡ block_told part at length there }
+{
+    if 1 <= length && length <= MAX_BLOCK && length as usize <= there {
+        Some(Record::Put { part, at, length })
+    } else {
+        None
+    }
+}
+
+// Marks, 1 to 16,000,000.
+fn marks_told(part: PartNo, at: ObjNo, count: u32) -> Option<Record>
+    ensures { result ≡ marks_told part at count }
+{
+    if 1 <= count && count <= MAX_OBJECTS {
+        Some(Record::Marks { part, at, count })
+    } else {
+        None
+    }
+}
+
+// An erase, which has no number.
+fn erase_told(part: PartNo, at: ObjNo, number: u32) -> Option<Record>
+    ensures { result ≡ erase_told part at number }
+{
+    if number == 0 {
+        Some(Record::Erase { part, at })
+    } else {
+        None
+    }
+}

@@ -1,0 +1,67 @@
+//! Changes to bytes, and bytes to changes.
+ghost use Rattle.std.specs.Prelude.{◌≡◌, ◌≤◌, ◌<◌, ◌+◌, ◌++◌, ◌∷◌, [], IfOk, IfErr, OnOk, OnErr, length, vec_len, vec_capacity};
+ghost use Rattle.std.specs.Int.{to_be_bytes, w32};
+ghost use Rattle.record_index.specs.Records.{IsRecord, NotDecoded, SpellsAll, spell, spell_head};
+
+use crate::records::{BLOCK, ERASE, HEAD_BYTES, MARKS, Record, RecordError};
+use byteorder::{BigEndian, ByteOrder};
+use std::alloc::{AllocError, Global};
+use volume_core::Change;
+use vtl_base::{NoMemory, ObjNo, PartNo};
+
+/// Writes a change behind what is there. Within the capacity of `into` it takes no memory. After
+/// an `Err`, which comes only where that is too small, `into` has what it had.
+pub fn encode_change(change: &Change, into: &mut Vec<u8>) -> Result<(), NoMemory>
+    requires { IsRecord change.now }
+    ensures ok { OnOk result (into.new.items ≡ into.old.items ++ spell change.now) }
+    ensures err { OnErr result (into.new.items ≡ into.old.items) }
+    ensures memory { OnErr result
+        (vec_capacity into.old < vec_len into.old + length (spell change.now)) }
+    ensures room { vec_capacity into.old ≤ vec_capacity into.new }
+{
+    into.reserve(Record::of(change).size())?;
+    match change {
+        Change::Put { part, at, block } => {
+            into.extend_from_slice(&head(BLOCK, *part, *at, block.len() as u32))?;
+            into.extend_from_slice(block.as_slice())?;
+        }
+        Change::Marks { part, at, count } => {
+            into.extend_from_slice(&head(MARKS, *part, *at, *count))?;
+        }
+        Change::Erase { part, at } => into.extend_from_slice(&head(ERASE, *part, *at, 0))?,
+    }
+    Ok(())
+}
+
+// What a record begins with.
+fn head(kind: u8, part: PartNo, at: ObjNo, number: u32) -> [u8; HEAD_BYTES]
+    ensures { result ≡ spell_head kind part at number }
+{
+    let mut head = [0; HEAD_BYTES];
+    head[0] = kind;
+    head[1] = part;
+    BigEndian::write_u32(&mut head[2..], at);
+    BigEndian::write_u32(&mut head[6..], number);
+    head
+}
+
+/// The changes that these bytes spell, with a copy of each block. `BadRecord` names the first byte
+/// of the first record that is wrong or not whole; no bytes spell no changes.
+pub fn decode_changes(alloc: Global, bytes: &[u8]) -> Result<Vec<Change>, RecordError>
+    ensures ok { IfOk result (λ changes. SpellsAll bytes.now changes.items) }
+    ensures err { IfErr result (λ error. NotDecoded bytes.now error) }
+{
+    let mut changes = Vec::new(alloc);
+    let mut at = 0;
+    while at < bytes.len() {
+        let rest = &bytes[at..];
+        let Some(item) = Record::read(rest) else {
+            return Err(RecordError::BadRecord { at });
+        };
+        let change = item.change(alloc, rest)?;
+        changes.reserve(1)?;
+        changes.push_reserved(change);
+        at += item.size();
+    }
+    Ok(changes)
+}
