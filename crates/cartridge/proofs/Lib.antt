@@ -1,1 +1,6 @@
-pub mod LyingLemmas
+pub mod ContentsLemmas
+pub mod FetchLemmas
+pub mod GrowingLemmas
+pub mod OpenLemmas
+pub mod RecordLemmas
+pub mod WalkingLemmas

@@ -46,6 +46,13 @@ pub record TakesReserved (old : Reserved) (changes : List Change) (new : Reserve
   pub entries : (part : ℕ) →
       slice_index_or old.entries part 0 ≤ slice_index_or new.entries part 0 + sum_by (entries_of part) changes
 
+-- less is reserved than a frame takes whose body has so many bytes, and which puts so many blocks and runs of marks into
+-- that partition (own)
+abbrev pub Lacks : Reserved → ℕ → ℕ → ℕ → Type 0
+Lacks old part body entries =
+    (old.frames ≡ 0) ⊎ ((old.body < body)
+    ⊎ ((part < length old.entries) × (slice_index_or old.entries part 0 < entries)))
+
 -- less is reserved than these changes take as a frame (own)
 abbrev pub LacksReserved : Reserved → List Change → Type 0
 LacksReserved old changes =
@@ -84,6 +91,11 @@ module _ {D : Type 0} where
   abbrev pub disk_created : Result (ClosedCartridge D) (NotCreated D) → D
   disk_created (Ok cartridge) = cartridge.disk
   disk_created (Err refused) = refused.disk
+
+-- the disk that an opening gives, in an open cartridge or in the closed one that is handed back (own)
+abbrev pub disk_opened : {D : Type 0} → Result (OpenCartridge D) (NotOpened D) → D
+disk_opened (Ok cartridge) = cartridge.disk
+disk_opened (Err refused) = refused.shelved.disk
 
 -- why a cartridge is not made: memory ran out, and the disk was not touched; or a fault (own)
 abbrev pub NotMade : CartridgeError → Type 0 → (DevFault → Type 0) → Type 0

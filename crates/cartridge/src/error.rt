@@ -1,12 +1,12 @@
 //! Why a call on a cartridge is refused.
 ghost use Rattle.std.specs.Prelude.{◌≡◌};
-ghost use Rattle.cartridge.specs.declared.error.CartridgeError.TheVariants.{NoMemory};
+ghost use Rattle.cartridge.specs.declared.error.CartridgeError.TheVariants as Errors;
 
 use crate::shelved::Shelved;
 use std::alloc::AllocError;
 use tape_disk::Disk;
 use thiserror::Error;
-use vtl_base::DevFault;
+use vtl_base::{DevFault, NoMemory};
 
 /// Why a call on a cartridge is refused (own).
 #[derive(Clone, Copy, PartialEq, Eq, Debug, Error)]
@@ -42,9 +42,17 @@ pub enum CartridgeError {
 }
 
 impl From<AllocError> for CartridgeError {
-    ghost from_gives = { λ _ e. e ≡ NoMemory };
+    ghost from_gives = { λ _ e. e ≡ Errors.NoMemory };
 
     fn from(_: AllocError) -> Self {
+        CartridgeError::NoMemory
+    }
+}
+
+impl From<NoMemory> for CartridgeError {
+    ghost from_gives = { λ _ e. e ≡ Errors.NoMemory };
+
+    fn from(_: NoMemory) -> Self {
         CartridgeError::NoMemory
     }
 }

@@ -48,6 +48,8 @@ impl<D: Disk> Cartridge<D> {
         if self.journal.has_failed() {
             return Err(CartridgeError::Failed);
         }
+        // Asked for the proof's sake: the index keeps the limits of a volume.
+        let _ = self.index.parts();
         let (place, length) = match self.index.place(part, at) {
             Some(Placed::Block { place, length }) => (place, length),
             Some(Placed::Mark) => unreachable!(),
@@ -55,7 +57,8 @@ impl<D: Disk> Cartridge<D> {
         };
         into.clear();
         into.resize(length as usize, 0)?;
-        match self.journal.read_body(place, into) {
+        let read = self.journal.read_body(place, into);
+        match read {
             Ok(()) => Ok(()),
             Err(JournalError::Device(fault)) => Err(CartridgeError::Device(fault)),
             Err(JournalError::Failed) => unreachable!(),

@@ -1,15 +1,17 @@
 //! A cartridge on a disk: its changes are stored a frame at a time, each frame whole or not at all.
 #![tactic(auto)]
 
+mod bodies;
 pub mod cartridges;
 mod creating;
 pub mod error;
 mod fetching;
 mod noted;
+mod opening;
 mod placing;
 pub mod shelved;
-mod spelling;
 mod storing;
+mod walking;
 
 pub use cartridges::Cartridge;
 pub use error::{CartridgeError, NotCreated, NotOpened};

@@ -7,8 +7,8 @@ ghost use Rattle.record_index.specs.Places.{reserved_of};
 ghost use Rattle.cartridge.specs.Answers.{entries_of};
 ghost use Rattle.cartridge.specs.Contents.{volume_in};
 ghost use Rattle.cartridge.specs.Inner.Growing.{HasRoomFor, TakesEntries};
-ghost use Rattle.cartridge.specs.Inner.Open.{LiesOnSide};
-ghost use Rattle.cartridge.specs.Lying.{VolumeLies};
+ghost use Rattle.record_index.specs.Indexes.{Indexes};
+ghost use Rattle.cartridge.specs.Lying.{LiesOnSide};
 ghost use Rattle.cartridge.specs.Notes.{noted_contents, with_frame};
 
 use crate::noted::Noted;
@@ -30,9 +30,9 @@ pub(crate) fn place_frame<D: Disk>(
     requires counted { length journal.now.extents ≡ length noted.now.notes.frames + 1 }
     requires sized { (slice_index_or journal.now.extents (length noted.now.notes.frames) (0, 0)).1
         ≡ length (spell_all changes.now) }
-    requires lies { VolumeLies (LiesOnSide (with_frame noted.now.notes changes.now) journal.now.extents)
+    requires lies { Indexes (LiesOnSide (with_frame noted.now.notes changes.now) journal.now.extents)
         (volume_in (noted_contents noted.now.notes)) index.old }
-    ensures lies { VolumeLies (LiesOnSide (with_frame noted.now.notes changes.now) journal.now.extents)
+    ensures lies { Indexes (LiesOnSide (with_frame noted.now.notes changes.now) journal.now.extents)
         (after (volume_in (noted_contents noted.now.notes)) changes.now) index.new }
     ensures reserved { TakesEntries index.old changes.now index.new }
 {

@@ -3,19 +3,19 @@ ghost use Rattle.std.specs.Prelude.{◌≡◌, ◌+◌, ◌<◌, ◌≤◌, ◌+
 ghost use Rattle.std.specs.List.{All};
 ghost use Rattle.tape_disk.specs.Disk.{Each, Keeps};
 ghost use Rattle.tape_disk.specs.Moments.{LeavesOnly};
-ghost use Rattle.vtl_base.specs.declared.limits.TheConstants.{MAX_BODY};
+ghost use Rattle.vtl_base.specs.declared.limits.TheConstants.{MAX_BODY, MAX_PARTITIONS};
 ghost use Rattle.volume_core.specs.Volume.{AllApply};
 ghost use Rattle.gate_journal.specs.Answers.{IsFault, NoneFailed};
 ghost use Rattle.record_index.specs.Records.{IsRecord, spell_all};
 ghost use Rattle.record_index.specs.Places.{reserved_of};
-ghost use Rattle.cartridge.specs.Answers.{IsBroken, IsStored, KeepsReserved, LacksMemory, MatchCall, entries_of};
+ghost use Rattle.cartridge.specs.Answers.{IsBroken, IsStored, KeepsReserved, Lacks, LacksMemory, MatchCall, entries_of};
 ghost use Rattle.cartridge.specs.Contents.{Gives, Shows, bodies_of, volume_in};
 ghost use Rattle.cartridge.specs.Inner.Growing.{HasRoomFor, IsGrown};
 
 use crate::cartridges::Cartridge;
 use crate::error::CartridgeError;
 use crate::placing::place_frame;
-use crate::spelling::{fill_body, size_of_body};
+use crate::bodies::{fill_body, size_of_body};
 use gate_journal::JournalError;
 use record_index::Index;
 use std::alloc::AllocError;
@@ -78,10 +78,10 @@ impl<D: Disk> Cartridge<D> {
             return Err(CartridgeError::Failed);
         }
         let size = size_of_body(changes);
-        if size as u64 + 5 > self.journal.room() {
+        if u64::from(size) + 5 > self.journal.room() {
             return Err(CartridgeError::SideFull);
         }
-        reserve_body(&mut self.body, size)?;
+        reserve_body(&mut self.body, size as usize)?;
         reserve_entries(&mut self.index, changes)?;
         if self.journal.reserve(1).is_err() {
             return Err(CartridgeError::NoMemory);
@@ -119,6 +119,7 @@ fn reserve_body(body: &mut Vec<u8>, size: usize) -> Result<(), AllocError>
 
 // Makes room for the blocks and runs of marks of these changes, in each partition.
 fn reserve_entries(index: &mut Index, changes: &[Change]) -> Result<(), NoMemory>
+    ensures few { length index.old ≤ MAX_PARTITIONS }
     ensures grown { IsGrown index.old index.new }
     ensures ok { OnOk result (HasRoomFor index.new changes.now) }
     ensures err { OnErr result ((part : ℕ)

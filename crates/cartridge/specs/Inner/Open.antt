@@ -4,13 +4,10 @@ use Rattle.volume_core.specs.declared.changes.Change.{Change}
 use Rattle.tape_disk.specs.Disk.{DiskState, Each}
 use Rattle.gate_journal.specs.Side.{Heading}
 use Rattle.record_index.specs.Places.{PlacedPart}
+use Rattle.record_index.specs.Indexes.{Indexes}
 use Rattle.cartridge.specs.Contents.{IsContents, Shows, bodies_of, volume_in}
-use Rattle.cartridge.specs.Lying.{LiesIn, VolumeLies}
+use Rattle.cartridge.specs.Lying.{LiesOnSide}
 use Rattle.cartridge.specs.Notes.{Notes, noted_contents}
-
--- where the blocks of a side lie: each in the body of a frame (own)
-abbrev pub LiesOnSide : Notes → List (ℕ × ℕ) → List ℕ → ℕ → Type 0
-LiesOnSide notes extents = LiesIn (bodies_of notes.frames) extents
 
 -- What holds of an open cartridge over any disk: what is noted is a cartridge's contents, the journal has its heading
 -- and as many frames, and the index says where its objects lie (own).
@@ -20,7 +17,7 @@ pub record IsOpen (heading : Heading) (extents : List (ℕ × ℕ)) (failed : Bo
   pub contents : IsContents (noted_contents notes)
   pub at_rest : failed ≡ false → notes.torn ≡ []
   pub counted : length extents ≡ length notes.frames
-  pub lies : VolumeLies (LiesOnSide notes extents) (volume_in (noted_contents notes)) index
+  pub lies : Indexes (LiesOnSide notes extents) (volume_in (noted_contents notes)) index
 
 -- What holds where the disk is honest: the bodies spell what is noted, and each image shows it (own).
 pub record StoresContents (disk : DiskState) (bodies : List (List ℕ)) (notes : Notes) : Type 0 where
