@@ -3,7 +3,7 @@ use Rattle.std.proofs.Common.{◌≡◌, ℕ, zero, suc, ◌<◌, ◌≤◌, ◌
 use Rattle.std.specs.Prelude.{slice_get, slice_index_or, slice_range}
 use Rattle.std.specs.Option.{option_map}
 use Rattle.std.specs.List.{All}
-use Rattle.std.proofs.lemmas.List.{append-nil, drop_all, length-replicate, take_all}
+use Rattle.std.proofs.lemmas.List.{append-nil, drop_all, length-replicate, length-take, take_all}
 use Rattle.std.proofs.lemmas.List.Elements.{All-head, All-tail}
 use Rattle.std.proofs.lemmas.Option.{slice_get-map}
 use Rattle.volume_core.specs.declared.objects.Object.{Object}
@@ -54,7 +54,7 @@ object_short [] at place size all is = absurd (cc)
 object_short (Placeds.Block p n ∷ os) zero place size all is =
     let fits = All-head IsObject (Block (replicate n 0)) (map (filled blank) os) all in
     let same : n ≡ size = cc in
-    omega (arith, fits.1, length-replicate n 0, same)
+    omega (arith, fits.1, length-replicate {A = ℕ} n 0, same)
 object_short (Placeds.Mark ∷ os) zero place size all is = absurd (cc)
 object_short (o ∷ os) (suc k) place size all is =
     object_short os k place size (All-tail IsObject (filled blank o) (map (filled blank) os) all) is
@@ -89,3 +89,7 @@ pub filled_whole : (count : ℕ) (bytes items : List ℕ) → length bytes ≡ c
 filled_whole count bytes items long same =
     ap (λ (l : List ℕ). take count (bytes ++ l)) (drop_all (length bytes) items (omega (arith, long, same)))
     ∙ ap (take count) (append-nil bytes) ∙ take_all count bytes (omega (arith, long))
+
+-- the first so many are no more than that
+pub length-take-le-whole : (n : ℕ) (l : List ℕ) → length (take n l) ≤ n
+length-take-le-whole n l = omega (arith, length-take n l)

@@ -3,7 +3,7 @@ use Rattle.std.proofs.Common.{◌≡◌, ◌⊎◌, inl, inr, ℕ, zero, suc, �
 use Rattle.std.specs.Prelude.{slice_index_or, slice_range}
 use Rattle.std.specs.List.{All}
 use Rattle.std.proofs.Math.Seq.{get_or-append_seam}
-use Rattle.std.proofs.lemmas.List.{get_or_append_left, length-map}
+use Rattle.std.proofs.lemmas.List.{append-nil, get_or_append_left, length-map}
 use Rattle.volume_core.specs.declared.changes.Change.{Change}
 use Rattle.volume_core.specs.Volume.{Part, AllApply, after}
 use Rattle.tape_disk.specs.Disk.{DiskState, Each, IsDisk}
@@ -32,13 +32,29 @@ lies_in_more bodies extents body extent same block place lies =
     let extent_is : slice_index_or (extents ++ extent ∷ []) frame (0, 0) ≡ slice_index_or extents frame (0, 0) =
     get_or_append_left extents (extent ∷ []) (0, 0) frame lies.2 in
     let body_is : slice_index_or (bodies ++ body ∷ []) frame [] ≡ slice_index_or bodies frame [] =
-    get_or_append_left bodies (body ∷ []) [] frame (omega (arith, same, lies.2)) in (
+    get_or_append_left bodies (body ∷ []) [] frame lies.6 in (
       frame,
       lies.1,
       omega (arith, lies.2, length-append extents (extent ∷ [])),
       lies.3 ∙ ap (λ (e : ℕ × ℕ). e.0 + lies.1) (sym extent_is),
       subst (λ (e : ℕ × ℕ). lies.1 + length block ≤ e.1) (sym extent_is) lies.4,
       lies.5 ∙ ap (λ (l : List ℕ). slice_range l lies.1 (lies.1 + length block)) (sym body_is),
+      omega (arith, lies.6, length-append bodies (body ∷ [])),
+    )
+
+-- the body of a frame more, whose extent is known
+pub lies_in_next : (bodies : List (List ℕ)) (extents : List (ℕ × ℕ)) (body : List ℕ) (block : List ℕ) (place : ℕ)
+    → LiesIn bodies extents block place → LiesIn (bodies ++ body ∷ []) extents block place
+lies_in_next bodies extents body block place lies =
+    let body_is : slice_index_or (bodies ++ body ∷ []) lies.0 [] ≡ slice_index_or bodies lies.0 [] =
+    get_or_append_left bodies (body ∷ []) [] lies.0 lies.6 in (
+      lies.0,
+      lies.1,
+      lies.2,
+      lies.3,
+      lies.4,
+      lies.5 ∙ ap (λ (l : List ℕ). slice_range l lies.1 (lies.1 + length block)) (sym body_is),
+      omega (arith, lies.6, length-append bodies (body ∷ [])),
     )
 
 module _ (heading : Heading) (extents : List (ℕ × ℕ)) (failed : Bool) (index : List PlacedPart) (notes : Notes)
@@ -182,3 +198,11 @@ stores_unwritten disk new bodies bodies' notes stores same images = record {
   bodies_are = same ∙ stores.bodies_are;
   shows = λ image left. stores.shows image (images image left);
 }
+
+-- with no frame under way an image gives the contents
+pub sure_at_rest : (contents : Contents) (torn : List (List Change)) (image : List ℕ) → torn ≡ []
+    → Shows contents torn image → Gives contents image
+sure_at_rest contents torn image none (inl gives) = gives
+sure_at_rest contents torn image none (inr gives) =
+    subst (λ (l : List (List Change)). Gives (record contents { frames = l }) image)
+    (ap (λ (l : List (List Change)). contents.frames ++ l) none ∙ append-nil contents.frames) gives

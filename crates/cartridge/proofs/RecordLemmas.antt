@@ -1,6 +1,6 @@
 -- Changes that apply to a volume have a spelling, of a known length.
 use Rattle.std.proofs.Common.{◌≡◌, ◌⊎◌, inl, inr, ℕ, zero, suc, ◌<◌, ◌≤◌, ◌+◌, ◌^◌, List, [], ◌∷◌, ◌++◌, length, take, Option, None, Some, refl, sym, ◌∙◌, ap, subst, arith, rules, length-append}
-use Rattle.std.specs.Prelude.{slice_get, slice_set, replicate, nat_le, nat_lt, ◌&&◌, if◌then◌else◌, not, Bool, true, false, IsTrue}
+use Rattle.std.specs.Prelude.{slice_get, slice_set, slice_index_or, replicate, nat_le, nat_lt, ◌&&◌, if◌then◌else◌, not, Bool, true, false, IsTrue}
 use Rattle.std.specs.List.{All, flat_map}
 use Rattle.std.specs.Int.{to_be_bytes, w32}
 use Rattle.std.proofs.lemmas.List.Elements.{All-cons, All-nil}
@@ -8,6 +8,11 @@ use Rattle.std.proofs.lemmas.Option.{slice_get_within}
 use Rattle.std.proofs.lemmas.List.{length-set, length-replicate, length-take-le}
 use Rattle.volume_core.specs.declared.changes.Change.{Change}
 use Rattle.volume_core.specs.declared.changes.Change.TheVariants.{Put, Marks, Erase}
+use Rattle.std.proofs.Math.Numerals.{add-one}
+use Rattle.std.proofs.Math.Seq.{take-suc}
+use Rattle.std.proofs.lemmas.Grind.{flat_map-append}
+use Rattle.std.proofs.lemmas.List.{append-nil}
+use Rattle.std.proofs.lemmas.List.Folds.{length-flat_map-take}
 use Rattle.std.proofs.lemmas.Bool.{leb-true, ltb-false}
 use Rattle.volume_core.specs.declared.objects.Object.TheVariants.{Block, Mark}
 use Rattle.volume_core.specs.declared.changes.Refusal.TheVariants.{NoPartition, PastEnd, NoRoom, TooLong}
@@ -69,9 +74,16 @@ applying_in (Some p) (Erase part at) none part_fits =
     let few : length (take at p.objects ++ []) ≤ 16000000 = leb-true _ _ room.0 in
     (part_fits, omega (arith, at_fits, few, length-append (take at p.objects) [], length-take-le at p.objects at_fits))
 
-there : (found : Option Part) (change : Change) → refusal_in found change ≡ None → (p : Part) × (found ≡ Some p)
+pub there : (found : Option Part) (change : Change) → refusal_in found change ≡ None → (p : Part) × (found ≡ Some p)
 there None change none = absurd (cc)
 there (Some p) change none = (p, refl)
+
+-- a change that is not refused concerns a partition that is there
+pub inside_of : (volume : List Part) (change : Change) → refusal_of volume change ≡ None
+    → part_of change < length volume
+inside_of volume change none =
+    let found = there (slice_get volume (part_of change)) change none in
+    slice_get_within volume (part_of change) found.0 found.1
 
 pub applying : (volume : List Part) (change : Change) → length volume ≤ 4 → refusal_of volume change ≡ None
     → IsRecord change
@@ -80,7 +92,7 @@ applying volume change few none =
     applying_in (slice_get volume (part_of change)) change none
     (omega (arith, few, slice_get_within volume (part_of change) found.0 found.1))
 
-same_length : (found : Option Part) (volume : List Part) (change : Change)
+pub same_length : (found : Option Part) (volume : List Part) (change : Change)
     → length (changed_in found volume change) ≡ length volume
 same_length None volume change = refl
 same_length (Some p) volume change = length-set volume (part_of change) (part_after p change)
@@ -93,3 +105,19 @@ all_applying volume (change ∷ changes) few all =
     All-cons IsRecord change changes (applying volume change few all.0)
     (all_applying (changed volume change) changes
     (omega (arith, few, same_length (slice_get volume (part_of change)) volume change)) all.1)
+
+-- the record of a change has its place in the body
+pub part_fits : (changes : List Change) (i : ℕ) (change : Change) → i < length changes
+    → change ≡ slice_index_or changes i change
+    → length (spell_all (take i changes)) + length (spell change) ≤ length (spell_all changes)
+part_fits changes i change inside is =
+    omega (arith, length-flat_map-take spell changes i change inside, ap (λ (c : Change). length (spell c)) is)
+
+pub spelled_next : (changes : List Change) (i : ℕ) (change : Change) → i < length changes
+    → change ≡ slice_index_or changes i change
+    → spell_all (take (i + 1) changes) ≡ spell_all (take i changes) ++ spell change
+spelled_next changes i change inside is =
+    ap spell_all (ap (λ (n : ℕ). take n changes) (add-one i) ∙ take-suc changes i change inside)
+    ∙ flat_map-append spell (take i changes) (slice_index_or changes i change ∷ [])
+    ∙ ap (λ (l : List ℕ). spell_all (take i changes) ++ l)
+    (append-nil (spell (slice_index_or changes i change)) ∙ ap spell (sym is))

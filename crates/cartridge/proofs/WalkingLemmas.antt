@@ -21,7 +21,7 @@ use Rattle.record_index.specs.Facts.{refusal_by_shape}
 use Rattle.record_index.specs.Indexes.{Indexes, LiesAt, indexes_after, indexes_shape}
 use Rattle.record_index.specs.Inner.Decided.{never_both}
 use Rattle.record_index.specs.Inner.Spelled.{one_front}
-use Rattle.cartridge.specs.Lying.{LiesIn}
+use Rattle.cartridge.specs.Lying.{HasBlock, IsPlaceOf, LiesIn}
 use Rattle.cartridge.specs.Inner.Reading.{WalkedTo, WalksTo}
 
 -- a change's record is refused by the index as the change is by the volume
@@ -150,7 +150,7 @@ module _ (body : List ℕ) (volume : List Part) (P : List ℕ → ℕ → Type 0
 pub lies_here : (bodies : List (List ℕ)) (body : List ℕ) (extents : List (ℕ × ℕ)) (frame from : ℕ) (item : Record)
     (place : ℕ) → frame ≡ length bodies → frame < length extents
     → length body ≡ (slice_index_or extents frame (0, 0)).1
-    → IsAtFront item (drop from body) → place ≡ (slice_index_or extents frame (0, 0)).0 + (from + 10)
+    → IsAtFront item (drop from body) → IsPlaceOf item ((slice_index_or extents frame (0, 0)).0 + from) place
     → LiesAt (LiesIn (bodies ++ body ∷ []) extents) (change_in item (drop from body)) place
 lies_here bodies body extents frame from (Records.Marks part at count) place is inside sized front place_is = tt
 lies_here bodies body extents frame from (Records.Erase part at) place is inside sized front place_is = tt
@@ -164,9 +164,28 @@ lies_here bodies body extents frame from (Records.Put part at count) place is in
       frame,
       from + 10,
       inside,
-      place_is,
+      omega (arith, place_is),
       omega (arith, long, front.within, sized, length-drop from body),
       ap (take count) (drop-drop 10 from body)
           ∙ ap (λ (n : ℕ). take n (drop (from + 10) body)) (omega (arith, long))
           ∙ ap (λ (l : List ℕ). slice_range l (from + 10) (from + 10 + length block)) (sym body_is),
+      omega (arith, is, length-append bodies (body ∷ [])),
     )
+
+-- a record at the front of bytes has a byte of its block, where it has one
+pub has_block : (item : Record) (bytes : List ℕ) → IsAtFront item bytes → HasBlock item
+has_block (Records.Put part at count) bytes front =
+    omega (arith, front.valid.1, front.within, length-take-le count (drop 10 bytes) (omega (arith, front.within, length-drop 10 bytes)))
+has_block (Records.Marks part at count) bytes front = tt
+has_block (Records.Erase part at) bytes front = tt
+
+pub some_bytes_of : (item : Record) → 1 ≤ size_of item
+some_bytes_of (Records.Put part at count) = omega arith
+some_bytes_of (Records.Marks part at count) = omega arith
+some_bytes_of (Records.Erase part at) = omega arith
+
+-- the record of a change that is spelled has a byte of its block, where it has one
+pub has_block_of : (change : Change) → IsRecord change → HasBlock (record_of change)
+has_block_of (Put part at block) is = is.1
+has_block_of (Marks part at count) is = tt
+has_block_of (Erase part at) is = tt

@@ -1,9 +1,11 @@
 //! An open cartridge.
-ghost use Rattle.std.specs.Prelude.{◌≡◌, ◌<◌, ◌≤◌, length, true, false};
+ghost use Rattle.std.specs.Prelude.{◌≡◌, ◌<◌, ◌≤◌, [], length, true, false};
 ghost use Rattle.tape_disk.specs.Disk.{Each};
 ghost use Rattle.vtl_base.specs.declared.limits.TheConstants.{MAX_CAPACITY, MAX_OBJECTS, MAX_PARTITIONS};
 ghost use Rattle.volume_core.specs.Volume.{capacity_of, count_of, kind_at, used_up_to};
-ghost use Rattle.cartridge.specs.Contents.{IsContents, Shows, volume_in};
+ghost use Rattle.gate_journal.specs.Side.{spell};
+ghost use Rattle.gate_journal.specs.State.{room_behind};
+ghost use Rattle.cartridge.specs.Contents.{Gives, IsContents, Shows, bodies_of, volume_in};
 
 use crate::noted::Noted;
 use crate::shelved::Shelved;
@@ -61,13 +63,19 @@ impl<D: Disk> Model for Cartridge<D> {
 impl<D: Disk> Cartridge<D> {
     /// Where the disk is honest, each image that a crash now may leave gives the contents, or these
     /// with the frame that was under way when the disk failed; where it has not failed, the
-    /// contents.
+    /// contents. The room is what the side's spelling leaves.
     pub fn known(&self)
         ensures contents { IsContents self.now.contents }
+        ensures at_rest { self.now.failed ≡ false → self.now.torn ≡ [] }
         ensures shows { (D.state self.now.disk).honest →
             Each (D.state self.now.disk) (Shows self.now.contents self.now.torn) }
+        ensures sure { (D.state self.now.disk).honest → self.now.failed ≡ false →
+            Each (D.state self.now.disk) (Gives self.now.contents) }
+        ensures room { (D.state self.now.disk).honest → self.now.room ≡ room_behind
+            (length (spell self.now.contents.heading (bodies_of self.now.contents.frames))) }
     {
         // Looked at for the proof's sake: the facts are the type's.
+        self.journal.known();
         let _ = &self.noted;
     }
 

@@ -6,6 +6,7 @@ pub mod cartridges;
 mod creating;
 pub mod error;
 mod fetching;
+pub mod laws;
 mod noted;
 mod opening;
 mod placing;

@@ -98,7 +98,12 @@ fn recover<D: Disk>(
     let mut index = Index::new(alloc, &journal.header().capacities)?;
     let mut noted = Noted::new(journal.header());
     for frame in 0..journal.frames() {
-        let (at, _) = journal.body_at(frame);
+        let (at, size) = journal.body_at(frame);
+        // An honest disk has the body: asked for the sake of any other.
+        let len = journal.disk().len();
+        if at > len || u64::from(size) > len - at {
+            return Err(CartridgeError::BadRecord { at: at - 5 });
+        }
         let body = read_frame(alloc, journal, frame)?;
         match walk_body(&mut index, journal, &noted, frame, &body) {
             Ok(true) => noted = noted.with_body(&body),

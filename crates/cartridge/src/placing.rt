@@ -1,14 +1,14 @@
 //! The objects of a new frame get their places.
-ghost use Rattle.std.specs.Prelude.{◌≡◌, ◌+◌, ◌<◌, ◌≤◌, ◌++◌, [], ◌∷◌, ℕ, List, length, slice_index_or};
+ghost use Rattle.std.specs.Prelude.{◌≡◌, ◌+◌, ◌<◌, ◌≤◌, ◌-◌, ◌^◌, ◌++◌, [], ◌∷◌, ℕ, List, length, slice_index_or};
 ghost use Rattle.std.specs.List.{All};
 ghost use Rattle.volume_core.specs.Volume.{AllApply, after};
-ghost use Rattle.record_index.specs.Records.{IsRecord, spell_all};
+ghost use Rattle.record_index.specs.Records.{IsRecord, size_of, spell_all};
 ghost use Rattle.record_index.specs.Places.{reserved_of};
 ghost use Rattle.cartridge.specs.Answers.{entries_of};
 ghost use Rattle.cartridge.specs.Contents.{volume_in};
 ghost use Rattle.cartridge.specs.Inner.Growing.{HasRoomFor, TakesEntries};
 ghost use Rattle.record_index.specs.Indexes.{Indexes};
-ghost use Rattle.cartridge.specs.Lying.{LiesOnSide};
+ghost use Rattle.cartridge.specs.Lying.{HasBlock, IsPlaceOf, LiesOnSide};
 ghost use Rattle.cartridge.specs.Notes.{noted_contents, with_frame};
 
 use crate::noted::Noted;
@@ -30,22 +30,37 @@ pub(crate) fn place_frame<D: Disk>(
     requires counted { length journal.now.extents ≡ length noted.now.notes.frames + 1 }
     requires sized { (slice_index_or journal.now.extents (length noted.now.notes.frames) (0, 0)).1
         ≡ length (spell_all changes.now) }
+    requires fits { (slice_index_or journal.now.extents (length noted.now.notes.frames) (0, 0)).0
+        + length (spell_all changes.now) < 2 ^ 64 }
     requires lies { Indexes (LiesOnSide (with_frame noted.now.notes changes.now) journal.now.extents)
         (volume_in (noted_contents noted.now.notes)) index.old }
     ensures lies { Indexes (LiesOnSide (with_frame noted.now.notes changes.now) journal.now.extents)
         (after (volume_in (noted_contents noted.now.notes)) changes.now) index.new }
     ensures reserved { TakesEntries index.old changes.now index.new }
 {
-    let frame = journal.frames() - 1;
-    let (place, _) = journal.body_at(frame);
+    let count = journal.frames();
+    let (place, _) = journal.body_at(count - 1);
     let mut at = place;
     for change in changes {
-        let record = Record::of(change);
-        match index.apply(record, at + HEAD_BYTES as u64) {
+        let item = Record::of(change);
+        match index.apply(item, place_of(item, at)) {
             Ok(()) => {}
             Err(ApplyError::Refused(_)) => unreachable!(),
             Err(ApplyError::NoMemory) => unreachable!(),
         }
-        at += record.size() as u64;
+        at += item.size() as u64;
+    }
+}
+
+// The place of the block of a record that begins at that place; of a record with no block any.
+pub(crate) fn place_of(item: Record, at: u64) -> u64
+    requires sized { HasBlock item }
+    requires fits { at + size_of item < 2 ^ 64 }
+    ensures place { IsPlaceOf item at result }
+    ensures fits { result < 2 ^ 64 - 1 }
+{
+    match item {
+        Record::Put { .. } => at + HEAD_BYTES as u64,
+        Record::Marks { .. } | Record::Erase { .. } => 0,
     }
 }

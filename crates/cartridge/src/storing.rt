@@ -1,5 +1,5 @@
 //! Changes are stored, as one frame.
-ghost use Rattle.std.specs.Prelude.{◌≡◌, ◌+◌, ◌<◌, ◌≤◌, ◌++◌, [], ◌∷◌, ℕ, length, sum_by, true, false, OnOk, OnErr, IfErr, slice_index_or, vec_capacity, map};
+ghost use Rattle.std.specs.Prelude.{◌≡◌, ◌⊎◌, ◌+◌, ◌<◌, ◌≤◌, ◌++◌, [], ◌∷◌, ℕ, length, sum_by, true, false, OnOk, OnErr, IfErr, slice_index_or, vec_capacity, map};
 ghost use Rattle.std.specs.List.{All};
 ghost use Rattle.tape_disk.specs.Disk.{Each, Keeps};
 ghost use Rattle.tape_disk.specs.Moments.{LeavesOnly};
@@ -10,13 +10,13 @@ ghost use Rattle.record_index.specs.Records.{IsRecord, spell_all};
 ghost use Rattle.record_index.specs.Places.{reserved_of};
 ghost use Rattle.cartridge.specs.Answers.{IsBroken, IsStored, KeepsReserved, Lacks, LacksMemory, MatchCall, entries_of};
 ghost use Rattle.cartridge.specs.Contents.{Gives, Shows, bodies_of, volume_in};
-ghost use Rattle.cartridge.specs.Inner.Growing.{HasRoomFor, IsGrown};
+ghost use Rattle.cartridge.specs.Inner.Growing.{HasRoomWithin, IsGrown, IsSameSide};
 
 use crate::cartridges::Cartridge;
 use crate::error::CartridgeError;
 use crate::placing::place_frame;
 use crate::bodies::{fill_body, size_of_body};
-use gate_journal::JournalError;
+use gate_journal::{Journal, JournalError};
 use record_index::Index;
 use std::alloc::AllocError;
 use tape_disk::Disk;
@@ -41,13 +41,11 @@ impl<D: Disk> Cartridge<D> {
             × Lacks self.old.reserved part body entries) }
     {
         reserve_body(&mut self.body, body)?;
-        if part < self.index.parts() {
-            self.index.reserve(part, entries)?;
-        }
-        match self.journal.reserve(1) {
-            Ok(()) => Ok(()),
-            Err(_) => Err(CartridgeError::NoMemory),
-        }
+        reserve_part(&mut self.index, part, entries)?;
+        let Ok(()) = self.journal.reserve(1) else {
+            return Err(CartridgeError::NoMemory);
+        };
+        Ok(())
     }
 
     /// Stores changes as one frame: at Ok all of them are sure. There is at least one, each applies
@@ -81,13 +79,16 @@ impl<D: Disk> Cartridge<D> {
         if u64::from(size) + 5 > self.journal.room() {
             return Err(CartridgeError::SideFull);
         }
-        reserve_body(&mut self.body, size as usize)?;
-        reserve_entries(&mut self.index, changes)?;
-        if self.journal.reserve(1).is_err() {
+        let Ok(()) = make_room(
+            &mut self.journal,
+            &mut self.index,
+            &mut self.body,
+            changes,
+            size as usize,
+        ) else {
             return Err(CartridgeError::NoMemory);
-        }
+        };
         fill_body(&mut self.body, changes);
-        self.journal.known();
         match self.journal.append(&self.body) {
             Ok(()) => {
                 place_frame(&mut self.index, &self.journal, &self.noted, changes);
@@ -107,6 +108,32 @@ impl<D: Disk> Cartridge<D> {
     }
 }
 
+// Makes room for a frame of these changes, whose body has so many bytes.
+fn make_room<D: Disk>(
+    journal: &mut Journal<D>,
+    index: &mut Index,
+    body: &mut Vec<u8>,
+    changes: &[Change],
+    size: usize,
+) -> Result<(), NoMemory>
+    ensures side { IsSameSide journal.old journal.new }
+    ensures few { length index.old ≤ MAX_PARTITIONS }
+    ensures grown { IsGrown index.old index.new }
+    ensures body { vec_capacity body.old ≤ vec_capacity body.new }
+    ensures ok { OnOk result ((size ≤ vec_capacity body.new) × (1 ≤ journal.new.reserved)
+        × HasRoomWithin index.new changes.now) }
+    ensures err { OnErr result ((journal.old.reserved ≡ 0)
+        ⊎ ((vec_capacity body.old < size) ⊎ ((part : ℕ)
+        × (reserved_of index.old part < sum_by (entries_of part) changes.now)))) }
+{
+    reserve_entries(index, changes)?;
+    reserve_body(body, size)?;
+    let Ok(()) = journal.reserve(1) else {
+        return Err(NoMemory);
+    };
+    Ok(())
+}
+
 // Makes room for a body of so many bytes.
 fn reserve_body(body: &mut Vec<u8>, size: usize) -> Result<(), AllocError>
     ensures grows { vec_capacity body.old ≤ vec_capacity body.new }
@@ -117,11 +144,24 @@ fn reserve_body(body: &mut Vec<u8>, size: usize) -> Result<(), AllocError>
     body.reserve(size)
 }
 
+// Makes room for so many blocks and runs of marks in a partition, where it is there.
+fn reserve_part(index: &mut Index, part: PartNo, entries: usize) -> Result<(), NoMemory>
+    ensures grown { IsGrown index.old index.new }
+    ensures ok { OnOk result (part < length index.old → entries ≤ reserved_of index.new part) }
+    ensures err { OnErr result
+        ((part < length index.old) × (reserved_of index.old part < entries)) }
+{
+    if part >= index.parts() {
+        return Ok(());
+    }
+    index.reserve(part, entries)
+}
+
 // Makes room for the blocks and runs of marks of these changes, in each partition.
 fn reserve_entries(index: &mut Index, changes: &[Change]) -> Result<(), NoMemory>
     ensures few { length index.old ≤ MAX_PARTITIONS }
     ensures grown { IsGrown index.old index.new }
-    ensures ok { OnOk result (HasRoomFor index.new changes.now) }
+    ensures ok { OnOk result (HasRoomWithin index.new changes.now) }
     ensures err { OnErr result ((part : ℕ)
         × (reserved_of index.old part < sum_by (entries_of part) changes.now)) }
 {

@@ -12,7 +12,9 @@ use Rattle.record_index.specs.Places.{PlacedPart}
 use Rattle.record_index.specs.Indexes.{Indexes}
 use Rattle.cartridge.specs.declared.error.CartridgeError.{CartridgeError}
 use Rattle.cartridge.specs.declared.error.CartridgeError.TheVariants.{NotOurs, Damaged, BadRecord, SideFull, Device, Failed, NoMemory}
-use Rattle.cartridge.specs.Contents.{IsBadFrame}
+use Rattle.cartridge.specs.Contents.{IsBadFrame, IsContents, volume_in}
+use Rattle.cartridge.specs.Lying.{LiesOnSide}
+use Rattle.cartridge.specs.Notes.{Notes, noted_contents}
 
 -- why a body is not read: a fault, or memory ran out (own)
 abbrev pub IsNotRead : CartridgeError → DiskState → DiskState → Type 0
@@ -49,3 +51,13 @@ WalksTo true body volume P index =
     (changes : List Change) × SpellsAll body changes × AllApply volume changes × Indexes P (after volume changes) index
 WalksTo false body volume P index =
     (changes : List Change) → All IsRecord changes → body ≡ spell_all changes → AllApply volume changes → ⊥
+
+-- What holds once the first so many frames were read: what is noted is a cartridge's contents, none under way, and the
+-- index says where its objects lie (own).
+pub record IsReadUpTo (frame : ℕ) (heading : Heading) (extents : List (ℕ × ℕ)) (index : List PlacedPart)
+    (notes : Notes) : Type 0 where
+  pub heading_is : heading ≡ notes.heading
+  pub contents : IsContents (noted_contents notes)
+  pub none_torn : notes.torn ≡ []
+  pub counted : length notes.frames ≡ frame
+  pub lies : Indexes (LiesOnSide notes extents) (volume_in (noted_contents notes)) index

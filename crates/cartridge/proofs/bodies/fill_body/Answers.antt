@@ -1,9 +1,15 @@
-use Rattle.std.proofs.Common.{rules, ◌≡◌, ◌≤◌, length, vec_capacity, ℕ, ◌+◌, ◌-◌, ◌*◌, ◌<◌, ◌/◌, ◌%◌, Bool, true, false, nat_eq, nat_lt, List, [], ◌∷◌, ◌++◌, slice_index_or, slice_set, bit_and, bit_or, Fits, w8, w32, w64, Bor, MutBor}
-use Rattle.std.specs.List.{All}
-use Rattle.vtl_base.specs.declared.limits.TheConstants.{MAX_BODY}
-use Rattle.record_index.specs.Records.{IsRecord, spell_all}
+use Rattle.std.proofs.Common.{arith, ap, length, List, ℕ}
+use Rattle.cartridge.proofs.RecordLemmas.{part_fits}
 use Rattle.cartridge.proofs.bodies.fill_body.Goals as goal
 
--- src/bodies.rt:32:13
 pub unreachable-requires : goal.unreachable-requires
-unreachable-requires c = ?
+unreachable-requires c = omega (
+  arith,
+  c.in_default.ensures.memory,
+  c.loop-change.invariant.room,
+  ap (λ (l : List ℕ). length l) c.loop-change.invariant.filled,
+  c.loop-change.body.ok.0,
+  c.clear.ensures.capacity,
+  c.requires.room,
+  part_fits c.args.changes.now c.loop-change.change-index c.change-item.result c.loop-change-test.true c.change-item.is,
+)

@@ -1,33 +1,71 @@
-use Rattle.std.proofs.Common.{rules, ◌≡◌, ◌+◌, ◌<◌, ◌≤◌, ◌++◌, [], ◌∷◌, ℕ, length, sum_by, true, false, OnOk, OnErr, IfErr, slice_index_or, vec_capacity, map, ◌-◌, ◌*◌, ◌/◌, ◌%◌, Bool, nat_eq, nat_lt, List, slice_set, bit_and, bit_or, Fits, w8, w32, w64, Bor, MutBor}
-use Rattle.std.specs.List.{All}
-use Rattle.tape_disk.specs.Disk.{Each, Keeps}
-use Rattle.tape_disk.specs.Moments.{LeavesOnly}
-use Rattle.vtl_base.specs.declared.limits.TheConstants.{MAX_BODY}
-use Rattle.volume_core.specs.Volume.{AllApply}
-use Rattle.gate_journal.specs.Answers.{IsFault, NoneFailed}
-use Rattle.record_index.specs.Records.{IsRecord, spell_all}
-use Rattle.record_index.specs.Places.{reserved_of}
-use Rattle.cartridge.specs.Answers.{IsBroken, IsStored, KeepsReserved, Lacks, LacksMemory, MatchCall, entries_of}
-use Rattle.cartridge.specs.Contents.{Gives, Shows, bodies_of, volume_in}
-use Rattle.cartridge.specs.Inner.Growing.{HasRoomFor, IsGrown}
+use Rattle.std.proofs.Common.{◌≡◌, ℕ, List, sum_by, inl, inr, ap, sym, subst, arith}
+use Rattle.std.proofs.lemmas.Bool.{cases_eq}
+use Rattle.record_index.specs.Places.{PlacedPart, reserved_of}
+use Rattle.cartridge.specs.Answers.{entries_of}
+use Rattle.cartridge.specs.Inner.Growing.{IsGrown}
+use Rattle.cartridge.proofs.GrowingLemmas.{grown_length, grown_reserved, grown_same, grown_then, reserve_grown}
+use Rattle.cartridge.proofs.StoringLemmas.{on_err_any}
 use Rattle.cartridge.proofs.storing.reserve_entries.Goals as goal
 
--- src/storing.rt:127:5
 pub loop-part-init : goal.loop-part-init
-loop-part-init c = ?
+loop-part-init c = record {
+  grown = grown_same c.args.index.now;
+  room = λ p below. absurd (omega (arith, below));
+}
 
--- src/storing.rt:128:9
 pub reserve-requires : goal.reserve-requires
-reserve-requires c = ?
+reserve-requires c = omega (
+  arith,
+  c.loop-part-test.true,
+  c.parts-part-end.ensures.parts,
+  grown_length c.args.index.now c.loop-part.index c.loop-part.invariant.grown,
+)
 
--- src/storing.rt:128:9
 pub returns-in_err-reserve-clause-err : goal.returns-in_err-reserve-clause-err
-returns-in_err-reserve-clause-err c = ?
+returns-in_err-reserve-clause-err c = on_err_any c.from_residual.result (
+  c.loop-part.part,
+  omega (
+    arith,
+    c.in_err-reserve.ensures.err.0,
+    grown_reserved c.args.index.now c.loop-part.index c.loop-part.part c.loop-part.invariant.grown,
+    c.count_entries.ensures,
+  ),
+)
 
--- src/storing.rt:127:5
 pub loop-part-preserved : goal.loop-part-preserved
-loop-part-preserved c = ?
+loop-part-preserved c =
+    let new = c.reserve.new.self in
+    let part = c.loop-part.part in
+    let more : IsGrown c.loop-part.index new =
+    subst (λ (x : List PlacedPart). IsGrown c.loop-part.index x) (sym c.in_ok-reserve.ensures.same)
+    (reserve_grown c.loop-part.index part (reserved_of new part) c.in_ok-reserve.ensures.grows) in
+    record {
+      grown = grown_then c.args.index.now c.loop-part.index new c.loop-part.invariant.grown more;
+      room = λ p below. elim (cases_eq p part) [
+        | inl same ↦
+            omega (
+              arith,
+              ap (λ (x : ℕ). sum_by (entries_of x) c.args.changes.now) same,
+              ap (reserved_of new) same,
+              c.in_ok-reserve.ensures.ok,
+              c.count_entries.ensures,
+            )
+        | inr other ↦
+            omega (
+              arith,
+              c.loop-part.invariant.room p (let h : p ≡ part → ⊥ = other in omega (arith, below, h)),
+              grown_reserved c.loop-part.index new p more,
+            )
+      ];
+    }
 
--- src/storing.rt:121:1
 pub returns-clause-ok : goal.returns-clause-ok
-returns-clause-ok c = ?
+returns-clause-ok c = λ part inside.
+    c.loop-part.invariant.room part
+    (omega (
+      arith,
+      inside,
+      c.loop-part-test.false,
+      c.parts-part-end.ensures.parts,
+      grown_length c.args.index.now c.loop-part.index c.loop-part.invariant.grown,
+    ))
