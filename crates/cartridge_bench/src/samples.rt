@@ -1,16 +1,10 @@
 //! A side of two frames, and what tests do with it.
-ghost use Rattle.std.specs.Prelude.{◌≡◌, ◌≤◌, IfOk, length};
-ghost use Rattle.vtl_base.specs.declared.limits.TheConstants.{MAX_BODY};
-ghost use Rattle.volume_core.specs.Volume.{AllApply};
-ghost use Rattle.record_index.specs.Records.{spell_all};
-ghost use Rattle.cartridge.specs.Contents.{volume_in};
-
 use cartridge::{Cartridge, CartridgeError, Shelved};
-use std::alloc::{AllocError, Global};
+use std::alloc::Global;
 use std::test::Fail;
-use tape_disk::{Disk, MemDisk};
-use volume_core::{Change, Volume};
-use vtl_base::{Barcode, Bytes, DevFault, ObjNo, PartNo};
+use tape_disk::Disk;
+use volume_core::Change;
+use vtl_base::{Barcode, Bytes, DevFault, NoMemory, ObjNo, PartNo};
 
 /// A cartridge `T00001L6` of one partition of 4,096 bytes, with two frames, whose gates stand at 35,
 /// 55 and 70: the block `hello`, and one mark behind it.
@@ -26,7 +20,7 @@ pub const STORE: [u8; 28] = *b"\xa5VTLRESV1\0\0DRIVE1          \0";
 pub const FAULT: CartridgeError = CartridgeError::Device(DevFault { failures: 1 });
 
 /// A block behind the first objects of a partition.
-pub fn block(alloc: Global, part: PartNo, at: ObjNo, bytes: &[u8]) -> Result<Change, Fail> {
+pub fn block(alloc: Global, part: PartNo, at: ObjNo, bytes: &[u8]) -> Result<Change, NoMemory> {
     let block = Bytes::from_slice(alloc, bytes)?;
     Ok(Change::Put { part, at, block })
 }

@@ -28,7 +28,9 @@ fn the_vector_is_written(rt: HostRuntime) -> Result<(), Fail> {
     let Ok(shelved) = made(alloc, MemDisk::new(alloc), &[4_096]) else {
         return Err(Fail::from("not made"));
     };
-    assert_eq!(rt; shelved.disk().bytes(), { let mut b = Vec::from_slice(alloc, &SIDE[..35])?; b.push(0)?; b }.as_slice());
+    let mut begin = Vec::from_slice(alloc, &SIDE[..35])?;
+    begin.push(0)?;
+    assert_eq!(rt; shelved.disk().bytes(), begin.as_slice());
     let Ok(mut cartridge) = Cartridge::open(alloc, shelved) else {
         return Err(Fail::from("not opened"));
     };

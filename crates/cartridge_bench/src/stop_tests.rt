@@ -6,6 +6,7 @@ use std::alloc::Global;
 use std::test::Fail;
 use tape_disk::{Disk, FuseDisk, MemDisk, OnceDisk};
 use volume_core::Change;
+use vtl_base::NoMemory;
 
 // What is done on a disk: the side is opened and two changes stored in one frame, or it is opened.
 #[derive(Clone, Copy, Debug, PartialEq, Eq)]
@@ -15,7 +16,7 @@ enum Work {
 }
 
 // A block in the place of the mark, and a mark behind it: one frame.
-fn two_changes(alloc: Global) -> Result<[Change; 2], Fail> {
+fn two_changes(alloc: Global) -> Result<[Change; 2], NoMemory> {
     Ok([block(alloc, 0, 1, b"abc")?, marks(0, 2, 2)])
 }
 
