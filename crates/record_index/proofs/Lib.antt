@@ -1,1 +1,5 @@
-
+pub mod Rows
+pub mod TableLemmas
+pub mod Reading
+pub mod Decoding
+pub mod Parts

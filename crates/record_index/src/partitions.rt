@@ -45,7 +45,8 @@ impl Model for PlacedPartition {
 impl PlacedPartition {
     pub(crate) fn new(alloc: Global, capacity: u64) -> Self
         requires { IsTrue (is_capacity capacity) }
-        ensures { result ≡ empty_placed capacity }
+        ensures part { result ≡ empty_placed capacity }
+        ensures limits { IsPart (filled_part blank result) }
     {
         PlacedPartition {
             capacity,
@@ -90,9 +91,10 @@ impl PlacedPartition {
             return Some(Refusal::PastEnd);
         }
         let used = self.table.used(at);
-        let fits =
-            item.added() <= MAX_OBJECTS - at && item.cost() <= self.capacity - used;
-        if !fits {
+        if item.added() > MAX_OBJECTS - at {
+            return Some(Refusal::NoRoom);
+        }
+        if item.cost() > self.capacity - used {
             return Some(Refusal::NoRoom);
         }
         if !item.is_well_formed() {
@@ -107,6 +109,7 @@ impl PlacedPartition {
         ensures grows { self.old.reserved ≤ self.new.reserved }
         ensures ok { OnOk result (runs ≤ self.new.reserved) }
         ensures err { OnErr result ((self.old.reserved < runs) × (self.new ≡ self.old)) }
+        ensures limits { IsPart (filled_part blank self.new) }
     {
         self.table.reserve(runs)
     }
@@ -118,6 +121,7 @@ impl PlacedPartition {
           reserved = self.new.reserved;
         } }
         ensures reserved { self.old.reserved ≤ self.new.reserved }
+        ensures limits { IsPart (filled_part blank self.new) }
     {
         self.table.cut(n);
     }
@@ -131,6 +135,7 @@ impl PlacedPartition {
         }) }
         ensures reserved { OnOk result (self.old.reserved ≤ self.new.reserved + 1) }
         ensures err { OnErr result ((self.old.reserved ≡ 0) × (self.new ≡ self.old)) }
+        ensures limits { IsPart (filled_part blank self.new) }
     {
         self.table.reserve(1)?;
         self.table.add(run);
@@ -148,6 +153,7 @@ impl PlacedPartition {
             }) result self.new }
         ensures reserved { self.old.reserved ≤ self.new.reserved + runs_of item }
         ensures memory { result ≡ Err Errors.NoMemory → self.old.reserved < runs_of item }
+        ensures limits { IsPart (filled_part blank self.new) }
     {
         if let Some(cause) = self.refusal(item) {
             return Err(ApplyError::Refused(cause));

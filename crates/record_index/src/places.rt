@@ -10,23 +10,15 @@ use vtl_base::ObjNo;
 /// filemark.
 #[derive(Clone, Copy, PartialEq, Eq, Debug)]
 pub enum Placed {
-    Block {
-        place: u64,
-        length: u32,
-    },
+    Block { place: u64, length: u32 },
     Mark,
 }
 
 /// A row of objects of one entry: a block, or filemarks.
 #[derive(Clone, Copy, PartialEq, Eq, Debug)]
 pub enum Run {
-    Block {
-        place: u64,
-        length: u32,
-    },
-    Marks {
-        count: u32,
-    },
+    Block { place: u64, length: u32 },
+    Marks { count: u32 },
 }
 
 impl Placed {

@@ -28,7 +28,9 @@ pub const HEAD_BYTES: usize = 10;
 
 // The kinds.
 pub(crate) const BLOCK: u8 = 1;
+
 pub(crate) const MARKS: u8 = 2;
+
 pub(crate) const ERASE: u8 = 3;
 
 /// A record without its block's bytes: these stay where they lie, directly behind its head of 10
@@ -59,9 +61,7 @@ pub enum Record {
 pub enum RecordError {
     /// From this place on the bytes begin with no record; up to it they are records.
     #[error("bad record at {at}")]
-    BadRecord {
-        at: usize,
-    },
+    BadRecord { at: usize },
     /// Memory ran out.
     #[error("out of memory")]
     NoMemory,

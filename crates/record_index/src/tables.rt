@@ -39,15 +39,16 @@ impl Model for RunTable {
 
     ghost Value = { Table };
 
-    ghost use Rattle.std.specs.Prelude.{◌-◌, vec_len, vec_capacity};
-    ghost use Rattle.record_index.specs.Inner.Tables.{IsTable, objects_of};
+    ghost use Rattle.std.specs.Prelude.{◌-◌, ◌<◌, ◌^◌, vec_len, vec_capacity};
+    ghost use Rattle.record_index.specs.Inner.Tables.{IsTable, cost_of_objects, objects_of};
 
     ghost view = { λ t. record {
       objects = objects_of t.entries.items;
       reserved = vec_capacity t.entries - vec_len t.entries;
     } };
 
-    ghost invariant = { λ t. IsTable t.entries.items };
+    ghost invariant = { λ t. IsTable t.entries.items
+        × (cost_of_objects (objects_of t.entries.items) < 2 ^ 64) };
 }
 
 impl Entry {
@@ -72,7 +73,11 @@ fn end_of(entries: &[Entry], count: usize) -> ObjNo
     requires table { IsTable entries.now }
     ensures { result ≡ length (objects_of (take count entries.now)) }
 {
-    if count == 0 { 0 } else { entries[count - 1].end }
+    if count == 0 {
+        0
+    } else {
+        entries[count - 1].end
+    }
 }
 
 // What the objects of the first so many entries take, in bytes.
@@ -81,7 +86,11 @@ fn cost_of(entries: &[Entry], count: usize) -> u64
     requires table { IsTable entries.now }
     ensures { result ≡ cost_of_objects (objects_of (take count entries.now)) }
 {
-    if count == 0 { 0 } else { entries[count - 1].cost }
+    if count == 0 {
+        0
+    } else {
+        entries[count - 1].cost
+    }
 }
 
 // Puts an entry for the run behind the others.
@@ -92,8 +101,7 @@ fn push_run(entries: &mut Vec<Entry>, run: Run)
     requires end { length (objects_of entries.old.items ++ objects_of_run run) < 2 ^ 32 }
     requires cost { cost_of_objects (objects_of entries.old.items ++ objects_of_run run) < 2 ^ 64 }
     ensures table { IsTable entries.new.items }
-    ensures objects {
-        objects_of entries.new.items ≡ objects_of entries.old.items ++ objects_of_run run }
+    ensures objects { objects_of entries.new.items ≡ objects_of entries.old.items ++ objects_of_run run }
     ensures len { vec_len entries.new ≡ vec_len entries.old + 1 }
     ensures capacity { vec_capacity entries.new ≡ vec_capacity entries.old }
 {
@@ -117,7 +125,8 @@ fn push_run(entries: &mut Vec<Entry>, run: Run)
 
 // Keeps the first n objects; all of them where there are fewer.
 fn cut_entries(entries: &mut Vec<Entry>, n: ObjNo)
-    requires { IsTable entries.old.items }
+    requires table { IsTable entries.old.items }
+    requires cost { cost_of_objects (objects_of entries.old.items) < 2 ^ 64 }
     ensures table { IsTable entries.new.items }
     ensures objects { objects_of entries.new.items ≡ take n (objects_of entries.old.items) }
     ensures len { vec_len entries.new ≤ vec_len entries.old }
@@ -148,7 +157,8 @@ fn object_at(entries: &[Entry], at: ObjNo) -> Option<Placed>
 
 // What the first n objects take, in bytes; all of them where there are fewer.
 fn cost_up_to(entries: &[Entry], n: ObjNo) -> u64
-    requires { IsTable entries.now }
+    requires table { IsTable entries.now }
+    requires cost { cost_of_objects (objects_of entries.now) < 2 ^ 64 }
     ensures { result ≡ cost_of_objects (take n (objects_of entries.now)) }
 {
     let before = entries_before(entries, n);

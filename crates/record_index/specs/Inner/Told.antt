@@ -32,4 +32,4 @@ abbrev pub told : List ℕ → Option Record
 told bytes =
     if nat_lt (length bytes) 10 then None
     else kind_told (slice_index bytes 0) (slice_index bytes 1) (big_number 4 (drop 2 bytes))
-        (big_number 4 (drop 6 bytes)) (length bytes - 10)
+    (big_number 4 (drop 6 bytes)) (length bytes - 10)

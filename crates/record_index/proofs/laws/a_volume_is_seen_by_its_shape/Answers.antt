@@ -1,0 +1,8 @@
+use Rattle.record_index.specs.Facts.{used_by_shape, refusal_by_shape}
+use Rattle.record_index.proofs.laws.a_volume_is_seen_by_its_shape.Goals as goal
+
+pub returns-clause-used : goal.returns-clause-used
+returns-clause-used c = used_by_shape
+
+pub returns-clause-refusal : goal.returns-clause-refusal
+returns-clause-refusal c = refusal_by_shape

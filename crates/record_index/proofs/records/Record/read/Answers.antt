@@ -1,0 +1,26 @@
+use Rattle.std.proofs.Common.{◌≡◌, sym, ◌∙◌, refl, arith, Some, None}
+use Rattle.std.specs.Prelude.{Option}
+use Rattle.record_index.specs.declared.records.Record.{Record}
+use Rattle.record_index.specs.Records.{BeginsWithRecord, IsAtFront}
+use Rattle.std.specs.Prelude.{IfSome, IfNone, List, ℕ}
+use Rattle.record_index.specs.Inner.Told.{told}
+use Rattle.record_index.proofs.Reading.{none_begins, told_found}
+use Rattle.record_index.proofs.records.Record.read.Goals as goal
+
+found : (bytes : List ℕ) (result : Option Record) → ((item : Record) → result ≡ Some item → IsAtFront item bytes)
+    → IfSome result (λ item. IsAtFront item bytes)
+found bytes None by = tt
+found bytes (Some item) by = by item refl
+
+none : (bytes : List ℕ) (result : Option Record) → result ≡ told bytes
+    → IfNone result (BeginsWithRecord bytes → ⊥)
+none bytes None is = none_begins bytes (sym is)
+none bytes (Some item) is = tt
+
+pub returns-clause-found : goal.returns-clause-found
+returns-clause-found c =
+    found c.args.bytes.now c.told.result
+    (λ item is. told_found c.args.bytes.now (λ k. omega (arith, c.type_inv.bytes k)) item (sym c.told.ensures ∙ is))
+
+pub returns-clause-none : goal.returns-clause-none
+returns-clause-none c = none c.args.bytes.now c.told.result c.told.ensures
