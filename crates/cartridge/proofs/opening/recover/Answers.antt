@@ -8,7 +8,7 @@ use Rattle.record_index.specs.Places.{empty_placed}
 use Rattle.cartridge.specs.Contents.{bodies_of, volume_in}
 use Rattle.cartridge.specs.Inner.Reading.{WalksTo}
 use Rattle.cartridge.specs.Lying.{LiesIn}
-use Rattle.cartridge.specs.Notes.{noted_contents, with_frame}
+use Rattle.cartridge.specs.Notes.{Notes, noted_contents, with_frame}
 use Rattle.cartridge.proofs.OpeningLemmas.{before_walking, read_next, read_none, spelled_next, unwritten_none, unwritten_then}
 use Rattle.cartridge.proofs.opening.recover.Goals as goal
 
@@ -33,7 +33,7 @@ loop-frame-init g c =
           c.new-noted.ensures;
       unwritten = λ h. unwritten_none (g.D.Disk.state start.disk) (g.met.D.Disk.is_disk start.disk h);
       bodies = λ h. refl;
-      spelled = λ h. refl;
+      spelled = λ h. ap (λ (n : Notes). bodies_of n.frames) c.new-noted.ensures;
     }
 
 pub walk_body-requires-clause-lies : goal.walk_body-requires-clause-lies

@@ -104,7 +104,7 @@ unreachable-requires-in-Err-NoMemory g c =
     let p = part_of item in
     omega (
       arith,
-      c.in-Err-NoMemory.ensures.memory (c.in-Err-NoMemory.is ∙ ap Err c.in-Err-NoMemory.field-0-is),
+      c.in-Err-NoMemory.ensures.memory (ap Err c.in-Err-NoMemory.field-0-is),
       c.requires.room p,
       inv.reserved p,
       entries_left p changes here change inside is,

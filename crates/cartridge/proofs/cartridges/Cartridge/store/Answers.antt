@@ -12,6 +12,20 @@ use Rattle.cartridge.proofs.OpenLemmas.{before_placing, last_extent, one_more_ex
 use Rattle.cartridge.proofs.StoringLemmas.{grown_entries, lacks_told, room_for, same_open, same_stores, same_view, some_body, taken_entries}
 use Rattle.cartridge.proofs.cartridges.Cartridge.store.Goals as goal
 
+pub invariant_of-self : goal.invariant_of-self
+invariant_of-self g c =
+    let i = c.self.inside in
+    let notes = i.noted.notes in
+    let j = i.journal in
+    let k = c.make_room.new.journal in
+    let index = c.make_room.new.index in
+    let same = c.make_room.ensures.side in
+    let grown = c.make_room.ensures.grown in
+    (
+      same_open g.D.Disk.state j k same i.index index notes grown c.self.invariant.0,
+      same_stores g.D.Disk.state j k same i.index index notes c.self.invariant.1,
+    )
+
 pub returns-in_default-clause-answer : goal.returns-in_default-clause-answer
 returns-in_default-clause-answer g c =
     rw (← c.self.view_is) (
