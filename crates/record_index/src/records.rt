@@ -152,8 +152,8 @@ impl Record {
         }
     }
 
-    /// The change of a record that stands at the front of these bytes, with a copy of its block.
-    pub fn change(self, alloc: Global, bytes: &[u8]) -> Result<Change, NoMemory>
+    // The change of a record that stands at the front of these bytes, with a copy of its block.
+    pub(crate) fn change(self, alloc: Global, bytes: &[u8]) -> Result<Change, NoMemory>
         requires { size_of self ≤ length bytes.now }
         ensures { IfOk result (λ change. change ≡ change_in self bytes.now) }
     {
