@@ -60,8 +60,11 @@ module _ (contents : Contents) (changes : List Change) where
         inr (
           more,
           subst (λ (x : Heading × List (List ℕ)). StandsFor x.0 x.1 image)
-              (λ i. (heading_is i, (ap (λ (b : List (List ℕ) × List ℕ). b.0 ++ b.1 ∷ []) (λ k. (bodies_are k, body_is k))
-              ∙ sym bodies_more) i)) s,
+              (λ i. (
+                heading_is i,
+                (ap (λ (b : List (List ℕ) × List ℕ). b.0 ++ b.1 ∷ []) (λ k. (bodies_are k, body_is k))
+                    ∙ sym bodies_more) i,
+              )) s,
         )
 
     pub moments : (old new : DiskState) → LeavesOnly old new (WithOrWithout heading bodies body)
@@ -74,8 +77,11 @@ module _ (contents : Contents) (changes : List Change) where
     gives_more image s = (
       more,
       subst (λ (x : Heading × List (List ℕ)). StandsFor x.0 x.1 image)
-          (λ i. (heading_is i, (ap (λ (b : List (List ℕ) × List ℕ). b.0 ++ b.1 ∷ []) (λ k. (bodies_are k, body_is k))
-          ∙ sym bodies_more) i)) s,
+          (λ i. (
+            heading_is i,
+            (ap (λ (b : List (List ℕ) × List ℕ). b.0 ++ b.1 ∷ []) (λ k. (bodies_are k, body_is k))
+                ∙ sym bodies_more) i,
+          )) s,
     )
 
     pub is_bodies_more : bodies ++ body ∷ [] ≡ bodies_of (with_frames contents (changes ∷ [])).frames

@@ -34,9 +34,14 @@ set_grown : (index : List PlacedPart) (part reserved : ℕ) (p : PlacedPart) →
     → IsGrown index (slice_set index part (record { capacity = p.capacity; objects = p.objects; reserved = reserved }))
 set_grown [] part reserved p is le = absurd (cc)
 set_grown (q ∷ qs) zero reserved p is le =
-    let same : q ≡ p = cc in
-    ((ap (λ (x : PlacedPart). x.capacity) (sym same), ap (λ (x : PlacedPart). x.objects) (sym same),
-    omega (arith, le, ap (λ (x : PlacedPart). x.reserved) same)), grown_same qs)
+    let same : q ≡ p = cc in (
+      (
+        ap (λ (x : PlacedPart). x.capacity) (sym same),
+        ap (λ (x : PlacedPart). x.objects) (sym same),
+        omega (arith, le, ap (λ (x : PlacedPart). x.reserved) same),
+      ),
+      grown_same qs,
+    )
 set_grown (q ∷ qs) (suc n) reserved p is le = ((refl, refl, omega arith), set_grown qs n reserved p is le)
 
 pub reserve_grown : (index : List PlacedPart) (part reserved : ℕ) → reserved_of index part ≤ reserved

@@ -152,43 +152,43 @@ module _ (heading : Heading) (extents : List (ℕ × ℕ)) (failed : Bool) (inde
 
     -- what each image shows
     module _ (few : length index ≤ 4) (bodies : List (List ℕ)) (body : List ℕ) (body_is : body ≡ spell_all changes)
-        where
-      pub store_moments : (disk old new : DiskState) → StoresContents disk bodies notes
-          → LeavesOnly old new (WithOrWithout heading bodies body)
-          → LeavesOnly old new (Shows (noted_contents notes) (changes ∷ []))
-      store_moments disk old new stores run =
-          moments (noted_contents notes) changes is.contents (open_contents few) heading is.heading_is bodies
-          stores.bodies_are body body_is old new run
+      where
+        pub store_moments : (disk old new : DiskState) → StoresContents disk bodies notes
+            → LeavesOnly old new (WithOrWithout heading bodies body)
+            → LeavesOnly old new (Shows (noted_contents notes) (changes ∷ []))
+        store_moments disk old new stores run =
+            moments (noted_contents notes) changes is.contents (open_contents few) heading is.heading_is bodies
+            stores.bodies_are body body_is old new run
 
-      pub store_sure : (disk new : DiskState) (heading' : Heading) (bodies' : List (List ℕ))
-          → StoresContents disk bodies notes → heading' ≡ heading → bodies' ≡ bodies ++ body ∷ []
-          → Each new (StandsFor heading' bodies') → Each new (Gives (noted_contents (with_frame notes changes)))
-      store_sure disk new heading' bodies' stores heading_is bodies_are sure image left =
-          gives_more (noted_contents notes) changes is.contents (open_contents few) heading is.heading_is bodies
-          stores.bodies_are body body_is image
-          (subst (λ (x : Heading × List (List ℕ)). StandsFor x.0 x.1 image) (λ i. (heading_is i, bodies_are i))
-          (sure image left))
+        pub store_sure : (disk new : DiskState) (heading' : Heading) (bodies' : List (List ℕ))
+            → StoresContents disk bodies notes → heading' ≡ heading → bodies' ≡ bodies ++ body ∷ []
+            → Each new (StandsFor heading' bodies') → Each new (Gives (noted_contents (with_frame notes changes)))
+        store_sure disk new heading' bodies' stores heading_is bodies_are sure image left =
+            gives_more (noted_contents notes) changes is.contents (open_contents few) heading is.heading_is bodies
+            stores.bodies_are body body_is image
+            (subst (λ (x : Heading × List (List ℕ)). StandsFor x.0 x.1 image) (λ i. (heading_is i, bodies_are i))
+            (sure image left))
 
-      pub stores_stored : (disk new : DiskState) (heading' : Heading) (bodies' : List (List ℕ))
-          → StoresContents disk bodies notes → heading' ≡ heading → bodies' ≡ bodies ++ body ∷ []
-          → Each new (StandsFor heading' bodies') → StoresContents new bodies' (with_frame notes changes)
-      stores_stored disk new heading' bodies' stores heading_is bodies_are sure = record {
-        bodies_are =
-            bodies_are
-            ∙ is_bodies_more (noted_contents notes) changes is.contents (open_contents few) heading is.heading_is
-            bodies stores.bodies_are body body_is;
-        shows = λ image left. inl (store_sure disk new heading' bodies' stores heading_is bodies_are sure image left);
-      }
+        pub stores_stored : (disk new : DiskState) (heading' : Heading) (bodies' : List (List ℕ))
+            → StoresContents disk bodies notes → heading' ≡ heading → bodies' ≡ bodies ++ body ∷ []
+            → Each new (StandsFor heading' bodies') → StoresContents new bodies' (with_frame notes changes)
+        stores_stored disk new heading' bodies' stores heading_is bodies_are sure = record {
+          bodies_are =
+              bodies_are
+              ∙ is_bodies_more (noted_contents notes) changes is.contents (open_contents few) heading is.heading_is
+              bodies stores.bodies_are body body_is;
+          shows = λ image left. inl (store_sure disk new heading' bodies' stores heading_is bodies_are sure image left);
+        }
 
-      pub stores_broken : (disk new : DiskState) (bodies' : List (List ℕ)) → StoresContents disk bodies notes
-          → IsDisk new → bodies' ≡ bodies → LeavesOnly disk new (WithOrWithout heading bodies body)
-          → StoresContents new bodies' (with_torn notes changes)
-      stores_broken disk new bodies' stores is_disk bodies_are run = record {
-        bodies_are = bodies_are ∙ stores.bodies_are;
-        shows =
-            holds_now disk new (Shows (noted_contents notes) (changes ∷ [])) is_disk
-            (store_moments disk disk new stores run);
-      }
+        pub stores_broken : (disk new : DiskState) (bodies' : List (List ℕ)) → StoresContents disk bodies notes
+            → IsDisk new → bodies' ≡ bodies → LeavesOnly disk new (WithOrWithout heading bodies body)
+            → StoresContents new bodies' (with_torn notes changes)
+        stores_broken disk new bodies' stores is_disk bodies_are run = record {
+          bodies_are = bodies_are ∙ stores.bodies_are;
+          shows =
+              holds_now disk new (Shows (noted_contents notes) (changes ∷ [])) is_disk
+              (store_moments disk disk new stores run);
+        }
 
 -- nothing was written, or nothing was called
 pub stores_unwritten : (disk new : DiskState) (bodies bodies' : List (List ℕ)) (notes : Notes)

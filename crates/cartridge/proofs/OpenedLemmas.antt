@@ -61,12 +61,13 @@ pub not_opened : (old mid new : DiskState) (error : CartridgeError) (heading : H
     → NotRecovered error heading bodies mid new → IsNotOpened error old new
 not_opened old mid new NotOurs heading bodies honest none found unwritten why =
     (why.0 ∙ none, λ h. (inr (heading, bodies, why.1, (found h).0), λ image may. (found h).1 image ((unwritten h).images image may)))
-not_opened old mid new (BadRecord at) heading bodies honest none found unwritten why =
-    (
-      why.0 ∙ none,
-      λ h. (let bad = why.1 (honest h) in (heading, bodies, bad.0, (found h).0, bad.1),
-      λ image may. (found h).1 image ((unwritten h).images image may)),
-    )
+not_opened old mid new (BadRecord at) heading bodies honest none found unwritten why = (
+  why.0 ∙ none,
+  λ h. (
+    let bad = why.1 (honest h) in (heading, bodies, bad.0, (found h).0, bad.1),
+    λ image may. (found h).1 image ((unwritten h).images image may),
+  ),
+)
 not_opened old mid new (Device fault) heading bodies honest none found unwritten why =
     record { cause = omega (arith, none, why.cause); told = why.told }
 not_opened old mid new NoMemory heading bodies honest none found unwritten why =

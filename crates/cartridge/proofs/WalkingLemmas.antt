@@ -78,13 +78,12 @@ module _ (body : List ℕ) (volume : List Part) (P : List ℕ → ℕ → Type 0
   -- all was read
   pub walk_end : (from : ℕ) (index : List PlacedPart) → WalkedTo from body volume P index → length body ≤ from
       → WalksTo true body volume P index
-  walk_end from index walked end =
-      (
-        walked.0,
-        (walked.1, walked.2 ∙ ap (λ (l : List ℕ). spell_all walked.0 ++ l) (drop_all from body end) ∙ append-nil (spell_all walked.0)),
-        walked.4,
-        walked.5,
-      )
+  walk_end from index walked end = (
+    walked.0,
+    (walked.1, walked.2 ∙ ap (λ (l : List ℕ). spell_all walked.0 ++ l) (drop_all from body end) ∙ append-nil (spell_all walked.0)),
+    walked.4,
+    walked.5,
+  )
 
   -- what follows begins with no record
   pub walk_bad : (from : ℕ) (index : List PlacedPart) → WalkedTo from body volume P index → from < length body
@@ -126,19 +125,18 @@ module _ (body : List ℕ) (volume : List Part) (P : List ℕ → ℕ → Type 0
     pub walk_on : (index' : List PlacedPart) (place reserved : ℕ)
         → refusal_of (outline index) (outlined item) ≡ None → index' ≡ placed_after index item place reserved
         → LiesAt P change place → WalkedTo (from + size_of item) body volume P index'
-    walk_on index' place reserved none is here =
-        (
-          walked.0 ++ change ∷ [],
-          All-append IsRecord walked.0 (change ∷ []) walked.1 (All-cons IsRecord change [] front.valid (All-nil IsRecord)),
-          whole
-              ∙ sym (append_assoc (spell_all walked.0) (spell change) (drop (size_of item) (drop from body)))
-              ∙ (λ i. sym (spell_more walked.0 change) i ++ rest i),
-          omega (arith, walked.3, front.sized, ap length (spell_more walked.0 change), length-append (spell_all walked.0) (spell change)),
-          apply_more volume walked.0 change walked.4 (sym refused_so ∙ none),
-          subst (λ (x : List Part × List PlacedPart). Indexes P x.0 x.1)
-              (λ i. (sym (after_more volume walked.0 change) i, same i))
-              (indexes_after P (after volume walked.0) index change place reserved here walked.5),
-        )
+    walk_on index' place reserved none is here = (
+      walked.0 ++ change ∷ [],
+      All-append IsRecord walked.0 (change ∷ []) walked.1 (All-cons IsRecord change [] front.valid (All-nil IsRecord)),
+      whole
+          ∙ sym (append_assoc (spell_all walked.0) (spell change) (drop (size_of item) (drop from body)))
+          ∙ (λ i. sym (spell_more walked.0 change) i ++ rest i),
+      omega (arith, walked.3, front.sized, ap length (spell_more walked.0 change), length-append (spell_all walked.0) (spell change)),
+      apply_more volume walked.0 change walked.4 (sym refused_so ∙ none),
+      subst (λ (x : List Part × List PlacedPart). Indexes P x.0 x.1)
+          (λ i. (sym (after_more volume walked.0 change) i, same i))
+          (indexes_after P (after volume walked.0) index change place reserved here walked.5),
+    )
       where
         rest : drop (size_of item) (drop from body) ≡ drop (from + size_of item) body
         rest = drop-drop (size_of item) from body

@@ -40,8 +40,22 @@ module _ {D : Type 0} where
       code_by (D × (Contents × (List (List Change) × (Bool × (ℕ × (ℕ × (ℕ × List ℕ)))))))
       (coded× disk (coded× contents_code (coded× frames_code (coded× coded_bool (coded× coded_ℕ
       (coded× coded_ℕ (coded× coded_ℕ (coded_list coded_ℕ))))))))
-      (λ c. (c.disk, (c.contents, (c.torn, (c.failed, (c.room,
-      (c.reserved.body, (c.reserved.frames, c.reserved.entries))))))))
+      (λ c. (
+        c.disk,
+        (
+          c.contents,
+          (
+            c.torn,
+            (
+              c.failed,
+              (
+                c.room,
+                (c.reserved.body, (c.reserved.frames, c.reserved.entries)),
+              ),
+            ),
+          ),
+        ),
+      ))
       (λ p. record {
         disk = p.0;
         contents = p.1.0;

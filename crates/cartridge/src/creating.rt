@@ -68,11 +68,7 @@ impl<D: Disk> Cartridge<D> {
 }
 
 // The header of a cartridge with this barcode and these capacities.
-fn header_with(
-    alloc: Global,
-    barcode: &Barcode,
-    capacities: &[u64],
-) -> Result<Header, AllocError>
+fn header_with(alloc: Global, barcode: &Barcode, capacities: &[u64]) -> Result<Header, AllocError>
     requires { IsBarcode barcode.now }
     ensures { IfOk result (λ header. heading_of header ≡ heading_with barcode.now capacities.now) }
 {

@@ -12,10 +12,10 @@ ghost use Rattle.cartridge.specs.Answers.{IsBroken, IsStored, KeepsReserved, Lac
 ghost use Rattle.cartridge.specs.Contents.{Gives, Shows, bodies_of, volume_in};
 ghost use Rattle.cartridge.specs.Inner.Growing.{HasRoomWithin, IsGrown, IsSameSide};
 
+use crate::bodies::{fill_body, size_of_body};
 use crate::cartridges::Cartridge;
 use crate::error::CartridgeError;
 use crate::placing::place_frame;
-use crate::bodies::{fill_body, size_of_body};
 use gate_journal::{Journal, JournalError};
 use record_index::Index;
 use std::alloc::AllocError;

@@ -11,7 +11,10 @@ fn the_vector_is_read(rt: HostRuntime) -> Result<(), Fail> {
         return Err(Fail::from("not opened"));
     };
     let (parts, frames, objects) = told(alloc, &cartridge)?;
-    assert_eq!(rt; (parts, frames, objects.as_slice()), (1, 2, [(2, 37)].as_slice()));
+    assert_eq!(rt;
+        (parts, frames, objects.as_slice()),
+        (1, 2, [(2, 37)].as_slice())
+    );
     assert_eq!(rt; *cartridge.barcode(), *b"T00001L6        ");
     assert_eq!(rt; cartridge.capacity(0), 4_096);
     assert_eq!(rt; cartridge.room(), 1_099_511_627_705);
@@ -123,7 +126,11 @@ fn partitions_and_blocks(rt: HostRuntime) -> Result<(), Fail> {
             let expected = if part == last { (5, 1_048_658) } else { (0, 0) };
             assert_eq!(rt; objects[part as usize], expected);
         }
-        for (at, bytes) in [(0, b"a".as_slice()), (1, long.as_slice()), (4, b"c".as_slice())] {
+        for (at, bytes) in [
+            (0, b"a".as_slice()),
+            (1, long.as_slice()),
+            (4, b"c".as_slice()),
+        ] {
             let Ok(Some(found)) = fetched(alloc, &mut cartridge, last, at) else {
                 return Err(Fail::from("not fetched"));
             };

@@ -176,6 +176,13 @@ fn a_new_cartridge_is_opened(rt: HostRuntime) -> Result<(), Fail> {
     let Ok(cartridge) = Cartridge::open(alloc, shelved) else {
         return Err(Fail::from("not opened"));
     };
-    assert_eq!(rt; (cartridge.parts(), cartridge.capacity(1), cartridge.capacity(2)), (2, 8_192, 0));
+    assert_eq!(rt;
+        (
+            cartridge.parts(),
+            cartridge.capacity(1),
+            cartridge.capacity(2)
+        ),
+        (2, 8_192, 0)
+    );
     Ok(())
 }

@@ -41,14 +41,14 @@ place_of-requires g c =
     record {
       sized = subst HasBlock (sym item_is) (has_block_of change good);
       fits = omega (
-      arith,
-      c.loop-change.invariant.at_is,
-      ap (λ (e : ℕ × ℕ). e.0) place_is,
-      c.requires.fits,
-      part_fits changes here change inside is,
-      length-spell change,
-      ap size_of item_is,
-    );
+        arith,
+        c.loop-change.invariant.at_is,
+        ap (λ (e : ℕ × ℕ). e.0) place_is,
+        c.requires.fits,
+        part_fits changes here change inside is,
+        length-spell change,
+        ap size_of item_is,
+      );
     }
 
 pub unreachable-requires : goal.unreachable-requires

@@ -10,10 +10,9 @@ pub invariant_of-self-in_err-reserve_part : goal.invariant_of-self-in_err-reserv
 invariant_of-self-in_err-reserve_part g c =
     let i = c.self.inside in
     let index = c.reserve_part.new.index in
-    let grown = c.reserve_part.ensures.grown in
-    (
+    let grown = c.reserve_part.ensures.grown in (
       open_grown i.journal.heading i.journal.extents i.journal.failed i.index i.noted.notes c.self.invariant.0
-      i.journal.heading i.journal.extents i.journal.failed index refl refl refl grown,
+          i.journal.heading i.journal.extents i.journal.failed index refl refl refl grown,
       c.self.invariant.1,
     )
 
@@ -47,8 +46,7 @@ invariant_of-self-in_default g c =
     let i = c.self.inside in
     let index = c.reserve_part.new.index in
     let grown = c.reserve_part.ensures.grown in
-    let side = same_side i.journal c.reserve.new.self c.in_default.ensures.refused.2 in
-    (
+    let side = same_side i.journal c.reserve.new.self c.in_default.ensures.refused.2 in (
       same_open g.D.Disk.state i.journal c.reserve.new.self side i.index index i.noted.notes grown c.self.invariant.0,
       same_stores g.D.Disk.state i.journal c.reserve.new.self side i.index index i.noted.notes c.self.invariant.1,
     )
@@ -71,8 +69,7 @@ invariant_of-self-2 g c =
     let index = c.reserve_part.new.index in
     let grown = c.reserve_part.ensures.grown in
     let done = c.in-Ok.ensures.ok in
-    let side = reserved_side i.journal c.reserve.new.self done.2 done.1 in
-    (
+    let side = reserved_side i.journal c.reserve.new.self done.2 done.1 in (
       same_open g.D.Disk.state i.journal c.reserve.new.self side i.index index i.noted.notes grown c.self.invariant.0,
       same_stores g.D.Disk.state i.journal c.reserve.new.self side i.index index i.noted.notes c.self.invariant.1,
     )
@@ -96,8 +93,7 @@ returns-clause-ok g c = rw (← c.self.view_is) (
     let index = c.reserve_part.new.index in
     let grown = c.reserve_part.ensures.grown in
     let done = c.in-Ok.ensures.ok in
-    let side = reserved_side i.journal c.reserve.new.self done.2 done.1 in
-    (
+    let side = reserved_side i.journal c.reserve.new.self done.2 done.1 in (
       c.in_ok-reserve_body.ensures.ok,
       done.0,
       λ inside. omega (

@@ -20,8 +20,7 @@ invariant_of-self g c =
     let k = c.make_room.new.journal in
     let index = c.make_room.new.index in
     let same = c.make_room.ensures.side in
-    let grown = c.make_room.ensures.grown in
-    (
+    let grown = c.make_room.ensures.grown in (
       same_open g.D.Disk.state j k same i.index index notes grown c.self.invariant.0,
       same_stores g.D.Disk.state j k same i.index index notes c.self.invariant.1,
     )
@@ -68,8 +67,7 @@ pub append-requires : goal.append-requires
 append-requires g c =
     let changes = c.args.changes.now in
     let body = c.deref.result.now in
-    let body_is : body ≡ spell_all changes = c.deref.ensures.value ∙ c.fill_body.ensures.body in
-    (
+    let body_is : body ≡ spell_all changes = c.deref.ensures.value ∙ c.fill_body.ensures.body in (
       omega (arith, ap (λ (l : List ℕ). length l) body_is, some_body changes c.requires.some),
       omega (arith, ap (λ (l : List ℕ). length l) body_is, c.requires.short),
     )
