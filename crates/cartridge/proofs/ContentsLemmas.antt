@@ -1,20 +1,19 @@
 -- A side's contents with one frame more.
-use Rattle.std.proofs.Common.{◌≡◌, ◌⊎◌, inl, inr, ℕ, zero, suc, ◌<◌, ◌≤◌, ◌+◌, ◌^◌, List, [], ◌∷◌, ◌++◌, length, take, map, Option, None, Some, refl, sym, ◌∙◌, ap, subst, arith, rules, append_assoc, length-append}
-use Rattle.std.specs.Prelude.{slice_get, slice_set, replicate, nat_le, nat_lt, if◌then◌else◌, not, Bool, true, false, IsTrue}
-use Rattle.std.specs.List.{All, flat_map}
+use Rattle.std.proofs.Common.{◌≡◌, inl, inr, ℕ, List, [], ◌∷◌, ◌++◌, refl, sym, ◌∙◌, ap, subst}
+use Rattle.std.specs.List.{All}
 use Rattle.std.proofs.lemmas.Grind.{flat_map-append}
 use Rattle.std.proofs.lemmas.List.{append-nil, map-append}
 use Rattle.std.proofs.lemmas.List.Elements.{All-append, All-cons, All-nil}
 use Rattle.tape_disk.specs.Disk.{DiskState}
 use Rattle.tape_disk.specs.Moments.{LeavesOnly, weakened}
 use Rattle.volume_core.specs.declared.changes.Change.{Change}
-use Rattle.volume_core.specs.Volume.{Part, AllApply, after, changed, refusal_of}
+use Rattle.volume_core.specs.Volume.{AllApply, after}
 use Rattle.volume_core.specs.Plain.{moves_on_by_changes}
 use Rattle.volume_core.specs.Stores.{after_append}
 use Rattle.gate_journal.specs.Side.{Heading, StandsFor}
 use Rattle.gate_journal.specs.Crash.{WithOrWithout}
 use Rattle.record_index.specs.Records.{IsRecord, spell_all}
-use Rattle.cartridge.specs.Contents.{Contents, Gives, IsContents, Shows, bodies_of, changes_in, changes_of, contents_from, volume_in, with_frames}
+use Rattle.cartridge.specs.Contents.{Contents, Gives, IsContents, Shows, bodies_of, changes_in, volume_in, with_frames}
 
 module _ (contents : Contents) (changes : List Change) where
   -- the changes of one frame more come last

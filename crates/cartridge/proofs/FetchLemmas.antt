@@ -1,5 +1,5 @@
 -- A block is found by the index, and read.
-use Rattle.std.proofs.Common.{◌≡◌, ℕ, zero, suc, ◌<◌, ◌≤◌, ◌+◌, ◌-◌, List, [], ◌∷◌, ◌++◌, length, take, drop, map, replicate, Option, None, Some, refl, sym, ◌∙◌, ap, subst, arith, rules}
+use Rattle.std.proofs.Common.{◌≡◌, ℕ, zero, suc, ◌≤◌, ◌+◌, List, [], ◌∷◌, ◌++◌, length, take, drop, map, replicate, Option, None, Some, refl, sym, ◌∙◌, ap, arith}
 use Rattle.std.specs.Prelude.{slice_get, slice_index_or, slice_range}
 use Rattle.std.specs.Option.{option_map}
 use Rattle.std.specs.List.{All}
@@ -7,9 +7,9 @@ use Rattle.std.proofs.lemmas.List.{append-nil, drop_all, length-replicate, lengt
 use Rattle.std.proofs.lemmas.List.Elements.{All-head, All-tail}
 use Rattle.std.proofs.lemmas.Option.{slice_get-map}
 use Rattle.volume_core.specs.declared.objects.Object.{Object}
-use Rattle.volume_core.specs.declared.objects.Object.TheVariants.{Block, Mark}
+use Rattle.volume_core.specs.declared.objects.Object.TheVariants.{Block}
 use Rattle.volume_core.specs.declared.objects.Kind.TheVariants as Kinds
-use Rattle.volume_core.specs.Volume.{IsObject, IsPart, Part, block_at, kind_at, kind_in, objects_in, objects_of}
+use Rattle.volume_core.specs.Volume.{IsObject, IsPart, Part, kind_at, kind_in, objects_in, objects_of}
 use Rattle.gate_journal.specs.State.{IsBodyPart, LiesInBody}
 use Rattle.record_index.specs.declared.places.Placed.{Placed}
 use Rattle.record_index.specs.declared.places.Placed.TheVariants as Placeds

@@ -1,10 +1,7 @@
 -- An index grows, and takes changes.
-use Rattle.std.proofs.Common.{◌≡◌, ◌⊎◌, inl, inr, ℕ, zero, suc, ◌<◌, ◌≤◌, ◌+◌, List, [], ◌∷◌, ◌++◌, length, take, map, sum_by, Option, None, Some, refl, sym, ◌∙◌, ap, subst, arith, rules}
+use Rattle.std.proofs.Common.{◌≡◌, ℕ, zero, suc, ◌≤◌, List, [], ◌∷◌, length, map, Option, None, Some, refl, sym, ◌∙◌, ap, subst, arith}
 use Rattle.std.specs.Prelude.{slice_get, slice_set, slice_index_or}
-use Rattle.volume_core.specs.declared.changes.Change.{Change}
-use Rattle.volume_core.specs.declared.objects.Object.{Object}
 use Rattle.volume_core.specs.Volume.{Part}
-use Rattle.record_index.specs.declared.places.Placed.{Placed}
 use Rattle.record_index.specs.Places.{PlacedPart, placed_objects, placed_objects_in, reserved_in, reserved_of, with_objects, with_objects_in}
 use Rattle.record_index.specs.Indexes.{AllLieAs, Indexes}
 use Rattle.cartridge.specs.Inner.Growing.{IsGrown}

@@ -1,5 +1,5 @@
 -- What an open cartridge keeps while changes are stored.
-use Rattle.std.proofs.Common.{◌≡◌, ◌⊎◌, inl, inr, ℕ, zero, suc, ◌<◌, ◌≤◌, ◌+◌, List, [], ◌∷◌, ◌++◌, length, take, map, Bool, true, false, refl, sym, ◌∙◌, ap, subst, arith, rules, length-append}
+use Rattle.std.proofs.Common.{◌≡◌, inl, inr, ℕ, ◌≤◌, ◌+◌, List, [], ◌∷◌, ◌++◌, length, Bool, true, false, sym, ◌∙◌, ap, subst, arith, length-append}
 use Rattle.std.specs.Prelude.{slice_index_or, slice_range}
 use Rattle.std.specs.List.{All}
 use Rattle.std.proofs.Math.Seq.{get_or-append_seam}
@@ -20,7 +20,7 @@ use Rattle.cartridge.specs.Lying.{LiesIn, LiesOnSide}
 use Rattle.cartridge.specs.Inner.Open.{IsOpen, StoresContents}
 use Rattle.cartridge.specs.Inner.Growing.{IsGrown}
 use Rattle.cartridge.proofs.ContentsLemmas.{bodies_more, contents_more, gives_more, is_bodies_more, moments, volume_more}
-use Rattle.cartridge.proofs.GrowingLemmas.{grown_length, grown_lies, same_parts}
+use Rattle.cartridge.proofs.GrowingLemmas.{grown_lies, same_parts}
 use Rattle.cartridge.proofs.RecordLemmas.{all_applying}
 
 -- a body more changes nothing for a block of an earlier one

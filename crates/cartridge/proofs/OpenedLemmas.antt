@@ -1,19 +1,17 @@
 -- What an opening comes to.
-use Rattle.std.proofs.Common.{◌≡◌, ◌⊎◌, inl, inr, ℕ, ◌<◌, ◌≤◌, ◌+◌, List, [], ◌∷◌, ◌++◌, length, Bool, true, false, refl, sym, ◌∙◌, ap, subst, arith, rules, length-append}
+use Rattle.std.proofs.Common.{◌≡◌, inl, inr, ℕ, ◌≤◌, List, ◌∷◌, ◌++◌, length, Bool, sym, ◌∙◌, ap, subst, arith, length-append}
 use Rattle.std.specs.List.{flat_map}
-use Rattle.vtl_base.specs.declared.faults.DevFault.{DevFault}
-use Rattle.volume_core.specs.declared.changes.Change.{Change}
 use Rattle.tape_disk.specs.Disk.{DiskState, Each, IsDisk, Only}
 use Rattle.tape_disk.specs.Moments.{LeavesOnly, holds_now, in_sequence, weakened}
 use Rattle.gate_journal.specs.Side.{Heading, StandsFor, frame, spell_heading}
-use Rattle.gate_journal.specs.Answers.{IsFault, NoneFailed}
+use Rattle.gate_journal.specs.Answers.{NoneFailed}
 use Rattle.gate_journal.specs.Crash.{Unwritten}
 use Rattle.gate_journal.specs.Inner.Headings.{length_heading}
 use Rattle.record_index.specs.Places.{PlacedPart}
 use Rattle.cartridge.specs.declared.error.CartridgeError.{CartridgeError}
 use Rattle.cartridge.specs.declared.error.CartridgeError.TheVariants.{NotOurs, Damaged, BadRecord, SideFull, Device, Failed, NoMemory}
 use Rattle.cartridge.specs.Answers.{IsNotOpened}
-use Rattle.cartridge.specs.Contents.{Contents, Gives, Shows, bodies_of}
+use Rattle.cartridge.specs.Contents.{Gives, bodies_of}
 use Rattle.cartridge.specs.Notes.{Notes, noted_contents}
 use Rattle.cartridge.specs.Inner.Open.{IsOpen, StoresContents}
 use Rattle.cartridge.specs.Inner.Reading.{NotRecovered}

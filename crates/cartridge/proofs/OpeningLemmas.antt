@@ -1,23 +1,22 @@
 -- A side is read frame by frame.
-use Rattle.std.proofs.Common.{◌≡◌, ◌⊎◌, inl, inr, ℕ, zero, suc, ◌<◌, ◌≤◌, ◌+◌, List, [], ◌∷◌, ◌++◌, length, take, map, Option, None, Some, Bool, true, false, refl, sym, ◌∙◌, ap, subst, arith, rules, length-append}
+use Rattle.std.proofs.Common.{◌≡◌, ℕ, ◌<◌, ◌+◌, List, [], ◌∷◌, ◌++◌, length, take, map, Option, Some, true, false, refl, sym, ◌∙◌, ap, subst, arith, length-append}
 use Rattle.std.specs.Prelude.{slice_index_or, unwrap_or}
 use Rattle.std.specs.List.{All}
 use Rattle.std.proofs.Math.Numerals.{add-one}
 use Rattle.std.proofs.Math.Seq.{take-suc}
-use Rattle.std.proofs.lemmas.List.{length-map, take_all}
 use Rattle.std.proofs.lemmas.List.Elements.{All-nil}
 use Rattle.volume_core.specs.declared.changes.Change.{Change}
 use Rattle.gate_journal.specs.declared.header.SideKind.TheVariants.{Cartridge}
-use Rattle.volume_core.specs.Volume.{Part, AllApply, after}
+use Rattle.volume_core.specs.Volume.{Part, AllApply}
 use Rattle.tape_disk.specs.Disk.{DiskState, IsDisk}
 use Rattle.tape_disk.specs.Moments.{in_sequence, no_call, weakened}
 use Rattle.gate_journal.specs.Crash.{Unwritten}
 use Rattle.gate_journal.specs.Side.{Heading, spell}
-use Rattle.record_index.specs.Records.{IsRecord, SpellsAll, spell_all}
+use Rattle.record_index.specs.Records.{IsRecord}
 use Rattle.record_index.specs.ChangesOn.{changes_on, changes_on_is}
 use Rattle.record_index.specs.Places.{PlacedPart, empty_placed}
 use Rattle.record_index.specs.Indexes.{Indexes, indexes_by, indexes_empty}
-use Rattle.cartridge.specs.Contents.{Contents, IsBadFrame, IsContents, bodies_of, contents_from, volume_in}
+use Rattle.cartridge.specs.Contents.{IsBadFrame, IsContents, bodies_of, contents_from, volume_in}
 use Rattle.cartridge.specs.Notes.{Notes, noted_contents, with_frame}
 use Rattle.cartridge.specs.Lying.{LiesIn, LiesOnSide}
 use Rattle.cartridge.specs.Inner.Open.{IsOpen}

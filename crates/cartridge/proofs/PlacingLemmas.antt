@@ -1,5 +1,5 @@
 -- The changes of a frame are entered into the index, one after the other.
-use Rattle.std.proofs.Common.{◌≡◌, ◌⊎◌, inl, inr, ℕ, zero, suc, ◌<◌, ◌≤◌, ◌+◌, List, [], ◌∷◌, ◌++◌, length, take, drop, sum_by, Option, None, Some, Bool, true, false, refl, sym, ◌∙◌, ap, subst, arith, rules, length-append}
+use Rattle.std.proofs.Common.{◌≡◌, inl, inr, ℕ, zero, suc, ◌<◌, ◌≤◌, ◌+◌, List, [], ◌∷◌, ◌++◌, length, take, drop, sum_by, Option, None, Some, Bool, true, false, refl, sym, ◌∙◌, ap, subst, arith, length-append}
 use Rattle.std.specs.Prelude.{slice_get, slice_set, slice_index_or, ◌==◌, if◌then◌else◌}
 use Rattle.std.proofs.Math.Numerals.{add-one}
 use Rattle.std.proofs.Math.Seq.{drop-cons, take-suc}
@@ -7,15 +7,13 @@ use Rattle.std.proofs.lemmas.Grind.{flat_map-append}
 use Rattle.std.proofs.lemmas.List.{drop_at, take-append-drop}
 use Rattle.std.proofs.lemmas.Bool.{cases_eq, eq-eqb, eqb-true}
 use Rattle.std.proofs.lemmas.List.Sums.{sum_by-append, sum_by-cons, sum_by_more_le}
-use Rattle.std.proofs.lemmas.Option.{slice_get_within}
 use Rattle.volume_core.specs.declared.changes.Change.{Change}
 use Rattle.volume_core.specs.declared.changes.Change.TheVariants.{Put, Marks, Erase}
 use Rattle.volume_core.specs.Volume as volumes
 use Rattle.volume_core.specs.Volume.{Part, AllApply, after, changed, refusal_of}
 use Rattle.volume_core.specs.Stores.{after_append}
 use Rattle.record_index.specs.declared.records.Record.{Record}
-use Rattle.record_index.specs.declared.records.Record.TheVariants as Records
-use Rattle.record_index.specs.Records.{IsAtFront, IsRecord, change_in, record_of, size_of, spell, spell_all}
+use Rattle.record_index.specs.Records.{IsAtFront, IsRecord, change_in, record_of, spell, spell_all}
 use Rattle.record_index.specs.Indexes.{LiesAt}
 use Rattle.record_index.specs.Inner.Spelled.{change_again, length-spell, rest_again}
 use Rattle.cartridge.specs.Lying.{IsPlaceOf, LiesIn}

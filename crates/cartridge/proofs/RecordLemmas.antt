@@ -1,8 +1,7 @@
 -- Changes that apply to a volume have a spelling, of a known length.
-use Rattle.std.proofs.Common.{◌≡◌, ◌⊎◌, inl, inr, ℕ, zero, suc, ◌<◌, ◌≤◌, ◌+◌, ◌^◌, List, [], ◌∷◌, ◌++◌, length, take, Option, None, Some, refl, sym, ◌∙◌, ap, subst, arith, rules, length-append}
-use Rattle.std.specs.Prelude.{slice_get, slice_set, slice_index_or, replicate, nat_le, nat_lt, ◌&&◌, if◌then◌else◌, not, Bool, true, false, IsTrue}
-use Rattle.std.specs.List.{All, flat_map}
-use Rattle.std.specs.Int.{to_be_bytes, w32}
+use Rattle.std.proofs.Common.{◌≡◌, ℕ, ◌<◌, ◌≤◌, ◌+◌, ◌^◌, List, [], ◌∷◌, ◌++◌, length, take, Option, None, Some, refl, sym, ◌∙◌, ap, arith, length-append}
+use Rattle.std.specs.Prelude.{slice_get, slice_index_or, replicate, nat_lt, ◌&&◌, if◌then◌else◌, not, Bool, true, false}
+use Rattle.std.specs.List.{All}
 use Rattle.std.proofs.lemmas.List.Elements.{All-cons, All-nil}
 use Rattle.std.proofs.lemmas.Option.{slice_get_within}
 use Rattle.std.proofs.lemmas.List.{length-set, length-replicate, length-take-le}
@@ -15,8 +14,8 @@ use Rattle.std.proofs.lemmas.List.{append-nil}
 use Rattle.std.proofs.lemmas.List.Folds.{length-flat_map-take}
 use Rattle.std.proofs.lemmas.Bool.{leb-true, ltb-false}
 use Rattle.volume_core.specs.declared.objects.Object.TheVariants.{Block, Mark}
-use Rattle.volume_core.specs.declared.changes.Refusal.TheVariants.{NoPartition, PastEnd, NoRoom, TooLong}
-use Rattle.volume_core.specs.Volume.{Part, AllApply, added_by, changed, changed_in, has_room, is_well_formed, kept_of, objects_after, part_after, part_of, refusal_in, refusal_of}
+use Rattle.volume_core.specs.declared.changes.Refusal.TheVariants.{PastEnd, NoRoom, TooLong}
+use Rattle.volume_core.specs.Volume.{Part, AllApply, changed, changed_in, has_room, part_after, part_of, refusal_in, refusal_of}
 use Rattle.volume_core.specs.Medium.{frame_size}
 use Rattle.record_index.specs.Records.{IsRecord, spell, spell_all, spell_head}
 

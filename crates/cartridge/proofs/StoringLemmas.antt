@@ -1,5 +1,5 @@
 -- What a store's answers come to.
-use Rattle.std.proofs.Common.{◌≡◌, ◌⊎◌, inl, inr, ℕ, zero, suc, ◌<◌, ◌≤◌, ◌+◌, List, [], ◌∷◌, ◌++◌, length, map, sum_by, Bool, true, false, Result, Ok, Err, refl, sym, ◌∙◌, ap, subst, arith, rules, length-append}
+use Rattle.std.proofs.Common.{◌≡◌, ◌⊎◌, inl, inr, ℕ, ◌<◌, ◌≤◌, ◌+◌, List, [], ◌∷◌, length, map, sum_by, Result, Ok, Err, sym, ap, subst, arith, length-append}
 use Rattle.std.specs.Prelude.{IfErr, OnErr, OnOk, slice_index_or}
 use Rattle.std.specs.Result.{IsErrAnd}
 use Rattle.std.proofs.lemmas.Bool.{cases_lt}
@@ -15,8 +15,8 @@ use Rattle.cartridge.specs.State.{OpenCartridge, Reserved}
 use Rattle.cartridge.specs.Notes.{Notes}
 use Rattle.cartridge.specs.Inner.Growing.{HasRoomFor, HasRoomWithin, IsGrown, IsSameSide, TakesEntries}
 use Rattle.cartridge.specs.Inner.Open.{IsOpen, StoresContents}
-use Rattle.cartridge.proofs.GrowingLemmas.{entries_at, grown_length, grown_reserved}
-use Rattle.cartridge.proofs.OpenLemmas.{open_grown, open_parts}
+use Rattle.cartridge.proofs.GrowingLemmas.{entries_at, grown_reserved}
+use Rattle.cartridge.proofs.OpenLemmas.{open_grown}
 use Rattle.cartridge.proofs.PlacingLemmas.{entries_none}
 use Rattle.cartridge.proofs.RecordLemmas.{some_bytes}
 

@@ -1,15 +1,14 @@
 -- An image gives one cartridge's contents at most, and what it gives is bad nowhere.
-use Rattle.std.proofs.Common.{◌≡◌, ◌⊎◌, inl, inr, ℕ, zero, suc, ◌<◌, ◌≤◌, ◌+◌, List, [], ◌∷◌, ◌++◌, length, take, map, refl, sym, ◌∙◌, ap, subst, arith, rules, length-append}
-use Rattle.std.specs.Prelude.{slice_index_or}
-use Rattle.std.specs.List.{All, flat_map}
+use Rattle.std.proofs.Common.{◌≡◌, inl, inr, ℕ, List, [], ◌∷◌, refl, sym, ◌∙◌, ap}
+use Rattle.std.specs.List.{All}
 use Rattle.std.proofs.lemmas.List.Elements.{All-head, All-tail}
 use Rattle.volume_core.specs.declared.changes.Change.{Change}
-use Rattle.volume_core.specs.Volume.{Part, AllApply, after, changed, empty_volume}
-use Rattle.gate_journal.specs.Side.{Heading, StandsFor}
+use Rattle.volume_core.specs.Volume.{empty_volume}
+use Rattle.gate_journal.specs.Side.{Heading}
 use Rattle.gate_journal.specs.Inner.Sides.{one_side, never_ours, stands}
-use Rattle.record_index.specs.Records.{IsRecord, SpellsAll, spell_all}
+use Rattle.record_index.specs.Records.{IsRecord, spell_all}
 use Rattle.record_index.specs.Inner.Decided.{same_list}
-use Rattle.cartridge.specs.Contents.{Contents, Gives, IsBadAt, IsBadFrame, IsContents, IsNoCartridge, bodies_of, changes_of, contents_from, volume_in}
+use Rattle.cartridge.specs.Contents.{Contents, Gives, IsContents, IsNoCartridge, bodies_of}
 
 -- frames that are spelled alike are the same
 same_frames : (frames others : List (List Change)) → All (All IsRecord) frames → All (All IsRecord) others

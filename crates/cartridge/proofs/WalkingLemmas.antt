@@ -1,7 +1,7 @@
 -- Records of a body, one after the other, on a volume and its index.
-use Rattle.std.proofs.Common.{◌≡◌, ◌⊎◌, inl, inr, ℕ, zero, suc, ◌<◌, ◌≤◌, ◌+◌, ◌-◌, List, [], ◌∷◌, ◌++◌, length, take, drop, Option, None, Some, Bool, true, false, refl, sym, ◌∙◌, ap, subst, arith, rules, append_assoc, length-append}
+use Rattle.std.proofs.Common.{◌≡◌, ℕ, ◌<◌, ◌≤◌, ◌+◌, List, [], ◌∷◌, ◌++◌, length, take, drop, None, Some, true, false, refl, sym, ◌∙◌, ap, subst, arith, append_assoc, length-append}
 use Rattle.std.specs.Prelude.{slice_index_or, slice_range}
-use Rattle.std.specs.List.{All, flat_map}
+use Rattle.std.specs.List.{All}
 use Rattle.std.proofs.Math.Seq.{get_or-append_seam}
 use Rattle.std.proofs.lemmas.Grind.{flat_map-append}
 use Rattle.std.proofs.lemmas.List.{append-nil, drop-drop, drop_all, length-drop, length-take-le}
@@ -14,9 +14,9 @@ use Rattle.volume_core.specs.Plain.{moves_on_by_changes}
 use Rattle.volume_core.specs.Stores.{after_append}
 use Rattle.record_index.specs.declared.records.Record.{Record}
 use Rattle.record_index.specs.declared.records.Record.TheVariants as Records
-use Rattle.record_index.specs.Records.{BeginsWithRecord, IsAtFront, IsBadAt, IsRecord, SpellsAll, block_length, change_in, record_of, size_of, spell, spell_all}
+use Rattle.record_index.specs.Records.{BeginsWithRecord, IsAtFront, IsRecord, change_in, record_of, size_of, spell, spell_all}
 use Rattle.record_index.specs.Places.{PlacedPart, outline, outlined, placed_after}
-use Rattle.record_index.specs.Shapes.{IsIndexOf, shape_of, shape_of_change}
+use Rattle.record_index.specs.Shapes.{IsIndexOf}
 use Rattle.record_index.specs.Facts.{refusal_by_shape}
 use Rattle.record_index.specs.Indexes.{Indexes, LiesAt, indexes_after, indexes_shape}
 use Rattle.record_index.specs.Inner.Decided.{never_both}

@@ -1,6 +1,5 @@
 -- What holds after each answer of a call.
-use Rattle.std.specs.Prelude.{◌≡◌, ◌⊎◌, ◌<◌, ◌≤◌, ◌+◌, ℕ, List, [], ◌∷◌, length, true, false, Bool, Result, Ok, Err, if◌then◌else◌, sum_by, slice_index_or, ◌==◌}
-use Rattle.std.specs.List.{All}
+use Rattle.std.specs.Prelude.{◌≡◌, ◌⊎◌, ◌<◌, ◌≤◌, ◌+◌, ℕ, List, [], ◌∷◌, length, true, false, Result, Ok, Err, if◌then◌else◌, sum_by, slice_index_or, ◌==◌}
 use Rattle.vtl_base.specs.declared.faults.DevFault.{DevFault}
 use Rattle.volume_core.specs.declared.changes.Change.{Change}
 use Rattle.volume_core.specs.declared.changes.Change.TheVariants.{Put, Marks, Erase}
@@ -11,7 +10,7 @@ use Rattle.cartridge.specs.declared.error.CartridgeError.{CartridgeError}
 use Rattle.cartridge.specs.declared.error.CartridgeError.TheVariants.{NotOurs, Damaged, BadRecord, SideFull, Device, Failed, NoMemory}
 use Rattle.cartridge.specs.declared.error.NotCreated.{NotCreated}
 use Rattle.cartridge.specs.declared.error.NotOpened.{NotOpened}
-use Rattle.cartridge.specs.Contents.{Contents, Gives, IsBadAt, IsNoCartridge, with_frames}
+use Rattle.cartridge.specs.Contents.{IsBadAt, IsNoCartridge, with_frames}
 use Rattle.record_index.specs.Records.{spell_all}
 use Rattle.cartridge.specs.State.{ClosedCartridge, OpenCartridge, Reserved}
 

@@ -1,5 +1,5 @@
 -- What proofs alone know of a side, beside what is in memory.
-use Rattle.std.specs.Prelude.{ℕ, List, [], ◌∷◌, ◌++◌}
+use Rattle.std.specs.Prelude.{List, [], ◌∷◌, ◌++◌}
 use Rattle.volume_core.specs.declared.changes.Change.{Change}
 use Rattle.gate_journal.specs.Side.{Heading}
 use Rattle.cartridge.specs.Contents.{Contents, contents_from}

@@ -1,5 +1,5 @@
 -- What contracts see of a cartridge, open and closed.
-use Rattle.std.specs.Prelude.{◌≡◌, ℕ, List, Bool, refl}
+use Rattle.std.specs.Prelude.{ℕ, List, Bool, refl}
 use Rattle.std.specs.Coded.{Coded, code_by, coded×, coded_ℕ, coded_bool, coded_list}
 use Rattle.volume_core.specs.declared.changes.Change.{Change}
 use Rattle.cartridge.specs.Contents.{Contents}

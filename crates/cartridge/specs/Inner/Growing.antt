@@ -19,7 +19,8 @@ HasRoomFor index changes = (part : ℕ) → sum_by (entries_of part) changes ≤
 
 -- in each partition that is there enough is reserved for these changes (own)
 abbrev pub HasRoomWithin : List PlacedPart → List Change → Type 0
-HasRoomWithin index changes = (part : ℕ) → part < length index → sum_by (entries_of part) changes ≤ reserved_of index part
+HasRoomWithin index changes =
+    (part : ℕ) → part < length index → sum_by (entries_of part) changes ≤ reserved_of index part
 
 -- of what was reserved in each partition these changes have taken their entries at most (own)
 abbrev pub TakesEntries : List PlacedPart → List Change → List PlacedPart → Type 0

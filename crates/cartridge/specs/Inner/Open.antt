@@ -1,6 +1,5 @@
 -- What an open cartridge keeps.
-use Rattle.std.specs.Prelude.{◌≡◌, ◌≤◌, ℕ, List, [], length, Bool, false}
-use Rattle.volume_core.specs.declared.changes.Change.{Change}
+use Rattle.std.specs.Prelude.{◌≡◌, ℕ, List, [], length, Bool, false}
 use Rattle.tape_disk.specs.Disk.{DiskState, Each}
 use Rattle.gate_journal.specs.Side.{Heading}
 use Rattle.record_index.specs.Places.{PlacedPart}

@@ -1,4 +1,4 @@
-use Rattle.std.proofs.Common.{◌≡◌, ◌≤◌, length, take, vec_capacity}
+use Rattle.std.proofs.Common.{◌≡◌, ◌≤◌, take, vec_capacity}
 use Rattle.record_index.specs.Records.{spell_all}
 use Rattle.cartridge.proofs.bodies.fill_body.Given as goal
 

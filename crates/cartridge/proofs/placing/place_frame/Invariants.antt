@@ -1,9 +1,7 @@
-use Rattle.std.proofs.Common.{◌≡◌, ◌+◌, ◌≤◌, length, take, drop, sum_by, ℕ}
+use Rattle.std.proofs.Common.{◌≡◌, ◌+◌, length, take}
 use Rattle.volume_core.specs.Volume.{after}
 use Rattle.record_index.specs.Records.{spell_all}
 use Rattle.record_index.specs.Indexes.{Indexes}
-use Rattle.record_index.specs.Places.{reserved_of}
-use Rattle.cartridge.specs.Answers.{entries_of}
 use Rattle.cartridge.specs.Contents.{volume_in}
 use Rattle.cartridge.specs.Inner.Growing.{TakesEntries}
 use Rattle.cartridge.specs.Lying.{LiesOnSide}

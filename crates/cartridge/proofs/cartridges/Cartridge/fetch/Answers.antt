@@ -1,5 +1,4 @@
 use Rattle.std.proofs.Common.{◌≡◌, ◌++◌, ℕ, List, length, take, drop, Some, ap, sym, ◌∙◌, arith}
-use Rattle.record_index.specs.declared.places.Placed.TheVariants as Placeds
 use Rattle.record_index.specs.Indexes.{indexes_block}
 use Rattle.cartridge.specs.Contents.{bodies_of, volume_in}
 use Rattle.cartridge.specs.Lying.{LiesOnSide}

@@ -1,4 +1,4 @@
-use Rattle.std.proofs.Common.{◌<◌, ◌≤◌, ℕ, List, length, map, refl, inl, inr, arith}
+use Rattle.std.proofs.Common.{refl, inr, arith}
 use Rattle.std.proofs.lemmas.List.{length-map}
 use Rattle.record_index.specs.Places.{PlacedPart}
 use Rattle.cartridge.proofs.GrowingLemmas.{entries_at}

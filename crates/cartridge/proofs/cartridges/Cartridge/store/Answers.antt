@@ -1,5 +1,5 @@
-use Rattle.std.proofs.Common.{◌≡◌, ◌<◌, ◌≤◌, ◌+◌, ℕ, List, [], ◌∷◌, ◌++◌, length, false, refl, ap, sym, subst, ◌∙◌, arith}
-use Rattle.tape_disk.specs.Disk.{DiskState, Each}
+use Rattle.std.proofs.Common.{◌≡◌, ◌≤◌, ◌+◌, ℕ, List, [], ◌∷◌, length, false, ap, sym, subst, ◌∙◌, arith}
+use Rattle.tape_disk.specs.Disk.{Each}
 use Rattle.tape_disk.specs.Moments.{LeavesOnly}
 use Rattle.gate_journal.specs.Answers.{IsFault}
 use Rattle.gate_journal.specs.State.{room_behind}
