@@ -1,0 +1,11 @@
+pub mod ContentsLemmas
+pub mod FetchLemmas
+pub mod GrowingLemmas
+pub mod OpenLemmas
+pub mod OpenedLemmas
+pub mod OpeningLemmas
+pub mod PlacingLemmas
+pub mod RecordLemmas
+pub mod StoringLemmas
+pub mod UniqueLemmas
+pub mod WalkingLemmas

@@ -1,0 +1,75 @@
+use Rattle.std.proofs.Common.{◌≡◌, ◌++◌, ℕ, List, length, take, drop, Some, ap, sym, ◌∙◌, arith}
+use Rattle.record_index.specs.Indexes.{indexes_block}
+use Rattle.cartridge.specs.Contents.{bodies_of, volume_in}
+use Rattle.cartridge.specs.Lying.{LiesOnSide}
+use Rattle.cartridge.specs.Notes.{noted_contents}
+use Rattle.cartridge.proofs.FetchLemmas.{block_short, can_be_read, filled_whole, length-take-le-whole, not_a_mark, not_none, read_is}
+use Rattle.cartridge.proofs.OpenLemmas.{open_shape}
+use Rattle.cartridge.proofs.StoringLemmas.{on_ok_any}
+use Rattle.cartridge.proofs.cartridges.Cartridge.fetch.Goals.{in-Ok, in-Err-Device}
+use Rattle.cartridge.proofs.cartridges.Cartridge.fetch.Goals as goal
+
+pub unreachable-requires : goal.unreachable-requires
+unreachable-requires g c =
+    let i = c.self.inside in
+    not_a_mark i.index (volume_in (noted_contents i.noted.notes)) c.args.part c.args.at
+    (open_shape i.journal.heading i.journal.extents i.journal.failed i.index i.noted.notes c.self.invariant.0)
+    (sym c.place.ensures ∙ c.in-Some-Mark.is ∙ ap Some c.in-Some-Mark.field-0-is)
+    (rw (← c.self.view_is) at c.requires)
+
+pub unreachable-requires-in-None : goal.unreachable-requires-in-None
+unreachable-requires-in-None g c =
+    let i = c.self.inside in
+    not_none i.index (volume_in (noted_contents i.noted.notes)) c.args.part c.args.at
+    (open_shape i.journal.heading i.journal.extents i.journal.failed i.index i.noted.notes c.self.invariant.0)
+    (sym c.place.ensures ∙ c.in-None.is)
+    (rw (← c.self.view_is) at c.requires)
+
+pub read_body-read-requires : goal.read_body-read-requires
+read_body-read-requires g c =
+    let i = c.self.inside in
+    let found = indexes_block (LiesOnSide i.noted.notes i.journal.extents) (volume_in (noted_contents i.noted.notes))
+    i.index c.args.part c.args.at c.in-Some-Block.place c.in-Some-Block.length c.self.invariant.0.lies
+    (sym c.place.ensures ∙ c.in-Some-Block.is ∙ ap Some c.in-Some-Block.field-0-is) in
+    let count : length c.deref_mut.result.now ≡ c.in-Some-Block.length =
+    omega (arith, c.deref_mut.ensures.len, ap (λ (l : List ℕ). length l) c.deref_mut.ensures.value, c.in_ok-resize.ensures.len) in
+    can_be_read (bodies_of i.noted.notes.frames) i.journal.extents found.0 c.in-Some-Block.place
+    (length c.deref_mut.result.now) found.3 (count ∙ found.2)
+
+pub returns-clause-bytes : goal.returns-clause-bytes
+returns-clause-bytes g c = rw (← c.self.view_is) (λ h. elim c.match-read.branch [
+  | in-Ok w ↦
+      on_ok_any c.match-read.result (
+      let i = c.self.inside in
+      let found = indexes_block (LiesOnSide i.noted.notes i.journal.extents) (volume_in (noted_contents i.noted.notes))
+      i.index c.args.part c.args.at c.in-Some-Block.place c.in-Some-Block.length c.self.invariant.0.lies
+      (sym c.place.ensures ∙ c.in-Some-Block.is ∙ ap Some c.in-Some-Block.field-0-is) in
+      let count : length c.deref_mut.result.now ≡ c.in-Some-Block.length =
+      omega (arith, c.deref_mut.ensures.len, ap (λ (l : List ℕ). length l) c.deref_mut.ensures.value, c.in_ok-resize.ensures.len) in
+      let bytes = c.read_body-read.new.buffer in
+      let items = c.resize.new.self.items in
+      let long : length bytes ≡ c.in-Some-Block.length = omega (arith, count, c.read_body-read.auto.buffer) in
+      let same : length items ≡ c.in-Some-Block.length = omega (arith, c.in_ok-resize.ensures.len, c.resize.new.self.ok.0) in
+      let whole : take c.resize.new.self.len (bytes ++ drop (length bytes) items) ≡ bytes =
+      filled_whole c.resize.new.self.len bytes items (omega (arith, long, c.in_ok-resize.ensures.len))
+      (omega (arith, same, c.in_ok-resize.ensures.len)) in
+      found.1
+      ∙ ap Some (sym (whole
+      ∙ read_is (bodies_of i.noted.notes.frames) i.journal.bodies i.journal.extents found.0 c.in-Some-Block.place bytes found.3
+      (c.self.invariant.1 h).bodies_are (long ∙ found.2) (w.in-Ok.ensures.bytes h)))
+      )
+  | in-Err-Device w ↦ rw w.result-is tt
+])
+
+pub returns-clause-bound : goal.returns-clause-bound
+returns-clause-bound g c = on_ok_any c.match-read.result (
+    let i = c.self.inside in
+    let short = block_short i.index c.args.part c.args.at c.in-Some-Block.place c.in-Some-Block.length
+    c.parts.ensures.limits.each
+    (sym c.place.ensures ∙ c.in-Some-Block.is ∙ ap Some c.in-Some-Block.field-0-is) in
+    omega (
+      arith,
+      short,
+      c.in_ok-resize.ensures.len,
+      length-take-le-whole c.resize.new.self.len (c.read_body-read.new.buffer ++ drop (length c.read_body-read.new.buffer) c.resize.new.self.items),
+    ))

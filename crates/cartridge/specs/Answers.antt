@@ -1,0 +1,120 @@
+-- What holds after each answer of a call.
+use Rattle.std.specs.Prelude.{◌≡◌, ◌⊎◌, ◌<◌, ◌≤◌, ◌+◌, ℕ, List, [], ◌∷◌, length, true, false, Result, Ok, Err, if◌then◌else◌, sum_by, slice_index_or, ◌==◌}
+use Rattle.vtl_base.specs.declared.faults.DevFault.{DevFault}
+use Rattle.volume_core.specs.declared.changes.Change.{Change}
+use Rattle.volume_core.specs.declared.changes.Change.TheVariants.{Put, Marks, Erase}
+use Rattle.tape_disk.specs.Disk.{DiskState, Only}
+use Rattle.gate_journal.specs.Side.{IsDamagedAt}
+use Rattle.gate_journal.specs.Answers.{IsFault, NoneFailed}
+use Rattle.cartridge.specs.declared.error.CartridgeError.{CartridgeError}
+use Rattle.cartridge.specs.declared.error.CartridgeError.TheVariants.{NotOurs, Damaged, BadRecord, SideFull, Device, Failed, NoMemory}
+use Rattle.cartridge.specs.declared.error.NotCreated.{NotCreated}
+use Rattle.cartridge.specs.declared.error.NotOpened.{NotOpened}
+use Rattle.cartridge.specs.Contents.{IsBadAt, IsNoCartridge, with_frames}
+use Rattle.record_index.specs.Records.{spell_all}
+use Rattle.cartridge.specs.State.{ClosedCartridge, OpenCartridge, Reserved}
+
+-- A fact for each answer of a call on an open cartridge: done, out of memory, a full side, a fault, a fault in an
+-- earlier call (own).
+abbrev pub MatchCall : Result Unit CartridgeError → Type 0 → Type 0 → Type 0 → (DevFault → Type 0) → Type 0 → Type 0
+MatchCall (Ok done) ok memory full device failed = ok
+MatchCall (Err NoMemory) ok memory full device failed = memory
+MatchCall (Err SideFull) ok memory full device failed = full
+MatchCall (Err (Device fault)) ok memory full device failed = device fault
+MatchCall (Err Failed) ok memory full device failed = failed
+MatchCall (Err NotOurs) ok memory full device failed = ⊥
+MatchCall (Err (Damaged at)) ok memory full device failed = ⊥
+MatchCall (Err (BadRecord at)) ok memory full device failed = ⊥
+
+-- what is reserved is no less than before (own)
+pub record KeepsReserved (old new : Reserved) : Type 0 where
+  pub body : old.body ≤ new.body
+  pub frames : old.frames ≤ new.frames
+  pub entries : (part : ℕ) → slice_index_or old.entries part 0 ≤ slice_index_or new.entries part 0
+
+-- the blocks and the runs of marks that a change puts into that partition (own)
+abbrev pub entries_of : ℕ → Change → ℕ
+entries_of part (Put p at block) = if part == p then 1 else 0
+entries_of part (Marks p at count) = if part == p then 1 else 0
+entries_of part (Erase p at) = 0
+
+-- what changes take of what is reserved, in one frame, and what is then left of it (own)
+pub record TakesReserved (old : Reserved) (changes : List Change) (new : Reserved) : Type 0 where
+  pub body : old.body ≤ new.body
+  pub frames : old.frames ≤ new.frames + 1
+  pub entries : (part : ℕ) →
+      slice_index_or old.entries part 0 ≤ slice_index_or new.entries part 0 + sum_by (entries_of part) changes
+
+-- less is reserved than a frame takes whose body has so many bytes, and which puts so many blocks and runs of marks into
+-- that partition (own)
+abbrev pub Lacks : Reserved → ℕ → ℕ → ℕ → Type 0
+Lacks old part body entries =
+    (old.frames ≡ 0) ⊎ ((old.body < body)
+    ⊎ ((part < length old.entries) × (slice_index_or old.entries part 0 < entries)))
+
+-- less is reserved than these changes take as a frame (own)
+abbrev pub LacksReserved : Reserved → List Change → Type 0
+LacksReserved old changes =
+    (old.frames ≡ 0) ⊎ ((old.body < length (spell_all changes))
+    ⊎ ((part : ℕ) × (slice_index_or old.entries part 0 < sum_by (entries_of part) changes)))
+
+module _ {D : Type 0} where
+  -- these changes were stored, as one frame (own)
+  pub record IsStored (old : OpenCartridge D) (changes : List Change) (new : OpenCartridge D) : Type 0 where
+    pub was_fine : old.failed ≡ false
+    pub is_fine : new.failed ≡ false
+    pub contents : new.contents ≡ with_frames old.contents (changes ∷ [])
+    pub torn : new.torn ≡ old.torn
+    pub room : new.room + (length (spell_all changes) + 5) ≡ old.room
+    pub reserved : TakesReserved old.reserved changes new.reserved
+
+  -- the disk failed while these changes were stored: the cartridge keeps its contents, and what was under way (own)
+  pub record IsBroken (old : OpenCartridge D) (changes : List Change) (new : OpenCartridge D) : Type 0 where
+    pub was_fine : old.failed ≡ false
+    pub fitted : length (spell_all changes) + 5 ≤ old.room
+    pub failed : new.failed ≡ true
+    pub contents : new.contents ≡ old.contents
+    pub torn : new.torn ≡ changes ∷ []
+    pub room : new.room ≡ old.room
+    pub reserved : KeepsReserved old.reserved new.reserved
+
+  -- memory ran out, since less was reserved than these changes take; nothing but what is reserved has changed (own)
+  pub record LacksMemory (old : OpenCartridge D) (changes : List Change) (new : OpenCartridge D) : Type 0 where
+    pub was_fine : old.failed ≡ false
+    pub fitted : length (spell_all changes) + 5 ≤ old.room
+    pub lacked : LacksReserved old.reserved changes
+    pub same : new ≡ record old { reserved = new.reserved }
+    pub reserved : KeepsReserved old.reserved new.reserved
+
+  -- the disk that a creation gives back (own)
+  abbrev pub disk_created : Result (ClosedCartridge D) (NotCreated D) → D
+  disk_created (Ok cartridge) = cartridge.disk
+  disk_created (Err refused) = refused.disk
+
+-- the disk that an opening gives, in an open cartridge or in the closed one that is handed back (own)
+abbrev pub disk_opened : {D : Type 0} → Result (OpenCartridge D) (NotOpened D) → D
+disk_opened (Ok cartridge) = cartridge.disk
+disk_opened (Err refused) = refused.shelved.disk
+
+-- why a cartridge is not made: memory ran out, and the disk was not touched; or a fault (own)
+abbrev pub NotMade : CartridgeError → Type 0 → (DevFault → Type 0) → Type 0
+NotMade NoMemory memory device = memory
+NotMade (Device fault) memory device = device fault
+NotMade NotOurs memory device = ⊥
+NotMade (Damaged at) memory device = ⊥
+NotMade (BadRecord at) memory device = ⊥
+NotMade SideFull memory device = ⊥
+NotMade Failed memory device = ⊥
+
+-- Why a cartridge is not opened: what the old bytes are, which are then sure, and no call failed; or a fault; or memory
+-- ran out, where there are the 27 bytes that each heading has, and no call failed (own).
+abbrev pub IsNotOpened : CartridgeError → DiskState → DiskState → Type 0
+IsNotOpened NotOurs old new = NoneFailed old new × (old.honest → IsNoCartridge old.seen × Only old.seen new.may_leave)
+IsNotOpened (Damaged at) old new =
+    NoneFailed old new × (old.honest → IsDamagedAt old.seen at × Only old.seen new.may_leave)
+IsNotOpened (BadRecord at) old new =
+    NoneFailed old new × (old.honest → IsBadAt old.seen at × Only old.seen new.may_leave)
+IsNotOpened (Device fault) old new = IsFault fault old new
+IsNotOpened NoMemory old new = NoneFailed old new × (old.honest → 27 ≤ length old.seen)
+IsNotOpened SideFull old new = ⊥
+IsNotOpened Failed old new = ⊥

@@ -1,0 +1,81 @@
+-- Contents as plain data, for the views of types and for what is noted.
+use Rattle.std.specs.Prelude.{◌≡◌, ◌⊎◌, ℕ, List, Bool, true, refl}
+use Rattle.std.proofs.Common.{inl, inr}
+use Rattle.std.specs.Coded.{Coded, code_by, coded×, coded⊎, coded_ℕ, coded_bool, coded_list}
+use Rattle.volume_core.specs.declared.changes.Change.{Change}
+use Rattle.volume_core.specs.declared.changes.Change.TheVariants.{Put, Marks, Erase}
+use Rattle.volume_core.specs.declared.objects.Object.{Object}
+use Rattle.volume_core.specs.declared.objects.Object.TheVariants.{Block, Mark}
+use Rattle.volume_core.specs.Volume.{Part}
+use Rattle.gate_journal.specs.Side.{Heading}
+use Rattle.gate_journal.specs.State.{heading_code}
+use Rattle.cartridge.specs.Contents.{Contents}
+use Rattle.cartridge.specs.Notes.{Notes}
+
+-- the fields of a change, by its kind (own)
+abbrev fields_of : Change → (ℕ × (ℕ × List ℕ)) ⊎ ((ℕ × (ℕ × ℕ)) ⊎ (ℕ × ℕ))
+fields_of (Put part at block) = inl (part, (at, block))
+fields_of (Marks part at count) = inr (inl (part, (at, count)))
+fields_of (Erase part at) = inr (inr (part, at))
+
+-- the change of these fields (own)
+abbrev change_of : (ℕ × (ℕ × List ℕ)) ⊎ ((ℕ × (ℕ × ℕ)) ⊎ (ℕ × ℕ)) → Change
+change_of (inl p) = Put p.0 p.1.0 p.1.1
+change_of (inr (inl p)) = Marks p.0 p.1.0 p.1.1
+change_of (inr (inr p)) = Erase p.0 p.1
+
+-- the change of its fields is the change
+pub change_again : (change : Change) → change_of (fields_of change) ≡ change
+change_again (Put part at block) = refl
+change_again (Marks part at count) = refl
+change_again (Erase part at) = refl
+
+-- a change as plain data (own)
+abbrev pub change_code : Coded Change
+change_code =
+    code_by ((ℕ × (ℕ × List ℕ)) ⊎ ((ℕ × (ℕ × ℕ)) ⊎ (ℕ × ℕ)))
+    (coded⊎ (coded× coded_ℕ (coded× coded_ℕ (coded_list coded_ℕ)))
+    (coded⊎ (coded× coded_ℕ (coded× coded_ℕ coded_ℕ)) (coded× coded_ℕ coded_ℕ)))
+    fields_of change_of change_again
+
+-- the changes of some frames as plain data (own)
+abbrev pub frames_code : Coded (List (List Change))
+frames_code = coded_list (coded_list change_code)
+
+-- an object as a mark or a block, and back (own)
+abbrev bytes_of : Object → Bool ⊎ List ℕ
+bytes_of (Block bytes) = inr bytes
+bytes_of Mark = inl true
+
+abbrev object_of : Bool ⊎ List ℕ → Object
+object_of (inl mark) = Mark
+object_of (inr bytes) = Block bytes
+
+pub object_again : (object : Object) → object_of (bytes_of object) ≡ object
+object_again (Block bytes) = refl
+object_again Mark = refl
+
+-- an object as plain data (own)
+abbrev pub object_code : Coded Object
+object_code = code_by (Bool ⊎ List ℕ) (coded⊎ coded_bool (coded_list coded_ℕ)) bytes_of object_of object_again
+
+-- a partition as plain data (own)
+abbrev pub part_code : Coded Part
+part_code =
+    code_by (ℕ × List Object) (coded× coded_ℕ (coded_list object_code)) (λ p. (p.capacity, p.objects))
+    (λ p. record { capacity = p.0; objects = p.1 }) (λ _. refl)
+
+-- what a side holds, as plain data (own)
+abbrev pub contents_code : Coded Contents
+contents_code =
+    code_by (Heading × (List Part × List (List Change)))
+    (coded× heading_code (coded× (coded_list part_code) frames_code))
+    (λ c. (c.heading, (c.base, c.frames)))
+    (λ p. record { heading = p.0; base = p.1.0; frames = p.1.1 }) (λ _. refl)
+
+-- what is noted of a side as plain data (own)
+abbrev pub notes_code : Coded Notes
+notes_code =
+    code_by (Heading × (List (List Change) × List (List Change))) (coded× heading_code (coded× frames_code frames_code))
+    (λ n. (n.heading, (n.frames, n.torn)))
+    (λ p. record { heading = p.0; frames = p.1.0; torn = p.1.1 }) (λ _. refl)

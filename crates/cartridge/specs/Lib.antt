@@ -1,0 +1,7 @@
+pub mod Answers
+pub mod Codes
+pub mod Contents
+pub mod Inner
+pub mod Lying
+pub mod Notes
+pub mod State

@@ -1,0 +1,76 @@
+//! Why a call on a cartridge is refused.
+ghost use Rattle.std.specs.Prelude.{◌≡◌};
+ghost use Rattle.cartridge.specs.declared.error.CartridgeError.TheVariants as Errors;
+
+use crate::shelved::Shelved;
+use std::alloc::AllocError;
+use tape_disk::Disk;
+use thiserror::Error;
+use vtl_base::{DevFault, NoMemory};
+
+/// Why a call on a cartridge is refused (own).
+#[derive(Clone, Copy, PartialEq, Eq, Debug, Error)]
+pub enum CartridgeError {
+    /// The bytes begin with no header of a cartridge.
+    #[error("not a cartridge")]
+    NotOurs,
+    /// The first frame that is not whole has its gate at this place, counted in bytes.
+    #[error("damaged at {at}")]
+    Damaged {
+        /// The place of the gate.
+        at: u64,
+    },
+    /// The first frame whose body spells no changes, or one that does not apply to what stands
+    /// before it, has its gate at this place, counted in bytes.
+    #[error("bad record at {at}")]
+    BadRecord {
+        /// The place of the gate.
+        at: u64,
+    },
+    /// The frame would pass the longest side.
+    #[error("side full")]
+    SideFull,
+    /// The disk failed in this call.
+    #[error("device fault")]
+    Device(DevFault),
+    /// The disk failed in an earlier call. The cartridge has to be closed and opened again.
+    #[error("failed before")]
+    Failed,
+    /// Memory ran out. Nothing was written, and no call of the disk failed.
+    #[error("out of memory")]
+    NoMemory,
+}
+
+impl From<AllocError> for CartridgeError {
+    ghost from_gives = { λ _ e. e ≡ Errors.NoMemory };
+
+    fn from(_: AllocError) -> Self {
+        CartridgeError::NoMemory
+    }
+}
+
+impl From<NoMemory> for CartridgeError {
+    ghost from_gives = { λ _ e. e ≡ Errors.NoMemory };
+
+    fn from(_: NoMemory) -> Self {
+        CartridgeError::NoMemory
+    }
+}
+
+/// A cartridge that could not be made, and its disk.
+#[derive(Drop, Debug)]
+pub struct NotCreated<D> {
+    /// Why.
+    pub error: CartridgeError,
+    /// The disk that was handed in.
+    pub disk: D,
+}
+
+/// A cartridge that could not be opened, closed as it was handed in.
+#[derive(Drop)]
+pub struct NotOpened<D: Disk> {
+    /// Why.
+    pub error: CartridgeError,
+    /// The cartridge.
+    pub shelved: Shelved<D>,
+}

@@ -1,0 +1,71 @@
+//! A block is read.
+ghost use Rattle.std.specs.Prelude.{◌≡◌, ◌≤◌, Some, length, true, false, OnOk};
+ghost use Rattle.tape_disk.specs.Disk.{Keeps};
+ghost use Rattle.vtl_base.specs.declared.limits.TheConstants.{MAX_BLOCK};
+ghost use Rattle.volume_core.specs.declared.objects.Kind.TheVariants as Kinds;
+ghost use Rattle.volume_core.specs.Volume.{block_at, kind_at};
+ghost use Rattle.gate_journal.specs.Answers.{IsFault, NoneFailed};
+ghost use Rattle.gate_journal.specs.Crash.{Unwritten};
+ghost use Rattle.cartridge.specs.Answers.{MatchCall};
+ghost use Rattle.cartridge.specs.Contents.{volume_in};
+
+use crate::cartridges::Cartridge;
+use crate::error::CartridgeError;
+use gate_journal::JournalError;
+use record_index::Placed;
+use tape_disk::Disk;
+use vtl_base::{ObjNo, PartNo};
+
+impl<D: Disk> Cartridge<D> {
+    /// Gives the bytes of the block of an object number, in the place of what `into` held, by one
+    /// call of the disk. After an `Err` it may hold anything. After `Device` the cartridge has
+    /// failed.
+    pub fn fetch(
+        &mut self,
+        part: PartNo,
+        at: ObjNo,
+        into: &mut Vec<u8>,
+    ) -> Result<(), CartridgeError>
+        requires { kind_at (volume_in self.old.contents) part at ≡ Some Kinds.Block }
+        ensures disk { Keeps (D.state self.old.disk) (D.state self.new.disk) }
+        ensures same { self.new ≡ record self.old {
+          disk = self.new.disk;
+          failed = self.new.failed;
+        } }
+        ensures answer { MatchCall result
+            ((self.old.failed ≡ false) × (self.new.failed ≡ false)
+            × NoneFailed (D.state self.old.disk) (D.state self.new.disk))
+            ((self.old.failed ≡ false) × (self.new ≡ self.old)) ⊥
+            (λ fault. (self.old.failed ≡ false) × (self.new.failed ≡ true)
+            × IsFault fault (D.state self.old.disk) (D.state self.new.disk))
+            ((self.old.failed ≡ true) × (self.new ≡ self.old)) }
+        ensures bytes { (D.state self.old.disk).honest → OnOk result
+            (block_at (volume_in self.old.contents) part at ≡ Some into.new.items) }
+        ensures bound { OnOk result (length into.new.items ≤ MAX_BLOCK) }
+        ensures unwritten { (D.state self.old.disk).honest →
+            Unwritten (D.state self.old.disk) (D.state self.new.disk) }
+    {
+        if self.journal.has_failed() {
+            return Err(CartridgeError::Failed);
+        }
+        // Asked for the proof's sake: the index keeps the limits of a volume.
+        let _ = self.index.parts();
+        let (place, length) = match self.index.place(part, at) {
+            Some(Placed::Block { place, length }) => (place, length),
+            Some(Placed::Mark) => unreachable!(),
+            None => unreachable!(),
+        };
+        into.clear();
+        into.resize(length as usize, 0)?;
+        let read = self.journal.read_body(place, into);
+        match read {
+            Ok(()) => Ok(()),
+            Err(JournalError::Device(fault)) => Err(CartridgeError::Device(fault)),
+            Err(JournalError::Failed) => unreachable!(),
+            Err(JournalError::NoMemory) => unreachable!(),
+            Err(JournalError::SideFull) => unreachable!(),
+            Err(JournalError::NotOurs) => unreachable!(),
+            Err(JournalError::Damaged { .. }) => unreachable!(),
+        }
+    }
+}

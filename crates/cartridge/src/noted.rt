@@ -1,0 +1,96 @@
+//! What proofs alone note of a side, which takes no bytes: the block bytes of a cartridge stay on its disk.
+ghost use Rattle.std.specs.Prelude.{◌≡◌, [], unwrap_or};
+ghost use Rattle.gate_journal.specs.Side.{heading_of};
+ghost use Rattle.cartridge.specs.Notes.{Notes, with_frame, with_torn};
+ghost use Rattle.cartridge.specs.Codes.{notes_code};
+ghost use Rattle.record_index.specs.ChangesOn.{changes_on};
+
+use gate_journal::Header;
+use std::marker::{Model, PhantomData};
+use volume_core::Change;
+
+/// What is noted of a side.
+#[derive(Drop)]
+pub(crate) struct Noted {
+    marker: PhantomData<()>,
+    pub ghost notes: { Notes } by { notes_code },
+}
+
+impl Model for Noted {
+    ghost use base.Fml.{ftrue};
+    ghost use Rattle.cartridge.specs.Notes.{Notes};
+    ghost use Rattle.cartridge.specs.Codes.{notes_code};
+
+    ghost also_owns = { λ _. ftrue };
+}
+
+impl Noted {
+    /// Of a side of which nothing is known.
+    pub(crate) fn none() -> Noted {
+        made(&0)
+    }
+
+    /// Of a side with this header and no frames.
+    pub(crate) fn new(header: &Header) -> Noted
+        ensures { result.notes ≡ record { heading = heading_of header.now; frames = []; torn = [] } }
+    {
+        by_header(header)
+    }
+
+    /// With one frame more, of these changes.
+    pub(crate) fn with_frame(&self, changes: &[Change]) -> Noted
+        ensures { result.notes ≡ with_frame self.now.notes changes.now }
+    {
+        by_changes(self, changes)
+    }
+
+    /// With one frame more, of the changes that this body spells.
+    pub(crate) fn with_body(&self, body: &[u8]) -> Noted
+        ensures { result.notes ≡ with_frame self.now.notes (unwrap_or (changes_on body.now) []) }
+    {
+        by_body(self, body)
+    }
+
+    /// With these changes in a frame that is under way.
+    pub(crate) fn with_torn(&self, changes: &[Change]) -> Noted
+        ensures { result.notes ≡ with_torn self.now.notes changes.now }
+    {
+        by_changes(self, changes)
+    }
+}
+
+// What the caller names, which may speak of a header.
+fn by_header(_header: &Header) -> Noted
+    ghost notes: { Notes }
+    ensures { result.notes ≡ notes }
+{
+    made(&0)
+}
+
+// What the caller names, which may speak of what was noted and of changes.
+fn by_changes(_noted: &Noted, _changes: &[Change]) -> Noted
+    ghost notes: { Notes }
+    ensures { result.notes ≡ notes }
+{
+    made(&0)
+}
+
+// What the caller names, which may speak of what was noted and of a body.
+fn by_body(_noted: &Noted, _body: &[u8]) -> Noted
+    ghost notes: { Notes }
+    ensures { result.notes ≡ notes }
+{
+    made(&0)
+}
+
+// What the caller names.
+fn made(_any: &u64) -> Noted
+    ghost notes: { Notes }
+    ensures { result.notes ≡ notes }
+{
+    Noted {
+        marker: PhantomData,
+    }
+}
+
+unsafe impl Send for Noted {}

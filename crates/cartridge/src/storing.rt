@@ -1,0 +1,186 @@
+//! Changes are stored, as one frame.
+ghost use Rattle.std.specs.Prelude.{◌≡◌, ◌⊎◌, ◌+◌, ◌<◌, ◌≤◌, ◌++◌, [], ◌∷◌, ℕ, length, sum_by, true, false, OnOk, OnErr, IfErr, slice_index_or, vec_capacity, map};
+ghost use Rattle.std.specs.List.{All};
+ghost use Rattle.tape_disk.specs.Disk.{Each, Keeps};
+ghost use Rattle.tape_disk.specs.Moments.{LeavesOnly};
+ghost use Rattle.vtl_base.specs.declared.limits.TheConstants.{MAX_BODY, MAX_PARTITIONS};
+ghost use Rattle.volume_core.specs.Volume.{AllApply};
+ghost use Rattle.gate_journal.specs.Answers.{IsFault, NoneFailed};
+ghost use Rattle.record_index.specs.Records.{IsRecord, spell_all};
+ghost use Rattle.record_index.specs.Places.{reserved_of};
+ghost use Rattle.cartridge.specs.Answers.{IsBroken, IsStored, KeepsReserved, Lacks, LacksMemory, MatchCall, entries_of};
+ghost use Rattle.cartridge.specs.Contents.{Gives, Shows, bodies_of, volume_in};
+ghost use Rattle.cartridge.specs.Inner.Growing.{HasRoomWithin, IsGrown, IsSameSide};
+
+use crate::bodies::{fill_body, size_of_body};
+use crate::cartridges::Cartridge;
+use crate::error::CartridgeError;
+use crate::placing::place_frame;
+use gate_journal::{Journal, JournalError};
+use record_index::Index;
+use std::alloc::AllocError;
+use tape_disk::Disk;
+use volume_core::Change;
+use vtl_base::{NoMemory, PartNo};
+
+impl<D: Disk> Cartridge<D> {
+    /// Makes room in memory for a later store, which then takes none: for a body of so many bytes,
+    /// and for so many blocks and runs of marks in one partition, 24 bytes each.
+    pub fn reserve(
+        &mut self,
+        part: PartNo,
+        body: usize,
+        entries: usize,
+    ) -> Result<(), CartridgeError>
+        ensures same { self.new ≡ record self.old { reserved = self.new.reserved } }
+        ensures grows { KeepsReserved self.old.reserved self.new.reserved }
+        ensures ok { OnOk result ((body ≤ self.new.reserved.body) × (1 ≤ self.new.reserved.frames)
+            × (part < length self.old.reserved.entries →
+            entries ≤ slice_index_or self.new.reserved.entries part 0)) }
+        ensures refused { IfErr result (λ error. (error ≡ CartridgeError.NoMemory)
+            × Lacks self.old.reserved part body entries) }
+    {
+        reserve_body(&mut self.body, body)?;
+        reserve_part(&mut self.index, part, entries)?;
+        let Ok(()) = self.journal.reserve(1) else {
+            return Err(CartridgeError::NoMemory);
+        };
+        Ok(())
+    }
+
+    /// Stores changes as one frame: at Ok all of them are sure. There is at least one, each applies
+    /// to what stands before it, and in bytes they are at most 8,388,608. Within what was reserved
+    /// it takes no memory. After `Device` the side has the frame or not, and nothing more is
+    /// written; after every other error nothing changed but what is reserved.
+    pub fn store(&mut self, changes: &[Change]) -> Result<(), CartridgeError>
+        requires some { 1 ≤ length changes.now }
+        requires apply { AllApply (volume_in self.old.contents) changes.now }
+        requires short { length (spell_all changes.now) ≤ MAX_BODY }
+        ensures disk { Keeps (D.state self.old.disk) (D.state self.new.disk) }
+        ensures answer { MatchCall result
+            (IsStored self.old changes.now self.new
+            × NoneFailed (D.state self.old.disk) (D.state self.new.disk))
+            (LacksMemory self.old changes.now self.new)
+            ((self.old.failed ≡ false) × (self.old.room < length (spell_all changes.now) + 5)
+            × (self.new ≡ self.old))
+            (λ fault. IsBroken self.old changes.now self.new
+            × IsFault fault (D.state self.old.disk) (D.state self.new.disk))
+            ((self.old.failed ≡ true) × (self.new ≡ self.old)) }
+        ensures sure { (D.state self.old.disk).honest → OnOk result
+            (Each (D.state self.new.disk) (Gives self.new.contents)) }
+        ensures any_moment { (D.state self.old.disk).honest → self.old.failed ≡ false →
+            LeavesOnly (D.state self.old.disk) (D.state self.new.disk)
+            (Shows self.old.contents (changes.now ∷ [])) }
+    {
+        if self.journal.has_failed() {
+            return Err(CartridgeError::Failed);
+        }
+        let size = size_of_body(changes);
+        if u64::from(size) + 5 > self.journal.room() {
+            return Err(CartridgeError::SideFull);
+        }
+        let Ok(()) = make_room(
+            &mut self.journal,
+            &mut self.index,
+            &mut self.body,
+            changes,
+            size as usize,
+        ) else {
+            return Err(CartridgeError::NoMemory);
+        };
+        fill_body(&mut self.body, changes);
+        match self.journal.append(&self.body) {
+            Ok(()) => {
+                place_frame(&mut self.index, &self.journal, &self.noted, changes);
+                self.noted = self.noted.with_frame(changes);
+                Ok(())
+            }
+            Err(JournalError::Device(fault)) => {
+                self.noted = self.noted.with_torn(changes);
+                Err(CartridgeError::Device(fault))
+            }
+            Err(JournalError::NoMemory) => unreachable!(),
+            Err(JournalError::SideFull) => unreachable!(),
+            Err(JournalError::Failed) => unreachable!(),
+            Err(JournalError::NotOurs) => unreachable!(),
+            Err(JournalError::Damaged { .. }) => unreachable!(),
+        }
+    }
+}
+
+// Makes room for a frame of these changes, whose body has so many bytes.
+fn make_room<D: Disk>(
+    journal: &mut Journal<D>,
+    index: &mut Index,
+    body: &mut Vec<u8>,
+    changes: &[Change],
+    size: usize,
+) -> Result<(), NoMemory>
+    ensures side { IsSameSide journal.old journal.new }
+    ensures few { length index.old ≤ MAX_PARTITIONS }
+    ensures grown { IsGrown index.old index.new }
+    ensures body { vec_capacity body.old ≤ vec_capacity body.new }
+    ensures ok { OnOk result ((size ≤ vec_capacity body.new) × (1 ≤ journal.new.reserved)
+        × HasRoomWithin index.new changes.now) }
+    ensures err { OnErr result ((journal.old.reserved ≡ 0)
+        ⊎ ((vec_capacity body.old < size) ⊎ ((part : ℕ)
+        × (reserved_of index.old part < sum_by (entries_of part) changes.now)))) }
+{
+    reserve_entries(index, changes)?;
+    reserve_body(body, size)?;
+    let Ok(()) = journal.reserve(1) else {
+        return Err(NoMemory);
+    };
+    Ok(())
+}
+
+// Makes room for a body of so many bytes.
+fn reserve_body(body: &mut Vec<u8>, size: usize) -> Result<(), AllocError>
+    ensures grows { vec_capacity body.old ≤ vec_capacity body.new }
+    ensures ok { OnOk result (size ≤ vec_capacity body.new) }
+    ensures err { OnErr result (vec_capacity body.old < size) }
+{
+    body.clear();
+    body.reserve(size)
+}
+
+// Makes room for so many blocks and runs of marks in a partition, where it is there.
+fn reserve_part(index: &mut Index, part: PartNo, entries: usize) -> Result<(), NoMemory>
+    ensures grown { IsGrown index.old index.new }
+    ensures ok { OnOk result (part < length index.old → entries ≤ reserved_of index.new part) }
+    ensures err { OnErr result
+        ((part < length index.old) × (reserved_of index.old part < entries)) }
+{
+    if part >= index.parts() {
+        return Ok(());
+    }
+    index.reserve(part, entries)
+}
+
+// Makes room for the blocks and runs of marks of these changes, in each partition.
+fn reserve_entries(index: &mut Index, changes: &[Change]) -> Result<(), NoMemory>
+    ensures few { length index.old ≤ MAX_PARTITIONS }
+    ensures grown { IsGrown index.old index.new }
+    ensures ok { OnOk result (HasRoomWithin index.new changes.now) }
+    ensures err { OnErr result ((part : ℕ)
+        × (reserved_of index.old part < sum_by (entries_of part) changes.now)) }
+{
+    for part in 0..index.parts() {
+        index.reserve(part, count_entries(changes, part))?;
+    }
+    Ok(())
+}
+
+// How many blocks and runs of marks these changes put into that partition.
+fn count_entries(changes: &[Change], part: PartNo) -> usize
+    ensures { result ≡ sum_by (entries_of part) changes.now }
+{
+    let mut count = 0;
+    for change in changes {
+        count += match change {
+            Change::Put { part: of, .. } | Change::Marks { part: of, .. } if *of == part => 1,
+            _ => 0,
+        };
+    }
+    count
+}
