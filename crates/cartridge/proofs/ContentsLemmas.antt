@@ -13,7 +13,7 @@ use Rattle.volume_core.specs.Stores.{after_append}
 use Rattle.gate_journal.specs.Side.{Heading, StandsFor}
 use Rattle.gate_journal.specs.Crash.{WithOrWithout}
 use Rattle.record_index.specs.Records.{IsRecord, spell_all}
-use Rattle.cartridge.specs.Contents.{Contents, Gives, IsContents, Shows, bodies_of, changes_in, volume_in, with_frames}
+use Rattle.cartridge.specs.Contents.{Contents, GivesContents, IsContents, ShowsContents, bodies_of, changes_in, volume_made, with_frames}
 
 module _ (contents : Contents) (changes : List Change) where
   -- the changes of one frame more come last
@@ -23,7 +23,7 @@ module _ (contents : Contents) (changes : List Change) where
       ∙ ap (λ (l : List Change). changes_in contents ++ l) (append-nil changes)
 
   -- the volume is what they make of it
-  pub volume_more : volume_in (with_frames contents (changes ∷ [])) ≡ after (volume_in contents) changes
+  pub volume_more : volume_made (with_frames contents (changes ∷ [])) ≡ after (volume_made contents) changes
   volume_more =
       ap (after contents.base) changes_more ∙ after_append contents.base (changes_in contents) changes
 
@@ -33,7 +33,7 @@ module _ (contents : Contents) (changes : List Change) where
   bodies_more = map-append spell_all contents.frames (changes ∷ [])
 
   -- contents with changes that have a spelling and apply are contents
-  pub contents_more : IsContents contents → All IsRecord changes → AllApply (volume_in contents) changes
+  pub contents_more : IsContents contents → All IsRecord changes → AllApply (volume_made contents) changes
       → IsContents (with_frames contents (changes ∷ []))
   contents_more is records apply = record {
     kind = is.kind;
@@ -43,7 +43,7 @@ module _ (contents : Contents) (changes : List Change) where
         (All-cons (All IsRecord) changes [] records (All-nil (All IsRecord)));
     apply =
         subst (AllApply contents.base) (sym changes_more)
-        (moves_on_by_changes contents.base (volume_in contents) (after (volume_in contents) changes)
+        (moves_on_by_changes contents.base (volume_made contents) (after (volume_made contents) changes)
         (changes_in contents) changes (is.apply, refl) (apply, refl)).0;
   }
 
@@ -52,7 +52,7 @@ module _ (contents : Contents) (changes : List Change) where
       (bodies : List (List ℕ)) (bodies_are : bodies ≡ bodies_of contents.frames)
       (body : List ℕ) (body_is : body ≡ spell_all changes) where
     -- with or without the body, the image shows the contents or these with the frame
-    either : (image : List ℕ) → WithOrWithout heading bodies body image → Shows contents (changes ∷ []) image
+    either : (image : List ℕ) → WithOrWithout heading bodies body image → ShowsContents contents (changes ∷ []) image
     either image (inl s) =
         inl (is, subst (λ (x : Heading × List (List ℕ)). StandsFor x.0 x.1 image) (λ i. (heading_is i, bodies_are i)) s)
     either image (inr s) =
@@ -67,12 +67,12 @@ module _ (contents : Contents) (changes : List Change) where
         )
 
     pub moments : (old new : DiskState) → LeavesOnly old new (WithOrWithout heading bodies body)
-        → LeavesOnly old new (Shows contents (changes ∷ []))
-    moments old new run = weakened old new (WithOrWithout heading bodies body) (Shows contents (changes ∷ [])) run either
+        → LeavesOnly old new (ShowsContents contents (changes ∷ []))
+    moments old new run = weakened old new (WithOrWithout heading bodies body) (ShowsContents contents (changes ∷ [])) run either
 
     -- a side that stands for the bodies with the new one gives the contents with the frame
     pub gives_more : (image : List ℕ) → StandsFor heading (bodies ++ body ∷ []) image
-        → Gives (with_frames contents (changes ∷ [])) image
+        → GivesContents (with_frames contents (changes ∷ [])) image
     gives_more image s = (
       more,
       subst (λ (x : Heading × List (List ℕ)). StandsFor x.0 x.1 image)

@@ -14,7 +14,7 @@ use Rattle.record_index.specs.Records.{IsRecord, spell_all}
 use Rattle.record_index.specs.Places.{PlacedPart}
 use Rattle.record_index.specs.Shapes.{IsIndexOf}
 use Rattle.record_index.specs.Indexes.{Indexes, indexes_by, indexes_shape}
-use Rattle.cartridge.specs.Contents.{Contents, Gives, IsContents, Shows, bodies_of, volume_in}
+use Rattle.cartridge.specs.Contents.{Contents, GivesContents, IsContents, ShowsContents, bodies_of, volume_made}
 use Rattle.cartridge.specs.Notes.{Notes, noted_contents, with_frame, with_torn}
 use Rattle.cartridge.specs.Lying.{LiesIn, LiesOnSide}
 use Rattle.cartridge.specs.Inner.Open.{IsOpen, StoresContents}
@@ -59,11 +59,11 @@ lies_in_next bodies extents body block place lies =
 
 module _ (heading : Heading) (extents : List (ℕ × ℕ)) (failed : Bool) (index : List PlacedPart) (notes : Notes)
     (is : IsOpen heading extents failed index notes) where
-  pub open_shape : IsIndexOf index (volume_in (noted_contents notes))
-  open_shape = indexes_shape (LiesOnSide notes extents) (volume_in (noted_contents notes)) index is.lies
+  pub open_shape : IsIndexOf index (volume_made (noted_contents notes))
+  open_shape = indexes_shape (LiesOnSide notes extents) (volume_made (noted_contents notes)) index is.lies
 
-  pub open_parts : length index ≡ length (volume_in (noted_contents notes))
-  open_parts = same_parts (LiesOnSide notes extents) (volume_in (noted_contents notes)) index is.lies
+  pub open_parts : length index ≡ length (volume_made (noted_contents notes))
+  open_parts = same_parts (LiesOnSide notes extents) (volume_made (noted_contents notes)) index is.lies
 
   -- with more reserved
   pub open_grown : (heading' : Heading) (extents' : List (ℕ × ℕ)) (failed' : Bool) (index' : List PlacedPart)
@@ -75,9 +75,9 @@ module _ (heading : Heading) (extents : List (ℕ × ℕ)) (failed : Bool) (inde
     at_rest = λ fine. is.at_rest (sym failed_is ∙ fine);
     counted = ap length extents_are ∙ is.counted;
     lies =
-        subst (λ (e : List (ℕ × ℕ)). Indexes (LiesOnSide notes e) (volume_in (noted_contents notes)) index')
+        subst (λ (e : List (ℕ × ℕ)). Indexes (LiesOnSide notes e) (volume_made (noted_contents notes)) index')
         (sym extents_are)
-        (grown_lies (LiesOnSide notes extents) (volume_in (noted_contents notes)) index index' grown is.lies);
+        (grown_lies (LiesOnSide notes extents) (volume_made (noted_contents notes)) index index' grown is.lies);
   }
 
   -- after a fault of the disk while these changes were stored
@@ -90,16 +90,16 @@ module _ (heading : Heading) (extents : List (ℕ × ℕ)) (failed : Bool) (inde
     at_rest = λ fine. absurd (cc);
     counted = ap length extents_are ∙ is.counted;
     lies =
-        subst (λ (e : List (ℕ × ℕ)). Indexes (LiesOnSide notes e) (volume_in (noted_contents notes)) index')
+        subst (λ (e : List (ℕ × ℕ)). Indexes (LiesOnSide notes e) (volume_made (noted_contents notes)) index')
         (sym extents_are)
-        (grown_lies (LiesOnSide notes extents) (volume_in (noted_contents notes)) index index' grown is.lies);
+        (grown_lies (LiesOnSide notes extents) (volume_made (noted_contents notes)) index index' grown is.lies);
   }
 
-  module _ (changes : List Change) (apply : AllApply (volume_in (noted_contents notes)) changes) where
+  module _ (changes : List Change) (apply : AllApply (volume_made (noted_contents notes)) changes) where
     -- there are few partitions, so each change has a spelling
     pub open_records : length index ≤ 4 → All IsRecord changes
     open_records few =
-        all_applying (volume_in (noted_contents notes)) changes (omega (arith, few, open_parts)) apply
+        all_applying (volume_made (noted_contents notes)) changes (omega (arith, few, open_parts)) apply
 
     pub open_contents : length index ≤ 4 → IsContents (noted_contents (with_frame notes changes))
     open_contents few = contents_more (noted_contents notes) changes is.contents (open_records few) apply
@@ -107,11 +107,11 @@ module _ (heading : Heading) (extents : List (ℕ × ℕ)) (failed : Bool) (inde
     module _ (extents' : List (ℕ × ℕ)) (extent : ℕ × ℕ) (extents_are : extents' ≡ extents ++ extent ∷ []) where
       -- the index beside a side with the new frame, before its changes are entered
       pub before_placing : (index' : List PlacedPart) → IsGrown index index'
-          → Indexes (LiesOnSide (with_frame notes changes) extents') (volume_in (noted_contents notes)) index'
+          → Indexes (LiesOnSide (with_frame notes changes) extents') (volume_made (noted_contents notes)) index'
       before_placing index' grown =
           let bodies_are : bodies_of (with_frame notes changes).frames ≡ bodies_of notes.frames ++ spell_all changes ∷ [] =
           bodies_more (noted_contents notes) changes in
-          let volume = volume_in (noted_contents notes) in
+          let volume = volume_made (noted_contents notes) in
           subst (λ (b : List (List ℕ)). Indexes (LiesIn b extents') volume index') (sym bodies_are)
           (subst
           (λ (e : List (ℕ × ℕ)). Indexes (LiesIn (bodies_of notes.frames ++ spell_all changes ∷ []) e) volume index')
@@ -137,7 +137,7 @@ module _ (heading : Heading) (extents : List (ℕ × ℕ)) (failed : Bool) (inde
       pub open_stored : (heading' : Heading) (failed' : Bool) (index' : List PlacedPart) → heading' ≡ heading
           → failed ≡ false → length index ≤ 4
           → Indexes (LiesOnSide (with_frame notes changes) extents')
-          (after (volume_in (noted_contents notes)) changes) index'
+          (after (volume_made (noted_contents notes)) changes) index'
           → IsOpen heading' extents' failed' index' (with_frame notes changes)
       open_stored heading' failed' index' heading_is fine few lies = record {
         heading_is = heading_is ∙ is.heading_is;
@@ -155,14 +155,14 @@ module _ (heading : Heading) (extents : List (ℕ × ℕ)) (failed : Bool) (inde
       where
         pub store_moments : (disk old new : DiskState) → StoresContents disk bodies notes
             → LeavesOnly old new (WithOrWithout heading bodies body)
-            → LeavesOnly old new (Shows (noted_contents notes) (changes ∷ []))
+            → LeavesOnly old new (ShowsContents (noted_contents notes) (changes ∷ []))
         store_moments disk old new stores run =
             moments (noted_contents notes) changes is.contents (open_contents few) heading is.heading_is bodies
             stores.bodies_are body body_is old new run
 
         pub store_sure : (disk new : DiskState) (heading' : Heading) (bodies' : List (List ℕ))
             → StoresContents disk bodies notes → heading' ≡ heading → bodies' ≡ bodies ++ body ∷ []
-            → Each new (StandsFor heading' bodies') → Each new (Gives (noted_contents (with_frame notes changes)))
+            → Each new (StandsFor heading' bodies') → Each new (GivesContents (noted_contents (with_frame notes changes)))
         store_sure disk new heading' bodies' stores heading_is bodies_are sure image left =
             gives_more (noted_contents notes) changes is.contents (open_contents few) heading is.heading_is bodies
             stores.bodies_are body body_is image
@@ -186,7 +186,7 @@ module _ (heading : Heading) (extents : List (ℕ × ℕ)) (failed : Bool) (inde
         stores_broken disk new bodies' stores is_disk bodies_are run = record {
           bodies_are = bodies_are ∙ stores.bodies_are;
           shows =
-              holds_now disk new (Shows (noted_contents notes) (changes ∷ [])) is_disk
+              holds_now disk new (ShowsContents (noted_contents notes) (changes ∷ [])) is_disk
               (store_moments disk disk new stores run);
         }
 
@@ -201,8 +201,8 @@ stores_unwritten disk new bodies bodies' notes stores same images = record {
 
 -- with no frame under way an image gives the contents
 pub sure_at_rest : (contents : Contents) (torn : List (List Change)) (image : List ℕ) → torn ≡ []
-    → Shows contents torn image → Gives contents image
+    → ShowsContents contents torn image → GivesContents contents image
 sure_at_rest contents torn image none (inl gives) = gives
 sure_at_rest contents torn image none (inr gives) =
-    subst (λ (l : List (List Change)). Gives (record contents { frames = l }) image)
+    subst (λ (l : List (List Change)). GivesContents (record contents { frames = l }) image)
     (ap (λ (l : List (List Change)). contents.frames ++ l) none ∙ append-nil contents.frames) gives

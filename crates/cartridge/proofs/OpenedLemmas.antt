@@ -11,7 +11,7 @@ use Rattle.record_index.specs.Places.{PlacedPart}
 use Rattle.cartridge.specs.declared.error.CartridgeError.{CartridgeError}
 use Rattle.cartridge.specs.declared.error.CartridgeError.TheVariants.{NotOurs, Damaged, BadRecord, SideFull, Device, Failed, NoMemory}
 use Rattle.cartridge.specs.Answers.{IsNotOpened}
-use Rattle.cartridge.specs.Contents.{Gives, bodies_of}
+use Rattle.cartridge.specs.Contents.{GivesContents, bodies_of}
 use Rattle.cartridge.specs.Notes.{Notes, noted_contents}
 use Rattle.cartridge.specs.Inner.Open.{IsOpen, StoresContents}
 use Rattle.cartridge.specs.Inner.Reading.{NotRecovered}
@@ -36,18 +36,18 @@ module _ (old mid new : DiskState) (heading : Heading) (bodies : List (List ℕ)
 
   pub opened_gives : (extents : List (ℕ × ℕ)) (failed : Bool) (index : List PlacedPart) (notes : Notes)
       (heading' : Heading) → IsOpen heading' extents failed index notes → heading' ≡ heading
-      → bodies ≡ bodies_of notes.frames → Gives (noted_contents notes) old.seen
+      → bodies ≡ bodies_of notes.frames → GivesContents (noted_contents notes) old.seen
   opened_gives extents failed index notes heading' is same spelled = (
     is.contents,
     subst (λ (x : Heading × List (List ℕ)). StandsFor x.0 x.1 old.seen)
         (λ i. ((sym same ∙ is.heading_is) i, spelled i)) stands,
   )
 
-  pub opened_stores : (notes : Notes) (bodies' : List (List ℕ)) → Gives (noted_contents notes) old.seen
+  pub opened_stores : (notes : Notes) (bodies' : List (List ℕ)) → GivesContents (noted_contents notes) old.seen
       → bodies' ≡ bodies → bodies ≡ bodies_of notes.frames → StoresContents new bodies' notes
   opened_stores notes bodies' gives same spelled = record {
     bodies_are = same ∙ spelled;
-    shows = λ image may. inl (subst (Gives (noted_contents notes)) (sym (only_still image may)) gives);
+    shows = λ image may. inl (subst (GivesContents (noted_contents notes)) (sym (only_still image may)) gives);
   }
 
 -- what was found on the old bytes is why the cartridge is not opened

@@ -16,7 +16,7 @@ use Rattle.record_index.specs.Records.{IsRecord}
 use Rattle.record_index.specs.ChangesOn.{changes_on, changes_on_is}
 use Rattle.record_index.specs.Places.{PlacedPart, empty_placed}
 use Rattle.record_index.specs.Indexes.{Indexes, indexes_by, indexes_empty}
-use Rattle.cartridge.specs.Contents.{IsBadFrame, IsContents, bodies_of, contents_from, volume_in}
+use Rattle.cartridge.specs.Contents.{IsBadFrame, IsContents, bodies_of, contents_from, volume_made}
 use Rattle.cartridge.specs.Notes.{Notes, noted_contents, with_frame}
 use Rattle.cartridge.specs.Lying.{LiesIn, LiesOnSide}
 use Rattle.cartridge.specs.Inner.Open.{IsOpen}
@@ -44,14 +44,14 @@ module _ (frame : ℕ) (heading : Heading) (extents : List (ℕ × ℕ)) (index 
     (so_far : IsReadUpTo frame heading extents index notes) (body : List ℕ) where
   -- the index beside the bodies with one more
   pub before_walking :
-      Indexes (LiesIn (bodies_of notes.frames ++ body ∷ []) extents) (volume_in (noted_contents notes)) index
+      Indexes (LiesIn (bodies_of notes.frames ++ body ∷ []) extents) (volume_made (noted_contents notes)) index
   before_walking =
       indexes_by (LiesOnSide notes extents) (LiesIn (bodies_of notes.frames ++ body ∷ []) extents)
-      (volume_in (noted_contents notes)) index (lies_in_next (bodies_of notes.frames) extents body) so_far.lies
+      (volume_made (noted_contents notes)) index (lies_in_next (bodies_of notes.frames) extents body) so_far.lies
 
   -- a body that spells no changes that apply is bad
   pub bad_frame : (bodies : List (List ℕ)) (at : ℕ) (index' : List PlacedPart) (P : List ℕ → ℕ → Type 0)
-      → WalksTo false body (volume_in (noted_contents notes)) P index'
+      → WalksTo false body (volume_made (noted_contents notes)) P index'
       → frame < length bodies → bodies_of notes.frames ≡ take frame bodies → body ≡ slice_index_or bodies frame []
       → at ≡ length (spell heading (take frame bodies))
       → IsBadFrame heading bodies notes.frames at
@@ -64,12 +64,12 @@ module _ (frame : ℕ) (heading : Heading) (extents : List (ℕ × ℕ)) (index 
     bad = λ changes records same apply.
         bad changes records
         (is ∙ ap (λ (n : ℕ). slice_index_or bodies n []) (sym so_far.counted) ∙ same)
-        (subst (λ (h : Heading). AllApply (volume_in (contents_from h notes.frames)) changes) so_far.heading_is apply);
+        (subst (λ (h : Heading). AllApply (volume_made (contents_from h notes.frames)) changes) so_far.heading_is apply);
   }
 
   -- with its changes noted
   module _ (index' : List PlacedPart)
-      (good : WalksTo true body (volume_in (noted_contents notes)) (LiesIn (bodies_of notes.frames ++ body ∷ []) extents) index')
+      (good : WalksTo true body (volume_made (noted_contents notes)) (LiesIn (bodies_of notes.frames ++ body ∷ []) extents) index')
       (notes' : Notes) (notes_are : notes' ≡ with_frame notes (unwrap_or (changes_on body) [])) where
     told : changes_on body ≡ Some good.0
     told = changes_on_is body good.0 good.1

@@ -13,12 +13,12 @@ use Rattle.volume_core.specs.Volume as volumes
 use Rattle.volume_core.specs.Volume.{Part, AllApply, after, changed, refusal_of}
 use Rattle.volume_core.specs.Stores.{after_append}
 use Rattle.record_index.specs.declared.records.Record.{Record}
-use Rattle.record_index.specs.Records.{IsAtFront, IsRecord, change_in, record_of, spell, spell_all}
+use Rattle.record_index.specs.Records.{IsAtFront, IsRecord, change_in, record_of, spell_change, spell_all}
 use Rattle.record_index.specs.Indexes.{LiesAt}
 use Rattle.record_index.specs.Inner.Spelled.{change_again, length-spell, rest_again}
 use Rattle.cartridge.specs.Lying.{IsPlaceOf, LiesIn}
 use Rattle.cartridge.proofs.WalkingLemmas.{lies_here}
-use Rattle.record_index.specs.Places.{PlacedPart, kept_of, part_of, placed_after, placed_by, placed_objects, reserved_in, reserved_of, runs_of, with_objects_in}
+use Rattle.record_index.specs.Places.{PlacedPart, record_kept, record_part, placed_after, placed_by, placed_objects, reserved_in, reserved_of, runs_of, with_objects_in}
 use Rattle.cartridge.specs.Answers.{entries_of}
 use Rattle.cartridge.specs.Inner.Growing.{TakesEntries}
 use Rattle.cartridge.proofs.RecordLemmas.{inside_of, same_length}
@@ -65,7 +65,7 @@ same_number : (n : ℕ) → (n == n) ≡ true
 same_number n = eq-eqb n n refl
 
 -- a record adds as many runs as its change has entries
-pub entries_are : (change : Change) → entries_of (part_of (record_of change)) change ≡ runs_of (record_of change)
+pub entries_are : (change : Change) → entries_of (record_part (record_of change)) change ≡ runs_of (record_of change)
 entries_are (Put part at block) = ap (λ (b : Bool). if b then 1 else 0) (same_number part)
 entries_are (Marks part at count) = ap (λ (b : Bool). if b then 1 else 0) (same_number part)
 entries_are (Erase part at) = refl
@@ -79,26 +79,26 @@ set_elsewhere (x ∷ xs) (suc n) zero q other = refl
 set_elsewhere (x ∷ xs) (suc n) (suc p) q other = set_elsewhere xs n p q (λ e. other (ap suc e))
 
 -- a record takes nothing of another partition
-reserved_elsewhere : (index : List PlacedPart) (item : Record) (place reserved p : ℕ) → (p ≡ part_of item → ⊥)
+reserved_elsewhere : (index : List PlacedPart) (item : Record) (place reserved p : ℕ) → (p ≡ record_part item → ⊥)
     → reserved_of (placed_after index item place reserved) p ≡ reserved_of index p
-reserved_elsewhere index item place reserved p other = by (slice_get index (part_of item))
+reserved_elsewhere index item place reserved p other = by (slice_get index (record_part item))
   where
     by : (found : Option PlacedPart)
-        → reserved_of (with_objects_in found index (part_of item)
-        (take (kept_of item) (placed_objects index (part_of item)) ++ placed_by item place) reserved) p
+        → reserved_of (with_objects_in found index (record_part item)
+        (take (record_kept item) (placed_objects index (record_part item)) ++ placed_by item place) reserved) p
         ≡ reserved_of index p
     by None = refl
-    by (Some part) = ap reserved_in (set_elsewhere index (part_of item) p _ other)
+    by (Some part) = ap reserved_in (set_elsewhere index (record_part item) p _ other)
 
 -- one change more takes its entries at most
 pub takes_next : (start index index' : List PlacedPart) (changes : List Change) (i : ℕ) (change : Change)
     (item : Record) (place reserved : ℕ) → i < length changes → change ≡ slice_index_or changes i change
     → record_of change ≡ item → TakesEntries start (take i changes) index
     → index' ≡ placed_after index item place reserved
-    → reserved_of index (part_of item) ≤ reserved_of index' (part_of item) + runs_of item
+    → reserved_of index (record_part item) ≤ reserved_of index' (record_part item) + runs_of item
     → TakesEntries start (take (i + 1) changes) index'
 takes_next start index index' changes i change item place reserved inside is item_is takes index_is here part =
-    elim (cases_eq part (part_of item)) [
+    elim (cases_eq part (record_part item)) [
       | inl same ↦
           omega (
             arith,
@@ -108,7 +108,7 @@ takes_next start index index' changes i change item place reserved inside is ite
             ap (reserved_of index') same,
             here,
             ap (λ (p : ℕ). entries_of p change) same,
-            ap (λ (r : Record). entries_of (part_of r) change) (sym item_is),
+            ap (λ (r : Record). entries_of (record_part r) change) (sym item_is),
             ap runs_of (sym item_is),
             entries_are change,
           )
@@ -155,14 +155,14 @@ entries_none volume (change ∷ changes) part apply beyond =
     )
 
 -- a change's record stands at the front of its spelling, whatever follows
-front_of : (change : Change) (rest : List ℕ) → IsRecord change → IsAtFront (record_of change) (spell change ++ rest)
+front_of : (change : Change) (rest : List ℕ) → IsRecord change → IsAtFront (record_of change) (spell_change change ++ rest)
 front_of change rest is =
-    let same : change_in (record_of change) (spell change ++ rest) ≡ change = change_again change rest in
+    let same : change_in (record_of change) (spell_change change ++ rest) ≡ change = change_again change rest in
     record {
       valid = subst IsRecord (sym same) is;
-      spelled = λ i. spell (sym same i) ++ sym (rest_again change rest) i;
-      sized = ap (λ (c : Change). length (spell c)) same ∙ length-spell change;
-      within = omega (arith, length-spell change, length-append (spell change) rest);
+      spelled = λ i. spell_change (sym same i) ++ sym (rest_again change rest) i;
+      sized = ap (λ (c : Change). length (spell_change c)) same ∙ length-spell change;
+      within = omega (arith, length-spell change, length-append (spell_change change) rest);
       of_it = ap record_of same;
     }
 
@@ -170,10 +170,10 @@ front_of change rest is =
 behind : (changes : List Change) (i : ℕ) (change : Change) → i < length changes
     → change ≡ slice_index_or changes i change
     → drop (length (spell_all (take i changes))) (spell_all changes)
-    ≡ spell change ++ spell_all (drop (suc i) changes)
+    ≡ spell_change change ++ spell_all (drop (suc i) changes)
 behind changes i change inside is =
     let parted : spell_all changes ≡ spell_all (take i changes) ++ spell_all (drop i changes) =
-    ap spell_all (sym (take-append-drop i changes)) ∙ flat_map-append spell (take i changes) (drop i changes) in
+    ap spell_all (sym (take-append-drop i changes)) ∙ flat_map-append spell_change (take i changes) (drop i changes) in
     ap (drop (length (spell_all (take i changes)))) parted
     ∙ drop_at (spell_all (take i changes)) (spell_all (drop i changes)) (length (spell_all (take i changes))) refl
     ∙ ap spell_all (drop-cons changes i change inside ∙ ap (λ (c : Change). c ∷ drop (suc i) changes) (sym is))
@@ -192,7 +192,7 @@ lies_placed bodies changes extents frame i change item begin place last inside s
     let from = length (spell_all (take i changes)) in
     let rest = spell_all (drop (suc i) changes) in
     let body = spell_all changes in
-    let at_is : drop from body ≡ spell change ++ rest = behind changes i change there is in
+    let at_is : drop from body ≡ spell_change change ++ rest = behind changes i change there is in
     let same : change_in (record_of change) (drop from body) ≡ change =
     ap (change_in (record_of change)) at_is ∙ change_again change rest in
     subst (λ (c : Change). LiesAt (LiesIn (bodies ++ body ∷ []) extents) c place) same

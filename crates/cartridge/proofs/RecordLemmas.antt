@@ -17,15 +17,15 @@ use Rattle.volume_core.specs.declared.objects.Object.TheVariants.{Block, Mark}
 use Rattle.volume_core.specs.declared.changes.Refusal.TheVariants.{PastEnd, NoRoom, TooLong}
 use Rattle.volume_core.specs.Volume.{Part, AllApply, changed, changed_in, has_room, part_after, part_of, refusal_in, refusal_of}
 use Rattle.volume_core.specs.Medium.{frame_size}
-use Rattle.record_index.specs.Records.{IsRecord, spell, spell_all, spell_head}
+use Rattle.record_index.specs.Records.{IsRecord, spell_change, spell_all, spell_head}
 
 -- a frame of one change has 5 bytes more than its record
-pub frame_of_one : (change : Change) → frame_size change ≡ length (spell change) + 5
+pub frame_of_one : (change : Change) → frame_size change ≡ length (spell_change change) + 5
 frame_of_one (Put part at block) = omega (arith, length-append (spell_head 1 part at (length block)) block)
 frame_of_one (Marks part at count) = refl
 frame_of_one (Erase part at) = refl
 
-pub some_bytes : (change : Change) → 1 ≤ length (spell change)
+pub some_bytes : (change : Change) → 1 ≤ length (spell_change change)
 some_bytes (Put part at block) = omega (arith, length-append (spell_head 1 part at (length block)) block)
 some_bytes (Marks part at count) = omega arith
 some_bytes (Erase part at) = omega arith
@@ -108,15 +108,15 @@ all_applying volume (change ∷ changes) few all =
 -- the record of a change has its place in the body
 pub part_fits : (changes : List Change) (i : ℕ) (change : Change) → i < length changes
     → change ≡ slice_index_or changes i change
-    → length (spell_all (take i changes)) + length (spell change) ≤ length (spell_all changes)
+    → length (spell_all (take i changes)) + length (spell_change change) ≤ length (spell_all changes)
 part_fits changes i change inside is =
-    omega (arith, length-flat_map-take spell changes i change inside, ap (λ (c : Change). length (spell c)) is)
+    omega (arith, length-flat_map-take spell_change changes i change inside, ap (λ (c : Change). length (spell_change c)) is)
 
 pub spelled_next : (changes : List Change) (i : ℕ) (change : Change) → i < length changes
     → change ≡ slice_index_or changes i change
-    → spell_all (take (i + 1) changes) ≡ spell_all (take i changes) ++ spell change
+    → spell_all (take (i + 1) changes) ≡ spell_all (take i changes) ++ spell_change change
 spelled_next changes i change inside is =
     ap spell_all (ap (λ (n : ℕ). take n changes) (add-one i) ∙ take-suc changes i change inside)
-    ∙ flat_map-append spell (take i changes) (slice_index_or changes i change ∷ [])
+    ∙ flat_map-append spell_change (take i changes) (slice_index_or changes i change ∷ [])
     ∙ ap (λ (l : List ℕ). spell_all (take i changes) ++ l)
-    (append-nil (spell (slice_index_or changes i change)) ∙ ap spell (sym is))
+    (append-nil (spell_change (slice_index_or changes i change)) ∙ ap spell_change (sym is))

@@ -7,7 +7,7 @@ use Rattle.volume_core.specs.declared.changes.Change.{Change}
 use Rattle.volume_core.specs.Volume.{Part, AllApply}
 use Rattle.tape_disk.specs.Disk.{DiskState}
 use Rattle.gate_journal.specs.State.{OpenSide, room_behind}
-use Rattle.record_index.specs.Records.{spell, spell_all}
+use Rattle.record_index.specs.Records.{spell_change, spell_all}
 use Rattle.record_index.specs.Places.{PlacedPart, reserved_of}
 use Rattle.cartridge.specs.Answers.{LacksReserved, entries_of}
 use Rattle.cartridge.specs.Contents.{Contents}
@@ -43,7 +43,7 @@ room_left end after n is fits = omega (arith, is, fits)
 -- some change has some bytes
 pub some_body : (changes : List Change) → 1 ≤ length changes → 1 ≤ length (spell_all changes)
 some_body [] some = absurd (omega (arith, some))
-some_body (c ∷ cs) some = omega (arith, some_bytes c, length-append (spell c) (spell_all cs))
+some_body (c ∷ cs) some = omega (arith, some_bytes c, length-append (spell_change c) (spell_all cs))
 
 pub grown_entries : (old new : List PlacedPart) → IsGrown old new → (part : ℕ)
     → slice_index_or (map (λ (p : PlacedPart). p.reserved) old) part 0

@@ -8,7 +8,7 @@ use Rattle.gate_journal.specs.Side.{Heading}
 use Rattle.gate_journal.specs.Inner.Sides.{one_side, never_ours, stands}
 use Rattle.record_index.specs.Records.{IsRecord, spell_all}
 use Rattle.record_index.specs.Inner.Decided.{same_list}
-use Rattle.cartridge.specs.Contents.{Contents, Gives, IsContents, IsNoCartridge, bodies_of}
+use Rattle.cartridge.specs.Contents.{Contents, GivesContents, IsContents, IsNoCartridge, bodies_of}
 
 -- frames that are spelled alike are the same
 same_frames : (frames others : List (List Change)) → All (All IsRecord) frames → All (All IsRecord) others
@@ -30,13 +30,13 @@ same_contents a b is also heading frames =
     is.base ∙ ap (λ (h : Heading). empty_volume h.capacities) heading ∙ sym also.base in
     λ i. record { heading = heading i; base = base i; frames = frames i }
 
-pub gives_one : (image : List ℕ) (a b : Contents) → Gives a image → Gives b image → a ≡ b
+pub gives_one : (image : List ℕ) (a b : Contents) → GivesContents a image → GivesContents b image → a ≡ b
 gives_one image a b one two =
     let side = one_side image a.heading b.heading (bodies_of a.frames) (bodies_of b.frames) one.1 two.1 in
     same_contents a b one.0 two.0 side.0 (same_frames a.frames b.frames one.0.records two.0.records side.1)
 
 -- what gives contents is the side of a cartridge
-pub gives_ours : (image : List ℕ) (contents : Contents) → Gives contents image → IsNoCartridge image → ⊥
+pub gives_ours : (image : List ℕ) (contents : Contents) → GivesContents contents image → IsNoCartridge image → ⊥
 gives_ours image contents gives (inl never) =
     absurd (never_ours image contents.heading (bodies_of contents.frames) (gives.1.1.0 ∷ gives.1.1.1)
     (stands image contents.heading (bodies_of contents.frames) gives.1) never)

@@ -14,7 +14,7 @@ use Rattle.volume_core.specs.Plain.{moves_on_by_changes}
 use Rattle.volume_core.specs.Stores.{after_append}
 use Rattle.record_index.specs.declared.records.Record.{Record}
 use Rattle.record_index.specs.declared.records.Record.TheVariants as Records
-use Rattle.record_index.specs.Records.{BeginsWithRecord, IsAtFront, IsRecord, change_in, record_of, size_of, spell, spell_all}
+use Rattle.record_index.specs.Records.{BeginsWithRecord, IsAtFront, IsRecord, change_in, record_of, size_of, spell_change, spell_all}
 use Rattle.record_index.specs.Places.{PlacedPart, outline, outlined, placed_after}
 use Rattle.record_index.specs.Shapes.{IsIndexOf}
 use Rattle.record_index.specs.Facts.{refusal_by_shape}
@@ -32,9 +32,9 @@ refused_alike index volume change item shape is =
     (λ i. refusal_of (shape i) (outlined (sym is i))) ∙ refusal_by_shape volume change
 
 -- one change more
-pub spell_more : (done : List Change) (change : Change) → spell_all (done ++ change ∷ []) ≡ spell_all done ++ spell change
+pub spell_more : (done : List Change) (change : Change) → spell_all (done ++ change ∷ []) ≡ spell_all done ++ spell_change change
 spell_more done change =
-    flat_map-append spell done (change ∷ []) ∙ ap (λ (l : List ℕ). spell_all done ++ l) (append-nil (spell change))
+    flat_map-append spell_change done (change ∷ []) ∙ ap (λ (l : List ℕ). spell_all done ++ l) (append-nil (spell_change change))
 
 pub after_more : (volume : List Part) (done : List Change) (change : Change)
     → after volume (done ++ change ∷ []) ≡ changed (after volume done) change
@@ -54,19 +54,19 @@ applies_there volume (x ∷ xs) change more apply = applies_there (changed volum
 
 -- what spells the same bytes as some changes, another and more begins with these
 begins_so : (done : List Change) (change : Change) (rest : List ℕ) (changes : List Change) → All IsRecord done
-    → IsRecord change → All IsRecord changes → 1 ≤ length (spell change)
-    → spell_all changes ≡ spell_all done ++ (spell change ++ rest)
+    → IsRecord change → All IsRecord changes → 1 ≤ length (spell_change change)
+    → spell_all changes ≡ spell_all done ++ (spell_change change ++ rest)
     → (more : List Change) × (changes ≡ done ++ change ∷ more)
 begins_so [] change rest [] good is all some e =
-    absurd (omega (arith, ap length e, length-append (spell change) rest, some))
+    absurd (omega (arith, ap length e, length-append (spell_change change) rest, some))
 begins_so [] change rest (c ∷ cs) good is all some e =
     let same = one_front c change (spell_all cs) rest (All-head IsRecord c cs all) is e in
     (cs, ap (λ (x : Change). x ∷ cs) same.0)
 begins_so (d ∷ ds) change rest [] good is all some e =
-    absurd (omega (arith, ap length e, length-append (spell d ++ spell_all ds) (spell change ++ rest), length-append (spell change) rest, some))
+    absurd (omega (arith, ap length e, length-append (spell_change d ++ spell_all ds) (spell_change change ++ rest), length-append (spell_change change) rest, some))
 begins_so (d ∷ ds) change rest (c ∷ cs) good is all some e =
-    let same = one_front c d (spell_all cs) (spell_all ds ++ (spell change ++ rest)) (All-head IsRecord c cs all)
-    (All-head IsRecord d ds good) (e ∙ append_assoc (spell d) (spell_all ds) (spell change ++ rest)) in
+    let same = one_front c d (spell_all cs) (spell_all ds ++ (spell_change change ++ rest)) (All-head IsRecord c cs all)
+    (All-head IsRecord d ds good) (e ∙ append_assoc (spell_change d) (spell_all ds) (spell_change change ++ rest)) in
     let others = begins_so ds change rest cs (All-tail IsRecord d ds good) is (All-tail IsRecord c cs all) some same.1 in
     (others.0, λ i. same.0 i ∷ others.1 i)
 
@@ -109,7 +109,7 @@ module _ (body : List ℕ) (volume : List Part) (P : List ℕ → ℕ → Type 0
         refused_alike index (after volume walked.0) change item
         (indexes_shape P (after volume walked.0) index walked.5) front.of_it
 
-    whole : body ≡ spell_all walked.0 ++ (spell change ++ drop (size_of item) (drop from body))
+    whole : body ≡ spell_all walked.0 ++ (spell_change change ++ drop (size_of item) (drop from body))
     whole = walked.2 ∙ ap (λ (l : List ℕ). spell_all walked.0 ++ l) front.spelled
 
     -- a record that is refused
@@ -129,9 +129,9 @@ module _ (body : List ℕ) (volume : List Part) (P : List ℕ → ℕ → Type 0
       walked.0 ++ change ∷ [],
       All-append IsRecord walked.0 (change ∷ []) walked.1 (All-cons IsRecord change [] front.valid (All-nil IsRecord)),
       whole
-          ∙ sym (append_assoc (spell_all walked.0) (spell change) (drop (size_of item) (drop from body)))
+          ∙ sym (append_assoc (spell_all walked.0) (spell_change change) (drop (size_of item) (drop from body)))
           ∙ (λ i. sym (spell_more walked.0 change) i ++ rest i),
-      omega (arith, walked.3, front.sized, ap length (spell_more walked.0 change), length-append (spell_all walked.0) (spell change)),
+      omega (arith, walked.3, front.sized, ap length (spell_more walked.0 change), length-append (spell_all walked.0) (spell_change change)),
       apply_more volume walked.0 change walked.4 (sym refused_so ∙ none),
       subst (λ (x : List Part × List PlacedPart). Indexes P x.0 x.1)
           (λ i. (sym (after_more volume walked.0 change) i, same i))

@@ -10,7 +10,7 @@ use Rattle.cartridge.specs.declared.error.CartridgeError.{CartridgeError}
 use Rattle.cartridge.specs.declared.error.CartridgeError.TheVariants.{NotOurs, Damaged, BadRecord, SideFull, Device, Failed, NoMemory}
 use Rattle.cartridge.specs.declared.error.NotCreated.{NotCreated}
 use Rattle.cartridge.specs.declared.error.NotOpened.{NotOpened}
-use Rattle.cartridge.specs.Contents.{IsBadAt, IsNoCartridge, with_frames}
+use Rattle.cartridge.specs.Contents.{IsBadFrameAt, IsNoCartridge, with_frames}
 use Rattle.record_index.specs.Records.{spell_all}
 use Rattle.cartridge.specs.State.{ClosedCartridge, OpenCartridge, Reserved}
 
@@ -60,7 +60,7 @@ LacksReserved old changes =
 
 module _ {D : Type 0} where
   -- these changes were stored, as one frame (own)
-  pub record IsStored (old : OpenCartridge D) (changes : List Change) (new : OpenCartridge D) : Type 0 where
+  pub record HasStored (old : OpenCartridge D) (changes : List Change) (new : OpenCartridge D) : Type 0 where
     pub was_fine : old.failed ≡ false
     pub is_fine : new.failed ≡ false
     pub contents : new.contents ≡ with_frames old.contents (changes ∷ [])
@@ -69,7 +69,7 @@ module _ {D : Type 0} where
     pub reserved : TakesReserved old.reserved changes new.reserved
 
   -- the disk failed while these changes were stored: the cartridge keeps its contents, and what was under way (own)
-  pub record IsBroken (old : OpenCartridge D) (changes : List Change) (new : OpenCartridge D) : Type 0 where
+  pub record HasBroken (old : OpenCartridge D) (changes : List Change) (new : OpenCartridge D) : Type 0 where
     pub was_fine : old.failed ≡ false
     pub fitted : length (spell_all changes) + 5 ≤ old.room
     pub failed : new.failed ≡ true
@@ -97,14 +97,14 @@ disk_opened (Ok cartridge) = cartridge.disk
 disk_opened (Err refused) = refused.shelved.disk
 
 -- why a cartridge is not made: memory ran out, and the disk was not touched; or a fault (own)
-abbrev pub NotMade : CartridgeError → Type 0 → (DevFault → Type 0) → Type 0
-NotMade NoMemory memory device = memory
-NotMade (Device fault) memory device = device fault
-NotMade NotOurs memory device = ⊥
-NotMade (Damaged at) memory device = ⊥
-NotMade (BadRecord at) memory device = ⊥
-NotMade SideFull memory device = ⊥
-NotMade Failed memory device = ⊥
+abbrev pub NotCreated : CartridgeError → Type 0 → (DevFault → Type 0) → Type 0
+NotCreated NoMemory memory device = memory
+NotCreated (Device fault) memory device = device fault
+NotCreated NotOurs memory device = ⊥
+NotCreated (Damaged at) memory device = ⊥
+NotCreated (BadRecord at) memory device = ⊥
+NotCreated SideFull memory device = ⊥
+NotCreated Failed memory device = ⊥
 
 -- Why a cartridge is not opened: what the old bytes are, which are then sure, and no call failed; or a fault; or memory
 -- ran out, where there are the 27 bytes that each heading has, and no call failed (own).
@@ -113,7 +113,7 @@ IsNotOpened NotOurs old new = NoneFailed old new × (old.honest → IsNoCartridg
 IsNotOpened (Damaged at) old new =
     NoneFailed old new × (old.honest → IsDamagedAt old.seen at × Only old.seen new.may_leave)
 IsNotOpened (BadRecord at) old new =
-    NoneFailed old new × (old.honest → IsBadAt old.seen at × Only old.seen new.may_leave)
+    NoneFailed old new × (old.honest → IsBadFrameAt old.seen at × Only old.seen new.may_leave)
 IsNotOpened (Device fault) old new = IsFault fault old new
 IsNotOpened NoMemory old new = NoneFailed old new × (old.honest → 27 ≤ length old.seen)
 IsNotOpened SideFull old new = ⊥

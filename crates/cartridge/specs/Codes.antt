@@ -43,21 +43,22 @@ abbrev pub frames_code : Coded (List (List Change))
 frames_code = coded_list (coded_list change_code)
 
 -- an object as a mark or a block, and back (own)
-abbrev bytes_of : Object → Bool ⊎ List ℕ
-bytes_of (Block bytes) = inr bytes
-bytes_of Mark = inl true
+abbrev coded_bytes : Object → Bool ⊎ List ℕ
+coded_bytes (Block bytes) = inr bytes
+coded_bytes Mark = inl true
 
 abbrev object_of : Bool ⊎ List ℕ → Object
 object_of (inl mark) = Mark
 object_of (inr bytes) = Block bytes
 
-pub object_again : (object : Object) → object_of (bytes_of object) ≡ object
+-- and back (own)
+pub object_again : (object : Object) → object_of (coded_bytes object) ≡ object
 object_again (Block bytes) = refl
 object_again Mark = refl
 
 -- an object as plain data (own)
 abbrev pub object_code : Coded Object
-object_code = code_by (Bool ⊎ List ℕ) (coded⊎ coded_bool (coded_list coded_ℕ)) bytes_of object_of object_again
+object_code = code_by (Bool ⊎ List ℕ) (coded⊎ coded_bool (coded_list coded_ℕ)) coded_bytes object_of object_again
 
 -- a partition as plain data (own)
 abbrev pub part_code : Coded Part

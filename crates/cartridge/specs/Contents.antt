@@ -24,8 +24,8 @@ abbrev pub changes_in : Contents → List Change
 changes_in contents = changes_of contents.frames
 
 -- the volume that a side gives: its changes carried out, from its base on (own)
-abbrev pub volume_in : Contents → List Part
-volume_in contents = after contents.base (changes_in contents)
+abbrev pub volume_made : Contents → List Part
+volume_made contents = after contents.base (changes_in contents)
 
 -- a side's contents with these frames behind its own (own)
 abbrev pub with_frames : Contents → List (List Change) → Contents
@@ -52,12 +52,12 @@ abbrev pub bodies_of : List (List Change) → List (List ℕ)
 bodies_of frames = map spell_all frames
 
 -- what is found on the image is just this (own)
-abbrev pub Gives : Contents → List ℕ → Type 0
-Gives contents image = IsContents contents × StandsFor contents.heading (bodies_of contents.frames) image
+abbrev pub GivesContents : Contents → List ℕ → Type 0
+GivesContents contents image = IsContents contents × StandsFor contents.heading (bodies_of contents.frames) image
 
 -- the image gives the contents, or these with the frame that was under way (own)
-abbrev pub Shows : Contents → List (List Change) → List ℕ → Type 0
-Shows contents torn image = Gives contents image ⊎ Gives (with_frames contents torn) image
+abbrev pub ShowsContents : Contents → List (List Change) → List ℕ → Type 0
+ShowsContents contents torn image = GivesContents contents image ⊎ GivesContents (with_frames contents torn) image
 
 -- the image is no side of a cartridge: no side at all, or a store's (own)
 abbrev pub IsNoCartridge : List ℕ → Type 0
@@ -75,10 +75,10 @@ pub record IsBadFrame (heading : Heading) (bodies : List (List ℕ)) (good : Lis
   pub gate : at ≡ length (spell heading (bodies_of good))
   pub bad : (changes : List Change) → All IsRecord changes
       → slice_index_or bodies (length good) [] ≡ spell_all changes
-      → AllApply (volume_in (contents_from heading good)) changes → ⊥
+      → AllApply (volume_made (contents_from heading good)) changes → ⊥
 
 -- the image stands for a side whose first bad frame has its gate at that place (own)
-abbrev pub IsBadAt : List ℕ → ℕ → Type 0
-IsBadAt image at =
+abbrev pub IsBadFrameAt : List ℕ → ℕ → Type 0
+IsBadFrameAt image at =
     (heading : Heading) × (bodies : List (List ℕ)) × (good : List (List Change))
     × StandsFor heading bodies image × IsBadFrame heading bodies good at

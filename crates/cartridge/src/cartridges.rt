@@ -5,7 +5,7 @@ ghost use Rattle.vtl_base.specs.declared.limits.TheConstants.{MAX_CAPACITY, MAX_
 ghost use Rattle.volume_core.specs.Volume.{capacity_of, count_of, kind_at, used_up_to};
 ghost use Rattle.gate_journal.specs.Side.{spell};
 ghost use Rattle.gate_journal.specs.State.{room_behind};
-ghost use Rattle.cartridge.specs.Contents.{Gives, IsContents, Shows, bodies_of, volume_in};
+ghost use Rattle.cartridge.specs.Contents.{GivesContents, IsContents, ShowsContents, bodies_of, volume_made};
 
 use crate::noted::Noted;
 use crate::shelved::Shelved;
@@ -68,9 +68,9 @@ impl<D: Disk> Cartridge<D> {
         ensures contents { IsContents self.now.contents }
         ensures at_rest { self.now.failed ≡ false → self.now.torn ≡ [] }
         ensures shows { (D.state self.now.disk).honest →
-            Each (D.state self.now.disk) (Shows self.now.contents self.now.torn) }
+            Each (D.state self.now.disk) (ShowsContents self.now.contents self.now.torn) }
         ensures sure { (D.state self.now.disk).honest → self.now.failed ≡ false →
-            Each (D.state self.now.disk) (Gives self.now.contents) }
+            Each (D.state self.now.disk) (GivesContents self.now.contents) }
         ensures room { (D.state self.now.disk).honest → self.now.room ≡ room_behind
             (length (spell self.now.contents.heading (bodies_of self.now.contents.frames))) }
     {
@@ -95,7 +95,7 @@ impl<D: Disk> Cartridge<D> {
 
     /// How many partitions there are, 1 to 4.
     pub fn parts(&self) -> PartNo
-        ensures parts { result ≡ length (volume_in self.now.contents) }
+        ensures parts { result ≡ length (volume_made self.now.contents) }
         ensures some { 1 ≤ result }
         ensures few { result ≤ MAX_PARTITIONS }
     {
@@ -104,7 +104,7 @@ impl<D: Disk> Cartridge<D> {
 
     /// The capacity of a partition in bytes, 0 where there is no such partition.
     pub fn capacity(&self, part: PartNo) -> u64
-        ensures capacity { result ≡ capacity_of (volume_in self.now.contents) part }
+        ensures capacity { result ≡ capacity_of (volume_made self.now.contents) part }
         ensures bound { result ≤ MAX_CAPACITY }
     {
         a_volume_is_seen_by_its_shape();
@@ -113,7 +113,7 @@ impl<D: Disk> Cartridge<D> {
 
     /// How many objects a partition has, 0 where there is no such partition.
     pub fn count(&self, part: PartNo) -> ObjNo
-        ensures count { result ≡ count_of (volume_in self.now.contents) part }
+        ensures count { result ≡ count_of (volume_made self.now.contents) part }
         ensures bound { result ≤ MAX_OBJECTS }
     {
         a_volume_is_seen_by_its_shape();
@@ -122,7 +122,7 @@ impl<D: Disk> Cartridge<D> {
 
     /// The kind of the object of a number, None where there is none.
     pub fn kind_at(&self, part: PartNo, at: ObjNo) -> Option<Kind>
-        ensures { result ≡ kind_at (volume_in self.now.contents) part at }
+        ensures { result ≡ kind_at (volume_made self.now.contents) part at }
     {
         a_volume_is_seen_by_its_shape();
         self.index.kind_at(part, at)
@@ -131,8 +131,8 @@ impl<D: Disk> Cartridge<D> {
     /// What the first n objects of a partition take of its capacity, in bytes; all of them where
     /// there are fewer.
     pub fn used(&self, part: PartNo, n: ObjNo) -> u64
-        ensures used { result ≡ used_up_to (volume_in self.now.contents) part n }
-        ensures bound { result ≤ capacity_of (volume_in self.now.contents) part }
+        ensures used { result ≡ used_up_to (volume_made self.now.contents) part n }
+        ensures bound { result ≤ capacity_of (volume_made self.now.contents) part }
     {
         a_volume_is_seen_by_its_shape();
         self.index.used(part, n)

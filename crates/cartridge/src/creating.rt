@@ -5,8 +5,8 @@ ghost use Rattle.vtl_base.specs.Barcode.{IsBarcode};
 ghost use Rattle.volume_core.specs.Volume.{are_capacities};
 ghost use Rattle.gate_journal.specs.Answers.{IsFault, NoneFailed};
 ghost use Rattle.gate_journal.specs.Side.{CLOSED, heading_of, spell};
-ghost use Rattle.cartridge.specs.Answers.{NotMade, disk_created};
-ghost use Rattle.cartridge.specs.Contents.{Gives, contents_from, heading_with};
+ghost use Rattle.cartridge.specs.Answers.{NotCreated, disk_created};
+ghost use Rattle.cartridge.specs.Contents.{GivesContents, contents_from, heading_with};
 
 use crate::cartridges::Cartridge;
 use crate::error::{CartridgeError, NotCreated};
@@ -37,8 +37,8 @@ impl<D: Disk> Cartridge<D> {
         ensures bytes { IfOk result (λ shelved. (D.state disk).honest →
             (D.state shelved.disk).seen ≡ spell shelved.contents.heading [] ++ CLOSED ∷ []) }
         ensures sure { IfOk result (λ shelved. (D.state disk).honest →
-            Each (D.state shelved.disk) (Gives shelved.contents)) }
-        ensures refused { IfErr result (λ refused. NotMade refused.error
+            Each (D.state shelved.disk) (GivesContents shelved.contents)) }
+        ensures refused { IfErr result (λ refused. NotCreated refused.error
             (refused.disk ≡ disk) (λ fault. IsFault fault (D.state disk) (D.state refused.disk))) }
     {
         let Ok(header) = header_with(alloc, barcode, capacities) else {

@@ -7,7 +7,7 @@ ghost use Rattle.volume_core.specs.Volume.{block_at, kind_at};
 ghost use Rattle.gate_journal.specs.Answers.{IsFault, NoneFailed};
 ghost use Rattle.gate_journal.specs.Crash.{Unwritten};
 ghost use Rattle.cartridge.specs.Answers.{MatchCall};
-ghost use Rattle.cartridge.specs.Contents.{volume_in};
+ghost use Rattle.cartridge.specs.Contents.{volume_made};
 
 use crate::cartridges::Cartridge;
 use crate::error::CartridgeError;
@@ -26,7 +26,7 @@ impl<D: Disk> Cartridge<D> {
         at: ObjNo,
         into: &mut Vec<u8>,
     ) -> Result<(), CartridgeError>
-        requires { kind_at (volume_in self.old.contents) part at ≡ Some Kinds.Block }
+        requires { kind_at (volume_made self.old.contents) part at ≡ Some Kinds.Block }
         ensures disk { Keeps (D.state self.old.disk) (D.state self.new.disk) }
         ensures same { self.new ≡ record self.old {
           disk = self.new.disk;
@@ -40,7 +40,7 @@ impl<D: Disk> Cartridge<D> {
             × IsFault fault (D.state self.old.disk) (D.state self.new.disk))
             ((self.old.failed ≡ true) × (self.new ≡ self.old)) }
         ensures bytes { (D.state self.old.disk).honest → OnOk result
-            (block_at (volume_in self.old.contents) part at ≡ Some into.new.items) }
+            (block_at (volume_made self.old.contents) part at ≡ Some into.new.items) }
         ensures bound { OnOk result (length into.new.items ≤ MAX_BLOCK) }
         ensures unwritten { (D.state self.old.disk).honest →
             Unwritten (D.state self.old.disk) (D.state self.new.disk) }

@@ -5,7 +5,7 @@ ghost use Rattle.tape_disk.specs.Moments.{LeavesOnly};
 ghost use Rattle.gate_journal.specs.Answers.{NoneFailed};
 ghost use Rattle.gate_journal.specs.Crash.{Unwritten};
 ghost use Rattle.cartridge.specs.Answers.{IsNotOpened, disk_opened};
-ghost use Rattle.cartridge.specs.Contents.{Gives, bodies_of};
+ghost use Rattle.cartridge.specs.Contents.{GivesContents, bodies_of};
 ghost use Rattle.cartridge.specs.Inner.Open.{IsOpen};
 ghost use Rattle.cartridge.specs.Inner.Reading.{IsNotRead, NotRecovered};
 
@@ -28,7 +28,7 @@ impl<D: Disk> Cartridge<D> {
         ensures ok { IfOk result (λ cartridge. (cartridge.failed ≡ false) × (cartridge.torn ≡ [])
             × NoneFailed (D.state shelved.disk) (D.state cartridge.disk)) }
         ensures gives { IfOk result (λ cartridge. (D.state shelved.disk).honest →
-            Gives cartridge.contents (D.state shelved.disk).seen
+            GivesContents cartridge.contents (D.state shelved.disk).seen
             × Only (D.state shelved.disk).seen (D.state cartridge.disk).may_leave) }
         ensures refused { IfErr result (λ refused.
             IsNotOpened refused.error (D.state shelved.disk) (D.state refused.shelved.disk)) }

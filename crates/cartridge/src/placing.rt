@@ -5,7 +5,7 @@ ghost use Rattle.volume_core.specs.Volume.{AllApply, after};
 ghost use Rattle.record_index.specs.Records.{IsRecord, size_of, spell_all};
 ghost use Rattle.record_index.specs.Places.{reserved_of};
 ghost use Rattle.cartridge.specs.Answers.{entries_of};
-ghost use Rattle.cartridge.specs.Contents.{volume_in};
+ghost use Rattle.cartridge.specs.Contents.{volume_made};
 ghost use Rattle.cartridge.specs.Inner.Growing.{HasRoomFor, TakesEntries};
 ghost use Rattle.record_index.specs.Indexes.{Indexes};
 ghost use Rattle.cartridge.specs.Lying.{HasBlock, IsPlaceOf, LiesOnSide};
@@ -24,7 +24,7 @@ pub(crate) fn place_frame<D: Disk>(
     noted: &Noted,
     changes: &[Change],
 )
-    requires apply { AllApply (volume_in (noted_contents noted.now.notes)) changes.now }
+    requires apply { AllApply (volume_made (noted_contents noted.now.notes)) changes.now }
     requires records { All IsRecord changes.now }
     requires room { HasRoomFor index.old changes.now }
     requires counted { length journal.now.extents ≡ length noted.now.notes.frames + 1 }
@@ -33,9 +33,9 @@ pub(crate) fn place_frame<D: Disk>(
     requires fits { (slice_index_or journal.now.extents (length noted.now.notes.frames) (0, 0)).0
         + length (spell_all changes.now) < 2 ^ 64 }
     requires lies { Indexes (LiesOnSide (with_frame noted.now.notes changes.now) journal.now.extents)
-        (volume_in (noted_contents noted.now.notes)) index.old }
+        (volume_made (noted_contents noted.now.notes)) index.old }
     ensures lies { Indexes (LiesOnSide (with_frame noted.now.notes changes.now) journal.now.extents)
-        (after (volume_in (noted_contents noted.now.notes)) changes.now) index.new }
+        (after (volume_made (noted_contents noted.now.notes)) changes.now) index.new }
     ensures reserved { TakesEntries index.old changes.now index.new }
 {
     let count = journal.frames();

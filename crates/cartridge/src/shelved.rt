@@ -1,7 +1,7 @@
 //! A closed cartridge.
 ghost use Rattle.std.specs.Prelude.{◌≡◌, true, false};
 ghost use Rattle.tape_disk.specs.Disk.{Each};
-ghost use Rattle.cartridge.specs.Contents.{Shows};
+ghost use Rattle.cartridge.specs.Contents.{ShowsContents};
 ghost use Rattle.cartridge.specs.Notes.{noted_contents};
 
 use crate::noted::Noted;
@@ -19,7 +19,7 @@ pub struct Shelved<D: Disk> {
 impl<D: Disk> Model for Shelved<D> {
     ghost use Rattle.std.specs.Prelude.{◌≡◌, true};
     ghost use Rattle.tape_disk.specs.Disk.{Each};
-    ghost use Rattle.cartridge.specs.Contents.{Shows};
+    ghost use Rattle.cartridge.specs.Contents.{ShowsContents};
     ghost use Rattle.cartridge.specs.Notes.{noted_contents};
     ghost use Rattle.cartridge.specs.State.{ClosedCartridge, closed_code};
 
@@ -35,7 +35,7 @@ impl<D: Disk> Model for Shelved<D> {
     } };
 
     ghost invariant = { λ a. a.known ≡ true → (D.state a.disk).honest →
-        Each (D.state a.disk) (Shows (noted_contents a.noted.notes) a.noted.notes.torn) };
+        Each (D.state a.disk) (ShowsContents (noted_contents a.noted.notes) a.noted.notes.torn) };
 }
 
 impl<D: Disk> Shelved<D> {
@@ -54,7 +54,7 @@ impl<D: Disk> Shelved<D> {
     // A closed cartridge whose side is known.
     pub(crate) fn with(disk: D, noted: Noted) -> Shelved<D>
         requires { (D.state disk).honest →
-            Each (D.state disk) (Shows (noted_contents noted.notes) noted.notes.torn) }
+            Each (D.state disk) (ShowsContents (noted_contents noted.notes) noted.notes.torn) }
         ensures { result ≡ record {
           disk = disk;
           known = true;
@@ -73,7 +73,7 @@ impl<D: Disk> Shelved<D> {
     /// way when the disk failed.
     pub fn known(&self)
         ensures { self.now.known ≡ true → (D.state self.now.disk).honest →
-            Each (D.state self.now.disk) (Shows self.now.contents self.now.torn) }
+            Each (D.state self.now.disk) (ShowsContents self.now.contents self.now.torn) }
     {
         // Looked at for the proof's sake: the facts are the type's.
         let _ = &self.known;

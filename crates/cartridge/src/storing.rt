@@ -8,8 +8,8 @@ ghost use Rattle.volume_core.specs.Volume.{AllApply};
 ghost use Rattle.gate_journal.specs.Answers.{IsFault, NoneFailed};
 ghost use Rattle.record_index.specs.Records.{IsRecord, spell_all};
 ghost use Rattle.record_index.specs.Places.{reserved_of};
-ghost use Rattle.cartridge.specs.Answers.{IsBroken, IsStored, KeepsReserved, Lacks, LacksMemory, MatchCall, entries_of};
-ghost use Rattle.cartridge.specs.Contents.{Gives, Shows, bodies_of, volume_in};
+ghost use Rattle.cartridge.specs.Answers.{HasBroken, HasStored, KeepsReserved, Lacks, LacksMemory, MatchCall, entries_of};
+ghost use Rattle.cartridge.specs.Contents.{GivesContents, ShowsContents, bodies_of, volume_made};
 ghost use Rattle.cartridge.specs.Inner.Growing.{HasRoomWithin, IsGrown, IsSameSide};
 
 use crate::bodies::{fill_body, size_of_body};
@@ -54,23 +54,23 @@ impl<D: Disk> Cartridge<D> {
     /// written; after every other error nothing changed but what is reserved.
     pub fn store(&mut self, changes: &[Change]) -> Result<(), CartridgeError>
         requires some { 1 ≤ length changes.now }
-        requires apply { AllApply (volume_in self.old.contents) changes.now }
+        requires apply { AllApply (volume_made self.old.contents) changes.now }
         requires short { length (spell_all changes.now) ≤ MAX_BODY }
         ensures disk { Keeps (D.state self.old.disk) (D.state self.new.disk) }
         ensures answer { MatchCall result
-            (IsStored self.old changes.now self.new
+            (HasStored self.old changes.now self.new
             × NoneFailed (D.state self.old.disk) (D.state self.new.disk))
             (LacksMemory self.old changes.now self.new)
             ((self.old.failed ≡ false) × (self.old.room < length (spell_all changes.now) + 5)
             × (self.new ≡ self.old))
-            (λ fault. IsBroken self.old changes.now self.new
+            (λ fault. HasBroken self.old changes.now self.new
             × IsFault fault (D.state self.old.disk) (D.state self.new.disk))
             ((self.old.failed ≡ true) × (self.new ≡ self.old)) }
         ensures sure { (D.state self.old.disk).honest → OnOk result
-            (Each (D.state self.new.disk) (Gives self.new.contents)) }
+            (Each (D.state self.new.disk) (GivesContents self.new.contents)) }
         ensures any_moment { (D.state self.old.disk).honest → self.old.failed ≡ false →
             LeavesOnly (D.state self.old.disk) (D.state self.new.disk)
-            (Shows self.old.contents (changes.now ∷ [])) }
+            (ShowsContents self.old.contents (changes.now ∷ [])) }
     {
         if self.journal.has_failed() {
             return Err(CartridgeError::Failed);

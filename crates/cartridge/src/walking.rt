@@ -1,6 +1,6 @@
 //! The records of a body are carried out on the index, one after the other.
 ghost use Rattle.std.specs.Prelude.{◌≡◌, ◌+◌, ◌^◌, ◌<◌, ◌++◌, [], ◌∷◌, ℕ, List, length, true, false, IfOk, slice_index_or};
-ghost use Rattle.cartridge.specs.Contents.{bodies_of, volume_in};
+ghost use Rattle.cartridge.specs.Contents.{bodies_of, volume_made};
 ghost use Rattle.cartridge.specs.Inner.Reading.{WalksTo};
 ghost use Rattle.cartridge.specs.Lying.{LiesIn};
 ghost use Rattle.cartridge.specs.Notes.{noted_contents};
@@ -29,8 +29,8 @@ pub(crate) fn walk_body<D: Disk>(
         ≡ (slice_index_or journal.now.extents frame (0, 0)).1 }
     requires fits { (slice_index_or journal.now.extents frame (0, 0)).0 + length body.now < 2 ^ 64 }
     requires lies { Indexes (LiesIn (bodies_of noted.now.notes.frames ++ body.now ∷ []) journal.now.extents)
-        (volume_in (noted_contents noted.now.notes)) index.old }
-    ensures { IfOk result (λ good. WalksTo good body.now (volume_in (noted_contents noted.now.notes))
+        (volume_made (noted_contents noted.now.notes)) index.old }
+    ensures { IfOk result (λ good. WalksTo good body.now (volume_made (noted_contents noted.now.notes))
         (LiesIn (bodies_of noted.now.notes.frames ++ body.now ∷ []) journal.now.extents) index.new) }
 {
     let (place, _) = journal.body_at(frame);

@@ -12,7 +12,7 @@ use Rattle.record_index.specs.Places.{PlacedPart}
 use Rattle.record_index.specs.Indexes.{Indexes}
 use Rattle.cartridge.specs.declared.error.CartridgeError.{CartridgeError}
 use Rattle.cartridge.specs.declared.error.CartridgeError.TheVariants.{NotOurs, Damaged, BadRecord, SideFull, Device, Failed, NoMemory}
-use Rattle.cartridge.specs.Contents.{IsBadFrame, IsContents, volume_in}
+use Rattle.cartridge.specs.Contents.{IsBadFrame, IsContents, volume_made}
 use Rattle.cartridge.specs.Lying.{LiesOnSide}
 use Rattle.cartridge.specs.Notes.{Notes, noted_contents}
 
@@ -60,4 +60,4 @@ pub record IsReadUpTo (frame : ℕ) (heading : Heading) (extents : List (ℕ × 
   pub contents : IsContents (noted_contents notes)
   pub none_torn : notes.torn ≡ []
   pub counted : length notes.frames ≡ frame
-  pub lies : Indexes (LiesOnSide notes extents) (volume_in (noted_contents notes)) index
+  pub lies : Indexes (LiesOnSide notes extents) (volume_made (noted_contents notes)) index

@@ -5,7 +5,7 @@ use Rattle.gate_journal.specs.Side.{Heading, heading_of}
 use Rattle.record_index.specs.ChangesOn.{changes_on}
 use Rattle.record_index.specs.Indexes.{Indexes}
 use Rattle.record_index.specs.Places.{empty_placed}
-use Rattle.cartridge.specs.Contents.{bodies_of, volume_in}
+use Rattle.cartridge.specs.Contents.{bodies_of, volume_made}
 use Rattle.cartridge.specs.Inner.Reading.{WalksTo}
 use Rattle.cartridge.specs.Lying.{LiesIn}
 use Rattle.cartridge.specs.Notes.{Notes, noted_contents, with_frame}
@@ -45,7 +45,7 @@ walk_body-requires-clause-lies g c =
     let body = c.deref-in-loop-frame.result.now in
     let extents_are : c.read_frame.new.journal.extents ≡ start.extents = c.read_frame.ensures.same.0 ∙ inv.extents in
     subst
-    (λ (e : List (ℕ × ℕ)). Indexes (LiesIn (bodies_of notes.frames ++ body ∷ []) e) (volume_in (noted_contents notes))
+    (λ (e : List (ℕ × ℕ)). Indexes (LiesIn (bodies_of notes.frames ++ body ∷ []) e) (volume_made (noted_contents notes))
     c.loop-frame.index)
     (sym extents_are) (before_walking frame start.heading start.extents c.loop-frame.index notes inv.read body)
 
@@ -62,11 +62,11 @@ loop-frame-preserved g c =
     let mid = g.D.Disk.state c.loop-frame.journal.disk in
     let new = g.D.Disk.state c.read_frame.new.journal.disk in
     let good_here = subst
-    (λ (b : Bool). WalksTo b body (volume_in (noted_contents notes))
+    (λ (b : Bool). WalksTo b body (volume_made (noted_contents notes))
     (LiesIn (bodies_of notes.frames ++ body ∷ []) c.read_frame.new.journal.extents) index)
     c.in-Ok-true.field-0-test c.in-Ok-true.ensures in
     let good = subst
-    (λ (e : List (ℕ × ℕ)). WalksTo true body (volume_in (noted_contents notes))
+    (λ (e : List (ℕ × ℕ)). WalksTo true body (volume_made (noted_contents notes))
     (LiesIn (bodies_of notes.frames ++ body ∷ []) e) index) extents_are good_here in
     let notes_are : c.with_body-noted.result.notes ≡ with_frame notes (unwrap_or (changes_on body) []) =
     c.with_body-noted.ensures

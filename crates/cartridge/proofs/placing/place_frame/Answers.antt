@@ -5,10 +5,10 @@ use Rattle.volume_core.specs.Volume.{Part, after}
 use Rattle.record_index.specs.declared.records.Record.{Record}
 use Rattle.record_index.specs.Inner.Spelled.{length-spell}
 use Rattle.record_index.specs.Indexes.{Indexes, LiesAt, indexes_after, indexes_shape}
-use Rattle.record_index.specs.Places.{PlacedPart, part_of, placed_after, reserved_of, runs_of}
-use Rattle.record_index.specs.Records.{IsRecord, record_of, size_of, spell, spell_all}
+use Rattle.record_index.specs.Places.{PlacedPart, record_part, placed_after, reserved_of, runs_of}
+use Rattle.record_index.specs.Records.{IsRecord, record_of, size_of, spell_change, spell_all}
 use Rattle.cartridge.specs.Answers.{entries_of}
-use Rattle.cartridge.specs.Contents.{bodies_of, volume_in}
+use Rattle.cartridge.specs.Contents.{bodies_of, volume_made}
 use Rattle.cartridge.specs.Lying.{HasBlock, LiesIn, LiesOnSide}
 use Rattle.cartridge.specs.Notes.{noted_contents, with_frame}
 use Rattle.cartridge.proofs.ContentsLemmas.{bodies_more}
@@ -37,7 +37,7 @@ place_of-requires g c =
     ∙ get_or_default extents (c.frames-count.result - 1) c.body_at-place.result (0, 0)
     (omega (arith, c.frames-count.ensures.extents, c.requires.counted))
     ∙ ap (λ (n : ℕ). slice_index_or extents n (0, 0)) frame_is in
-    let volume = after (volume_in (noted_contents notes)) (take here changes) in
+    let volume = after (volume_made (noted_contents notes)) (take here changes) in
     record {
       sized = subst HasBlock (sym item_is) (has_block_of change good);
       fits = omega (
@@ -71,12 +71,12 @@ unreachable-requires g c =
     ∙ get_or_default extents (c.frames-count.result - 1) c.body_at-place.result (0, 0)
     (omega (arith, c.frames-count.ensures.extents, c.requires.counted))
     ∙ ap (λ (n : ℕ). slice_index_or extents n (0, 0)) frame_is in
-    let volume = after (volume_in (noted_contents notes)) (take here changes) in
+    let volume = after (volume_made (noted_contents notes)) (take here changes) in
     let refused = (rw c.in-Err-Refused.field-0-is at c.in-Err-Refused.ensures.answer).0 in
     let alike =
     refused_alike c.loop-change.index volume change item
     (indexes_shape (LiesOnSide (with_frame notes changes) extents) volume c.loop-change.index inv.lies) (sym item_is) in
-    let none = next_applies (volume_in (noted_contents notes)) changes here change c.requires.apply inside is in
+    let none = next_applies (volume_made (noted_contents notes)) changes here change c.requires.apply inside is in
     let never : Some c.in-Err-Refused.field-0-0 ≡ None = sym refused ∙ alike ∙ none in
     absurd (cc)
 
@@ -100,8 +100,8 @@ unreachable-requires-in-Err-NoMemory g c =
     ∙ get_or_default extents (c.frames-count.result - 1) c.body_at-place.result (0, 0)
     (omega (arith, c.frames-count.ensures.extents, c.requires.counted))
     ∙ ap (λ (n : ℕ). slice_index_or extents n (0, 0)) frame_is in
-    let volume = after (volume_in (noted_contents notes)) (take here changes) in
-    let p = part_of item in
+    let volume = after (volume_made (noted_contents notes)) (take here changes) in
+    let p = record_part item in
     omega (
       arith,
       c.in-Err-NoMemory.ensures.memory (ap Err c.in-Err-NoMemory.field-0-is),
@@ -109,7 +109,7 @@ unreachable-requires-in-Err-NoMemory g c =
       inv.reserved p,
       entries_left p changes here change inside is,
       entries_are change,
-      ap (λ (r : Record). entries_of (part_of r) change) item_is,
+      ap (λ (r : Record). entries_of (record_part r) change) item_is,
       ap runs_of item_is,
     )
 
@@ -133,7 +133,7 @@ overflow_add-at g c =
     ∙ get_or_default extents (c.frames-count.result - 1) c.body_at-place.result (0, 0)
     (omega (arith, c.frames-count.ensures.extents, c.requires.counted))
     ∙ ap (λ (n : ℕ). slice_index_or extents n (0, 0)) frame_is in
-    let volume = after (volume_in (noted_contents notes)) (take here changes) in
+    let volume = after (volume_made (noted_contents notes)) (take here changes) in
     omega (
       arith,
       c.size.ensures,
@@ -165,9 +165,9 @@ loop-change-preserved g c =
     ∙ get_or_default extents (c.frames-count.result - 1) c.body_at-place.result (0, 0)
     (omega (arith, c.frames-count.ensures.extents, c.requires.counted))
     ∙ ap (λ (n : ℕ). slice_index_or extents n (0, 0)) frame_is in
-    let volume = after (volume_in (noted_contents notes)) (take here changes) in
+    let volume = after (volume_made (noted_contents notes)) (take here changes) in
     let place = c.place_of.result in
-    let left = reserved_of c.apply.new.self (part_of item) in
+    let left = reserved_of c.apply.new.self (record_part item) in
     let bodies_are : bodies_of (with_frame notes changes).frames ≡ bodies_of notes.frames ++ spell_all changes ∷ [] =
     bodies_more (noted_contents notes) changes in
     let lies_there : LiesAt (LiesOnSide (with_frame notes changes) extents) change place =
@@ -177,7 +177,7 @@ loop-change-preserved g c =
     (sym item_is) (omega (arith, inv.at_is, ap (λ (e : ℕ × ℕ). e.0) place_is)) c.place_of.ensures.place) in
     let placed_is : c.apply.new.self ≡ placed_after c.loop-change.index (record_of change) place left =
     c.in-Ok.ensures.answer.1 ∙ ap (λ (r : Record). placed_after c.loop-change.index r place left) item_is in
-    let next = after_next (volume_in (noted_contents notes)) changes here change inside is in
+    let next = after_next (volume_made (noted_contents notes)) changes here change inside is in
     record {
       at_is =
           omega (
@@ -187,7 +187,7 @@ loop-change-preserved g c =
             ap size_of item_is,
             length-spell change,
             ap (λ (l : List ℕ). length l) (spelled_next changes here change inside is),
-            length-append (spell_all (take here changes)) (spell change),
+            length-append (spell_all (take here changes)) (spell_change change),
           );
       lies =
           subst

@@ -2,8 +2,8 @@ use Rattle.std.proofs.Common.{◌≡◌, ◌+◌, ◌-◌, ℕ, List, [], ◌∷
 use Rattle.std.specs.Prelude.{slice_index_or}
 use Rattle.std.proofs.lemmas.List.{get_or_default, length-map, take_all}
 use Rattle.record_index.specs.Records.{BeginsWithRecord, IsAtFront, size_of, spell_all}
-use Rattle.record_index.specs.Places.{part_of, reserved_of}
-use Rattle.cartridge.specs.Contents.{bodies_of, volume_in}
+use Rattle.record_index.specs.Places.{record_part, reserved_of}
+use Rattle.cartridge.specs.Contents.{bodies_of, volume_made}
 use Rattle.cartridge.specs.Lying.{IsPlaceOf, LiesIn}
 use Rattle.cartridge.specs.Inner.Reading.{WalkedTo}
 use Rattle.cartridge.specs.Notes.{noted_contents}
@@ -13,7 +13,7 @@ use Rattle.cartridge.proofs.walking.walk_body.Goals as goal
 pub loop-from-init : goal.loop-from-init
 loop-from-init g c =
     let body = c.args.body.now in
-    let volume = volume_in (noted_contents c.args.noted.now.notes) in
+    let volume = volume_made (noted_contents c.args.noted.now.notes) in
     let P = LiesIn (bodies_of c.args.noted.now.notes.frames ++ body ∷ []) c.args.journal.now.extents in
     record {
       within = omega arith;
@@ -23,7 +23,7 @@ loop-from-init g c =
 pub returns-in_default : goal.returns-in_default
 returns-in_default g c =
     let body = c.args.body.now in
-    let volume = volume_in (noted_contents c.args.noted.now.notes) in
+    let volume = volume_made (noted_contents c.args.noted.now.notes) in
     let P = LiesIn (bodies_of c.args.noted.now.notes.frames ++ body ∷ []) c.args.journal.now.extents in
     let from = c.loop-from.from in
     let rest_is : take (length body - from) (drop from body) ≡ drop from body =
@@ -34,7 +34,7 @@ returns-in_default g c =
 pub place_of-requires : goal.place_of-requires
 place_of-requires g c =
     let body = c.args.body.now in
-    let volume = volume_in (noted_contents c.args.noted.now.notes) in
+    let volume = volume_made (noted_contents c.args.noted.now.notes) in
     let P = LiesIn (bodies_of c.args.noted.now.notes.frames ++ body ∷ []) c.args.journal.now.extents in
     let from = c.loop-from.from in
     let rest_is : take (length body - from) (drop from body) ≡ drop from body =
@@ -56,7 +56,7 @@ apply-requires g c = c.place_of.ensures.fits
 pub returns-in-Err-Refused : goal.returns-in-Err-Refused
 returns-in-Err-Refused g c =
     let body = c.args.body.now in
-    let volume = volume_in (noted_contents c.args.noted.now.notes) in
+    let volume = volume_made (noted_contents c.args.noted.now.notes) in
     let P = LiesIn (bodies_of c.args.noted.now.notes.frames ++ body ∷ []) c.args.journal.now.extents in
     let from = c.loop-from.from in
     let rest_is : take (length body - from) (drop from body) ≡ drop from body =
@@ -73,7 +73,7 @@ returns-in-Err-Refused g c =
 pub loop-from-preserved : goal.loop-from-preserved
 loop-from-preserved g c =
     let body = c.args.body.now in
-    let volume = volume_in (noted_contents c.args.noted.now.notes) in
+    let volume = volume_made (noted_contents c.args.noted.now.notes) in
     let P = LiesIn (bodies_of c.args.noted.now.notes.frames ++ body ∷ []) c.args.journal.now.extents in
     let from = c.loop-from.from in
     let rest_is : take (length body - from) (drop from body) ≡ drop from body =
@@ -89,7 +89,7 @@ loop-from-preserved g c =
       walked =
           subst (λ (n : ℕ). WalkedTo n body volume P c.apply.new.self) (ap (λ (n : ℕ). from + n) (sym size))
           (walk_on body volume P from c.loop-from.index c.loop-from.invariant.walked item front c.apply.new.self
-          c.place_of.result (reserved_of c.apply.new.self (part_of item)) c.in-Ok.ensures.answer.0 c.in-Ok.ensures.answer.1
+          c.place_of.result (reserved_of c.apply.new.self (record_part item)) c.in-Ok.ensures.answer.0 c.in-Ok.ensures.answer.1
           (lies_here (bodies_of c.args.noted.now.notes.frames) body c.args.journal.now.extents c.args.frame from item
           c.place_of.result
           (c.requires.frame ∙ sym (length-map c.args.noted.now.notes.frames spell_all)) c.requires.there c.requires.sized
@@ -100,6 +100,6 @@ loop-from-preserved g c =
 pub returns : goal.returns
 returns g c =
     let body = c.args.body.now in
-    let volume = volume_in (noted_contents c.args.noted.now.notes) in
+    let volume = volume_made (noted_contents c.args.noted.now.notes) in
     let P = LiesIn (bodies_of c.args.noted.now.notes.frames ++ body ∷ []) c.args.journal.now.extents in
     walk_end body volume P c.loop-from.from c.loop-from.index c.loop-from.invariant.walked c.loop-from-test.false

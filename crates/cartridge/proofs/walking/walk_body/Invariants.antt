@@ -1,5 +1,5 @@
 use Rattle.std.proofs.Common.{length, ◌-◌, ◌≤◌, ◌++◌, [], ◌∷◌}
-use Rattle.cartridge.specs.Contents.{bodies_of, volume_in}
+use Rattle.cartridge.specs.Contents.{bodies_of, volume_made}
 use Rattle.cartridge.specs.Inner.Reading.{WalkedTo}
 use Rattle.cartridge.specs.Lying.{LiesIn}
 use Rattle.cartridge.specs.Notes.{noted_contents}
@@ -9,7 +9,7 @@ abbrev pub invariant-loop-from : goal.invariant-loop-from
 invariant-loop-from g l = record {
   within : l.from ≤ length l.body;
   walked :
-      WalkedTo l.from l.body (volume_in (noted_contents l.noted.notes))
+      WalkedTo l.from l.body (volume_made (noted_contents l.noted.notes))
       (LiesIn (bodies_of l.noted.notes.frames ++ l.body ∷ []) l.journal.extents) l.index;
 }
 

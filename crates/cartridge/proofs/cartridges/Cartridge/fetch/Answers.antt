@@ -1,6 +1,6 @@
 use Rattle.std.proofs.Common.{◌≡◌, ◌++◌, ℕ, List, length, take, drop, Some, ap, sym, ◌∙◌, arith}
 use Rattle.record_index.specs.Indexes.{indexes_block}
-use Rattle.cartridge.specs.Contents.{bodies_of, volume_in}
+use Rattle.cartridge.specs.Contents.{bodies_of, volume_made}
 use Rattle.cartridge.specs.Lying.{LiesOnSide}
 use Rattle.cartridge.specs.Notes.{noted_contents}
 use Rattle.cartridge.proofs.FetchLemmas.{block_short, can_be_read, filled_whole, length-take-le-whole, not_a_mark, not_none, read_is}
@@ -12,7 +12,7 @@ use Rattle.cartridge.proofs.cartridges.Cartridge.fetch.Goals as goal
 pub unreachable-requires : goal.unreachable-requires
 unreachable-requires g c =
     let i = c.self.inside in
-    not_a_mark i.index (volume_in (noted_contents i.noted.notes)) c.args.part c.args.at
+    not_a_mark i.index (volume_made (noted_contents i.noted.notes)) c.args.part c.args.at
     (open_shape i.journal.heading i.journal.extents i.journal.failed i.index i.noted.notes c.self.invariant.0)
     (sym c.place.ensures ∙ c.in-Some-Mark.is ∙ ap Some c.in-Some-Mark.field-0-is)
     (rw (← c.self.view_is) at c.requires)
@@ -20,7 +20,7 @@ unreachable-requires g c =
 pub unreachable-requires-in-None : goal.unreachable-requires-in-None
 unreachable-requires-in-None g c =
     let i = c.self.inside in
-    not_none i.index (volume_in (noted_contents i.noted.notes)) c.args.part c.args.at
+    not_none i.index (volume_made (noted_contents i.noted.notes)) c.args.part c.args.at
     (open_shape i.journal.heading i.journal.extents i.journal.failed i.index i.noted.notes c.self.invariant.0)
     (sym c.place.ensures ∙ c.in-None.is)
     (rw (← c.self.view_is) at c.requires)
@@ -28,7 +28,7 @@ unreachable-requires-in-None g c =
 pub read_body-read-requires : goal.read_body-read-requires
 read_body-read-requires g c =
     let i = c.self.inside in
-    let found = indexes_block (LiesOnSide i.noted.notes i.journal.extents) (volume_in (noted_contents i.noted.notes))
+    let found = indexes_block (LiesOnSide i.noted.notes i.journal.extents) (volume_made (noted_contents i.noted.notes))
     i.index c.args.part c.args.at c.in-Some-Block.place c.in-Some-Block.length c.self.invariant.0.lies
     (sym c.place.ensures ∙ c.in-Some-Block.is ∙ ap Some c.in-Some-Block.field-0-is) in
     let count : length c.deref_mut.result.now ≡ c.in-Some-Block.length =
@@ -41,7 +41,7 @@ returns-clause-bytes g c = rw (← c.self.view_is) (λ h. elim c.match-read.bran
   | in-Ok w ↦
       on_ok_any c.match-read.result (
       let i = c.self.inside in
-      let found = indexes_block (LiesOnSide i.noted.notes i.journal.extents) (volume_in (noted_contents i.noted.notes))
+      let found = indexes_block (LiesOnSide i.noted.notes i.journal.extents) (volume_made (noted_contents i.noted.notes))
       i.index c.args.part c.args.at c.in-Some-Block.place c.in-Some-Block.length c.self.invariant.0.lies
       (sym c.place.ensures ∙ c.in-Some-Block.is ∙ ap Some c.in-Some-Block.field-0-is) in
       let count : length c.deref_mut.result.now ≡ c.in-Some-Block.length =

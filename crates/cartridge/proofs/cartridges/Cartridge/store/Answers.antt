@@ -4,7 +4,7 @@ use Rattle.tape_disk.specs.Moments.{LeavesOnly}
 use Rattle.gate_journal.specs.Answers.{IsFault}
 use Rattle.gate_journal.specs.State.{room_behind}
 use Rattle.record_index.specs.Records.{spell_all}
-use Rattle.cartridge.specs.Contents.{Gives, Shows}
+use Rattle.cartridge.specs.Contents.{GivesContents, ShowsContents}
 use Rattle.cartridge.specs.Notes.{Notes, noted_contents, with_frame, with_torn}
 use Rattle.cartridge.specs.Inner.Open.{IsOpen, StoresContents}
 use Rattle.cartridge.proofs.GrowingLemmas.{grown_length, grown_same}
@@ -300,7 +300,7 @@ returns-in-Ok-append-clause-sure g c =
     let stores = same_stores g.D.Disk.state j k same i.index index notes c.self.invariant.1 in
     let h1 = subst (λ d. (g.D.Disk.state d).honest) (sym same.disk) h in
     let noted_is : c.with_frame-self-inside.result.notes ≡ with_frame notes changes = c.with_frame-self-inside.ensures in
-    subst (λ (n : Notes). Each (g.D.Disk.state new.disk) (Gives (noted_contents n))) (sym noted_is)
+    subst (λ (n : Notes). Each (g.D.Disk.state new.disk) (GivesContents (noted_contents n))) (sym noted_is)
     (store_sure k.heading k.extents k.failed index notes open_now changes apply few k.bodies body body_is
     (g.D.Disk.state k.disk) (g.D.Disk.state new.disk) new.heading new.bodies (stores h1) c.append.ensures.heading
     (c.in-Ok-append.ensures.bodies h1) (c.in-Ok-append.ensures.sure h1)))
@@ -324,7 +324,7 @@ returns-in-Ok-append-clause-any_moment g c =
     let new = c.append.new.self in
     let stores = same_stores g.D.Disk.state j k same i.index index notes c.self.invariant.1 in
     let h1 = subst (λ d. (g.D.Disk.state d).honest) (sym same.disk) h in
-    subst (λ d. LeavesOnly (g.D.Disk.state d) (g.D.Disk.state new.disk) (Shows (noted_contents notes) (changes ∷ [])))
+    subst (λ d. LeavesOnly (g.D.Disk.state d) (g.D.Disk.state new.disk) (ShowsContents (noted_contents notes) (changes ∷ [])))
     same.disk
     (store_moments k.heading k.extents k.failed index notes open_now changes apply few k.bodies body body_is
     (g.D.Disk.state k.disk) (g.D.Disk.state k.disk) (g.D.Disk.state new.disk) (stores h1)
@@ -349,7 +349,7 @@ returns-in-Err-Device-clause-any_moment g c =
     let new = c.append.new.self in
     let stores = same_stores g.D.Disk.state j k same i.index index notes c.self.invariant.1 in
     let h1 = subst (λ d. (g.D.Disk.state d).honest) (sym same.disk) h in
-    subst (λ d. LeavesOnly (g.D.Disk.state d) (g.D.Disk.state new.disk) (Shows (noted_contents notes) (changes ∷ [])))
+    subst (λ d. LeavesOnly (g.D.Disk.state d) (g.D.Disk.state new.disk) (ShowsContents (noted_contents notes) (changes ∷ [])))
     same.disk
     (store_moments k.heading k.extents k.failed index notes open_now changes apply few k.bodies body body_is
     (g.D.Disk.state k.disk) (g.D.Disk.state k.disk) (g.D.Disk.state new.disk) (stores h1)
