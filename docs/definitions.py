@@ -91,6 +91,8 @@ WORDS = {
     "ILI, incorrect length": ["incorrect_length", "block_reply"],
     "image": ["DiskState", "Each", "StandsFor"],
     "IMMED": ["is_immediate"],
+    "contents of a cartridge": ["Contents", "GivesContents", "volume_made"],
+    "bad frame": ["IsBadFrameAt", "IsNoCartridge"],
     "index of a cartridge": ["PlacedPart", "placed_after", "IsIndexOf"],
     "INFORMATION": ["sense_bytes", "residue_of", "amount_of"],
     "INQUIRY": ["inquiry_data", "Tells"],

@@ -68,7 +68,8 @@ module _ (contents : Contents) (changes : List Change) where
 
     pub moments : (old new : DiskState) → LeavesOnly old new (WithOrWithout heading bodies body)
         → LeavesOnly old new (ShowsContents contents (changes ∷ []))
-    moments old new run = weakened old new (WithOrWithout heading bodies body) (ShowsContents contents (changes ∷ [])) run either
+    moments old new run =
+        weakened old new (WithOrWithout heading bodies body) (ShowsContents contents (changes ∷ [])) run either
 
     -- a side that stands for the bodies with the new one gives the contents with the frame
     pub gives_more : (image : List ℕ) → StandsFor heading (bodies ++ body ∷ []) image

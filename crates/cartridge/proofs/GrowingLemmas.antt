@@ -46,13 +46,18 @@ pub reserve_grown : (index : List PlacedPart) (part reserved : ℕ) → reserved
 reserve_grown index part reserved le = by (slice_get index part) refl
   where
     by : (found : Option PlacedPart) → slice_get index part ≡ found
-        → IsGrown index (with_objects_in (slice_get index part) index part (placed_objects_in (slice_get index part)) reserved)
-    by None is = subst (λ (f : Option PlacedPart). IsGrown index (with_objects_in f index part (placed_objects_in f) reserved))
+        → IsGrown index (with_objects_in (slice_get index part) index part (placed_objects_in (slice_get index part))
+            reserved)
+    by None is = subst (λ (f : Option PlacedPart). IsGrown index (with_objects_in f index part (placed_objects_in f)
+        reserved))
         (sym is) (grown_same index)
-    by (Some p) is = subst (λ (f : Option PlacedPart). IsGrown index (with_objects_in f index part (placed_objects_in f) reserved))
-        (sym is) (set_grown index part reserved p is (subst (λ (f : Option PlacedPart). reserved_in f ≤ reserved) is le))
+    by (Some p) is = subst (λ (f : Option PlacedPart). IsGrown index (with_objects_in f index part (placed_objects_in
+        f) reserved))
+        (sym is) (set_grown index part reserved p is (subst (λ (f : Option PlacedPart). reserved_in f ≤ reserved) is
+            le))
 
-pub grown_reserved : (old new : List PlacedPart) (part : ℕ) → IsGrown old new → reserved_of old part ≤ reserved_of new part
+pub grown_reserved : (old new : List PlacedPart) (part : ℕ) → IsGrown old new → reserved_of old part ≤ reserved_of
+    new part
 grown_reserved [] [] part grown = omega arith
 grown_reserved (p ∷ ps) (q ∷ qs) zero grown = grown.0.2
 grown_reserved (p ∷ ps) (q ∷ qs) (suc n) grown = grown_reserved ps qs n grown.1

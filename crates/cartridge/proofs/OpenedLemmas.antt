@@ -30,7 +30,8 @@ long_enough heading bodies image s =
 
 -- the side that was opened, read without a word written
 module _ (old mid new : DiskState) (heading : Heading) (bodies : List (List ℕ))
-    (stands : StandsFor heading bodies old.seen) (only : Only old.seen mid.may_leave) (unwritten : Unwritten mid new) where
+    (stands : StandsFor heading bodies old.seen) (only : Only old.seen mid.may_leave) (unwritten : Unwritten mid new)
+        where
   pub only_still : Only old.seen new.may_leave
   only_still image may = only image (unwritten.images image may)
 
@@ -58,7 +59,8 @@ pub not_opened : (old mid new : DiskState) (error : CartridgeError) (heading : H
     → (old.honest → Unwritten mid new)
     → NotRecovered error heading bodies mid new → IsNotOpened error old new
 not_opened old mid new NotOurs heading bodies honest none found unwritten why =
-    (why.0 ∙ none, λ h. (inr (heading, bodies, why.1, (found h).0), λ image may. (found h).1 image ((unwritten h).images image may)))
+    (why.0 ∙ none, λ h. (inr (heading, bodies, why.1, (found h).0), λ image may. (found h).1 image ((unwritten
+        h).images image may)))
 not_opened old mid new (BadRecord at) heading bodies honest none found unwritten why = (
   why.0 ∙ none,
   λ h. (

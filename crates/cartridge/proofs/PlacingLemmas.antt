@@ -155,7 +155,8 @@ entries_none volume (change ∷ changes) part apply beyond =
     )
 
 -- a change's record stands at the front of its spelling, whatever follows
-front_of : (change : Change) (rest : List ℕ) → IsRecord change → IsAtFront (record_of change) (spell_change change ++ rest)
+front_of : (change : Change) (rest : List ℕ) → IsRecord change → IsAtFront (record_of change) (spell_change change ++
+    rest)
 front_of change rest is =
     let same : change_in (record_of change) (spell_change change ++ rest) ≡ change = change_again change rest in
     record {

@@ -45,7 +45,8 @@ pub record TakesReserved (old : Reserved) (changes : List Change) (new : Reserve
   pub entries : (part : ℕ) →
       slice_index_or old.entries part 0 ≤ slice_index_or new.entries part 0 + sum_by (entries_of part) changes
 
--- less is reserved than a frame takes whose body has so many bytes, and which puts so many blocks and runs of marks into
+-- less is reserved than a frame takes whose body has so many bytes, and which puts so many blocks and runs of marks
+-- into
 -- that partition (own)
 abbrev pub Lacks : Reserved → ℕ → ℕ → ℕ → Type 0
 Lacks old part body entries =
