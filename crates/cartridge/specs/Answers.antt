@@ -98,14 +98,14 @@ disk_opened (Ok cartridge) = cartridge.disk
 disk_opened (Err refused) = refused.shelved.disk
 
 -- why a cartridge is not made: memory ran out, and the disk was not touched; or a fault (own)
-abbrev pub NotCreated : CartridgeError → Type 0 → (DevFault → Type 0) → Type 0
-NotCreated NoMemory memory device = memory
-NotCreated (Device fault) memory device = device fault
-NotCreated NotOurs memory device = ⊥
-NotCreated (Damaged at) memory device = ⊥
-NotCreated (BadRecord at) memory device = ⊥
-NotCreated SideFull memory device = ⊥
-NotCreated Failed memory device = ⊥
+abbrev pub IsNotCreated : CartridgeError → Type 0 → (DevFault → Type 0) → Type 0
+IsNotCreated NoMemory memory device = memory
+IsNotCreated (Device fault) memory device = device fault
+IsNotCreated NotOurs memory device = ⊥
+IsNotCreated (Damaged at) memory device = ⊥
+IsNotCreated (BadRecord at) memory device = ⊥
+IsNotCreated SideFull memory device = ⊥
+IsNotCreated Failed memory device = ⊥
 
 -- Why a cartridge is not opened: what the old bytes are, which are then sure, and no call failed; or a fault; or memory
 -- ran out, where there are the 27 bytes that each heading has, and no call failed (own).

@@ -5,7 +5,7 @@ ghost use Rattle.vtl_base.specs.Barcode.{IsBarcode};
 ghost use Rattle.volume_core.specs.Volume.{are_capacities};
 ghost use Rattle.gate_journal.specs.Answers.{IsFault, NoneFailed};
 ghost use Rattle.gate_journal.specs.Side.{CLOSED, heading_of, spell};
-ghost use Rattle.cartridge.specs.Answers.{NotCreated, disk_created};
+ghost use Rattle.cartridge.specs.Answers.{IsNotCreated, disk_created};
 ghost use Rattle.cartridge.specs.Contents.{GivesContents, contents_from, heading_with};
 
 use crate::cartridges::Cartridge;
@@ -38,7 +38,7 @@ impl<D: Disk> Cartridge<D> {
             (D.state shelved.disk).seen ≡ spell shelved.contents.heading [] ++ CLOSED ∷ []) }
         ensures sure { IfOk result (λ shelved. (D.state disk).honest →
             Each (D.state shelved.disk) (GivesContents shelved.contents)) }
-        ensures refused { IfErr result (λ refused. NotCreated refused.error
+        ensures refused { IfErr result (λ refused. IsNotCreated refused.error
             (refused.disk ≡ disk) (λ fault. IsFault fault (D.state disk) (D.state refused.disk))) }
     {
         let Ok(header) = header_with(alloc, barcode, capacities) else {
