@@ -1,5 +1,5 @@
 -- What a change at the position makes of a medium, and how it is answered.
-use Rattle.std.proofs.Common.{◌≡◌, ◌<◌, ◌≤◌, ◌+◌, ◌&&◌, ◌++◌, if◌then◌else◌, ℕ, zero, suc, List, [], ◌∷◌, Option, Some, None, Result, Ok, Err, Bool, true, false, length, take, sum_by, nat_lt, nat_le, slice_get, slice_set, refl, arith, sym, ◌∙◌, ap, inl, inr, length-append, append-nil}
+use Rattle.std.proofs.Common.{◌≡◌, ◌<◌, ◌≤◌, ◌+◌, ◌++◌, if◌then◌else◌, ℕ, zero, suc, List, [], ◌∷◌, Option, Some, None, Result, Ok, Err, Bool, true, length, take, nat_le, slice_get, slice_set, refl, arith, sym, ◌∙◌, ap, inl, inr, length-append, append-nil}
 use Rattle.std.proofs.lemmas.Bool.Decides.{nat_tests}
 use Rattle.std.proofs.lemmas.List.{length-take-le}
 use Rattle.std.proofs.lemmas.List.Sums.{sum_by_push}
@@ -12,7 +12,7 @@ use Rattle.volume_core.specs.declared.media.MediumError.{MediumError}
 use Rattle.volume_core.specs.declared.media.MediumError.TheVariants as medium
 use Rattle.volume_core.specs.declared.objects.Object.{Object}
 use Rattle.volume_core.specs.declared.objects.Object.TheVariants.{Block}
-use Rattle.volume_core.specs.Volume.{Part, objects_of, capacity_of, used_up_to, used_of, cost_of, refusal_in, refusal_of, changed, part_after, added_by, part_of, kept_of, is_well_formed, has_room, objects_after}
+use Rattle.volume_core.specs.Volume.{Part, objects_of, capacity_of, used_up_to, used_of, cost_of, refusal_in, refusal_of, changed, part_after, added_by, part_of, kept_of, is_well_formed}
 use Rattle.volume_core.specs.Medium.{MediumState, volume_of, Accepts, met_fault}
 use Rattle.positioning.specs.declared.positions.Pos.{Pos}
 use Rattle.drive_core.specs.declared.faults.Fault.{Fault}

@@ -11,7 +11,7 @@ use Rattle.volume_core.specs.Medium.{MediumState}
 use Rattle.drive_core.specs.declared.bays.Bay.{Bay}
 use Rattle.drive_core.specs.declared.bays.Bay.TheVariants.{Empty}
 use Rattle.drive_core.specs.declared.faults.Fault.{Fault}
-use Rattle.drive_core.specs.State.{Machine, DriveState, Kept, machine_of, bay_of, loaded, powered_on}
+use Rattle.drive_core.specs.State.{DriveState, Kept, machine_of, bay_of}
 use Rattle.drive_core.specs.Relations.{made_nothing}
 use Rattle.drive_core.specs.Load.{Loads, LoadsInto, LoadsAs, wake_answer, bay_when_on, power_on_outcome}
 use Rattle.drive_core.specs.Media.{TakesIn, LoadSteps, SwitchesOn, PowerOnSteps, WakesAs}

@@ -5,8 +5,7 @@ use Rattle.scsi_wire.specs.declared.opcodes.Opcode.TheVariants.{TestUnitReady, R
 use Rattle.scsi_wire.specs.declared.commands.Command.{Command}
 use Rattle.scsi_wire.specs.Opcodes.{is_exempt, needs_medium}
 use Rattle.volume_core.specs.Medium.{MediumState}
-use Rattle.drive_core.specs.declared.bays.Bay.{Bay}
-use Rattle.drive_core.specs.declared.bays.Bay.TheVariants.{Empty, Unloaded, Loaded}
+use Rattle.drive_core.specs.declared.bays.Bay.TheVariants.{Loaded}
 use Rattle.scsi_sense.specs.Senses.{medium_failed}
 use Rattle.drive_core.specs.declared.conditions.Denial.{Denial}
 use Rattle.drive_core.specs.declared.conditions.Denial.TheVariants.{Refused}

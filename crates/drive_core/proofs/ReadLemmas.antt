@@ -1,5 +1,5 @@
 -- READ, where more is known of the medium's honesty, and once what was pending is stored.
-use Rattle.std.proofs.Common.{◌≡◌, ℕ, zero, suc, List, [], Option, None, Some, Result, Ok, Err, Bool, refl, inl, inr}
+use Rattle.std.proofs.Common.{◌≡◌, ℕ, zero, suc, List, Option, None, Some, Result, Ok, Err, Bool, refl, inl, inr}
 use Rattle.scsi_sense.specs.declared.replies.Reply.{Reply}
 use Rattle.volume_core.specs.declared.changes.Change.{Change}
 use Rattle.volume_core.specs.declared.objects.Object.{Object}
@@ -10,7 +10,7 @@ use Rattle.drive_core.specs.declared.faults.Fault.{Fault}
 use Rattle.drive_core.specs.declared.faults.Fault.TheVariants.{NoMemory, Writing, Reading, SideFull}
 use Rattle.drive_core.specs.State.{Mounted, mounted}
 use Rattle.drive_core.specs.Relations.{MediumRelation}
-use Rattle.drive_core.specs.StoredFirst.{IsStored, OnceStored, StoredFirst}
+use Rattle.drive_core.specs.StoredFirst.{IsStored, StoredFirst}
 use Rattle.drive_core.specs.Read.{ReadWork, ReadAnswer, GivesObject, object_at}
 
 -- what is given by an honest medium is given by one that is honest wherever it was

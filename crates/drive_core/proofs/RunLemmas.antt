@@ -1,17 +1,15 @@
 -- Runs: two in a row are one, and what a drive answers to hosts is one.
-use Rattle.std.proofs.Common.{◌≡◌, ◌++◌, ◌∙◌, List, [], ◌∷◌, map, Option, None, Some, Result, refl, sym, ap, subst, append_assoc}
+use Rattle.std.proofs.Common.{◌≡◌, ◌++◌, ◌∙◌, List, [], ◌∷◌, map, Option, None, Some, refl, sym, ap, subst, append_assoc}
 use Rattle.vtl_base.specs.Below.{Below}
 use Rattle.scsi_sense.specs.declared.replies.Reply.{Reply}
 use Rattle.volume_core.specs.declared.changes.Change.{Change}
 use Rattle.volume_core.specs.Medium.{MediumState}
-use Rattle.drive_core.specs.declared.faults.Fault.{Fault}
-use Rattle.drive_core.specs.State.{Machine, DriveState, Kept, machine_of, medium_in}
+use Rattle.drive_core.specs.State.{Machine, machine_of, medium_in}
 use Rattle.drive_core.specs.Faults.{reply_of}
 use Rattle.drive_core.specs.Relations.{Made, made_nothing, made_after}
-use Rattle.drive_core.specs.Work.{Request}
-use Rattle.drive_core.specs.Step.{Input, Execute, Output, Answered, Step}
-use Rattle.drive_core.specs.Execute.{Answers, AdvancesIn, HonestIn, is_device_fault}
-use Rattle.drive_core.specs.Run.{Run, RunsAppend, Serves, IsRun, ServedByRuns}
+use Rattle.drive_core.specs.Step.{Input, Execute, Output, Answered}
+use Rattle.drive_core.specs.Execute.{AdvancesIn, HonestIn, is_device_fault}
+use Rattle.drive_core.specs.Run.{Run, RunsAppend, ServedByRuns}
 use Rattle.drive_core.proofs.StepLemmas.{step_where}
 
 -- what three steps in a row make

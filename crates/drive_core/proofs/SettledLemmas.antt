@@ -1,6 +1,5 @@
 -- A synchronizing command that is acknowledged leaves nothing pending, check by check.
 use Rattle.std.proofs.Common.{◌≡◌, ◌≢◌, ℕ, ℤ, zero, suc, List, [], ◌∷◌, Option, None, Some, Result, Ok, Err, Bool, true, false, length, ◌==◌, refl, subst, sym, ap, inl, inr, nat_lt, not, ◌&&◌, if◌then◌else◌}
-use Rattle.std.specs.Prelude.{IsOkAnd}
 use Rattle.std.proofs.lemmas.Bool.{eqb-true}
 use Rattle.vtl_base.specs.declared.space_codes.SpaceCode.{SpaceCode}
 use Rattle.scsi_sense.specs.declared.replies.Reply.{Reply}
@@ -25,7 +24,7 @@ use Rattle.drive_core.specs.declared.bays.Bay.TheVariants.{Empty, Unloaded, Load
 use Rattle.drive_core.specs.declared.conditions.Condition.{Condition}
 use Rattle.drive_core.specs.declared.conditions.Condition.TheVariants.{DeferredError, UnitAttention}
 use Rattle.drive_core.specs.declared.conditions.Denial.{Denial}
-use Rattle.drive_core.specs.declared.conditions.Denial.TheVariants.{Refused, Reported, Conflict}
+use Rattle.drive_core.specs.declared.conditions.Denial.TheVariants.{Refused, Conflict}
 use Rattle.drive_core.specs.State.{Machine, Mounted, mounted, contents_of}
 use Rattle.drive_core.specs.Relations.{Made}
 use Rattle.drive_core.specs.StoredFirst.{IsStored}

@@ -19,7 +19,7 @@ use Rattle.drive_core.specs.declared.conditions.Denial.{Denial}
 use Rattle.drive_core.specs.declared.conditions.Denial.TheVariants.{Refused, Reported, Conflict}
 use Rattle.drive_core.specs.declared.faults.Fault.{Fault}
 use Rattle.drive_core.specs.declared.faults.Fault.TheVariants.{NoMemory, Writing, Reading, SideFull}
-use Rattle.drive_core.specs.State.{Machine, DriveState, Kept, machine_of, medium_in, mounted, with_mounted}
+use Rattle.drive_core.specs.State.{Machine, DriveState, Kept, machine_of, medium_in, mounted}
 use Rattle.drive_core.specs.Conditions.{condition_due, denial_reply, denied, without_condition}
 use Rattle.drive_core.specs.Relations.{Made, MediumRelation, made_nothing}
 use Rattle.drive_core.specs.RequestSense.{RequestSenseWork, after_report, once_reported, sense_due}

@@ -1,5 +1,5 @@
 -- A change at the position, which is then behind what the change adds: WRITE, WRITE FILEMARKS, ERASE.
-use Rattle.std.specs.Prelude.{◌≡◌, ◌≤◌, ◌+◌, ◌++◌, ◌⊎◌, ℕ, List, [], ◌∷◌, length, Option, None, Some, Bool, true, false, Result, Ok, Err, if◌then◌else◌}
+use Rattle.std.specs.Prelude.{◌≡◌, ◌+◌, ◌++◌, ◌⊎◌, ℕ, List, [], ◌∷◌, length, Option, None, Some, Bool, true, false, Ok, Err, if◌then◌else◌}
 use Rattle.scsi_sense.specs.declared.replies.Reply.{Reply}
 use Rattle.scsi_sense.specs.Replies.{good_with, check_with}
 use Rattle.scsi_sense.specs.Senses.{early_warning, volume_overflow}
@@ -11,7 +11,6 @@ use Rattle.volume_core.specs.Volume.{Part, refusal_of, changed, added_by}
 use Rattle.volume_core.specs.Medium.{MediumState, IsFull, Works, Breaks}
 use Rattle.positioning.specs.declared.positions.Pos.{Pos}
 use Rattle.positioning.specs.Report.{is_near_end}
-use Rattle.drive_core.specs.declared.faults.Fault.{Fault}
 use Rattle.drive_core.specs.declared.faults.Fault.TheVariants.{NoMemory, Writing, Reading, SideFull}
 use Rattle.drive_core.specs.State.{Mounted, contents_of}
 use Rattle.drive_core.specs.Relations.{MediumRelation, Stays, FailsToStore}

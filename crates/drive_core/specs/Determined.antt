@@ -1,6 +1,5 @@
 -- Where no outcome came between, an input has one answer.
-use Rattle.std.specs.Prelude.{◌≡◌, ◌⊎◌, List, [], ◌∷◌, filter, All, Option, None, Some, Result, Ok, Err, Bool, true, false}
-use Rattle.scsi_sense.specs.declared.replies.Reply.{Reply}
+use Rattle.std.specs.Prelude.{◌≡◌, ◌⊎◌, List, [], ◌∷◌, filter, All, Option, None, Some, Ok, Err, Bool, true, false}
 use Rattle.volume_core.specs.declared.changes.Change.{Change}
 use Rattle.volume_core.specs.Volume.{Part}
 use Rattle.volume_core.specs.Medium.{MediumState, volume_of}

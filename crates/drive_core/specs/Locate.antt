@@ -1,12 +1,12 @@
 -- LOCATE.
-use Rattle.std.specs.Prelude.{◌≡◌, ℕ, List, [], Option, None, Some, Result, Ok, Err}
+use Rattle.std.specs.Prelude.{◌≡◌, ℕ, [], Option, None, Some, Ok, Err}
 use Rattle.scsi_sense.specs.declared.replies.Reply.{Reply}
 use Rattle.scsi_sense.specs.Replies.{good_with, check_with}
 use Rattle.scsi_sense.specs.Senses.{end_of_data}
 use Rattle.volume_core.specs.Volume.{objects_of}
 use Rattle.positioning.specs.declared.positions.Pos.{Pos}
 use Rattle.positioning.specs.declared.positions.Stop.{Stop}
-use Rattle.positioning.specs.declared.positions.Stop.TheVariants.{Done, AtMark, AtEnd, AtStart}
+use Rattle.positioning.specs.declared.positions.Stop.TheVariants.{Done}
 use Rattle.positioning.specs.Motion.{LocatesTo}
 use Rattle.drive_core.specs.State.{Mounted, contents_of}
 use Rattle.drive_core.specs.Relations.{MediumRelation}

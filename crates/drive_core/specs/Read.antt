@@ -1,18 +1,16 @@
 -- READ.
-use Rattle.std.specs.Prelude.{◌≡◌, ◌≤◌, ◌+◌, ◌-◌, ◌%◌, ◌^◌, ℕ, zero, suc, List, [], length, take, slice_get, Option, None, Some, Bool, ◌==◌, if◌then◌else◌, Result, Ok, Err}
+use Rattle.std.specs.Prelude.{◌≡◌, ◌≤◌, ◌+◌, ◌-◌, ◌%◌, ◌^◌, ℕ, zero, suc, List, [], length, take, slice_get, Option, None, Some, Bool, ◌==◌, if◌then◌else◌, Ok, Err}
 use Rattle.vtl_base.specs.declared.limits.TheConstants.{MAX_BLOCK}
 use Rattle.scsi_sense.specs.declared.replies.Reply.{Reply}
 use Rattle.scsi_sense.specs.Replies.{good_with, check_with}
 use Rattle.scsi_sense.specs.Senses.{end_of_data, filemark_detected, incorrect_length}
-use Rattle.volume_core.specs.declared.changes.Change.{Change}
 use Rattle.volume_core.specs.declared.objects.Kind.TheVariants as Kinds
 use Rattle.volume_core.specs.declared.objects.Object.{Object}
 use Rattle.volume_core.specs.declared.objects.Object.TheVariants.{Block, Mark}
 use Rattle.volume_core.specs.Volume.{objects_of, kind_at}
 use Rattle.volume_core.specs.Medium.{after_failed_read}
 use Rattle.positioning.specs.declared.positions.Pos.{Pos}
-use Rattle.drive_core.specs.declared.faults.Fault.{Fault}
-use Rattle.drive_core.specs.declared.faults.Fault.TheVariants.{NoMemory, Writing, Reading, SideFull}
+use Rattle.drive_core.specs.declared.faults.Fault.TheVariants.{NoMemory, Reading}
 use Rattle.drive_core.specs.State.{Mounted, contents_of}
 use Rattle.drive_core.specs.Relations.{MediumRelation, Idles}
 use Rattle.drive_core.specs.StoredFirst.{StoredFirst}

@@ -1,5 +1,5 @@
 -- SPACE.
-use Rattle.std.specs.Prelude.{◌≡◌, ℕ, ℤ, pos, zero, List, [], Some, Bool, true, false, Result, Ok, Err}
+use Rattle.std.specs.Prelude.{◌≡◌, ℕ, ℤ, pos, zero, [], Some, Bool, true, false, Ok, Err}
 use Rattle.vtl_base.specs.declared.space_codes.SpaceCode.{SpaceCode}
 use Rattle.vtl_base.specs.declared.space_codes.SpaceCode.TheVariants.{Blocks, Filemarks, EndOfData}
 use Rattle.scsi_sense.specs.declared.replies.Reply.{Reply}

@@ -1,5 +1,5 @@
 -- The drive machine: what it is asked, and what comes of it.
-use Rattle.std.specs.Prelude.{◌≡◌, List, filter_map, Option, None, Some, Result, Ok}
+use Rattle.std.specs.Prelude.{List, filter_map, Option, None, Some, Result}
 use Rattle.scsi_sense.specs.declared.replies.Reply.{Reply}
 use Rattle.volume_core.specs.Medium.{MediumState}
 use Rattle.drive_core.specs.declared.faults.Fault.{Fault}

@@ -1,11 +1,8 @@
 -- What is pending is stored before a command goes on.
-use Rattle.std.specs.Prelude.{◌≡◌, ◌⊎◌, List, [], Result, Ok, Err}
-use Rattle.scsi_sense.specs.declared.replies.Reply.{Reply}
+use Rattle.std.specs.Prelude.{◌≡◌, ◌⊎◌, [], Ok, Err}
 use Rattle.scsi_sense.specs.Replies.{good_with}
-use Rattle.volume_core.specs.declared.changes.Change.{Change}
 use Rattle.volume_core.specs.Medium.{MediumState, volume_of, Works}
 use Rattle.positioning.specs.declared.positions.Pos.{Pos}
-use Rattle.drive_core.specs.declared.faults.Fault.{Fault}
 use Rattle.drive_core.specs.declared.faults.Fault.TheVariants.{Writing}
 use Rattle.drive_core.specs.State.{Mounted, mounted}
 use Rattle.drive_core.specs.Relations.{MediumRelation, FailsToStore}

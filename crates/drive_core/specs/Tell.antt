@@ -5,7 +5,7 @@ use Rattle.scsi_sense.specs.Replies.{good_with}
 use Rattle.positioning.specs.Report.{report_of}
 use Rattle.drive_core.specs.declared.faults.Fault.{Fault}
 use Rattle.drive_core.specs.declared.faults.Fault.TheVariants.{NoMemory}
-use Rattle.drive_core.specs.State.{Mounted, contents_of}
+use Rattle.drive_core.specs.State.{contents_of}
 use Rattle.drive_core.specs.Relations.{MediumRelation}
 use Rattle.drive_core.specs.StoredFirst.{StoredFirst}
 

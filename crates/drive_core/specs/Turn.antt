@@ -1,7 +1,7 @@
 -- A flusher's turn.
 use Rattle.std.specs.Prelude.{◌≡◌, true, Result, Ok, Err}
 use Rattle.volume_core.specs.declared.media.Turn.{Turn}
-use Rattle.volume_core.specs.declared.media.Turn.TheVariants.{Idle, Stored, Faulted}
+use Rattle.volume_core.specs.declared.media.Turn.TheVariants.{Idle, Faulted}
 use Rattle.volume_core.specs.Medium.{MediumState, Turns}
 use Rattle.drive_core.specs.declared.bays.Bay.{Bay}
 use Rattle.drive_core.specs.declared.bays.Bay.TheVariants.{Loaded}

@@ -9,7 +9,7 @@ use Rattle.volume_core.specs.Medium.{MediumState}
 use Rattle.drive_core.specs.declared.bays.Bay.{Bay}
 use Rattle.drive_core.specs.declared.bays.Bay.TheVariants.{Loaded}
 use Rattle.drive_core.specs.State.{Mounted, mounted, with_mounted}
-use Rattle.drive_core.specs.Relations.{Made, made_nothing, MediumRelation, MachineRelation, Idles}
+use Rattle.drive_core.specs.Relations.{made_nothing, MediumRelation, MachineRelation, Idles}
 use Rattle.drive_core.specs.Erase.{EraseWork}
 use Rattle.drive_core.specs.Locate.{LocateWork}
 use Rattle.drive_core.specs.Marks.{MarksWork}

@@ -1,5 +1,5 @@
 -- What the work of a command owes, over any medium and the position on it.
-use Rattle.std.specs.Prelude.{◌≡◌, List, Result, true, false, Bool}
+use Rattle.std.specs.Prelude.{◌≡◌, List, Result, false}
 use Rattle.vtl_base.specs.Below.{Below, Advances}
 use Rattle.scsi_sense.specs.declared.replies.Reply.{Reply}
 use Rattle.volume_core.specs.declared.changes.Change.{Change}

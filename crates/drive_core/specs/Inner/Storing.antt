@@ -1,5 +1,5 @@
 -- Storing what is pending, as a part of a command.
-use Rattle.std.specs.Prelude.{◌≡◌, ◌≤◌, length, Result, Ok, Err}
+use Rattle.std.specs.Prelude.{◌≤◌, length, Result, Ok, Err}
 use Rattle.volume_core.specs.Medium.{MediumState, Breaks}
 use Rattle.drive_core.specs.declared.faults.Fault.{Fault}
 use Rattle.drive_core.specs.declared.faults.Fault.TheVariants.{Writing}

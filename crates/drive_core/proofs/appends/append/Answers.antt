@@ -1,4 +1,4 @@
-use Rattle.std.proofs.Common.{◌≡◌, ℕ, [], ◌∷◌, ◌∙◌, ap, Option, Result, Bool, subst}
+use Rattle.std.proofs.Common.{◌≡◌, ℕ, [], ◌∷◌, ◌∙◌, ap, Option, Bool, subst}
 use Rattle.vtl_base.specs.Below.{Advances, advances_on}
 use Rattle.volume_core.specs.Stores.{stores_on}
 use Rattle.volume_core.specs.Medium.{volume_of}
