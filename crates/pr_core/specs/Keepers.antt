@@ -25,11 +25,11 @@ abbrev pub IsStoreFull : Option ℕ → PrState → Type 0
 IsStoreFull None state = ⊥
 IsStoreFull (Some room) state = room < state_frame_size state
 
--- of the room at most what a state takes as a frame of its own is gone; no bound stays none (own)
+-- of the room just what a state takes as a frame of its own is gone; no bound stays none (own)
 abbrev pub LeavesStoreRoom : Option ℕ → PrState → Option ℕ → Type 0
 LeavesStoreRoom None state now = now ≡ None
 LeavesStoreRoom (Some room) state None = ⊥
-LeavesStoreRoom (Some room) state (Some left) = room ≤ left + state_frame_size state
+LeavesStoreRoom (Some room) state (Some left) = left + state_frame_size state ≡ room
 
 -- a keeper holds a state once it was saved, where it keeps anything (own)
 abbrev pub saved_over : Option PrState → PrState → Option PrState
@@ -43,18 +43,21 @@ pub record Stored (old : KeeperState) (state : PrState) (new : KeeperState) : Ty
   pub works : new.failed ≡ false
   pub room : LeavesStoreRoom old.room state new.room
 
--- The device failed while a state was saved: the keeper has failed. What it holds is the state before, or that one
--- (own).
+-- The device failed while a state was saved that fits: the keeper has failed. What it holds is the state before, or
+-- that
+-- one; its room is as it was (own).
 pub record Broken (old : KeeperState) (state : PrState) (new : KeeperState) : Type 0 where
   pub saved : new.saved ≡ old.saved
   pub torn : new.torn ≡ Some state
   pub failed : new.failed ≡ true
+  pub fitted : IsStoreFull old.room state → ⊥
+  pub room : new.room ≡ old.room
 
 -- A keeper is asked to save a state, and answers so. One that has failed saves none, and only a device fault makes it
--- fail (own).
+-- fail; a full store is answered before memory runs out (own).
 abbrev pub Saves : KeeperState → PrState → Result Unit KeeperError → KeeperState → Type 0
 Saves old state (Ok done) new = (old.failed ≡ false) × Stored old state new
-Saves old state (Err NoMemory) new = (old.failed ≡ false) × (new ≡ old)
+Saves old state (Err NoMemory) new = (old.failed ≡ false) × (IsStoreFull old.room state → ⊥) × (new ≡ old)
 Saves old state (Err SideFull) new = (old.failed ≡ false) × IsStoreFull old.room state × (new ≡ old)
 Saves old state (Err Device) new = (old.failed ≡ false) × Broken old state new
 Saves old state (Err Failed) new = (old.failed ≡ true) × (new ≡ old)
