@@ -47,14 +47,14 @@ reserve_grown index part reserved le = by (slice_get index part) refl
   where
     by : (found : Option PlacedPart) → slice_get index part ≡ found
         → IsGrown index (with_objects_in (slice_get index part) index part (placed_objects_in (slice_get index part))
-            reserved)
+        reserved)
     by None is = subst (λ (f : Option PlacedPart). IsGrown index (with_objects_in f index part (placed_objects_in f)
         reserved))
         (sym is) (grown_same index)
     by (Some p) is = subst (λ (f : Option PlacedPart). IsGrown index (with_objects_in f index part (placed_objects_in
         f) reserved))
         (sym is) (set_grown index part reserved p is (subst (λ (f : Option PlacedPart). reserved_in f ≤ reserved) is
-            le))
+        le))
 
 pub grown_reserved : (old new : List PlacedPart) (part : ℕ) → IsGrown old new → reserved_of old part ≤ reserved_of
     new part

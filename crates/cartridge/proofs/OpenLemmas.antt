@@ -110,7 +110,7 @@ module _ (heading : Heading) (extents : List (ℕ × ℕ)) (failed : Bool) (inde
           → Indexes (LiesOnSide (with_frame notes changes) extents') (volume_made (noted_contents notes)) index'
       before_placing index' grown =
           let bodies_are : bodies_of (with_frame notes changes).frames ≡ bodies_of notes.frames ++ spell_all changes
-              ∷ [] =
+          ∷ [] =
           bodies_more (noted_contents notes) changes in
           let volume = volume_made (noted_contents notes) in
           subst (λ (b : List (List ℕ)). Indexes (LiesIn b extents') volume index') (sym bodies_are)
@@ -164,7 +164,7 @@ module _ (heading : Heading) (extents : List (ℕ × ℕ)) (failed : Bool) (inde
         pub store_sure : (disk new : DiskState) (heading' : Heading) (bodies' : List (List ℕ))
             → StoresContents disk bodies notes → heading' ≡ heading → bodies' ≡ bodies ++ body ∷ []
             → Each new (StandsFor heading' bodies') → Each new (GivesContents (noted_contents (with_frame notes
-                changes)))
+            changes)))
         store_sure disk new heading' bodies' stores heading_is bodies_are sure image left =
             gives_more (noted_contents notes) changes is.contents (open_contents few) heading is.heading_is bodies
             stores.bodies_are body body_is image

@@ -31,25 +31,25 @@ long_enough heading bodies image s =
 -- the side that was opened, read without a word written
 module _ (old mid new : DiskState) (heading : Heading) (bodies : List (List ℕ))
     (stands : StandsFor heading bodies old.seen) (only : Only old.seen mid.may_leave) (unwritten : Unwritten mid new)
-        where
-  pub only_still : Only old.seen new.may_leave
-  only_still image may = only image (unwritten.images image may)
+  where
+    pub only_still : Only old.seen new.may_leave
+    only_still image may = only image (unwritten.images image may)
 
-  pub opened_gives : (extents : List (ℕ × ℕ)) (failed : Bool) (index : List PlacedPart) (notes : Notes)
-      (heading' : Heading) → IsOpen heading' extents failed index notes → heading' ≡ heading
-      → bodies ≡ bodies_of notes.frames → GivesContents (noted_contents notes) old.seen
-  opened_gives extents failed index notes heading' is same spelled = (
-    is.contents,
-    subst (λ (x : Heading × List (List ℕ)). StandsFor x.0 x.1 old.seen)
-        (λ i. ((sym same ∙ is.heading_is) i, spelled i)) stands,
-  )
+    pub opened_gives : (extents : List (ℕ × ℕ)) (failed : Bool) (index : List PlacedPart) (notes : Notes)
+        (heading' : Heading) → IsOpen heading' extents failed index notes → heading' ≡ heading
+        → bodies ≡ bodies_of notes.frames → GivesContents (noted_contents notes) old.seen
+    opened_gives extents failed index notes heading' is same spelled = (
+      is.contents,
+      subst (λ (x : Heading × List (List ℕ)). StandsFor x.0 x.1 old.seen)
+          (λ i. ((sym same ∙ is.heading_is) i, spelled i)) stands,
+    )
 
-  pub opened_stores : (notes : Notes) (bodies' : List (List ℕ)) → GivesContents (noted_contents notes) old.seen
-      → bodies' ≡ bodies → bodies ≡ bodies_of notes.frames → StoresContents new bodies' notes
-  opened_stores notes bodies' gives same spelled = record {
-    bodies_are = same ∙ spelled;
-    shows = λ image may. inl (subst (GivesContents (noted_contents notes)) (sym (only_still image may)) gives);
-  }
+    pub opened_stores : (notes : Notes) (bodies' : List (List ℕ)) → GivesContents (noted_contents notes) old.seen
+        → bodies' ≡ bodies → bodies ≡ bodies_of notes.frames → StoresContents new bodies' notes
+    opened_stores notes bodies' gives same spelled = record {
+      bodies_are = same ∙ spelled;
+      shows = λ image may. inl (subst (GivesContents (noted_contents notes)) (sym (only_still image may)) gives);
+    }
 
 -- what was found on the old bytes is why the cartridge is not opened
 pub not_opened : (old mid new : DiskState) (error : CartridgeError) (heading : Heading) (bodies : List (List ℕ))
@@ -58,9 +58,14 @@ pub not_opened : (old mid new : DiskState) (error : CartridgeError) (heading : H
     → (old.honest → StandsFor heading bodies old.seen × Only old.seen mid.may_leave)
     → (old.honest → Unwritten mid new)
     → NotRecovered error heading bodies mid new → IsNotOpened error old new
-not_opened old mid new NotOurs heading bodies honest none found unwritten why =
-    (why.0 ∙ none, λ h. (inr (heading, bodies, why.1, (found h).0), λ image may. (found h).1 image ((unwritten
-        h).images image may)))
+not_opened old mid new NotOurs heading bodies honest none found unwritten why = (
+  why.0 ∙ none,
+  λ h. (
+    inr (heading, bodies, why.1, (found h).0),
+    λ image may. (found h).1 image ((unwritten
+        h).images image may),
+  ),
+)
 not_opened old mid new (BadRecord at) heading bodies honest none found unwritten why = (
   why.0 ∙ none,
   λ h. (

@@ -65,13 +65,13 @@ module _ (frame : ℕ) (heading : Heading) (extents : List (ℕ × ℕ)) (index 
         bad changes records
         (is ∙ ap (λ (n : ℕ). slice_index_or bodies n []) (sym so_far.counted) ∙ same)
         (subst (λ (h : Heading). AllApply (volume_made (contents_from h notes.frames)) changes) so_far.heading_is
-            apply);
+        apply);
   }
 
   -- with its changes noted
   module _ (index' : List PlacedPart)
       (good : WalksTo true body (volume_made (noted_contents notes)) (LiesIn (bodies_of notes.frames ++ body ∷ [])
-          extents) index')
+      extents) index')
       (notes' : Notes) (notes_are : notes' ≡ with_frame notes (unwrap_or (changes_on body) [])) where
     told : changes_on body ≡ Some good.0
     told = changes_on_is body good.0 good.1

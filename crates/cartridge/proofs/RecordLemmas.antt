@@ -32,7 +32,7 @@ some_bytes (Erase part at) = omega arith
 
 unless : (past room fine : Bool)
     → (if past then Some PastEnd else (if not room then Some NoRoom else (if not fine then Some TooLong else None)))
-        ≡ None
+    ≡ None
     → (past ≡ false) × (room ≡ true) × (fine ≡ true)
 unless true room fine e = absurd (cc)
 unless false false fine e = absurd (cc)
@@ -54,8 +54,17 @@ applying_in (Some p) (Put part at block) none part_fits =
     let room = both_are _ _ told.1 in
     let few : length (take at p.objects ++ Block block ∷ []) ≤ 16000000 = leb-true _ _ room.0 in
     let fine = both_are _ _ told.2 in (
-      (part_fits, omega (arith, at_fits, few, length-append (take at p.objects) (Block block ∷ []), length-take-le at
-          p.objects at_fits)),
+      (
+        part_fits,
+        omega (
+          arith,
+          at_fits,
+          few,
+          length-append (take at p.objects) (Block block ∷ []),
+          length-take-le at
+              p.objects at_fits,
+        ),
+      ),
       leb-true _ _ fine.0,
       leb-true _ _ fine.1,
     )
@@ -64,11 +73,27 @@ applying_in (Some p) (Marks part at count) none part_fits =
     let at_fits : at ≤ length p.objects = ltb-false (length p.objects) at told.0 in
     let room = both_are _ _ told.1 in
     let few : length (take at p.objects ++ replicate count Mark) ≤ 16000000 = leb-true _ _ room.0 in (
-      (part_fits, omega (arith, at_fits, few, length-append (take at p.objects) (replicate count Mark),
-          length-take-le at p.objects at_fits, length-replicate count Mark)),
+      (
+        part_fits,
+        omega (
+          arith,
+          at_fits,
+          few,
+          length-append (take at p.objects) (replicate count Mark),
+          length-take-le at p.objects at_fits,
+          length-replicate count Mark,
+        ),
+      ),
       leb-true _ _ told.2,
-      omega (arith, at_fits, few, length-append (take at p.objects) (replicate count Mark), length-take-le at
-          p.objects at_fits, length-replicate count Mark),
+      omega (
+        arith,
+        at_fits,
+        few,
+        length-append (take at p.objects) (replicate count Mark),
+        length-take-le at
+            p.objects at_fits,
+        length-replicate count Mark,
+      ),
     )
 applying_in (Some p) (Erase part at) none part_fits =
     let told = unless (nat_lt (length p.objects) at) (has_room p (take at p.objects ++ [])) true none in
@@ -114,8 +139,12 @@ pub part_fits : (changes : List Change) (i : ℕ) (change : Change) → i < leng
     → change ≡ slice_index_or changes i change
     → length (spell_all (take i changes)) + length (spell_change change) ≤ length (spell_all changes)
 part_fits changes i change inside is =
-    omega (arith, length-flat_map-take spell_change changes i change inside, ap (λ (c : Change). length (spell_change
-        c)) is)
+    omega (
+      arith,
+      length-flat_map-take spell_change changes i change inside,
+      ap (λ (c : Change). length (spell_change
+          c)) is,
+    )
 
 pub spelled_next : (changes : List Change) (i : ℕ) (change : Change) → i < length changes
     → change ≡ slice_index_or changes i change

@@ -19,8 +19,10 @@ same_frames [] (o ∷ os) a b e = absurd (cc)
 same_frames (f ∷ fs) (o ∷ os) a b e =
     let first : spell_all f ≡ spell_all o = cc in
     let rest : bodies_of fs ≡ bodies_of os = cc in
-    let one = same_list (spell_all f) f o (All-head (All IsRecord) f fs a, refl) (All-head (All IsRecord) o os b,
-        first) in
+    let one = same_list (spell_all f) f o (All-head (All IsRecord) f fs a, refl) (
+      All-head (All IsRecord) o os b,
+      first,
+    ) in
     let others = same_frames fs os (All-tail (All IsRecord) f fs a) (All-tail (All IsRecord) o os b) rest in
     λ i. one i ∷ others i
 

@@ -36,7 +36,7 @@ pub spell_more : (done : List Change) (change : Change) → spell_all (done ++ c
     spell_change change
 spell_more done change =
     flat_map-append spell_change done (change ∷ []) ∙ ap (λ (l : List ℕ). spell_all done ++ l) (append-nil
-        (spell_change change))
+    (spell_change change))
 
 pub after_more : (volume : List Part) (done : List Change) (change : Change)
     → after volume (done ++ change ∷ []) ≡ changed (after volume done) change
@@ -65,13 +65,18 @@ begins_so [] change rest (c ∷ cs) good is all some e =
     let same = one_front c change (spell_all cs) rest (All-head IsRecord c cs all) is e in
     (cs, ap (λ (x : Change). x ∷ cs) same.0)
 begins_so (d ∷ ds) change rest [] good is all some e =
-    absurd (omega (arith, ap length e, length-append (spell_change d ++ spell_all ds) (spell_change change ++ rest),
-        length-append (spell_change change) rest, some))
+    absurd (omega (
+      arith,
+      ap length e,
+      length-append (spell_change d ++ spell_all ds) (spell_change change ++ rest),
+      length-append (spell_change change) rest,
+      some,
+    ))
 begins_so (d ∷ ds) change rest (c ∷ cs) good is all some e =
     let same = one_front c d (spell_all cs) (spell_all ds ++ (spell_change change ++ rest)) (All-head IsRecord c cs all)
     (All-head IsRecord d ds good) (e ∙ append_assoc (spell_change d) (spell_all ds) (spell_change change ++ rest)) in
     let others = begins_so ds change rest cs (All-tail IsRecord d ds good) is (All-tail IsRecord c cs all) some
-        same.1 in
+    same.1 in
     (others.0, λ i. same.0 i ∷ others.1 i)
 
 module _ (body : List ℕ) (volume : List Part) (P : List ℕ → ℕ → Type 0) where
@@ -84,8 +89,11 @@ module _ (body : List ℕ) (volume : List Part) (P : List ℕ → ℕ → Type 0
       → WalksTo true body volume P index
   walk_end from index walked end = (
     walked.0,
-    (walked.1, walked.2 ∙ ap (λ (l : List ℕ). spell_all walked.0 ++ l) (drop_all from body end) ∙ append-nil
-        (spell_all walked.0)),
+    (
+      walked.1,
+      walked.2 ∙ ap (λ (l : List ℕ). spell_all walked.0 ++ l) (drop_all from body end) ∙ append-nil
+          (spell_all walked.0),
+    ),
     walked.4,
     walked.5,
   )
@@ -122,7 +130,7 @@ module _ (body : List ℕ) (volume : List Part) (P : List ℕ → ℕ → Type 0
         → WalksTo false body volume P index
     walk_refused cause some refused = λ changes records is apply.
         let parted = begins_so walked.0 change (drop (size_of item) (drop from body)) changes walked.1 front.valid
-            records
+        records
         (omega (arith, some, front.sized)) (sym is ∙ whole) in
         let none = applies_there volume walked.0 change parted.0 (subst (AllApply volume) parted.1 apply) in
         absurd (let a = sym refused_so ∙ refused in cc)
@@ -137,8 +145,14 @@ module _ (body : List ℕ) (volume : List Part) (P : List ℕ → ℕ → Type 0
       whole
           ∙ sym (append_assoc (spell_all walked.0) (spell_change change) (drop (size_of item) (drop from body)))
           ∙ (λ i. sym (spell_more walked.0 change) i ++ rest i),
-      omega (arith, walked.3, front.sized, ap length (spell_more walked.0 change), length-append (spell_all walked.0)
-          (spell_change change)),
+      omega (
+        arith,
+        walked.3,
+        front.sized,
+        ap length (spell_more walked.0 change),
+        length-append (spell_all walked.0)
+            (spell_change change),
+      ),
       apply_more volume walked.0 change walked.4 (sym refused_so ∙ none),
       subst (λ (x : List Part × List PlacedPart). Indexes P x.0 x.1)
           (λ i. (sym (after_more volume walked.0 change) i, same i))
@@ -180,8 +194,16 @@ lies_here bodies body extents frame from (Records.Put part at count) place is in
 -- a record at the front of bytes has a byte of its block, where it has one
 pub has_block : (item : Record) (bytes : List ℕ) → IsAtFront item bytes → HasBlock item
 has_block (Records.Put part at count) bytes front =
-    omega (arith, front.valid.1, front.within, length-take-le count (drop 10 bytes) (omega (arith, front.within,
-        length-drop 10 bytes)))
+    omega (
+      arith,
+      front.valid.1,
+      front.within,
+      length-take-le count (drop 10 bytes) (omega (
+        arith,
+        front.within,
+        length-drop 10 bytes,
+      )),
+    )
 has_block (Records.Marks part at count) bytes front = tt
 has_block (Records.Erase part at) bytes front = tt
 

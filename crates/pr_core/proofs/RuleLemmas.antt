@@ -189,7 +189,7 @@ preempted_as false state nexus key holder is registered held other =
 registrants_keep :
     (state : PrState) (nexus key : ℕ) → IsSound state
     → Held (keys_without state (preempted_by state nexus key)) state.reservation → Kept (preempt_registrants state
-        nexus key)
+    nexus key)
 registrants_keep state nexus key sound held = record {
   no_zero = λ other is.
       left_no_zero (preempted_by state nexus key other) (key_of state other)

@@ -56,7 +56,7 @@ begins bytes = by (told bytes) refl
       where
         found : (item : Record) → told bytes ≡ Some item → (w : BeginsWithRecord bytes)
             → IsRecord (change_in item bytes) × (bytes ≡ spell_change (change_in item bytes) ++ drop (size_of item)
-                bytes)
+            bytes)
         found item some w =
             let items : item ≡ record_of w.0 =
             (let e : Some item ≡ Some (record_of w.0) = sym some ∙ told_by w in cc) in
@@ -121,11 +121,21 @@ pub one_end : (changes others : List Change) (r s : List ℕ) → All IsRecord c
     → (changes ≡ others) × (r ≡ s)
 one_end [] [] r s okc oko is noner nones = (refl, is)
 one_end (c ∷ cs) [] r s okc oko is noner nones =
-    absurd (nones (c, spell_all cs ++ r, All-head IsRecord c cs okc, sym is ∙ append_assoc (spell_change c)
-        (spell_all cs) r))
+    absurd (nones (
+      c,
+      spell_all cs ++ r,
+      All-head IsRecord c cs okc,
+      sym is ∙ append_assoc (spell_change c)
+          (spell_all cs) r,
+    ))
 one_end [] (d ∷ ds) r s okc oko is noner nones =
-    absurd (noner (d, spell_all ds ++ s, All-head IsRecord d ds oko, is ∙ append_assoc (spell_change d) (spell_all
-        ds) s))
+    absurd (noner (
+      d,
+      spell_all ds ++ s,
+      All-head IsRecord d ds oko,
+      is ∙ append_assoc (spell_change d) (spell_all
+          ds) s,
+    ))
 one_end (c ∷ cs) (d ∷ ds) r s okc oko is noner nones =
     let first =
     one_front c d (spell_all cs ++ r) (spell_all ds ++ s) (All-head IsRecord c cs okc) (All-head IsRecord d ds oko)

@@ -13,8 +13,13 @@ returns-in-Ok-clause-body g c = λ h.
     c.body_at-at.ensures.value ∙ get_or_default j.extents c.args.frame extent (0, 0) c.requires.frame in
     let there = c.body_at-at.ensures.body h in
     let count : length bytes ≡ extent.1 =
-    omega (arith, c.read_body.auto.buffer, c.deref_mut.ensures.len, c.deref_mut.ensures.value,
-        c.in_ok-body.ensures.len) in
+    omega (
+      arith,
+      c.read_body.auto.buffer,
+      c.deref_mut.ensures.len,
+      c.deref_mut.ensures.value,
+      c.in_ok-body.ensures.len,
+    ) in
     let read : bytes ≡ slice_range (slice_index_or j.bodies c.args.frame []) 0 (0 + length bytes) =
     c.in-Ok.ensures.bytes h c.args.frame 0 c.requires.frame (omega (arith, ap (λ (p : ℕ × ℕ). p.0) at_is))
     (omega (arith, ap (λ (p : ℕ × ℕ). p.1) at_is, count)) in

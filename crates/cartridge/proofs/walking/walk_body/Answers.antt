@@ -90,11 +90,11 @@ loop-from-preserved g c =
           subst (λ (n : ℕ). WalkedTo n body volume P c.apply.new.self) (ap (λ (n : ℕ). from + n) (sym size))
           (walk_on body volume P from c.loop-from.index c.loop-from.invariant.walked item front c.apply.new.self
           c.place_of.result (reserved_of c.apply.new.self (record_part item)) c.in-Ok.ensures.answer.0
-              c.in-Ok.ensures.answer.1
+          c.in-Ok.ensures.answer.1
           (lies_here (bodies_of c.args.noted.now.notes.frames) body c.args.journal.now.extents c.args.frame from item
           c.place_of.result
           (c.requires.frame ∙ sym (length-map c.args.noted.now.notes.frames spell_all)) c.requires.there
-              c.requires.sized
+          c.requires.sized
           front
           (subst (λ (e : ℕ × ℕ). IsPlaceOf item (e.0 + from) c.place_of.result) extent_is c.place_of.ensures.place)));
     }

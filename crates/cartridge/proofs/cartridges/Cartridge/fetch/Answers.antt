@@ -32,8 +32,12 @@ read_body-read-requires g c =
     i.index c.args.part c.args.at c.in-Some-Block.place c.in-Some-Block.length c.self.invariant.0.lies
     (sym c.place.ensures ∙ c.in-Some-Block.is ∙ ap Some c.in-Some-Block.field-0-is) in
     let count : length c.deref_mut.result.now ≡ c.in-Some-Block.length =
-    omega (arith, c.deref_mut.ensures.len, ap (λ (l : List ℕ). length l) c.deref_mut.ensures.value,
-        c.in_ok-resize.ensures.len) in
+    omega (
+      arith,
+      c.deref_mut.ensures.len,
+      ap (λ (l : List ℕ). length l) c.deref_mut.ensures.value,
+      c.in_ok-resize.ensures.len,
+    ) in
     can_be_read (bodies_of i.noted.notes.frames) i.journal.extents found.0 c.in-Some-Block.place
     (length c.deref_mut.result.now) found.3 (count ∙ found.2)
 
@@ -43,24 +47,31 @@ returns-clause-bytes g c = rw (← c.self.view_is) (λ h. elim c.match-read.bran
       on_ok_any c.match-read.result (
       let i = c.self.inside in
       let found = indexes_block (LiesOnSide i.noted.notes i.journal.extents) (volume_made (noted_contents
-          i.noted.notes))
+      i.noted.notes))
       i.index c.args.part c.args.at c.in-Some-Block.place c.in-Some-Block.length c.self.invariant.0.lies
       (sym c.place.ensures ∙ c.in-Some-Block.is ∙ ap Some c.in-Some-Block.field-0-is) in
       let count : length c.deref_mut.result.now ≡ c.in-Some-Block.length =
-      omega (arith, c.deref_mut.ensures.len, ap (λ (l : List ℕ). length l) c.deref_mut.ensures.value,
-          c.in_ok-resize.ensures.len) in
+      omega (
+        arith,
+        c.deref_mut.ensures.len,
+        ap (λ (l : List ℕ). length l) c.deref_mut.ensures.value,
+        c.in_ok-resize.ensures.len,
+      ) in
       let bytes = c.read_body-read.new.buffer in
       let items = c.resize.new.self.items in
       let long : length bytes ≡ c.in-Some-Block.length = omega (arith, count, c.read_body-read.auto.buffer) in
-      let same : length items ≡ c.in-Some-Block.length = omega (arith, c.in_ok-resize.ensures.len,
-          c.resize.new.self.ok.0) in
+      let same : length items ≡ c.in-Some-Block.length = omega (
+        arith,
+        c.in_ok-resize.ensures.len,
+        c.resize.new.self.ok.0,
+      ) in
       let whole : take c.resize.new.self.len (bytes ++ drop (length bytes) items) ≡ bytes =
       filled_whole c.resize.new.self.len bytes items (omega (arith, long, c.in_ok-resize.ensures.len))
       (omega (arith, same, c.in_ok-resize.ensures.len)) in
       found.1
       ∙ ap Some (sym (whole
       ∙ read_is (bodies_of i.noted.notes.frames) i.journal.bodies i.journal.extents found.0 c.in-Some-Block.place
-          bytes found.3
+      bytes found.3
       (c.self.invariant.1 h).bodies_are (long ∙ found.2) (w.in-Ok.ensures.bytes h)))
       )
   | in-Err-Device w ↦ rw w.result-is tt

@@ -119,8 +119,11 @@ place_frame-requires-clause-counted g c =
     let body = c.deref.result.now in
     let body_is : body ≡ spell_all changes = c.deref.ensures.value ∙ c.fill_body.ensures.body in
     let new = c.append.new.self in
-    one_more_extent k.heading k.extents k.failed index notes open_now changes apply new.extents (k.end + 5, length
-        body) c.in-Ok-append.ensures.answer.0.extents
+    one_more_extent k.heading k.extents k.failed index notes open_now changes apply new.extents (
+      k.end + 5,
+      length
+          body,
+    ) c.in-Ok-append.ensures.answer.0.extents
 
 pub place_frame-requires-clause-sized : goal.place_frame-requires-clause-sized
 place_frame-requires-clause-sized g c =
@@ -139,7 +142,7 @@ place_frame-requires-clause-sized g c =
     let body_is : body ≡ spell_all changes = c.deref.ensures.value ∙ c.fill_body.ensures.body in
     let new = c.append.new.self in
     ap (λ (e : ℕ × ℕ). e.1) (last_extent k.heading k.extents k.failed index notes open_now changes apply new.extents
-        (k.end + 5, length body) c.in-Ok-append.ensures.answer.0.extents)
+    (k.end + 5, length body) c.in-Ok-append.ensures.answer.0.extents)
     ∙ ap (λ (l : List ℕ). length l) body_is
 
 pub place_frame-requires-clause-fits : goal.place_frame-requires-clause-fits
@@ -182,8 +185,11 @@ place_frame-requires-clause-lies g c =
     let body = c.deref.result.now in
     let body_is : body ≡ spell_all changes = c.deref.ensures.value ∙ c.fill_body.ensures.body in
     let new = c.append.new.self in
-    before_placing k.heading k.extents k.failed index notes open_now changes apply new.extents (k.end + 5, length
-        body) c.in-Ok-append.ensures.answer.0.extents
+    before_placing k.heading k.extents k.failed index notes open_now changes apply new.extents (
+      k.end + 5,
+      length
+          body,
+    ) c.in-Ok-append.ensures.answer.0.extents
     index (grown_same index)
 
 pub invariant_of-self-in-Ok-append : goal.invariant_of-self-in-Ok-append
@@ -205,7 +211,7 @@ invariant_of-self-in-Ok-append g c =
     let new = c.append.new.self in
     let stores = same_stores g.D.Disk.state j k same i.index index notes c.self.invariant.1 in
     let noted_is : c.with_frame-self-inside.result.notes ≡ with_frame notes changes =
-        c.with_frame-self-inside.ensures in (
+    c.with_frame-self-inside.ensures in (
       subst (λ (n : Notes). IsOpen new.heading new.extents new.failed c.place_frame.new.index n) (sym noted_is)
           (open_stored k.heading k.extents k.failed index notes open_now changes apply
           new.extents (k.end + 5, length body) c.in-Ok-append.ensures.answer.0.extents
@@ -241,7 +247,7 @@ invariant_of-self-in-Err-Device g c =
     let noted_is : c.with_torn-self-inside.result.notes ≡ with_torn notes changes = c.with_torn-self-inside.ensures in (
       subst (λ (n : Notes). IsOpen new.heading new.extents new.failed index n) (sym noted_is)
           (open_broken k.heading k.extents k.failed index notes open_now changes new.heading new.extents new.failed
-              index
+          index
           c.append.ensures.heading broke.extents broke.failed (grown_same index)),
       λ h'.
           let h = c.append.ensures.disk.was_honest h' in
@@ -272,7 +278,7 @@ returns-in-Ok-append-clause-answer g c =
     let new = c.append.new.self in
     let appended = c.in-Ok-append.ensures.answer.0 in
     let noted_is : c.with_frame-self-inside.result.notes ≡ with_frame notes changes =
-        c.with_frame-self-inside.ensures in (
+    c.with_frame-self-inside.ensures in (
       record {
         was_fine = fine;
         is_fine = appended.is_fine;
@@ -308,7 +314,7 @@ returns-in-Ok-append-clause-sure g c =
     let stores = same_stores g.D.Disk.state j k same i.index index notes c.self.invariant.1 in
     let h1 = subst (λ d. (g.D.Disk.state d).honest) (sym same.disk) h in
     let noted_is : c.with_frame-self-inside.result.notes ≡ with_frame notes changes =
-        c.with_frame-self-inside.ensures in
+    c.with_frame-self-inside.ensures in
     subst (λ (n : Notes). Each (g.D.Disk.state new.disk) (GivesContents (noted_contents n))) (sym noted_is)
     (store_sure k.heading k.extents k.failed index notes open_now changes apply few k.bodies body body_is
     (g.D.Disk.state k.disk) (g.D.Disk.state new.disk) new.heading new.bodies (stores h1) c.append.ensures.heading
@@ -334,7 +340,7 @@ returns-in-Ok-append-clause-any_moment g c =
     let stores = same_stores g.D.Disk.state j k same i.index index notes c.self.invariant.1 in
     let h1 = subst (λ d. (g.D.Disk.state d).honest) (sym same.disk) h in
     subst (λ d. LeavesOnly (g.D.Disk.state d) (g.D.Disk.state new.disk) (ShowsContents (noted_contents notes)
-        (changes ∷ [])))
+    (changes ∷ [])))
     same.disk
     (store_moments k.heading k.extents k.failed index notes open_now changes apply few k.bodies body body_is
     (g.D.Disk.state k.disk) (g.D.Disk.state k.disk) (g.D.Disk.state new.disk) (stores h1)
@@ -360,7 +366,7 @@ returns-in-Err-Device-clause-any_moment g c =
     let stores = same_stores g.D.Disk.state j k same i.index index notes c.self.invariant.1 in
     let h1 = subst (λ d. (g.D.Disk.state d).honest) (sym same.disk) h in
     subst (λ d. LeavesOnly (g.D.Disk.state d) (g.D.Disk.state new.disk) (ShowsContents (noted_contents notes)
-        (changes ∷ [])))
+    (changes ∷ [])))
     same.disk
     (store_moments k.heading k.extents k.failed index notes open_now changes apply few k.bodies body body_is
     (g.D.Disk.state k.disk) (g.D.Disk.state k.disk) (g.D.Disk.state new.disk) (stores h1)

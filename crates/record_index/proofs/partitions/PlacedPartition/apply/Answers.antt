@@ -41,7 +41,7 @@ invariant_of-self-in_default-run c =
     ∙ ap (λ (n : ℕ). take n part.objects) c.kept-in_default-run.ensures
     ∙ sym (append-nil (take (places.record_kept c.args.item) part.objects))
     ∙ ap (λ (l : List Placed). take (places.record_kept c.args.item) part.objects ++ l) (sym
-        c.in_default-run.ensures.0) in
+    c.in_default-run.ensures.0) in
     rw made (limits_placed part c.args.item c.args.place c.cut-in_default-run.new.self.reserved c.self.invariant none)
 
 pub returns-in_ok-reserve-clause-limits : goal.returns-in_ok-reserve-clause-limits
@@ -66,5 +66,5 @@ returns-in_default-run-clause-limits c =
     ∙ ap (λ (n : ℕ). take n part.objects) c.kept-in_default-run.ensures
     ∙ sym (append-nil (take (places.record_kept c.args.item) part.objects))
     ∙ ap (λ (l : List Placed). take (places.record_kept c.args.item) part.objects ++ l) (sym
-        c.in_default-run.ensures.0) in
+    c.in_default-run.ensures.0) in
     rw made (limits_placed part c.args.item c.args.place c.cut-in_default-run.new.self.reserved c.self.invariant none)
