@@ -46,8 +46,7 @@ pub record TakesReserved (old : Reserved) (changes : List Change) (new : Reserve
       slice_index_or old.entries part 0 ≤ slice_index_or new.entries part 0 + sum_by (entries_of part) changes
 
 -- less is reserved than a frame takes whose body has so many bytes, and which puts so many blocks and runs of marks
--- into
--- that partition (own)
+-- into that partition (own)
 abbrev pub Lacks : Reserved → ℕ → ℕ → ℕ → Type 0
 Lacks old part body entries =
     (old.frames ≡ 0) ⊎ ((old.body < body)

@@ -16,8 +16,7 @@ use Rattle.drive_core.specs.State.{Mounted, contents_of}
 use Rattle.drive_core.specs.Relations.{MediumRelation, Stays, FailsToStore}
 
 -- what INFORMATION tells of a change that does not fit: the bytes of its block, the number of its marks; an erasing
--- adds
--- nothing, and tells nothing (SSC-4, WRITE(6), WRITE FILEMARKS(6); all of them, own)
+-- adds nothing, and tells nothing (SSC-4, WRITE(6), WRITE FILEMARKS(6); all of them, own)
 abbrev pub amount_of : Change → Option ℕ
 amount_of (Put part at block) = Some (length block)
 amount_of (Marks part at count) = Some count

@@ -54,7 +54,7 @@ stays answer state = record {
 abbrev pub raised : ℕ → ℕ
 raised generation = (generation + 1) % 2 ^ 32
 
--- the registrations keys_without those of some nexuses (own)
+-- the registrations without those of some nexuses (own)
 abbrev pub keys_without : PrState → Nexuses → ℕ → Option ℕ
 keys_without state removed nexus = if removed nexus then None else key_of state nexus
 

@@ -44,8 +44,7 @@ pub record Stored (old : KeeperState) (state : PrState) (new : KeeperState) : Ty
   pub room : LeavesStoreRoom old.room state new.room
 
 -- The device failed while a state was saved that fits: the keeper has failed. What it holds is the state before, or
--- that
--- one; its room is as it was (own).
+-- that one; its room is as it was (own).
 pub record Broken (old : KeeperState) (state : PrState) (new : KeeperState) : Type 0 where
   pub saved : new.saved ≡ old.saved
   pub torn : new.torn ≡ Some state

@@ -44,7 +44,7 @@ has_key state key nexus = is_number (key_of state nexus) key
 abbrev pub others : PrState → ℕ → Nexuses
 others state nexus = but (is_registered state) nexus
 
--- who is_holder this reservation: one nexus, or every registered one (SPC-4, persistent reservation holder)
+-- who holds this reservation: one nexus, or every registered one (SPC-4, persistent reservation holder)
 abbrev pub holds_this : Reservation → PrState → Nexuses
 holds_this reservation state nexus =
     if is_for_all reservation.kind then is_registered state nexus else is_number reservation.holder nexus

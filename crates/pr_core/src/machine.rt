@@ -101,7 +101,7 @@ impl PrState {
         }
     }
 
-    // The registrations keys_without those of some nexuses.
+    // The registrations without those of some nexuses.
     pub(crate) fn without(&self, removed: &[bool; 64]) -> [Option<u64>; 64]
         ensures { (set : _) → Shows false removed.now set → Shows None result (keys_without self.now set) }
     {

@@ -1,4 +1,4 @@
--- Which bytes spell_change a change, and which a list of changes.
+-- Which bytes spell a change, and which a list of changes.
 use Rattle.std.specs.Prelude.{◌≡◌, ◌≢◌, ◌≤◌, ◌<◌, ◌+◌, ◌^◌, ℕ, List, [], ◌∷◌, ◌++◌, length, take, drop}
 use Rattle.std.specs.List.{All, flat_map}
 use Rattle.std.specs.Int.{to_be_bytes, w32}
@@ -31,7 +31,7 @@ IsRecord (Put part at block) = IsTarget part at × (1 ≤ length block) × (leng
 IsRecord (Marks part at count) = IsTarget part at × (1 ≤ count) × (count ≤ MAX_OBJECTS)
 IsRecord (Erase part at) = IsTarget part at
 
--- the bytes spell_change the change (own)
+-- the bytes spell the change (own)
 abbrev pub Spells : List ℕ → Change → Type 0
 Spells bytes change = IsRecord change × (bytes ≡ spell_change change)
 
@@ -39,7 +39,7 @@ Spells bytes change = IsRecord change × (bytes ≡ spell_change change)
 abbrev pub spell_all : List Change → List ℕ
 spell_all changes = flat_map spell_change changes
 
--- the bytes spell_change these changes, in this order, and nothing more (own)
+-- the bytes spell these changes, in this order, and nothing more (own)
 abbrev pub SpellsAll : List ℕ → List Change → Type 0
 SpellsAll bytes changes = All IsRecord changes × (bytes ≡ spell_all changes)
 

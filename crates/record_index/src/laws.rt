@@ -23,7 +23,7 @@ pub fn no_spelling_begins_another()
         a ++ x ≡ b ++ y → (change ≡ other) × (a ≡ b) × (x ≡ y) }
 {}
 
-/// Bytes spell_change at most one list of changes, are bad at one place at most, and never both.
+/// Bytes spell at most one list of changes, are bad at one place at most, and never both.
 pub fn bytes_spell_at_most_one_list()
     ensures one_list { (bytes : List ℕ) (changes others : List Change) →
         SpellsAll bytes changes → SpellsAll bytes others → changes ≡ others }
@@ -32,7 +32,7 @@ pub fn bytes_spell_at_most_one_list()
         SpellsAll bytes changes → IsBadAt bytes at → ⊥ }
 {}
 
-/// The changes on bytes are those that they spell_change; where they spell_change none, they are bad at a place.
+/// The changes on bytes are those that they spell; where they spell none, they are bad at a place.
 pub fn the_changes_on_bytes()
     ensures spelled { (bytes : List ℕ) (changes : List Change) →
         (changes_on bytes ≡ Some changes) ↔ SpellsAll bytes changes }

@@ -45,8 +45,8 @@ fn head(kind: u8, part: PartNo, at: ObjNo, number: u32) -> [u8; HEAD_BYTES]
     head
 }
 
-/// The changes that these bytes spell_change, with a copy of each block. `BadRecord` names the first byte
-/// of the first record that is wrong or not whole; no bytes spell_change no changes.
+/// The changes that these bytes spell, with a copy of each block. `BadRecord` names the first byte
+/// of the first record that is wrong or not whole; no bytes spell no changes.
 pub fn decode_changes(alloc: Global, bytes: &[u8]) -> Result<Vec<Change>, RecordError>
     ensures ok { IfOk result (λ changes. SpellsAll bytes.now changes.items) }
     ensures err { IfErr result (λ error. NotDecoded bytes.now error) }

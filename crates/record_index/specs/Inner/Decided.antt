@@ -14,7 +14,7 @@ use Rattle.record_index.specs.Inner.Deciding.{Decidable, both, both3, below, les
 use Rattle.record_index.specs.Inner.Spelled.{change_again, length-spell, one_front, rest_again, told_again}
 use Rattle.record_index.specs.Inner.Told.{told}
 
--- the bytes spell_change a list of changes, or are bad at a place (own)
+-- the bytes spell a list of changes, or are bad at a place (own)
 abbrev pub IsDecided : List ℕ → Type 0
 IsDecided bytes = ((changes : List Change) × SpellsAll bytes changes) ⊎ ((at : ℕ) × IsBadAt bytes at)
 
