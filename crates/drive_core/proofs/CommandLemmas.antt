@@ -2,7 +2,7 @@
 use Rattle.std.proofs.Common.{◌≡◌, ℕ, ℤ, zero, suc, List, [], ◌∷◌, Option, None, Some, Ok, Bool, true, false, not, sym, ◌∙◌, ap, subst, slice_get}
 use Rattle.scsi_sense.specs.declared.replies.Reply.{Reply}
 use Rattle.scsi_wire.specs.declared.commands.Command.{Command}
-use Rattle.scsi_wire.specs.declared.commands.Command.TheVariants.{TestUnitReady, Rewind, RequestSense, ReadBlockLimits, Read, Write, WriteFilemarks, Space, Inquiry, Erase, Locate, ReadPosition}
+use Rattle.scsi_wire.specs.declared.commands.Command.TheVariants.{TestUnitReady, Rewind, RequestSense, ReadBlockLimits, Read, Write, WriteFilemarks, Space, Inquiry, Erase, Locate, ReadPosition, PersistentReserveIn, PersistentReserveOut}
 use Rattle.scsi_sense.specs.Replies.{good_with}
 use Rattle.vtl_base.specs.declared.space_codes.SpaceCode.{SpaceCode}
 use Rattle.volume_core.specs.declared.changes.Change.{Change}
@@ -290,3 +290,5 @@ commands spaces locates ReadPosition buffered sent = stored_first GivesPosition 
 commands spaces locates (RequestSense room) buffered sent = none_determined
 commands spaces locates ReadBlockLimits buffered sent = none_determined
 commands spaces locates (Inquiry room) buffered sent = none_determined
+commands spaces locates (PersistentReserveIn action room) buffered sent = none_determined
+commands spaces locates (PersistentReserveOut action bytes) buffered sent = none_determined

@@ -1,5 +1,5 @@
 -- Where no fault comes, a request has one answer.
-use Rattle.std.proofs.Common.{◌≡◌, ℕ, List, [], Option, None, Some, Result, Ok, Err, Bool, true, false, refl, sym, ◌∙◌, ap, subst, length, nat_lt, ◌==◌, ◌&&◌, if◌then◌else◌}
+use Rattle.std.proofs.Common.{◌≡◌, ℕ, List, [], Option, None, Some, Result, Ok, Err, Bool, true, false, refl, sym, ◌∙◌, ap, subst, length, nat_lt, ◌==◌, ◌&&◌, not, if◌then◌else◌}
 use Rattle.scsi_sense.specs.declared.replies.Reply.{Reply}
 use Rattle.scsi_attention.specs.Attentions.{attention_of, cleared}
 use Rattle.scsi_sense.specs.Replies.{good_with}
@@ -7,13 +7,17 @@ use Rattle.scsi_sense.specs.SenseData.{sense_bytes}
 use Rattle.scsi_sense.specs.Senses.{invalid_field, medium_not_present, medium_failed}
 use Rattle.scsi_wire.specs.declared.opcodes.Opcode.{Opcode}
 use Rattle.scsi_wire.specs.declared.commands.Command.{Command}
-use Rattle.scsi_wire.specs.declared.commands.Command.TheVariants.{TestUnitReady, Rewind, RequestSense, ReadBlockLimits, Read, Write, WriteFilemarks, Space, Inquiry, Erase, Locate, ReadPosition}
+use Rattle.scsi_wire.specs.declared.commands.Command.TheVariants.{TestUnitReady, Rewind, RequestSense, ReadBlockLimits, Read, Write, WriteFilemarks, Space, Inquiry, Erase, Locate, ReadPosition, PersistentReserveIn, PersistentReserveOut}
 use Rattle.scsi_wire.specs.Answers.{block_limits, cut_to, inquiry_data}
-use Rattle.scsi_wire.specs.Opcodes.{opcode_of, is_exempt, needs_medium}
+use Rattle.scsi_wire.specs.Opcodes.{opcode_of, is_exempt, is_stopped_by_reservation, needs_medium}
 use Rattle.scsi_wire.specs.Commands.{code_of, command_of, sent_length}
 use Rattle.volume_core.specs.Volume.{Part}
 use Rattle.volume_core.specs.Medium.{MediumState}
 use Rattle.positioning.specs.Laws.{NoSpaceEndsTwice, NoLocateEndsTwice}
+use Rattle.pr_core.specs.declared.states.PrState.{PrState}
+use Rattle.pr_core.specs.States.{is_allowed}
+use Rattle.pr_core.specs.Laws.{NoOrderEndsTwice}
+use Rattle.scsi_lists.specs.PrLists.{list_decoded}
 use Rattle.drive_core.specs.declared.bays.Bay.{Bay}
 use Rattle.drive_core.specs.declared.bays.Bay.TheVariants.{Empty, Unloaded, Loaded}
 use Rattle.drive_core.specs.declared.conditions.Condition.{Condition}
@@ -21,19 +25,18 @@ use Rattle.drive_core.specs.declared.conditions.Condition.TheVariants.{DeferredE
 use Rattle.drive_core.specs.declared.conditions.Denial.{Denial}
 use Rattle.drive_core.specs.declared.conditions.Denial.TheVariants.{Refused, Reported, Conflict}
 use Rattle.drive_core.specs.declared.faults.Fault.{Fault}
-use Rattle.drive_core.specs.State.{Machine, DriveState, Kept, mounted, with_mounted, bay_of, volume_in}
+use Rattle.drive_core.specs.State.{Machine, mounted, with_mounted, bay_of, volume_in}
 use Rattle.drive_core.specs.Conditions.{attention_due, condition_due, denial_reply, denied, first_some, without_condition}
 use Rattle.drive_core.specs.Relations.{Made, made_nothing}
 use Rattle.drive_core.specs.RequestSense.{RequestSenseWork, once_reported, sense_due}
-use Rattle.drive_core.specs.Work.{Request, MediumWork, OnMediumIn, Tells, DriveWork, WorkBy}
-use Rattle.drive_core.specs.Checks.{Executes, ExecutesAs, condition_denial, fields_verdict, medium_denial, reservation_denial, state_denial, suits, unless_denied, verdict, verdict_at}
+use Rattle.drive_core.specs.ReserveIn.{data_read}
+use Rattle.drive_core.specs.Tell.{Tells}
+use Rattle.drive_core.specs.Work.{Request, MediumWork, OnMediumIn, DriveWork, WorkBy}
+use Rattle.drive_core.specs.Checks.{Executes, ExecutesAs, condition_denial, fields_verdict, medium_denial, state_denial, suits, unless_denied, verdict, verdict_at}
 use Rattle.drive_core.specs.Step.{Answered}
 use Rattle.drive_core.specs.Determined.{Sight, sight_of, seen_of, AreAlike}
 use Rattle.drive_core.proofs.CommandLemmas.{commands}
-
--- a drive as it is seen
-abbrev Seen : Type 0
-Seen = DriveState Sight Kept
+use Rattle.drive_core.proofs.DeterminedOrders.{Seen, ends, lists_alike}
 
 -- what denies a command that needs a medium, by what is seen of it
 abbrev denial_seen : Bay Sight → Option Denial
@@ -81,6 +84,8 @@ module _ (old beside : Machine) (e : seen_of old ≡ seen_of beside) where
   suits_same (Locate object (Some part)) = ap (λ (v : List Part). nat_lt part (length v)) volumes_same
   suits_same (Locate object None) = refl
   suits_same ReadPosition = refl
+  suits_same (PersistentReserveIn action room) = refl
+  suits_same (PersistentReserveOut action bytes) = refl
 
   due_same : (nexus : ℕ) → condition_due old nexus ≡ condition_due beside nexus
   due_same nexus =
@@ -98,7 +103,9 @@ module _ (old beside : Machine) (e : seen_of old ≡ seen_of beside) where
   state_same nexus opcode = λ i.
       if is_exempt opcode then None
       else first_some (condition_denial (due_same nexus i))
-      (first_some (reservation_denial old nexus opcode) (if needs_medium opcode then denials_same i else None))
+      (first_some
+      (if is_stopped_by_reservation opcode && not (is_allowed (e i).reservations nexus) then Some Conflict else None)
+      (if needs_medium opcode then denials_same i else None))
 
   code_same : (request : Request) (found : Option Opcode)
       → verdict_at old request found ≡ verdict_at beside request found
@@ -128,22 +135,12 @@ module _ (old beside : Machine) (e : seen_of old ≡ seen_of beside) where
   reported_same None nexus = e
   reported_same (Some condition) nexus = without_same condition nexus
 
-module _ (spaces : NoSpaceEndsTwice) (locates : NoLocateEndsTwice)
+module _ (spaces : NoSpaceEndsTwice) (locates : NoLocateEndsTwice) (orders : NoOrderEndsTwice)
     (old beside : Machine) (reply reply' : Reply) (made made' : Made) (new new' : Machine)
     (e : seen_of old ≡ seen_of beside) where
   -- both were answered, and came out alike
   abbrev Alike : Type 0
   Alike = AreAlike (Answered (Ok reply)) (Answered (Ok reply')) made made' new new'
-
-  -- what makes nothing leaves drives that are seen alike
-  ends : (answer : Result Reply Fault) (left left' : Machine) → seen_of left ≡ seen_of left'
-      → (Ok reply ≡ answer) × (made ≡ made_nothing) × (new ≡ left)
-      → (Ok reply' ≡ answer) × (made' ≡ made_nothing) × (new' ≡ left') → Alike
-  ends answer left left' same h k = record {
-    outputs = ap Answered (h.0 ∙ sym k.0);
-    changes = h.1 ∙ sym k.1;
-    drives = ap seen_of h.2 ∙ same ∙ sym (ap seen_of k.2);
-  }
 
   on_medium : (bay bay' : Bay MediumState) (command : Command) (sent : List ℕ) → bay_of sight_of bay ≡ bay_of
       sight_of bay'
@@ -163,7 +160,7 @@ module _ (spaces : NoSpaceEndsTwice) (locates : NoLocateEndsTwice)
       λ i. record (e i) { bay = Loaded (a.left.sights i); position = a.left.positions i } in
       record {
         outputs = ap (λ (r : Reply). Answered (Ok r)) a.replies;
-        changes = λ i. record { changes = a.changes i };
+        changes = λ i. record { changes = a.changes i; saved = (h.3 ∙ sym k.3) i };
         drives = ap seen_of h.2 ∙ left ∙ sym (ap seen_of k.2);
       }
   on_medium Empty bay' command sent same h k = absurd h
@@ -195,33 +192,39 @@ module _ (spaces : NoSpaceEndsTwice) (locates : NoLocateEndsTwice)
         drives = ap seen_of h.2 ∙ left ∙ sym (ap seen_of k.2);
       }
 
-  on_drive : (command : Command) (nexus : ℕ) → DriveWork command nexus old (Ok reply) made new
-      → DriveWork command nexus beside (Ok reply') made' new' → Alike
-  on_drive (RequestSense room) nexus h k = senses room nexus h k
-  on_drive ReadBlockLimits nexus h k = tells block_limits h k
-  on_drive (Inquiry room) nexus h k = tells (cut_to room inquiry_data) h k
-  on_drive TestUnitReady nexus h k = absurd h
-  on_drive Rewind nexus h k = absurd h
-  on_drive (Read asked suppress) nexus h k = absurd h
-  on_drive (Write asked) nexus h k = absurd h
-  on_drive (WriteFilemarks count immediate) nexus h k = absurd h
-  on_drive (Space code count) nexus h k = absurd h
-  on_drive Erase nexus h k = absurd h
-  on_drive (Locate object part) nexus h k = absurd h
-  on_drive ReadPosition nexus h k = absurd h
+  on_drive : (command : Command) (nexus : ℕ) (sent : List ℕ) → DriveWork command nexus sent old (Ok reply) made new
+      → DriveWork command nexus sent beside (Ok reply') made' new' → Alike
+  on_drive (RequestSense room) nexus sent h k = senses room nexus h k
+  on_drive ReadBlockLimits nexus sent h k = tells block_limits h k
+  on_drive (Inquiry room) nexus sent h k = tells (cut_to room inquiry_data) h k
+  on_drive TestUnitReady nexus sent h k = absurd h
+  on_drive Rewind nexus sent h k = absurd h
+  on_drive (Read asked suppress) nexus sent h k = absurd h
+  on_drive (Write asked) nexus sent h k = absurd h
+  on_drive (WriteFilemarks count immediate) nexus sent h k = absurd h
+  on_drive (Space code count) nexus sent h k = absurd h
+  on_drive Erase nexus sent h k = absurd h
+  on_drive (Locate object part) nexus sent h k = absurd h
+  on_drive ReadPosition nexus sent h k = absurd h
+  on_drive (PersistentReserveIn action room) nexus sent h k =
+      tells (cut_to room (data_read action old.reservations)) h
+      (subst (λ (s : PrState). Tells (cut_to room (data_read action s)) beside (Ok reply') made' new')
+      (ap (λ (x : Seen). x.reservations) (sym e)) k)
+  on_drive (PersistentReserveOut action bytes) nexus sent h k =
+      lists_alike orders old beside reply reply' made made' new new' e (list_decoded action sent) nexus h k
 
   work_alike : (needs : Bool) (command : Command) (nexus : ℕ) (sent : List ℕ)
       → WorkBy needs (Unit {0}) command nexus sent old (Ok reply) made new
       → WorkBy needs (Unit {0}) command nexus sent beside (Ok reply') made' new' → Alike
   work_alike true command nexus sent h k =
       on_medium old.bay beside.bay command sent (ap (λ (x : Seen). x.bay) e) h k
-  work_alike false command nexus sent h k = on_drive command nexus h k
+  work_alike false command nexus sent h k = on_drive command nexus sent h k
 
   judged_alike : (judged : Result Command Denial) (request : Request)
       → ExecutesAs (Unit {0}) judged request old (Ok reply) made new
       → ExecutesAs (Unit {0}) judged request beside (Ok reply') made' new' → Alike
   judged_alike (Err denial) request h k =
-      ends (Ok (denial_reply denial)) (denied denial request.nexus old) (denied denial request.nexus beside)
+      ends orders old beside reply reply' made made' new new' e (Ok (denial_reply denial)) (denied denial request.nexus old) (denied denial request.nexus beside)
       (denied_same old beside e denial request.nexus) h k
   judged_alike (Ok command) request h k =
       work_alike (needs_medium (code_of command)) command request.nexus request.sent h k

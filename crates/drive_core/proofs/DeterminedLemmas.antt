@@ -4,6 +4,8 @@ use Rattle.volume_core.specs.declared.media.Turn.{Turn}
 use Rattle.volume_core.specs.declared.media.Turn.TheVariants.{Idle, Stored, Faulted}
 use Rattle.volume_core.specs.Medium.{MediumState, volume_of, Turns}
 use Rattle.positioning.specs.Laws.{NoSpaceEndsTwice, NoLocateEndsTwice}
+use Rattle.pr_core.specs.Keepers.{KeeperState}
+use Rattle.pr_core.specs.Laws.{NoOrderEndsTwice}
 use Rattle.drive_core.specs.declared.bays.Bay.{Bay}
 use Rattle.drive_core.specs.declared.bays.Bay.TheVariants.{Empty, Unloaded, Loaded}
 use Rattle.drive_core.specs.State.{Machine, bay_of}
@@ -11,7 +13,7 @@ use Rattle.drive_core.specs.Relations.{Made, made_nothing}
 use Rattle.drive_core.specs.Work.{Request}
 use Rattle.drive_core.specs.Turn.{TurnsIn, after_turn, turn_outcome}
 use Rattle.drive_core.specs.Step.{Execute, FlushTurn, Load, PowerOn, Output, Answered, Unanswered, Step}
-use Rattle.drive_core.specs.Determined.{sight_of, side_sight, seen_of, IsCalm, AreSureAlike, AreAllSureAlike, AreAlike, StepsAreDetermined}
+use Rattle.drive_core.specs.Determined.{sight_of, side_sight, seen_of, without_room, IsCalm, AreSureAlike, AreAllSureAlike, AreAlike, StepsAreDetermined}
 use Rattle.drive_core.proofs.CommandLemmas.{works_sight}
 use Rattle.drive_core.proofs.DeterminedLoads.{loads, powers_on}
 use Rattle.drive_core.proofs.DeterminedChecks.{requests}
@@ -70,14 +72,14 @@ turn_unseen old (Unanswered outcome) made new calm h =
     }
 turn_unseen old (Answered answer) made new calm h = absurd h
 
-module _ (spaces : NoSpaceEndsTwice) (locates : NoLocateEndsTwice) (old beside : Machine) (made made' : Made) (new
+module _ (spaces : NoSpaceEndsTwice) (locates : NoLocateEndsTwice) (orders : NoOrderEndsTwice) (old beside : Machine) (made made' : Made) (new
     new' : Machine) (e : seen_of old ≡ seen_of beside) where
   execute_determined : (request other : Request) (output output' : Output) → request ≡ other
       → IsCalm output → IsCalm output' → Step (Unit {0}) old (Execute request) output made new
       → Step (Unit {0}) beside (Execute other) output' made' new' → AreAlike output output' made made' new new'
   execute_determined request other (Answered (Ok reply)) (Answered (Ok reply')) asks calm calm' h k =
       let k' : Step (Unit {0}) beside (Execute request) (Answered (Ok reply')) made' new' = rw (sym asks) at k in
-      requests spaces locates old beside reply reply' made made' new new' e request h k'
+      requests spaces locates orders old beside reply reply' made made' new new' e request h k'
   execute_determined request other (Answered (Ok reply)) (Answered (Err fault)) asks calm calm' h k = absurd calm'
   execute_determined request other (Answered (Ok reply)) (Unanswered outcome) asks calm calm' h k = absurd k
   execute_determined request other (Answered (Err fault)) output' asks calm calm' h k = absurd calm
@@ -93,13 +95,15 @@ module _ (spaces : NoSpaceEndsTwice) (locates : NoLocateEndsTwice) (old beside :
   load_determined medium other (Answered (Err fault)) output' asks calm calm' h k = absurd calm
   load_determined medium other (Unanswered outcome) output' asks calm calm' h k = absurd h
 
-  power_on_determined : (medium other : Option MediumState) (output output' : Output) → AreAllSureAlike medium other
-      → IsCalm output → IsCalm output' → Step (Unit {0}) old (PowerOn medium) output made new
-      → Step (Unit {0}) beside (PowerOn other) output' made' new' → AreAlike output output' made made' new new'
-  power_on_determined medium other (Unanswered outcome) (Unanswered outcome') asks calm calm' h k =
-      powers_on made made' new new' medium other outcome outcome' asks calm calm' h k
-  power_on_determined medium other (Unanswered outcome) (Answered answer) asks calm calm' h k = absurd k
-  power_on_determined medium other (Answered answer) output' asks calm calm' h k = absurd h
+  power_on_determined : (medium other : Option MediumState) (keeper keeper' : KeeperState) (output output' : Output)
+      → AreAllSureAlike medium other → without_room keeper ≡ without_room keeper'
+      → IsCalm output → IsCalm output' → Step (Unit {0}) old (PowerOn medium keeper) output made new
+      → Step (Unit {0}) beside (PowerOn other keeper') output' made' new' → AreAlike output output' made made' new new'
+  power_on_determined medium other keeper keeper' (Unanswered outcome) (Unanswered outcome') asks kept calm calm' h k =
+      powers_on made made' new new' medium other keeper keeper' outcome outcome' asks kept calm calm' h k
+  power_on_determined medium other keeper keeper' (Unanswered outcome) (Answered answer) asks kept calm calm' h k =
+      absurd k
+  power_on_determined medium other keeper keeper' (Answered answer) output' asks kept calm calm' h k = absurd h
 
   turn_determined : (output output' : Output) → IsCalm output → IsCalm output'
       → Step (Unit {0}) old FlushTurn output made new → Step (Unit {0}) beside FlushTurn output' made' new'
@@ -113,39 +117,41 @@ module _ (spaces : NoSpaceEndsTwice) (locates : NoLocateEndsTwice) (old beside :
         drives = one.drive_is ∙ e ∙ sym two.drive_is;
       }
 
-pub steps_determined : NoSpaceEndsTwice → NoLocateEndsTwice → StepsAreDetermined
-steps_determined spaces locates old beside (Execute request) (Execute other) output output' made made' new new' e
+pub steps_determined : NoSpaceEndsTwice → NoLocateEndsTwice → NoOrderEndsTwice → StepsAreDetermined
+steps_determined spaces locates orders old beside (Execute request) (Execute other) output output' made made' new new' e
     asks calm calm' h k =
-    execute_determined spaces locates old beside made made' new new' e request other output output' asks calm calm' h k
-steps_determined spaces locates old beside (Load medium) (Load other) output output' made made' new new' e asks calm
+    execute_determined spaces locates orders old beside made made' new new' e request other output output' asks calm calm' h k
+steps_determined spaces locates orders old beside (Load medium) (Load other) output output' made made' new new' e asks calm
     calm' h k =
-    load_determined spaces locates old beside made made' new new' e medium other output output' asks calm calm' h k
-steps_determined spaces locates old beside (PowerOn medium) (PowerOn other) output output' made made' new new' e asks
-    calm calm' h k =
-    power_on_determined spaces locates old beside made made' new new' e medium other output output' asks calm calm' h k
-steps_determined spaces locates old beside FlushTurn FlushTurn output output' made made' new new' e asks calm calm' h
+    load_determined spaces locates orders old beside made made' new new' e medium other output output' asks calm calm' h k
+steps_determined spaces locates orders old beside (PowerOn medium keeper) (PowerOn other keeper') output output' made
+    made' new new' e asks calm calm' h k =
+    power_on_determined spaces locates orders old beside made made' new new' e medium other keeper keeper' output output'
+    asks.0 asks.1 calm calm' h k
+steps_determined spaces locates orders old beside FlushTurn FlushTurn output output' made made' new new' e asks calm calm' h
     k =
-    turn_determined spaces locates old beside made made' new new' e output output' calm calm' h k
-steps_determined spaces locates old beside (Execute request) (Load other) o o' made made' new new' e asks c c' h k =
+    turn_determined spaces locates orders old beside made made' new new' e output output' calm calm' h k
+steps_determined spaces locates orders old beside (Execute request) (Load other) o o' made made' new new' e asks c c' h k =
     absurd asks
-steps_determined spaces locates old beside (Execute request) (PowerOn other) o o' made made' new new' e asks c c' h k =
+steps_determined spaces locates orders old beside (Execute request) (PowerOn other kept) o o' made made' new new' e asks c c' h k =
     absurd asks
-steps_determined spaces locates old beside (Execute request) FlushTurn o o' made made' new new' e asks c c' h k =
+steps_determined spaces locates orders old beside (Execute request) FlushTurn o o' made made' new new' e asks c c' h k =
     absurd asks
-steps_determined spaces locates old beside (Load medium) (Execute other) o o' made made' new new' e asks c c' h k =
+steps_determined spaces locates orders old beside (Load medium) (Execute other) o o' made made' new new' e asks c c' h k =
     absurd asks
-steps_determined spaces locates old beside (Load medium) (PowerOn other) o o' made made' new new' e asks c c' h k =
+steps_determined spaces locates orders old beside (Load medium) (PowerOn other kept) o o' made made' new new' e asks c c' h k =
     absurd asks
-steps_determined spaces locates old beside (Load medium) FlushTurn o o' made made' new new' e asks c c' h k =
+steps_determined spaces locates orders old beside (Load medium) FlushTurn o o' made made' new new' e asks c c' h k =
     absurd asks
-steps_determined spaces locates old beside (PowerOn medium) (Execute other) o o' made made' new new' e asks c c' h k =
+steps_determined spaces locates orders old beside (PowerOn medium kept) (Execute other) o o' made made' new new' e asks c c' h k =
     absurd asks
-steps_determined spaces locates old beside (PowerOn medium) (Load other) o o' made made' new new' e asks c c' h k =
+steps_determined spaces locates orders old beside (PowerOn medium kept) (Load other) o o' made made' new new' e asks c c' h k =
     absurd asks
-steps_determined spaces locates old beside (PowerOn medium) FlushTurn o o' made made' new new' e asks c c' h k =
+steps_determined spaces locates orders old beside (PowerOn medium kept) FlushTurn o o' made made' new new' e asks c c' h k =
     absurd asks
-steps_determined spaces locates old beside FlushTurn (Execute other) o o' made made' new new' e asks c c' h k =
+steps_determined spaces locates orders old beside FlushTurn (Execute other) o o' made made' new new' e asks c c' h k =
     absurd asks
-steps_determined spaces locates old beside FlushTurn (Load other) o o' made made' new new' e asks c c' h k = absurd asks
-steps_determined spaces locates old beside FlushTurn (PowerOn other) o o' made made' new new' e asks c c' h k =
+steps_determined spaces locates orders old beside FlushTurn (Load other) o o' made made' new new' e asks c c' h k =
+    absurd asks
+steps_determined spaces locates orders old beside FlushTurn (PowerOn other kept) o o' made made' new new' e asks c c' h k =
     absurd asks

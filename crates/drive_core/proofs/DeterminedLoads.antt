@@ -2,6 +2,7 @@
 use Rattle.std.proofs.Common.{◌≡◌, List, [], Option, None, Some, Result, Ok, Err, Bool, true, false, sym, ◌∙◌, ap, subst, refl, inl, inr}
 use Rattle.std.specs.Prelude.{option_map}
 use Rattle.scsi_sense.specs.declared.replies.Reply.{Reply}
+use Rattle.pr_core.specs.Keepers.{KeeperState}
 use Rattle.volume_core.specs.declared.changes.Change.{Change}
 use Rattle.volume_core.specs.declared.media.MediumError.{MediumError}
 use Rattle.volume_core.specs.declared.media.MediumError.TheVariants as Errors
@@ -10,11 +11,11 @@ use Rattle.volume_core.specs.Medium.{MediumState, GivenBy, Wakes, WakesFrom, vol
 use Rattle.drive_core.specs.declared.bays.Bay.{Bay}
 use Rattle.drive_core.specs.declared.bays.Bay.TheVariants.{Empty, Unloaded, Loaded}
 use Rattle.drive_core.specs.declared.faults.Fault.{Fault}
-use Rattle.drive_core.specs.State.{Machine, bay_of, loaded, powered_on}
+use Rattle.drive_core.specs.State.{Machine, bay_of, left_of, loaded, powered_on}
 use Rattle.drive_core.specs.Relations.{Made}
 use Rattle.drive_core.specs.Load.{LoadsAs, LoadsInto, PowersOn, bay_when_on, power_on_outcome}
 use Rattle.drive_core.specs.Step.{Answered, Unanswered}
-use Rattle.drive_core.specs.Determined.{Sight, SideSight, sight_of, side_sight, seen_of, AreSureAlike, AreAllSureAlike, IsCalm, AreAlike}
+use Rattle.drive_core.specs.Determined.{Sight, SideSight, sight_of, side_sight, seen_of, without_room, AreSureAlike, AreAllSureAlike, IsCalm, AreAlike}
 use Rattle.drive_core.proofs.CommandLemmas.{working_sight}
 
 -- neither memory ran out nor the device failed
@@ -190,6 +191,13 @@ bay_sight (Err Errors.SideFull) opened = refl
 bay_sight (Err Errors.Failed) opened = refl
 bay_sight (Err Errors.Unreadable) opened = refl
 
+-- drives that were switched on with what is seen alike are seen alike
+switched_alike : (bay bay' : Bay MediumState) (keeper keeper' : KeeperState)
+    → bay_of sight_of bay ≡ bay_of sight_of bay' → without_room keeper ≡ without_room keeper'
+    → seen_of (powered_on bay (left_of keeper.saved) keeper)
+    ≡ seen_of (powered_on bay' (left_of keeper'.saved) keeper')
+switched_alike bay bay' keeper keeper' bays kept = λ i. powered_on (bays i) (left_of (kept i).saved) (kept i)
+
 module _ (made made' : Made) (new new' : Machine) where
   -- a medium is loaded, or comes back, alike
   loads_as : (old beside : Machine) (woke : Result Unit MediumError) (opened opened' : MediumState)
@@ -226,16 +234,18 @@ module _ (made made' : Made) (new new' : Machine) where
   loads (Loaded m) bay' old beside medium other reply reply' e alike h k = absurd h
 
   -- a power on leaves one drive
-  pub powers_on : (medium other : Option MediumState) (outcome outcome' : Result Unit Fault)
-      → AreAllSureAlike medium other → IsCalm (Unanswered outcome) → IsCalm (Unanswered outcome')
-      → PowersOn (Unit {0}) medium outcome made new → PowersOn (Unit {0}) other outcome' made' new'
+  pub powers_on : (medium other : Option MediumState) (keeper keeper' : KeeperState)
+      (outcome outcome' : Result Unit Fault)
+      → AreAllSureAlike medium other → without_room keeper ≡ without_room keeper'
+      → IsCalm (Unanswered outcome) → IsCalm (Unanswered outcome')
+      → PowersOn (Unit {0}) medium keeper outcome made new → PowersOn (Unit {0}) other keeper' outcome' made' new'
       → AreAlike (Unanswered outcome) (Unanswered outcome') made made' new new'
-  powers_on None None outcome outcome' alike calm calm' h k = record {
+  powers_on None None keeper keeper' outcome outcome' alike kept calm calm' h k = record {
     outputs = ap Unanswered (h.0 ∙ sym k.0);
     changes = h.1 ∙ sym k.1;
-    drives = ap seen_of (h.2 ∙ sym k.2);
+    drives = ap seen_of h.2 ∙ switched_alike Empty Empty keeper keeper' refl kept ∙ sym (ap seen_of k.2);
   }
-  powers_on (Some medium) (Some other) outcome outcome' alike calm calm' h k =
+  powers_on (Some medium) (Some other) keeper keeper' outcome outcome' alike kept calm calm' h k =
       let calm_h = subst (λ (o : Result Unit Fault). IsCalm (Unanswered o)) h.5 calm in
       let calm_k = subst (λ (o : Result Unit Fault). IsCalm (Unanswered o)) k.5 calm' in
       let woke =
@@ -249,7 +259,7 @@ module _ (made made' : Made) (new new' : Machine) where
       record {
         outputs = ap Unanswered (h.5 ∙ ap power_on_outcome woke.answers ∙ sym k.5);
         changes = h.6 ∙ sym k.6;
-        drives = ap seen_of h.7 ∙ ap (λ (b : Bay Sight). powered_on b) bays ∙ sym (ap seen_of k.7);
+        drives = ap seen_of h.7 ∙ switched_alike h.2 k.2 keeper keeper' bays kept ∙ sym (ap seen_of k.7);
       }
-  powers_on None (Some other) outcome outcome' alike calm calm' h k = absurd alike
-  powers_on (Some medium) None outcome outcome' alike calm calm' h k = absurd alike
+  powers_on None (Some other) keeper keeper' outcome outcome' alike kept calm calm' h k = absurd alike
+  powers_on (Some medium) None keeper keeper' outcome outcome' alike kept calm calm' h k = absurd alike

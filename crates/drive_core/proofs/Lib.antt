@@ -1,7 +1,9 @@
+pub mod FaultLemmas
 pub mod TakesLemmas
 pub mod TestLemmas
 pub mod CommandLemmas
 pub mod DeterminedLoads
+pub mod DeterminedOrders
 pub mod DeterminedChecks
 pub mod DeterminedLemmas
 pub mod DeterminedRuns

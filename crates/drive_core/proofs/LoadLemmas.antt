@@ -4,6 +4,8 @@ use Rattle.vtl_base.specs.Below.{Below}
 use Rattle.vtl_base.specs.declared.faults.NoMemory.{NoMemory}
 use Rattle.scsi_sense.specs.declared.replies.Reply.{Reply}
 use Rattle.scsi_sense.specs.Replies.{good_with}
+use Rattle.pr_core.specs.declared.states.PrState.{PrState}
+use Rattle.pr_core.specs.Keepers.{KeeperState}
 use Rattle.volume_core.specs.declared.changes.Change.{Change}
 use Rattle.volume_core.specs.declared.media.MediumError.{MediumError}
 use Rattle.volume_core.specs.declared.media.MediumError.TheVariants as Errors
@@ -11,35 +13,35 @@ use Rattle.volume_core.specs.Medium.{MediumState}
 use Rattle.drive_core.specs.declared.bays.Bay.{Bay}
 use Rattle.drive_core.specs.declared.bays.Bay.TheVariants.{Empty}
 use Rattle.drive_core.specs.declared.faults.Fault.{Fault}
-use Rattle.drive_core.specs.State.{DriveState, Kept, machine_of, bay_of}
+use Rattle.drive_core.specs.State.{DriveState, machine_of, bay_of, left_of, powered_on}
 use Rattle.drive_core.specs.Relations.{made_nothing}
 use Rattle.drive_core.specs.Load.{Loads, LoadsInto, LoadsAs, wake_answer, bay_when_on, power_on_outcome}
 use Rattle.drive_core.specs.Media.{TakesIn, LoadSteps, SwitchesOn, PowerOnSteps, WakesAs}
 
-module _ {M : Type 0} (state : M → MediumState) (below : Below M Change) where
+module _ {M K : Type 0} (state : M → MediumState) (below : Below M Change) (kept : K → KeeperState) where
   -- an empty drive loads as its machine does
-  loads_at : (old new : DriveState M Kept) (given opened : M) (woke : Result Unit MediumError)
+  loads_at : (old new : DriveState M K) (given opened : M) (woke : Result Unit MediumError)
       (answer : Result Reply Fault)
       → old.bay ≡ Empty → WakesAs state below given woke opened
-      → LoadsAs woke (state opened) (machine_of state old) answer (machine_of state new)
-      → Loads (below.honest given) (state given) (machine_of state old) answer made_nothing (machine_of state new)
+      → LoadsAs woke (state opened) (machine_of state kept old) answer (machine_of state kept new)
+      → Loads (below.honest given) (state given) (machine_of state kept old) answer made_nothing (machine_of state kept new)
   loads_at old new given opened woke answer empty wakes fits =
       subst
       (λ (bay : Bay M).
-      LoadsInto (below.honest given) (bay_of state bay) (state given) (machine_of state old) answer made_nothing
-      (machine_of state new))
+      LoadsInto (below.honest given) (bay_of state bay) (state given) (machine_of state kept old) answer made_nothing
+      (machine_of state kept new))
       (sym empty) (woke, state opened, wakes.answer, fits, refl)
 
   -- what a loading does is a step of the machine
-  pub load_steps : (old : DriveState M Kept) (given : M) (result : Result Unit (M × Reply)) (new : DriveState M Kept)
-      → old.bay ≡ Empty → TakesIn state below old given result new → LoadSteps state below old given result new
+  pub load_steps : (old : DriveState M K) (given : M) (result : Result Unit (M × Reply)) (new : DriveState M K)
+      → old.bay ≡ Empty → TakesIn state below old given result new → LoadSteps state below kept old given result new
   load_steps old given (Ok done) new empty h =
       record {
         answer = Ok (good_with []);
         replied = refl;
         step =
             loads_at old new given h.0 (Ok tt) (Ok (good_with [])) empty h.1
-            (refl, ap (machine_of state) h.2);
+            (refl, ap (machine_of state kept) h.2);
       }
   load_steps old given (Err back) new empty h =
       record {
@@ -47,7 +49,7 @@ module _ {M : Type 0} (state : M → MediumState) (below : Below M Change) where
         replied = h.2;
         step =
             loads_at old new given back.0 (Err h.0) (wake_answer h.0) empty h.1
-            (refl, ap (machine_of state) h.3);
+            (refl, ap (machine_of state kept) h.3);
       }
 
   -- where a medium stands once the power is on, its state stands in the machine
@@ -61,12 +63,21 @@ module _ {M : Type 0} (state : M → MediumState) (below : Below M Change) where
   bay_when_mapped (Err Errors.Failed) opened = refl
   bay_when_mapped (Err Errors.Unreadable) opened = refl
 
+  -- a drive that was switched on with what a loss of power left is a machine that was
+  switched_machine : (bay : Bay M) (reservations : PrState) (keeper : K) (new : DriveState M K)
+      → reservations ≡ left_of (kept keeper).saved → new ≡ powered_on bay reservations keeper
+      → machine_of state kept new ≡ powered_on (bay_of state bay) (left_of (kept keeper).saved) (kept keeper)
+  switched_machine bay reservations keeper new left is =
+      ap (machine_of state kept) is
+      ∙ ap (λ (r : PrState). powered_on (bay_of state bay) r (kept keeper)) left
+
   -- what a power on does is a step of the machine
-  pub power_on_steps : (given : Option M) (new : DriveState M Kept) → SwitchesOn state below given (Ok new)
-      → PowerOnSteps state below given new
-  power_on_steps None new h =
-      record { outcome = Ok tt; step = λ old. (refl, refl, ap (machine_of state) h) }
-  power_on_steps (Some given) new h =
+  pub power_on_steps : (given : Option M) (reservations : PrState) (keeper : K) (new : DriveState M K)
+      → reservations ≡ left_of (kept keeper).saved → SwitchesOn state below given reservations keeper (Ok new)
+      → PowerOnSteps state below kept given keeper new
+  power_on_steps None reservations keeper new left h =
+      record { outcome = Ok tt; step = λ old. (refl, refl, switched_machine Empty reservations keeper new left h) }
+  power_on_steps (Some given) reservations keeper new left h =
       let (woke, opened, bay, wakes, stands, is) = h in
       record {
         outcome = power_on_outcome woke;
@@ -78,12 +89,14 @@ module _ {M : Type 0} (state : M → MediumState) (below : Below M Change) where
           bay_when_mapped woke opened ∙ ap (option_map (bay_of state)) stands,
           refl,
           refl,
-          ap (machine_of state) is,
+          switched_machine bay reservations keeper new left is,
         );
       }
 
   -- the same of whatever came of it
-  pub power_on_where : (given : Option M) (result : Result (DriveState M Kept) (Option M × NoMemory))
-      → SwitchesOn state below given result → IfOk result (λ new. PowerOnSteps state below given new)
-  power_on_where given (Ok new) h = power_on_steps given new h
-  power_on_where given (Err back) h = tt
+  pub power_on_where : (given : Option M) (reservations : PrState) (keeper : K)
+      (result : Result (DriveState M K) (Option M × (K × NoMemory)))
+      → reservations ≡ left_of (kept keeper).saved → SwitchesOn state below given reservations keeper result
+      → IfOk result (λ new. PowerOnSteps state below kept given keeper new)
+  power_on_where given reservations keeper (Ok new) left h = power_on_steps given reservations keeper new left h
+  power_on_where given reservations keeper (Err back) left h = tt

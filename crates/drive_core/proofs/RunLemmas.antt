@@ -2,6 +2,8 @@
 use Rattle.std.proofs.Common.{◌≡◌, ◌++◌, ◌∙◌, List, [], ◌∷◌, map, Option, None, Some, refl, sym, ap, subst, append_assoc}
 use Rattle.vtl_base.specs.Below.{Below}
 use Rattle.scsi_sense.specs.declared.replies.Reply.{Reply}
+use Rattle.pr_core.specs.declared.states.PrState.{PrState}
+use Rattle.pr_core.specs.Keepers.{KeeperState}
 use Rattle.volume_core.specs.declared.changes.Change.{Change}
 use Rattle.volume_core.specs.Medium.{MediumState}
 use Rattle.drive_core.specs.State.{Machine, machine_of, medium_in}
@@ -16,8 +18,10 @@ use Rattle.drive_core.proofs.StepLemmas.{step_where}
 made_after_after : (first second third : Made)
     → made_after (made_after first second) third ≡ made_after first (made_after second third)
 made_after_after first second third =
-    ap (λ (changes : List Change). record { changes = changes })
-    (append_assoc first.changes second.changes third.changes)
+    λ i. record {
+      changes = append_assoc first.changes second.changes third.changes i;
+      saved = append_assoc first.saved second.saved third.saved i;
+    }
 
 -- two runs in a row are one
 pub run_append : (H : Type 0) (old mid new : Machine) (first rest : List Input) (outputs others : List Output)
@@ -59,7 +63,8 @@ run_where H H' so old (i ∷ is) (o ∷ os) made new run = (
 run_where H H' so old [] (o ∷ os) made new run = absurd run
 run_where H H' so old (i ∷ is) [] made new run = absurd run
 
-module _ {M : Type 0} (state : M → MediumState) (below : Below M Change) where
+module _ {M K : Type 0}
+    (state : M → MediumState) (below : Below M Change) (kept : K → KeeperState) (keeps : Below K PrState) where
   -- honesty stays over a call
   honest_on : (old new : Option M) (made : List Change) (fault : _) → AdvancesIn below old made fault new
       → HonestIn below old → HonestIn below new
@@ -69,9 +74,9 @@ module _ {M : Type 0} (state : M → MediumState) (below : Below M Change) where
   honest_on None (Some new) made fault h honest = absurd h
 
   -- what one drive answers to hosts is a run of its machine
-  pub served_runs : ServedByRuns state below
+  pub served_runs : ServedByRuns state below kept keeps
   served_runs old new [] [] h =
-      record { answers = []; replied = refl; made = made_nothing; run = (refl, ap (machine_of state) h) }
+      record { answers = []; replied = refl; made = made_nothing; run = (refl, ap (machine_of state kept) h) }
   served_runs old new (request ∷ requests) (reply ∷ replies) h =
       let mid = h.0 in
       let here = h.1 in
@@ -85,12 +90,12 @@ module _ {M : Type 0} (state : M → MediumState) (below : Below M Change) where
             ∙ ap (λ (xs : List Reply). reply_of here.answer ∷ xs) rest.replied;
         made = made_after here.taken.made rest.made;
         run = (
-          machine_of state mid,
+          machine_of state kept mid,
           here.taken.made,
           rest.made,
           here.taken.step,
-          run_where (HonestIn below (medium_in old.bay)) (HonestIn below (medium_in mid.bay)) so (machine_of state mid)
-              (map Execute requests) (map Answered rest.answers) rest.made (machine_of state new) rest.run,
+          run_where (HonestIn below (medium_in old.bay)) (HonestIn below (medium_in mid.bay)) so (machine_of state kept mid)
+              (map Execute requests) (map Answered rest.answers) rest.made (machine_of state kept new) rest.run,
           refl,
         );
       }

@@ -9,11 +9,12 @@ use Rattle.scsi_attention.specs.declared.attention_sets.Attention.{Attention}
 use Rattle.scsi_attention.specs.declared.attention_sets.Attention.TheVariants.{PowerOn, MediumChanged, ReservationsPreempted, RegistrationsPreempted, ReservationsReleased, ModeChanged}
 use Rattle.scsi_wire.specs.declared.opcodes.Opcode.{Opcode}
 use Rattle.scsi_wire.specs.declared.commands.Command.{Command}
-use Rattle.scsi_wire.specs.declared.commands.Command.TheVariants.{TestUnitReady, Rewind, RequestSense, ReadBlockLimits, Read, Write, WriteFilemarks, Space, Inquiry, Erase, Locate, ReadPosition}
+use Rattle.scsi_wire.specs.declared.commands.Command.TheVariants.{TestUnitReady, Rewind, RequestSense, ReadBlockLimits, Read, Write, WriteFilemarks, Space, Inquiry, Erase, Locate, ReadPosition, PersistentReserveIn, PersistentReserveOut}
 use Rattle.scsi_wire.specs.Opcodes.{opcode_of, is_exempt, needs_medium, is_stopped_by_reservation}
 use Rattle.scsi_wire.specs.Commands.{command_of, sent_length, checked, decoded, decoded_as}
 use Rattle.scsi_sense.specs.Senses.{invalid_field, invalid_operation_code, medium_not_present, medium_failed, deferred_write_error, attention_sense, volume_overflow}
 use Rattle.scsi_sense.specs.Replies.{check_with, conflict}
+use Rattle.pr_core.specs.States.{is_allowed}
 use Rattle.volume_core.specs.declared.changes.Change.{Change}
 use Rattle.volume_core.specs.declared.changes.Refusal.{Refusal}
 use Rattle.volume_core.specs.declared.changes.Refusal.TheVariants.{NoPartition, PastEnd, NoRoom, TooLong}
@@ -36,7 +37,7 @@ use Rattle.drive_core.specs.Marks.{MarksWork, marks_at}
 use Rattle.drive_core.specs.Read.{ReadWork}
 use Rattle.drive_core.specs.Work.{Request, MediumWork, OnMediumIn, Work}
 use Rattle.drive_core.specs.Conditions.{condition_due, denial_reply, first_some}
-use Rattle.drive_core.specs.Checks.{Executes, ExecutesAs, condition_denial, fields_verdict, keeps_out, medium_denial, need_denial, reservation_denial, state_denial, suits, unless_denied, verdict, verdict_at}
+use Rattle.drive_core.specs.Checks.{Executes, ExecutesAs, condition_denial, fields_verdict, medium_denial, need_denial, reservation_denial, state_denial, suits, unless_denied, verdict, verdict_at}
 use Rattle.drive_core.specs.Synchronize.{synchronizes, IsSynchronizing, Acknowledges, NothingPending}
 
 attention_key : (attention : Attention) → (attention_sense attention).key ≢ NoSense
@@ -150,6 +151,8 @@ module _ (H : Type 0) where
   work_settled (RequestSense room) machine sent old reply made new sure counted h acknowledged = cc
   work_settled ReadBlockLimits machine sent old reply made new sure counted h acknowledged = cc
   work_settled (Inquiry room) machine sent old reply made new sure counted h acknowledged = cc
+  work_settled (PersistentReserveIn action room) machine sent old reply made new sure counted h acknowledged = cc
+  work_settled (PersistentReserveOut action bytes) machine sent old reply made new sure counted h acknowledged = cc
 
   module _ (old : Machine) (nexus : ℕ) (sent : List ℕ) (reply : Reply) (made : Made) (new : Machine)
       (acknowledged : Acknowledges reply) where
@@ -180,6 +183,8 @@ module _ (H : Type 0) where
     command_settled (RequestSense room) sure counted h = cc
     command_settled ReadBlockLimits sure counted h = cc
     command_settled (Inquiry room) sure counted h = cc
+    command_settled (PersistentReserveIn action room) sure counted h = cc
+    command_settled (PersistentReserveOut action bytes) sure counted h = cc
 
 -- a command that is denied is not acknowledged, one that is carried out is the block's and came with its bytes
 abbrev Judged : Request → Result Command Denial → Type 0
@@ -260,7 +265,7 @@ module _ (machine : Machine) (request : Request) where
       (condition_unacknowledged (condition_due machine request.nexus))
       (first_unacknowledged (reservation_denial machine request.nexus opcode) (need_denial machine opcode)
       (reservation_unacknowledged
-      (keeps_out machine.reservations request.nexus && is_stopped_by_reservation opcode))
+      (is_stopped_by_reservation opcode && not (is_allowed machine.reservations request.nexus)))
       (need_unacknowledged (needs_medium opcode) machine.bay))))
       (fields_judged (command_of opcode request.cdb) (ap (λ (o : Option Opcode). decoded_as o request.cdb) is))
 

@@ -2,9 +2,10 @@
 use Rattle.std.proofs.Common.{ℕ, List, [], Option, None, Some, Result, Ok, Err, Bool, true, false}
 use Rattle.scsi_sense.specs.declared.replies.Reply.{Reply}
 use Rattle.scsi_wire.specs.declared.commands.Command.{Command}
-use Rattle.scsi_wire.specs.declared.commands.Command.TheVariants.{TestUnitReady, Rewind, RequestSense, ReadBlockLimits, Read, Write, WriteFilemarks, Space, Inquiry, Erase, Locate, ReadPosition}
+use Rattle.scsi_wire.specs.declared.commands.Command.TheVariants.{TestUnitReady, Rewind, RequestSense, ReadBlockLimits, Read, Write, WriteFilemarks, Space, Inquiry, Erase, Locate, ReadPosition, PersistentReserveIn, PersistentReserveOut}
 use Rattle.scsi_wire.specs.Opcodes.{needs_medium}
 use Rattle.scsi_wire.specs.Commands.{code_of}
+use Rattle.pr_core.specs.Keepers.{KeeperState}
 use Rattle.volume_core.specs.declared.changes.Change.{Change}
 use Rattle.volume_core.specs.declared.media.MediumError.{MediumError}
 use Rattle.volume_core.specs.declared.media.MediumError.TheVariants as Errors
@@ -40,6 +41,8 @@ module _ (H H' : Type 0) (so : H → H') where
   work_where (RequestSense room) buffered sent old answer made new h = h
   work_where ReadBlockLimits buffered sent old answer made new h = h
   work_where (Inquiry room) buffered sent old answer made new h = h
+  work_where (PersistentReserveIn action room) buffered sent old answer made new h = h
+  work_where (PersistentReserveOut action bytes) buffered sent old answer made new h = h
 
   module _ (old : Machine) (answer : Result Reply Fault) (made : Made) (new : Machine) where
     bay_work_where : (bay : Bay MediumState) (command : Command) (sent : List ℕ)
@@ -49,6 +52,7 @@ module _ (H H' : Type 0) (so : H → H') where
       h.0,
       work_where command old.buffered sent (mounted medium old.position) answer made.changes h.0 h.1,
       h.2,
+      h.3,
     )
     bay_work_where Empty command sent h = h
     bay_work_where (Unloaded medium) command sent h = h
@@ -101,10 +105,10 @@ module _ (H H' : Type 0) (so : H → H') where
   loads_where (Unloaded other) medium old answer made new h = h
   loads_where (Loaded other) medium old answer made new h = h
 
-  powers_where : (medium : Option MediumState) (outcome : Result Unit Fault) (made : Made) (new : Machine)
-      → PowersOn H' medium outcome made new → PowersOn H medium outcome made new
-  powers_where None outcome made new h = h
-  powers_where (Some medium) outcome made new h =
+  powers_where : (medium : Option MediumState) (keeper : KeeperState) (outcome : Result Unit Fault) (made : Made)
+      (new : Machine) → PowersOn H' medium keeper outcome made new → PowersOn H medium keeper outcome made new
+  powers_where None keeper outcome made new h = h
+  powers_where (Some medium) keeper outcome made new h =
       (h.0, h.1, h.2, wakes_from_where medium.awake medium h.0 h.1 h.3, h.4, h.5, h.6, h.7)
 
   -- a step over a medium that is honest wherever another fact holds
@@ -114,8 +118,9 @@ module _ (H H' : Type 0) (so : H → H') where
       executes_where old answer made new (verdict old request) request h
   step_where old FlushTurn (Unanswered outcome) made new h = h
   step_where old (Load medium) (Answered answer) made new h = loads_where old.bay medium old answer made new h
-  step_where old (PowerOn medium) (Unanswered outcome) made new h = powers_where medium outcome made new h
+  step_where old (PowerOn medium keeper) (Unanswered outcome) made new h =
+      powers_where medium keeper outcome made new h
   step_where old (Execute request) (Unanswered outcome) made new h = absurd h
   step_where old FlushTurn (Answered answer) made new h = absurd h
   step_where old (Load medium) (Unanswered outcome) made new h = absurd h
-  step_where old (PowerOn medium) (Answered answer) made new h = absurd h
+  step_where old (PowerOn medium keeper) (Answered answer) made new h = absurd h

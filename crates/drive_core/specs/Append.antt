@@ -11,7 +11,7 @@ use Rattle.volume_core.specs.Volume.{Part, refusal_of, changed, added_by}
 use Rattle.volume_core.specs.Medium.{MediumState, IsFull, Works, Breaks}
 use Rattle.positioning.specs.declared.positions.Pos.{Pos}
 use Rattle.positioning.specs.Report.{is_near_end}
-use Rattle.drive_core.specs.declared.faults.Fault.TheVariants.{NoMemory, Writing, Reading, SideFull}
+use Rattle.drive_core.specs.declared.faults.Fault.TheVariants.{NoMemory, Writing, SideFull}
 use Rattle.drive_core.specs.State.{Mounted, contents_of}
 use Rattle.drive_core.specs.Relations.{MediumRelation, Stays, FailsToStore}
 
@@ -83,4 +83,4 @@ AppendWork settles change old (Err (SideFull residue)) made new =
     × (new ≡ old) × IsFull old.medium.room (old.medium.pending ++ change ∷ [])
 AppendWork settles change old (Err Writing) made new =
     (refusal_of (contents_of old) change ≡ None) × AppendFails settles change old made new
-AppendWork settles change old (Err Reading) made new = ⊥
+AppendWork settles change old (Err _) made new = ⊥

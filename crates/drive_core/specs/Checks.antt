@@ -1,18 +1,19 @@
 -- The checks of a command in their order, and then its work.
-use Rattle.std.specs.Prelude.{◌≡◌, ℕ, List, length, Option, None, Some, Bool, true, false, nat_lt, ◌==◌, ◌&&◌, if◌then◌else◌, Result, Ok, Err}
+use Rattle.std.specs.Prelude.{◌≡◌, ℕ, List, length, Option, None, Some, Bool, true, false, nat_lt, ◌==◌, ◌&&◌, not, if◌then◌else◌, Result, Ok, Err}
 use Rattle.scsi_wire.specs.declared.opcodes.Opcode.{Opcode}
 use Rattle.scsi_wire.specs.declared.commands.Command.{Command}
 use Rattle.scsi_wire.specs.declared.commands.Command.TheVariants.{WriteFilemarks, Locate}
 use Rattle.scsi_sense.specs.Senses.{invalid_operation_code, invalid_field, medium_not_present, medium_failed}
 use Rattle.scsi_wire.specs.Opcodes.{opcode_of, is_exempt, is_stopped_by_reservation, needs_medium}
 use Rattle.scsi_wire.specs.Commands.{command_of, sent_length}
+use Rattle.pr_core.specs.States.{is_allowed}
 use Rattle.volume_core.specs.Medium.{MediumState}
 use Rattle.drive_core.specs.declared.bays.Bay.{Bay}
 use Rattle.drive_core.specs.declared.bays.Bay.TheVariants.{Loaded}
 use Rattle.drive_core.specs.declared.conditions.Condition.{Condition}
 use Rattle.drive_core.specs.declared.conditions.Denial.{Denial}
 use Rattle.drive_core.specs.declared.conditions.Denial.TheVariants.{Refused, Reported, Conflict}
-use Rattle.drive_core.specs.State.{Machine, Reservations, volume_in}
+use Rattle.drive_core.specs.State.{Machine, volume_in}
 use Rattle.drive_core.specs.Conditions.{condition_due, first_some, denial_reply, denied}
 use Rattle.drive_core.specs.Relations.{MachineRelation, made_nothing}
 use Rattle.drive_core.specs.Work.{Request, Work}
@@ -22,14 +23,10 @@ abbrev pub condition_denial : Option Condition → Option Denial
 condition_denial None = None
 condition_denial (Some condition) = Some (Reported condition)
 
--- whether a reservation keeps a nexus out; where there is none, none does (SPC-4, persistent reservations)
-abbrev pub keeps_out : Reservations → ℕ → Bool
-keeps_out reservations nexus = false
-
 -- check 4: no reservation keeps the nexus out of this command (own, one rule for all types)
 abbrev pub reservation_denial : Machine → ℕ → Opcode → Option Denial
 reservation_denial machine nexus opcode =
-    if keeps_out machine.reservations nexus && is_stopped_by_reservation opcode then Some Conflict else None
+    if is_stopped_by_reservation opcode && not (is_allowed machine.reservations nexus) then Some Conflict else None
 
 -- a cartridge is loaded, and then: the medium has not failed (own)
 abbrev pub medium_denial : Bay MediumState → Option Denial

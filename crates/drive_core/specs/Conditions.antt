@@ -10,7 +10,7 @@ use Rattle.drive_core.specs.declared.conditions.Condition.{Condition}
 use Rattle.drive_core.specs.declared.conditions.Condition.TheVariants.{DeferredError, UnitAttention}
 use Rattle.drive_core.specs.declared.conditions.Denial.{Denial}
 use Rattle.drive_core.specs.declared.conditions.Denial.TheVariants.{Refused, Reported, Conflict}
-use Rattle.drive_core.specs.State.{Machine, DriveState, Kept}
+use Rattle.drive_core.specs.State.{Machine, DriveState}
 
 -- the sense data of a condition (SPC-4, deferred errors, unit attention conditions)
 abbrev pub condition_sense : Condition → Sense
@@ -39,7 +39,7 @@ condition_due machine nexus =
 
 -- a drive once a condition was reported to a nexus: it is cleared, a unit attention condition for that nexus alone
 -- (SPC-4, deferred errors, unit attention conditions)
-abbrev pub without_condition : {M : Type 0} → Condition → ℕ → DriveState M Kept → DriveState M Kept
+abbrev pub without_condition : {M K : Type 0} → Condition → ℕ → DriveState M K → DriveState M K
 without_condition DeferredError nexus drive = record drive { deferred = false }
 without_condition (UnitAttention attention) nexus drive =
     record drive { attentions = cleared drive.attentions nexus attention }
@@ -51,7 +51,7 @@ denial_reply (Reported condition) = check_with (condition_sense condition) []
 denial_reply Conflict = conflict
 
 -- what a command leaves that is not carried out: the drive as it was, or less the condition that was reported (SPC-4)
-abbrev pub denied : {M : Type 0} → Denial → ℕ → DriveState M Kept → DriveState M Kept
+abbrev pub denied : {M K : Type 0} → Denial → ℕ → DriveState M K → DriveState M K
 denied (Refused sense) nexus drive = drive
 denied (Reported condition) nexus drive = without_condition condition nexus drive
 denied Conflict nexus drive = drive

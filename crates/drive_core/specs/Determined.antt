@@ -3,7 +3,8 @@ use Rattle.std.specs.Prelude.{◌≡◌, ◌⊎◌, List, [], ◌∷◌, filter,
 use Rattle.volume_core.specs.declared.changes.Change.{Change}
 use Rattle.volume_core.specs.Volume.{Part}
 use Rattle.volume_core.specs.Medium.{MediumState, volume_of}
-use Rattle.drive_core.specs.State.{Machine, DriveState, Kept, bay_of}
+use Rattle.pr_core.specs.Keepers.{KeeperState}
+use Rattle.drive_core.specs.State.{Machine, DriveState, bay_of}
 use Rattle.drive_core.specs.Relations.{Made}
 use Rattle.drive_core.specs.Step.{Input, Execute, FlushTurn, Load, PowerOn, Output, Answered, Unanswered, Step, replies_of}
 use Rattle.drive_core.specs.Run.{Run}
@@ -42,8 +43,12 @@ sight_of medium =
       side = side_sight medium.awake medium;
     }
 
+-- a keeper, but for the room of its store (own)
+abbrev pub without_room : KeeperState → KeeperState
+without_room keeper = record keeper { room = None }
+
 -- a drive as it is seen from outside (own)
-abbrev pub seen_of : Machine → DriveState Sight Kept
+abbrev pub seen_of : Machine → DriveState Sight KeeperState
 seen_of machine = record {
   bay = bay_of sight_of machine.bay;
   position = machine.position;
@@ -51,7 +56,7 @@ seen_of machine = record {
   deferred = machine.deferred;
   attentions = machine.attentions;
   reservations = machine.reservations;
-  keeper = machine.keeper;
+  keeper = without_room machine.keeper;
 }
 
 -- of a parked medium it is sure what its side gives: no frame was under way when a device failed (own)
@@ -68,11 +73,12 @@ AreAllSureAlike (Some medium) (Some other) = AreSureAlike medium other
 AreAllSureAlike None None = Unit {0}
 AreAllSureAlike _ _ = ⊥
 
--- two inputs ask the same, and take in media that are seen alike (own)
+-- two inputs ask the same, and take in media and keepers that are seen alike (own)
 abbrev pub AskAlike : Input → Input → Type 0
 AskAlike (Execute request) (Execute other) = request ≡ other
 AskAlike (Load medium) (Load other) = AreSureAlike medium other
-AskAlike (PowerOn medium) (PowerOn other) = AreAllSureAlike medium other
+AskAlike (PowerOn medium keeper) (PowerOn other beside) =
+    AreAllSureAlike medium other × (without_room keeper ≡ without_room beside)
 AskAlike FlushTurn FlushTurn = Unit {0}
 AskAlike _ _ = ⊥
 

@@ -3,9 +3,9 @@ use Rattle.std.specs.Prelude.{[], Result, Ok, Err}
 use Rattle.scsi_sense.specs.declared.replies.Reply.{Reply}
 use Rattle.scsi_sense.specs.declared.sense_data.Sense.{Sense}
 use Rattle.scsi_sense.specs.Replies.{check_with}
-use Rattle.scsi_sense.specs.Senses.{insufficient_resources, write_error, read_error, volume_overflow}
+use Rattle.scsi_sense.specs.Senses.{insufficient_resources, write_error, read_error, volume_overflow, keeper_failed, store_full}
 use Rattle.drive_core.specs.declared.faults.Fault.{Fault}
-use Rattle.drive_core.specs.declared.faults.Fault.TheVariants.{NoMemory, Writing, Reading, SideFull}
+use Rattle.drive_core.specs.declared.faults.Fault.TheVariants.{NoMemory, Writing, Reading, SideFull, Saving, StoreFull}
 
 -- the sense data of a fault (SPC-4, SSC-4, additional sense codes; which is told where is own)
 abbrev pub fault_sense : Fault → Sense
@@ -13,6 +13,8 @@ fault_sense NoMemory = insufficient_resources
 fault_sense Writing = write_error
 fault_sense Reading = read_error
 fault_sense (SideFull residue) = volume_overflow residue
+fault_sense Saving = keeper_failed
+fault_sense StoreFull = store_full
 
 -- CHECK CONDITION for a fault, with no data (own)
 abbrev pub fault_reply : Fault → Reply

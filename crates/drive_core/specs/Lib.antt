@@ -13,6 +13,8 @@ pub mod Marks
 pub mod Erase
 pub mod Read
 pub mod RequestSense
+pub mod ReserveIn
+pub mod ReserveOut
 pub mod Work
 pub mod Checks
 pub mod Turn

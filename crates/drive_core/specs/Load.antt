@@ -3,6 +3,7 @@ use Rattle.std.specs.Prelude.{◌≡◌, [], Option, None, Some, Result, Ok, Err
 use Rattle.scsi_sense.specs.declared.replies.Reply.{Reply}
 use Rattle.scsi_sense.specs.Replies.{good_with, check_with}
 use Rattle.scsi_sense.specs.Senses.{medium_failed, read_error}
+use Rattle.pr_core.specs.Keepers.{KeeperState}
 use Rattle.volume_core.specs.declared.media.MediumError.{MediumError}
 use Rattle.volume_core.specs.declared.media.MediumError.TheVariants as Errors
 use Rattle.volume_core.specs.Medium.{MediumState, Wakes}
@@ -10,7 +11,7 @@ use Rattle.drive_core.specs.declared.bays.Bay.{Bay}
 use Rattle.drive_core.specs.declared.bays.Bay.TheVariants.{Empty, Unloaded, Loaded}
 use Rattle.drive_core.specs.declared.faults.Fault.{Fault}
 use Rattle.drive_core.specs.declared.faults.Fault.TheVariants.{NoMemory, Reading}
-use Rattle.drive_core.specs.State.{Machine, loaded, powered_on}
+use Rattle.drive_core.specs.State.{Machine, loaded, left_of, powered_on}
 use Rattle.drive_core.specs.Relations.{Made, made_nothing, MachineRelation}
 
 -- what a host is answered where a medium can't be opened: a side that gives no volume is a read error, as a device
@@ -52,10 +53,13 @@ abbrev pub power_on_outcome : Result Unit MediumError → Result Unit Fault
 power_on_outcome (Err Errors.Device) = Err Reading
 power_on_outcome _ = Ok tt
 
--- a drive is switched on with this medium in it, if any (SPC-4, power on; SSC-4)
-abbrev pub PowersOn : Type 0 → Option MediumState → Result Unit Fault → Made → Machine → Type 0
-PowersOn honest None outcome made new = (outcome ≡ Ok tt) × (made ≡ made_nothing) × (new ≡ powered_on Empty)
-PowersOn honest (Some medium) outcome made new =
+-- a drive is switched on with this medium in it, if any, and with this keeper: its reservations are what a loss of power
+-- left (SPC-4, power on, persist through power loss; SSC-4)
+abbrev pub PowersOn : Type 0 → Option MediumState → KeeperState → Result Unit Fault → Made → Machine → Type 0
+PowersOn honest None keeper outcome made new =
+    (outcome ≡ Ok tt) × (made ≡ made_nothing) × (new ≡ powered_on Empty (left_of keeper.saved) keeper)
+PowersOn honest (Some medium) keeper outcome made new =
     (woke : Result Unit MediumError) × (opened : MediumState) × (bay : Bay MediumState)
     × Wakes honest medium woke opened × (bay_when_on woke opened ≡ Some bay)
-    × (outcome ≡ power_on_outcome woke) × (made ≡ made_nothing) × (new ≡ powered_on bay)
+    × (outcome ≡ power_on_outcome woke) × (made ≡ made_nothing)
+    × (new ≡ powered_on bay (left_of keeper.saved) keeper)

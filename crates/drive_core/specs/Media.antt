@@ -4,6 +4,8 @@ use Rattle.vtl_base.specs.Below.{Below, Advances}
 use Rattle.vtl_base.specs.declared.faults.NoMemory.{NoMemory}
 use Rattle.scsi_sense.specs.declared.replies.Reply.{Reply}
 use Rattle.scsi_sense.specs.Replies.{good_with}
+use Rattle.pr_core.specs.declared.states.PrState.{PrState}
+use Rattle.pr_core.specs.Keepers.{KeeperState}
 use Rattle.volume_core.specs.declared.changes.Change.{Change}
 use Rattle.volume_core.specs.declared.media.MediumError.{MediumError}
 use Rattle.volume_core.specs.declared.media.MediumError.TheVariants as Errors
@@ -12,7 +14,7 @@ use Rattle.volume_core.specs.Medium.{MediumState, Wakes, met_fault, turn_met_fau
 use Rattle.drive_core.specs.declared.bays.Bay.{Bay}
 use Rattle.drive_core.specs.declared.bays.Bay.TheVariants.{Empty}
 use Rattle.drive_core.specs.declared.faults.Fault.{Fault}
-use Rattle.drive_core.specs.State.{Machine, DriveState, Kept, machine_of, medium_in, loaded, powered_on}
+use Rattle.drive_core.specs.State.{Machine, DriveState, machine_of, medium_in, loaded, powered_on}
 use Rattle.drive_core.specs.Faults.{reply_of}
 use Rattle.drive_core.specs.Relations.{made_nothing}
 use Rattle.drive_core.specs.Load.{wake_answer, bay_when_on}
@@ -26,49 +28,56 @@ load_reply (Ok done) = good_with []
 load_reply (Err back) = back.1
 
 module _ {M : Type 0} (state : M → MediumState) (below : Below M Change) where
-  -- a flusher's turn is a step of the machine, and the medium follows (own)
-  pub record TakesTurn (old : DriveState M Kept) (turn : Turn) (new : DriveState M Kept) : Type 0 where
-    pub step :
-        Step (HonestIn below (medium_in old.bay)) (machine_of state old)
-        FlushTurn (Unanswered (turn_outcome turn)) made_nothing (machine_of state new)
-    pub advances : AdvancesIn below (medium_in old.bay) [] (turn_met_fault turn) (medium_in new.bay)
-    pub stores : StoresIn state old.bay [] new.bay
-
   -- a medium was asked to open, and answered so (own)
   pub record WakesAs (old : M) (woke : Result Unit MediumError) (new : M) : Type 0 where
     pub answer : Wakes (below.honest old) (state old) woke (state new)
     pub advances : Advances below old [] (met_fault woke) new
 
-  -- a medium is opened and loaded, or comes back with a reply, and the drive is as it was (own)
-  abbrev pub TakesIn : DriveState M Kept → M → Result Unit (M × Reply) → DriveState M Kept → Type 0
-  TakesIn old given (Ok done) new = (opened : M) × WakesAs given (Ok tt) opened × (new ≡ loaded old opened)
-  TakesIn old given (Err back) new =
-      (error : MediumError) × WakesAs given (Err error) back.0 × (back.1 ≡ reply_of (wake_answer error))
-      × (new ≡ old)
+  module _ {K : Type 0} where
+    -- a medium is opened and loaded, or comes back with a reply, and the drive is as it was (own)
+    abbrev pub TakesIn : DriveState M K → M → Result Unit (M × Reply) → DriveState M K → Type 0
+    TakesIn old given (Ok done) new = (opened : M) × WakesAs given (Ok tt) opened × (new ≡ loaded old opened)
+    TakesIn old given (Err back) new =
+        (error : MediumError) × WakesAs given (Err error) back.0 × (back.1 ≡ reply_of (wake_answer error))
+        × (new ≡ old)
 
-  -- and so it is a step of the machine (own)
-  pub record LoadSteps
-      (old : DriveState M Kept) (given : M) (result : Result Unit (M × Reply)) (new : DriveState M Kept) : Type 0 where
-    pub answer : Result Reply Fault
-    pub replied : load_reply result ≡ reply_of answer
-    pub step :
-        Step (below.honest given) (machine_of state old)
-        (Load (state given)) (Answered answer) made_nothing (machine_of state new)
+    -- a drive is switched on with the medium as it opened, if any, these reservations and this keeper; where memory runs
+    -- out, medium and keeper come back (own)
+    abbrev pub SwitchesOn :
+        Option M → PrState → K → Result (DriveState M K) (Option M × (K × NoMemory)) → Type 0
+    SwitchesOn None reservations keeper (Ok new) = new ≡ powered_on Empty reservations keeper
+    SwitchesOn None reservations keeper (Err back) = ⊥
+    SwitchesOn (Some given) reservations keeper (Ok new) =
+        (woke : Result Unit MediumError) × (opened : M) × (bay : Bay M)
+        × WakesAs given woke opened × (bay_when_on woke opened ≡ Some bay)
+        × (new ≡ powered_on bay reservations keeper)
+    SwitchesOn (Some given) reservations keeper (Err back) =
+        (opened : M) × WakesAs given (Err Errors.NoMemory) opened × (back.0 ≡ Some opened) × (back.1.0 ≡ keeper)
 
-  -- a drive is switched on with the medium as it opened, if any; where memory runs out, the medium comes back (own)
-  abbrev pub SwitchesOn : Option M → Result (DriveState M Kept) (Option M × NoMemory) → Type 0
-  SwitchesOn None (Ok new) = new ≡ powered_on Empty
-  SwitchesOn None (Err back) = ⊥
-  SwitchesOn (Some given) (Ok new) =
-      (woke : Result Unit MediumError) × (opened : M) × (bay : Bay M)
-      × WakesAs given woke opened × (bay_when_on woke opened ≡ Some bay) × (new ≡ powered_on bay)
-  SwitchesOn (Some given) (Err back) =
-      (opened : M) × WakesAs given (Err Errors.NoMemory) opened × (back.0 ≡ Some opened)
+    module _ (kept : K → KeeperState) where
+      -- a flusher's turn is a step of the machine, the medium follows, and the keeper is not touched (own)
+      pub record TakesTurn (old : DriveState M K) (turn : Turn) (new : DriveState M K) : Type 0 where
+        pub step :
+            Step (HonestIn below (medium_in old.bay)) (machine_of state kept old)
+            FlushTurn (Unanswered (turn_outcome turn)) made_nothing (machine_of state kept new)
+        pub advances : AdvancesIn below (medium_in old.bay) [] (turn_met_fault turn) (medium_in new.bay)
+        pub stores : StoresIn state old.bay [] new.bay
+        pub keeper : new.keeper ≡ old.keeper
 
-  -- and so it is a step of the machine, whatever it was before (own)
-  pub record PowerOnSteps (given : Option M) (new : DriveState M Kept) : Type 0 where
-    pub outcome : Result Unit Fault
-    pub step :
-        (old : Machine)
-        → Step (HonestIn below given) old
-        (PowerOn (option_map state given)) (Unanswered outcome) made_nothing (machine_of state new)
+      -- what a loading does is a step of the machine (own)
+      pub record LoadSteps
+          (old : DriveState M K) (given : M) (result : Result Unit (M × Reply)) (new : DriveState M K) : Type 0 where
+        pub answer : Result Reply Fault
+        pub replied : load_reply result ≡ reply_of answer
+        pub step :
+            Step (below.honest given) (machine_of state kept old)
+            (Load (state given)) (Answered answer) made_nothing (machine_of state kept new)
+
+      -- what a power on does is a step of the machine, whatever it was before (own)
+      pub record PowerOnSteps (given : Option M) (keeper : K) (new : DriveState M K) : Type 0 where
+        pub outcome : Result Unit Fault
+        pub step :
+            (old : Machine)
+            → Step (HonestIn below given) old
+            (PowerOn (option_map state given) (kept keeper)) (Unanswered outcome) made_nothing
+            (machine_of state kept new)

@@ -4,20 +4,28 @@ use Rattle.scsi_sense.specs.declared.replies.Reply.{Reply}
 use Rattle.scsi_sense.specs.Replies.{good_with}
 use Rattle.volume_core.specs.declared.changes.Change.{Change}
 use Rattle.volume_core.specs.Medium.{Works, Breaks}
+use Rattle.pr_core.specs.declared.states.PrState.{PrState}
 use Rattle.drive_core.specs.declared.faults.Fault.{Fault}
 use Rattle.drive_core.specs.State.{Machine, Mounted, contents_of}
 
--- what a step makes: the changes that the medium is to accept (own)
+-- what a step makes: the changes that the medium is to accept, and the states of the reservations that the keeper may
+-- have stored (own)
 pub record Made : Type 0 where
   pub changes : List Change
+  pub saved : List PrState
 
 -- nothing is made (own)
 abbrev pub made_nothing : Made
-made_nothing = record { changes = [] }
+made_nothing = record { changes = []; saved = [] }
+
+-- changes of the medium are made, and no more (own)
+abbrev pub made_on_medium : List Change → Made
+made_on_medium changes = record { changes = changes; saved = [] }
 
 -- what two steps in a row make (own)
 abbrev pub made_after : Made → Made → Made
-made_after first second = record { changes = first.changes ++ second.changes }
+made_after first second =
+    record { changes = first.changes ++ second.changes; saved = first.saved ++ second.saved }
 
 -- from the first, a command may be answered so (or a fault come), make these changes, and leave the last: of a loaded
 -- medium and the position (own)

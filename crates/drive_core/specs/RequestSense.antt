@@ -7,7 +7,7 @@ use Rattle.scsi_sense.specs.Senses.{no_sense}
 use Rattle.scsi_wire.specs.Answers.{cut_to}
 use Rattle.drive_core.specs.declared.conditions.Condition.{Condition}
 use Rattle.drive_core.specs.declared.faults.Fault.{Fault}
-use Rattle.drive_core.specs.State.{Machine, DriveState, Kept}
+use Rattle.drive_core.specs.State.{Machine, DriveState}
 use Rattle.drive_core.specs.Conditions.{condition_due, condition_sense, without_condition}
 use Rattle.drive_core.specs.Relations.{MachineRelation, made_nothing}
 use Rattle.drive_core.specs.Tell.{Gives}
@@ -18,7 +18,7 @@ sense_due None = no_sense
 sense_due (Some condition) = condition_sense condition
 
 -- the drive once a condition that may be there was reported to a nexus (SPC-4, REQUEST SENSE)
-abbrev pub once_reported : {M : Type 0} → Option Condition → ℕ → DriveState M Kept → DriveState M Kept
+abbrev pub once_reported : {M K : Type 0} → Option Condition → ℕ → DriveState M K → DriveState M K
 once_reported None nexus drive = drive
 once_reported (Some condition) nexus drive = without_condition condition nexus drive
 

@@ -3,11 +3,13 @@ use Rattle.std.specs.Prelude.{◌≡◌, ◌++◌, List, [], ◌∷◌, map, Res
 use Rattle.std.proofs.Common.{subst}
 use Rattle.vtl_base.specs.Below.{Below}
 use Rattle.scsi_sense.specs.declared.replies.Reply.{Reply}
+use Rattle.pr_core.specs.declared.states.PrState.{PrState}
+use Rattle.pr_core.specs.Keepers.{KeeperState}
 use Rattle.volume_core.specs.declared.changes.Change.{Change}
 use Rattle.volume_core.specs.Medium.{MediumState}
 use Rattle.drive_core.specs.declared.faults.Fault.{Fault}
 use Rattle.drive_core.specs.Faults.{reply_of}
-use Rattle.drive_core.specs.State.{Machine, DriveState, Kept, machine_of, medium_in}
+use Rattle.drive_core.specs.State.{Machine, DriveState, machine_of, medium_in}
 use Rattle.drive_core.specs.Relations.{Made, made_nothing, made_after}
 use Rattle.drive_core.specs.Work.{Request}
 use Rattle.drive_core.specs.Step.{Input, Execute, Output, Answered, Step}
@@ -30,43 +32,44 @@ RunsAppend =
     → Run (Unit {0}) old first outputs made mid → Run (Unit {0}) mid rest others more new
     → Run (Unit {0}) old (first ++ rest) (outputs ++ others) (made_after made more) new
 
-module _ {M : Type 0} (state : M → MediumState) (below : Below M Change) where
+module _ {M K : Type 0}
+    (state : M → MediumState) (below : Below M Change) (kept : K → KeeperState) (keeps : Below K PrState) where
   -- hosts are answered one after another by one drive, each from where the one before left it (own)
-  abbrev pub Serves : DriveState M Kept → List Request → List Reply → DriveState M Kept → Type 0
+  abbrev pub Serves : DriveState M K → List Request → List Reply → DriveState M K → Type 0
   Serves old [] [] new = new ≡ old
   Serves old (request ∷ requests) (reply ∷ replies) new =
-      (mid : DriveState M Kept) × Answers state below old request reply mid × Serves mid requests replies new
+      (mid : DriveState M K) × Answers state below kept keeps old request reply mid × Serves mid requests replies new
   Serves old [] (reply ∷ replies) new = ⊥
   Serves old (request ∷ requests) [] new = ⊥
 
   -- what a drive answers to hosts is a run of its machine, over a medium that is honest where it was at its start (own)
   pub record IsRun
-      (old : DriveState M Kept) (requests : List Request) (replies : List Reply) (new : DriveState M Kept) : Type
+      (old : DriveState M K) (requests : List Request) (replies : List Reply) (new : DriveState M K) : Type
       0 where
     pub answers : List (Result Reply Fault)
     pub replied : replies ≡ map reply_of answers
     pub made : Made
     pub run :
-        Run (HonestIn below (medium_in old.bay)) (machine_of state old)
-        (map Execute requests) (map Answered answers) made (machine_of state new)
+        Run (HonestIn below (medium_in old.bay)) (machine_of state kept old)
+        (map Execute requests) (map Answered answers) made (machine_of state kept new)
 
   -- hosts that are served are answered by a run of the machine (own)
   abbrev pub ServedByRuns : Type 0
   ServedByRuns =
-      (old new : DriveState M Kept) (requests : List Request) (replies : List Reply)
+      (old new : DriveState M K) (requests : List Request) (replies : List Reply)
       → Serves old requests replies new → IsRun old requests replies new
 
   -- no request is answered by standing still
-  pub serves_none : (drive : DriveState M Kept) → Serves drive [] [] drive
+  pub serves_none : (drive : DriveState M K) → Serves drive [] [] drive
   serves_none drive = refl
 
   -- what was served goes on by what is served from there
   pub serves_append :
-      (old mid new : DriveState M Kept) (first rest : List Request) (replies others : List Reply)
+      (old mid new : DriveState M K) (first rest : List Request) (replies others : List Reply)
       → Serves old first replies mid → Serves mid rest others new
       → Serves old (first ++ rest) (replies ++ others) new
   serves_append old mid new [] rest [] others one two =
-      subst (λ (drive : DriveState M Kept). Serves drive rest others new) one two
+      subst (λ (drive : DriveState M K). Serves drive rest others new) one two
   serves_append old mid new (request ∷ first) rest (reply ∷ replies) others one two =
       (one.0, one.1, serves_append one.0 mid new first rest replies others one.2 two)
   serves_append old mid new [] rest (reply ∷ replies) others one two = absurd one

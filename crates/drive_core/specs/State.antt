@@ -4,20 +4,15 @@ use Rattle.vtl_base.specs.declared.limits.TheConstants.{NEXUSES}
 use Rattle.scsi_attention.specs.declared.attention_sets.Attention.TheVariants.{PowerOn, MediumChanged}
 use Rattle.scsi_attention.specs.AttentionSets.{AttentionSet, no_attentions, with_attention}
 use Rattle.scsi_attention.specs.Attentions.{established_for_all}
+use Rattle.pr_core.specs.declared.states.PrState.{PrState}
+use Rattle.pr_core.specs.States.{empty_state, power_loss}
+use Rattle.pr_core.specs.Keepers.{KeeperState}
 use Rattle.volume_core.specs.Volume.{Part}
 use Rattle.volume_core.specs.Medium.{MediumState, volume_of}
 use Rattle.drive_core.specs.declared.bays.Bay.{Bay}
 use Rattle.drive_core.specs.declared.bays.Bay.TheVariants.{Empty, Unloaded, Loaded}
 use Rattle.positioning.specs.declared.positions.Pos.{Pos}
 use Rattle.positioning.specs.Motion.{IsOnTape}
-
--- the reservations of a drive that takes no reservation order: there are none (own)
-abbrev pub Reservations : Type 0
-Reservations = Unit {0}
-
--- what a drive without a keeper keeps over a loss of power: nothing (own)
-abbrev pub Kept : Type 0
-Kept = Unit {0}
 
 -- a drive whose medium is known as an M, and whose keeper as a K: what is in it, where on the medium the next command
 -- works, the buffered mode, whether a deferred error is to be reported, the unit attention conditions of each nexus,
@@ -28,12 +23,12 @@ pub record DriveState (M K : Type 0) : Type 0 where
   pub buffered : Bool
   pub deferred : Bool
   pub attentions : List AttentionSet
-  pub reservations : Reservations
+  pub reservations : PrState
   pub keeper : K
 
--- the drive as the standards speak of it: of its medium the state alone (SSC-4)
+-- the drive as the standards speak of it: of its medium and its keeper the state alone (SSC-4, SPC-4; the keeper own)
 abbrev pub Machine : Type 0
-Machine = DriveState MediumState Kept
+Machine = DriveState MediumState KeeperState
 
 -- what is in a drive, seen through a function (own)
 abbrev pub bay_of : {A B : Type 0} → (A → B) → Bay A → Bay B
@@ -41,16 +36,16 @@ bay_of f Empty = Empty
 bay_of f (Unloaded m) = Unloaded (f m)
 bay_of f (Loaded m) = Loaded (f m)
 
--- the machine that a drive over a medium is (own)
-abbrev pub machine_of : {M : Type 0} → (M → MediumState) → DriveState M Kept → Machine
-machine_of state drive = record {
+-- the machine that a drive over a medium and a keeper is (own)
+abbrev pub machine_of : {M K : Type 0} → (M → MediumState) → (K → KeeperState) → DriveState M K → Machine
+machine_of state kept drive = record {
   bay = bay_of state drive.bay;
   position = drive.position;
   buffered = drive.buffered;
   deferred = drive.deferred;
   attentions = drive.attentions;
   reservations = drive.reservations;
-  keeper = drive.keeper;
+  keeper = kept drive.keeper;
 }
 
 -- the medium in a bay, loaded or not (own)
@@ -96,22 +91,28 @@ IsBayPositioned state Empty position = Unit {0}
 IsBayPositioned state (Unloaded m) position = (state m).awake ≡ false
 IsBayPositioned state (Loaded m) position = IsPositioned (state m) position
 
--- a drive that was just switched on with this in it: at the start, in buffered mode, and for every nexus the power on
--- condition is established, and nothing else (SPC-4, SSC-4; the mode own)
-abbrev pub powered_on : {M : Type 0} → Bay M → DriveState M Kept
-powered_on bay = record {
+-- the reservations with which a drive begins whose keeper holds this: what a loss of power leaves of the state that was
+-- saved last; of one that keeps nothing, none (SPC-4, persist through power loss)
+abbrev pub left_of : Option PrState → PrState
+left_of None = empty_state
+left_of (Some saved) = power_loss saved
+
+-- a drive that was just switched on with this in it, these reservations and this keeper: at the start, in buffered mode,
+-- and for every nexus the power on condition is established, and nothing else (SPC-4, SSC-4; the mode own)
+abbrev pub powered_on : {M K : Type 0} → Bay M → PrState → K → DriveState M K
+powered_on bay reservations keeper = record {
   bay = bay;
   position = start;
   buffered = true;
   deferred = false;
   attentions = replicate NEXUSES (with_attention PowerOn no_attentions);
-  reservations = tt;
-  keeper = tt;
+  reservations = reservations;
+  keeper = keeper;
 }
 
 -- a drive that this medium was just loaded into: at the start, and for every nexus it is established that the medium
 -- may have changed; all else stays (SSC-4)
-abbrev pub loaded : {M : Type 0} → DriveState M Kept → M → DriveState M Kept
+abbrev pub loaded : {M K : Type 0} → DriveState M K → M → DriveState M K
 loaded drive medium = record drive {
   bay = Loaded medium;
   position = start;

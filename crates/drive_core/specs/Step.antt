@@ -1,6 +1,7 @@
 -- The drive machine: what it is asked, and what comes of it.
 use Rattle.std.specs.Prelude.{List, filter_map, Option, None, Some, Result}
 use Rattle.scsi_sense.specs.declared.replies.Reply.{Reply}
+use Rattle.pr_core.specs.Keepers.{KeeperState}
 use Rattle.volume_core.specs.Medium.{MediumState}
 use Rattle.drive_core.specs.declared.faults.Fault.{Fault}
 use Rattle.drive_core.specs.State.{Machine}
@@ -12,12 +13,12 @@ use Rattle.drive_core.specs.Turn.{FlushTurns}
 use Rattle.drive_core.specs.Load.{Loads, PowersOn}
 
 -- what a drive is asked: to carry a command out, to take a flusher's turn, to take a medium in, to switch on with this
--- medium in it, if any (SAM-5; SMC-3; SPC-4; the turn own)
+-- medium in it, if any, and with this keeper (SAM-5; SMC-3; SPC-4; turn and keeper own)
 pub data Input : Type 0 where
   Execute : (request : Request) → Input
   FlushTurn : Input
   Load : (medium : MediumState) → Input
-  PowerOn : (medium : Option MediumState) → Input
+  PowerOn : (medium : Option MediumState) → (keeper : KeeperState) → Input
 
 -- what comes of an input: a command and a loading are answered, by a reply or a fault; all else has no reply, and is
 -- done or meets a fault (own)
@@ -32,7 +33,7 @@ abbrev pub Step : Type 0 → Machine → Input → Output → Made → Machine �
 Step honest old (Execute request) (Answered answer) made new = Executes honest request old answer made new
 Step honest old FlushTurn (Unanswered outcome) made new = FlushTurns old outcome made new
 Step honest old (Load medium) (Answered answer) made new = Loads honest medium old answer made new
-Step honest old (PowerOn medium) (Unanswered outcome) made new = PowersOn honest medium outcome made new
+Step honest old (PowerOn medium keeper) (Unanswered outcome) made new = PowersOn honest medium keeper outcome made new
 Step honest old _ _ made new = ⊥
 
 -- the reply that came of an input, if it is answered (own)

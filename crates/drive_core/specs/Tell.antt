@@ -6,7 +6,7 @@ use Rattle.positioning.specs.Report.{report_of}
 use Rattle.drive_core.specs.declared.faults.Fault.{Fault}
 use Rattle.drive_core.specs.declared.faults.Fault.TheVariants.{NoMemory}
 use Rattle.drive_core.specs.State.{contents_of}
-use Rattle.drive_core.specs.Relations.{MediumRelation}
+use Rattle.drive_core.specs.Relations.{MachineRelation, MediumRelation, made_nothing}
 use Rattle.drive_core.specs.StoredFirst.{StoredFirst}
 
 -- GOOD with these bytes; memory runs out only where there are some (SAM-5; memory own)
@@ -14,6 +14,10 @@ abbrev pub Gives : List ℕ → Result Reply Fault → Type 0
 Gives bytes (Ok reply) = reply ≡ good_with bytes
 Gives bytes (Err NoMemory) = 1 ≤ length bytes
 Gives bytes (Err _) = ⊥
+
+-- these bytes are given, and nothing changes (SPC-4, INQUIRY, PERSISTENT RESERVE IN; SSC-4, READ BLOCK LIMITS)
+abbrev pub Tells : List ℕ → MachineRelation
+Tells bytes old answer made new = Gives bytes answer × (made ≡ made_nothing) × (new ≡ old)
 
 -- the bytes of the position are given, and nothing changes (SSC-4, READ POSITION)
 abbrev pub GivesPosition : MediumRelation

@@ -1,7 +1,7 @@
 -- The work of each command, once it has passed all checks.
-use Rattle.std.specs.Prelude.{◌≡◌, ℕ, List, Bool, true, false}
+use Rattle.std.specs.Prelude.{◌≡◌, ℕ, List, [], Bool, true, false}
 use Rattle.scsi_wire.specs.declared.commands.Command.{Command}
-use Rattle.scsi_wire.specs.declared.commands.Command.TheVariants.{TestUnitReady, Rewind, RequestSense, ReadBlockLimits, Read, Write, WriteFilemarks, Space, Inquiry, Erase, Locate, ReadPosition}
+use Rattle.scsi_wire.specs.declared.commands.Command.TheVariants.{TestUnitReady, Rewind, RequestSense, ReadBlockLimits, Read, Write, WriteFilemarks, Space, Inquiry, Erase, Locate, ReadPosition, PersistentReserveIn, PersistentReserveOut}
 use Rattle.scsi_wire.specs.Answers.{block_limits, cut_to, inquiry_data}
 use Rattle.scsi_wire.specs.Commands.{code_of}
 use Rattle.scsi_wire.specs.Opcodes.{needs_medium}
@@ -9,15 +9,17 @@ use Rattle.volume_core.specs.Medium.{MediumState}
 use Rattle.drive_core.specs.declared.bays.Bay.{Bay}
 use Rattle.drive_core.specs.declared.bays.Bay.TheVariants.{Loaded}
 use Rattle.drive_core.specs.State.{Mounted, mounted, with_mounted}
-use Rattle.drive_core.specs.Relations.{made_nothing, MediumRelation, MachineRelation, Idles}
+use Rattle.drive_core.specs.Relations.{MediumRelation, MachineRelation, Idles}
 use Rattle.drive_core.specs.Erase.{EraseWork}
 use Rattle.drive_core.specs.Locate.{LocateWork}
 use Rattle.drive_core.specs.Marks.{MarksWork}
 use Rattle.drive_core.specs.Read.{ReadWork}
 use Rattle.drive_core.specs.RequestSense.{RequestSenseWork}
+use Rattle.drive_core.specs.ReserveIn.{ReserveInWork}
+use Rattle.drive_core.specs.ReserveOut.{ReserveOutWork}
 use Rattle.drive_core.specs.Rewind.{RewindWork}
 use Rattle.drive_core.specs.Space.{SpaceWork}
-use Rattle.drive_core.specs.Tell.{Gives, ReadPositionWork}
+use Rattle.drive_core.specs.Tell.{Tells, ReadPositionWork}
 use Rattle.drive_core.specs.Write.{WriteWork}
 
 -- what a host sends to a drive: who it is, a command block, and data (SAM-5)
@@ -44,33 +46,36 @@ MediumWork honest ReadPosition buffered sent old answer made new = ReadPositionW
 MediumWork honest (RequestSense room) buffered sent old answer made new = ⊥
 MediumWork honest ReadBlockLimits buffered sent old answer made new = ⊥
 MediumWork honest (Inquiry room) buffered sent old answer made new = ⊥
+MediumWork honest (PersistentReserveIn action room) buffered sent old answer made new = ⊥
+MediumWork honest (PersistentReserveOut action bytes) buffered sent old answer made new = ⊥
 
--- work on the medium of this bay; where none is loaded there is no such work (own)
+-- work on the medium of this bay, which saves nothing; where none is loaded there is no such work (own)
 abbrev pub OnMediumIn : Bay MediumState → MediumRelation → MachineRelation
 OnMediumIn (Loaded medium) W old answer made new =
     (m : Mounted) × W (mounted medium old.position) answer made.changes m × (new ≡ with_mounted old m)
+    × (made.saved ≡ [])
 OnMediumIn _ W old answer made new = ⊥
 
 -- work on the loaded medium, at the position; all else of the drive stays (own)
 abbrev pub OnMedium : MediumRelation → MachineRelation
 OnMedium W old answer made new = OnMediumIn old.bay W old answer made new
 
--- these bytes are given, and nothing changes (SPC-4, INQUIRY; SSC-4, READ BLOCK LIMITS)
-abbrev pub Tells : List ℕ → MachineRelation
-Tells bytes old answer made new = Gives bytes answer × (made ≡ made_nothing) × (new ≡ old)
-
--- the work of a command that needs no medium, for a nexus (SPC-4, SSC-4)
-abbrev pub DriveWork : Command → ℕ → MachineRelation
-DriveWork (RequestSense room) nexus old answer made new = RequestSenseWork room nexus old answer made new
-DriveWork ReadBlockLimits nexus old answer made new = Tells block_limits old answer made new
-DriveWork (Inquiry room) nexus old answer made new = Tells (cut_to room inquiry_data) old answer made new
-DriveWork _ nexus old answer made new = ⊥
+-- the work of a command that needs no medium, for a nexus that sent these bytes (SPC-4, SSC-4)
+abbrev pub DriveWork : Command → ℕ → List ℕ → MachineRelation
+DriveWork (RequestSense room) nexus sent old answer made new = RequestSenseWork room nexus old answer made new
+DriveWork ReadBlockLimits nexus sent old answer made new = Tells block_limits old answer made new
+DriveWork (Inquiry room) nexus sent old answer made new = Tells (cut_to room inquiry_data) old answer made new
+DriveWork (PersistentReserveIn action room) nexus sent old answer made new =
+    ReserveInWork action room old answer made new
+DriveWork (PersistentReserveOut action bytes) nexus sent old answer made new =
+    ReserveOutWork action nexus sent old answer made new
+DriveWork _ nexus sent old answer made new = ⊥
 
 -- the work of a command, by whether it needs a medium (own)
 abbrev pub WorkBy : Bool → Type 0 → Command → ℕ → List ℕ → MachineRelation
 WorkBy true honest command nexus sent old answer made new =
     OnMedium (MediumWork honest command old.buffered sent) old answer made new
-WorkBy false honest command nexus sent old answer made new = DriveWork command nexus old answer made new
+WorkBy false honest command nexus sent old answer made new = DriveWork command nexus sent old answer made new
 
 -- the work of a command of a nexus that sent these bytes; where it is not known whether the medium is honest, the bytes
 -- of a block are open, and nothing else (SPC-4, SSC-4)

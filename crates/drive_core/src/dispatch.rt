@@ -58,8 +58,10 @@ pub fn carry_out<M: Medium>(
         Command::Erase => erase(alloc, medium, position, buffered),
         Command::Locate { object, part } => locate(alloc, medium, position, object, part),
         Command::ReadPosition => read_position(alloc, medium, position),
-        Command::RequestSense { .. } | Command::ReadBlockLimits | Command::Inquiry { .. } => {
-            unreachable!()
-        }
+        Command::RequestSense { .. }
+        | Command::ReadBlockLimits
+        | Command::Inquiry { .. }
+        | Command::PersistentReserveIn { .. }
+        | Command::PersistentReserveOut { .. } => unreachable!(),
     }
 }

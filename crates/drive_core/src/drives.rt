@@ -1,7 +1,7 @@
 //! Drives.
 ghost use Rattle.std.specs.Prelude.{◌≡◌, ◌↔◌, IsTrue, IfOk, option_copied};
 ghost use Rattle.drive_core.specs.declared.bays.Bay.TheVariants as Bays;
-ghost use Rattle.drive_core.specs.State.{machine_of, medium_in, IsBayPositioned};
+ghost use Rattle.drive_core.specs.State.{machine_of, medium_in, left_of, IsBayPositioned};
 ghost use Rattle.drive_core.specs.Conditions.{denial_reply, denied, without_condition};
 ghost use Rattle.drive_core.specs.Checks.{Executes};
 ghost use Rattle.drive_core.specs.Synchronize.{IsSynchronizing, Acknowledges, NothingPending};
@@ -9,6 +9,7 @@ ghost use Rattle.drive_core.specs.Execute.{Answers, Takes, HonestIn, asked};
 ghost use Rattle.drive_core.specs.Media.{TakesTurn, TakesIn, LoadSteps, SwitchesOn, PowerOnSteps};
 
 mod performing;
+mod reserving;
 mod verdicts;
 
 use crate::bays::Bay;
@@ -16,6 +17,7 @@ use crate::conditions::{Condition, Denial};
 use crate::faults::Fault;
 use crate::opening::{START, open, start_of, wake_reply};
 use positioning::Pos;
+use pr_core::{Keeper, Reservations};
 use scsi_attention::{Attention, Attentions, AttnSet};
 use scsi_sense::Reply;
 use std::alloc::Global;
@@ -24,22 +26,25 @@ use std::mem;
 use volume_core::{Medium, Turn};
 use vtl_base::{Nexus, NoMemory};
 
-/// A drive over any medium (SSC-4). To a contract it is a `DriveState` that holds the medium
-/// itself; `machine_of` makes the machine of it, which knows of the medium its state alone.
+/// A drive over any medium and any keeper of its reservations (SSC-4, SPC-4). To a contract it is a
+/// `DriveState` that holds both themselves; `machine_of` makes the machine of it, which knows of
+/// them their states alone.
 #[derive(Drop)]
-pub struct Drive<M: Medium> {
+pub struct Drive<M: Medium, K: Keeper> {
     alloc: Global,
     bay: Bay<M>,
     position: Pos,
     buffered: bool,
     deferred: bool,
     attentions: Attentions,
+    reservations: Reservations,
+    keeper: K,
 }
 
-impl<M: Medium> Model for Drive<M> {
-    ghost use Rattle.drive_core.specs.State.{DriveState, Kept, IsBayPositioned};
+impl<M: Medium, K: Keeper> Model for Drive<M, K> {
+    ghost use Rattle.drive_core.specs.State.{DriveState, IsBayPositioned};
 
-    ghost Value = { DriveState M Kept };
+    ghost Value = { DriveState M K };
 
     ghost view = { λ d. record {
       bay = d.bay;
@@ -47,22 +52,30 @@ impl<M: Medium> Model for Drive<M> {
       buffered = d.buffered;
       deferred = d.deferred;
       attentions = d.attentions;
-      reservations = tt;
-      keeper = tt;
+      reservations = d.reservations;
+      keeper = d.keeper;
     } };
 
     ghost invariant = { λ d. IsBayPositioned M.state d.bay d.position };
 }
 
-impl<M: Medium> Drive<M> {
+impl<M: Medium, K: Keeper> Drive<M, K> {
     /// A drive that was just switched on, with this medium in it, if any, awake or parked: opened
-    /// and loaded, or unloaded where its side is refused. Where memory runs out, the medium comes
-    /// back; one that is awake needs none.
-    pub fn power_on(alloc: Global, medium: Option<M>) -> Result<Self, (Option<M>, NoMemory)>
-        ensures switched { SwitchesOn M.state M.below medium result }
-        ensures step { IfOk result (λ drive. PowerOnSteps M.state M.below medium drive) }
+    /// and loaded, or unloaded where its side is refused. Its reservations are those that a loss of
+    /// power leaves of what the keeper saved last. Where memory runs out, medium and keeper come
+    /// back; a medium that is awake needs none.
+    pub fn power_on(
+        alloc: Global,
+        keeper: K,
+        reservations: Reservations,
+        medium: Option<M>,
+    ) -> Result<Self, (Option<M>, K, NoMemory)>
+        requires left { reservations ≡ left_of (K.kept keeper).saved }
+        ensures switched { SwitchesOn M.state M.below medium reservations keeper result }
+        ensures step { IfOk result (λ drive.
+            PowerOnSteps M.state M.below K.kept medium keeper drive) }
     {
-        switch_on(alloc, medium)
+        switch_on(alloc, keeper, reservations, medium)
     }
 
     /// Whether there is no cartridge in it, loaded or not.
@@ -94,7 +107,7 @@ impl<M: Medium> Drive<M> {
     pub fn load(&mut self, medium: M) -> Result<(), (M, Reply)>
         requires empty { self.old.bay ≡ Bays.Empty }
         ensures taken { TakesIn M.state M.below self.old medium result self.new }
-        ensures step { LoadSteps M.state M.below self.old medium result self.new }
+        ensures step { LoadSteps M.state M.below K.kept self.old medium result self.new }
     {
         self.take_in(medium)
     }
@@ -102,7 +115,7 @@ impl<M: Medium> Drive<M> {
     /// A flusher's turn: stores what is pending. A fault establishes a deferred error, which the
     /// next command that is not exempt reports, or REQUEST SENSE gives as data. It takes no memory.
     pub fn turn(&mut self) -> Turn
-        ensures { TakesTurn M.state M.below self.old result self.new }
+        ensures { TakesTurn M.state M.below K.kept self.old result self.new }
     {
         let Bay::Loaded(medium) = &mut self.bay else {
             return Turn::Idle;
@@ -120,12 +133,12 @@ impl<M: Medium> Drive<M> {
     /// Answers a command: a command block of a host, and the data that were sent with it. Each
     /// refusal is a reply.
     pub fn execute(&mut self, nexus: Nexus, cdb: &[u8], sent: &[u8]) -> Reply
-        ensures step { Answers M.state M.below
+        ensures step { Answers M.state M.below K.kept K.below
             self.old (asked nexus cdb.now sent.now) result self.new }
 
         // All is stored before a synchronizing command is acknowledged.
-        ensures settled { IsSynchronizing (machine_of M.state self.old) cdb.now
-            → Acknowledges result → NothingPending (machine_of M.state self.new) }
+        ensures settled { IsSynchronizing (machine_of M.state K.kept self.old) cdb.now
+            → Acknowledges result → NothingPending (machine_of M.state K.kept self.new) }
     {
         let alloc = self.alloc;
         match self.check(nexus, cdb, sent) {
@@ -154,9 +167,9 @@ impl<M: Medium> Drive<M> {
 
     // Checks a command, and carries it out where it passes all checks.
     fn check(&mut self, nexus: Nexus, cdb: &[u8], sent: &[u8]) -> Result<Reply, Fault>
-        ensures { Takes M.state M.below
+        ensures { Takes M.state M.below K.kept K.below
             (Executes (HonestIn M.below (medium_in self.old.bay))
-            (asked nexus cdb.now sent.now) (machine_of M.state self.old))
+            (asked nexus cdb.now sent.now) (machine_of M.state K.kept self.old))
             self.old result self.new }
     {
         match self.verdict(nexus, cdb, sent) {
@@ -188,13 +201,18 @@ impl<M: Medium> Drive<M> {
 }
 
 // A drive with the medium as it opens, if any.
-fn switch_on<M: Medium>(alloc: Global, medium: Option<M>) -> Result<Drive<M>, (Option<M>, NoMemory)>
-    ensures { SwitchesOn M.state M.below medium result }
+fn switch_on<M: Medium, K: Keeper>(
+    alloc: Global,
+    keeper: K,
+    reservations: Reservations,
+    medium: Option<M>,
+) -> Result<Drive<M, K>, (Option<M>, K, NoMemory)>
+    ensures { SwitchesOn M.state M.below medium reservations keeper result }
 {
     let bay = match medium {
         Some(medium) => match open(medium) {
             Ok(bay) => bay,
-            Err(medium) => return Err((Some(medium), NoMemory)),
+            Err(medium) => return Err((Some(medium), keeper, NoMemory)),
         },
         None => Bay::Empty,
     };
@@ -207,5 +225,7 @@ fn switch_on<M: Medium>(alloc: Global, medium: Option<M>) -> Result<Drive<M>, (O
         buffered: true,
         deferred: false,
         attentions: Attentions::all(pending),
+        reservations,
+        keeper,
     })
 }

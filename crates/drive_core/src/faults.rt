@@ -2,6 +2,7 @@
 ghost use Rattle.std.specs.Prelude.{◌≡◌};
 ghost use Rattle.drive_core.specs.Faults.{fault_sense, fault_reply};
 
+use pr_core::KeeperError;
 use scsi_sense::{Reply, Sense};
 use std::alloc::Global;
 use vtl_base::{Bytes, NoMemory};
@@ -18,6 +19,10 @@ pub enum Fault {
     /// The side is full, and nothing changed. The residue is what was not written, where it is
     /// told: bytes of a block, or marks.
     SideFull { residue: Option<u32> },
+    /// The device failed while reservations were saved. The old ones stand, and the keeper has failed.
+    Saving,
+    /// The store of reservations is full, and nothing changed.
+    StoreFull,
 }
 
 impl From<NoMemory> for Fault {
@@ -28,6 +33,21 @@ impl From<NoMemory> for Fault {
 
     fn from(_: NoMemory) -> Self {
         Fault::NoMemory
+    }
+}
+
+impl From<KeeperError> for Fault {
+    ghost use Rattle.std.specs.Prelude.{◌≡◌};
+    ghost use Rattle.drive_core.specs.ReserveOut.{fault_of_save};
+
+    ghost from_gives = { λ error fault. fault ≡ fault_of_save error };
+
+    fn from(error: KeeperError) -> Self {
+        match error {
+            KeeperError::NoMemory => Fault::NoMemory,
+            KeeperError::SideFull => Fault::StoreFull,
+            KeeperError::Device | KeeperError::Failed => Fault::Saving,
+        }
     }
 }
 
@@ -47,6 +67,8 @@ impl Fault {
             Fault::Writing => Sense::write_error(),
             Fault::Reading => Sense::read_error(),
             Fault::SideFull { residue } => Sense::volume_overflow(residue),
+            Fault::Saving => Sense::keeper_failed(),
+            Fault::StoreFull => Sense::store_full(),
         }
     }
 }

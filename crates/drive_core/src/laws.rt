@@ -3,6 +3,8 @@ ghost use Rattle.drive_core.specs.Determined.{HonestStepsAreSteps, StepsAreDeter
 ghost use Rattle.drive_core.specs.Run.{RunsAppend, ServedByRuns};
 
 use positioning::laws::{each_locate_has_one_end, each_space_has_one_end};
+use pr_core::Keeper;
+use pr_core::laws::each_order_has_one_end;
 use volume_core::Medium;
 
 /// Over an honest medium, what `execute` does is a step of the machine itself.
@@ -19,6 +21,7 @@ pub fn answers_are_determined()
 {
     each_space_has_one_end();
     each_locate_has_one_end();
+    each_order_has_one_end();
 }
 
 /// A run, and one that goes on from where it ended, are one run.
@@ -27,6 +30,6 @@ pub fn runs_append()
 {}
 
 /// What one drive answers to hosts, one after another, is a run of its machine.
-pub fn served_hosts_run<M: Medium>()
-    ensures { ServedByRuns M.state M.below }
+pub fn served_hosts_run<M: Medium, K: Keeper>()
+    ensures { ServedByRuns M.state M.below K.kept K.below }
 {}

@@ -7,13 +7,15 @@ use Rattle.std.proofs.lemmas.List.Folds.{list_all-append}
 use Rattle.std.proofs.lemmas.List.Elements.{filter_map-append, All-map}
 use Rattle.std.specs.List.{list_all, list_any, position_or_len}
 use Rattle.scsi_sense.specs.declared.replies.Reply.{Reply}
+use Rattle.pr_core.specs.declared.states.PrState.{PrState}
+use Rattle.pr_core.specs.Keepers.{KeeperState}
 use Rattle.volume_core.specs.declared.changes.Change.{Change}
 use Rattle.volume_core.specs.Medium.{MediumState}
 use Rattle.vtl_base.specs.Below.{Below}
 use Rattle.drive_core.specs.Relations.{Made}
 use Rattle.drive_core.specs.Work.{Request}
 use Rattle.drive_core.specs.Faults.{reply_of}
-use Rattle.drive_core.specs.State.{DriveState, Kept, Machine, machine_of, medium_in}
+use Rattle.drive_core.specs.State.{DriveState, Machine, machine_of, medium_in}
 use Rattle.drive_core.specs.Run.{Run, Serves, ServedByRuns}
 use Rattle.std.specs.Io.KnownBytes.{Appends}
 use Rattle.drive_core.specs.Execute.{HonestIn}
@@ -156,16 +158,17 @@ run_in below steps None is old inputs outputs made new run = run
 run_in below steps (Some medium) is old inputs outputs made new run =
     run_over below.honest steps medium is old inputs outputs made new run
 
-pub one_host_is_answered : {M : Type 0} (state : M → MediumState) (below : Below M Change)
-    → HonestStepsAreSteps below.honest → RunsAreDetermined → ServedByRuns state below
-    → (number : ℕ) (old : DriveState M Kept) (left before : Option (List ℕ)) (new : DriveState M Kept)
+pub one_host_is_answered : {M K : Type 0} (state : M → MediumState) (below : Below M Change) (kept : K → KeeperState)
+    (keeps : Below K PrState) → HonestStepsAreSteps below.honest → RunsAreDetermined
+    → ServedByRuns state below kept keeps
+    → (number : ℕ) (old : DriveState M K) (left before : Option (List ℕ)) (new : DriveState M K)
     (now : Option (List ℕ)) (text : List ℕ) (items : List Item) (replies : List Reply)
     → IfSome left (λ all. text ≡ all) → refused_line (parsed_lines (λ drive. drive == number) text) ≡ None
     → items ≡ items_to_run (parsed_lines (λ drive. drive == number) text)
-    → Serves state below old (requests_of items) replies new → Appends before now (text_of replies)
-    → AnswersOneHost state below number old left before new now
-one_host_is_answered state below steps determined runs number old left before new now text items replies known good
-    items_are serves written =
+    → Serves state below kept keeps old (requests_of items) replies new → Appends before now (text_of replies)
+    → AnswersOneHost state below kept number old left before new now
+one_host_is_answered state below kept keeps steps determined runs number old left before new now text items replies
+    known good items_are serves written =
     let parsed_list = parsed_lines (λ drive. drive == number) text in
     let served = runs old new (requests_of items) replies serves in
     let lines_are : (host : ℕ) → IsOfHost host (commands_in parsed_list)
@@ -188,10 +191,10 @@ one_host_is_answered state below steps determined runs number old left before ne
           subst (λ (xs : List Input). AllAskAlike (without_turns (asked_in parsed_list)) xs) (sym asked)
           (subst (λ (xs : List Input). AllAskAlike xs (asked_in parsed_list)) (sym (no_turns own)) (ask_alike own)) in
           let same =
-          determined (machine_of state old) (machine_of state old)
+          determined (machine_of state kept old) (machine_of state kept old)
           (asked_in parsed_list) inputs (map Answered (map Ok silent)) outputs _ others _ end refl alike
           (all_calm silent) calm
-          (run_in below steps (medium_in old.bay) is_honest (machine_of state old) (asked_in parsed_list)
+          (run_in below steps (medium_in old.bay) is_honest (machine_of state kept old) (asked_in parsed_list)
           (map Answered (map Ok silent)) _ _ ran)
           run in
           let replies_are : replies ≡ replies_of outputs =
@@ -199,14 +202,15 @@ one_host_is_answered state below steps determined runs number old left before ne
           rw replies_are at written;
     }
 
-pub one_host_of : {M : Type 0} (state : M → MediumState) (below : Below M Change)
-    → HonestStepsAreSteps below.honest → RunsAreDetermined → ServedByRuns state below
-    → (old : HeldDrive M) (left before : Option (List ℕ)) (new : HeldDrive M) (now : Option (List ℕ))
+pub one_host_of : {M K : Type 0} (state : M → MediumState) (below : Below M Change) (kept : K → KeeperState)
+    (keeps : Below K PrState) → HonestStepsAreSteps below.honest → RunsAreDetermined
+    → ServedByRuns state below kept keeps
+    → (old : HeldDrive M K) (left before : Option (List ℕ)) (new : HeldDrive M K) (now : Option (List ℕ))
     (result : Result (Unit {0}) ScriptFault)
-    → RunsScript (λ number. number == old.number) (HeldAnswers state below) old left before new now result
-    → OnOk result (AnswersOneHost state below old.number old.drive left before new.drive now)
-one_host_of state below steps determined runs_law old left before new now (Err fault) runs = tt
-one_host_of state below steps determined runs_law old left before new now (Ok done) runs =
+    → RunsScript (λ number. number == old.number) (HeldAnswers state below kept keeps) old left before new now result
+    → OnOk result (AnswersOneHost state below kept old.number old.drive left before new.drive now)
+one_host_of state below kept keeps steps determined runs_law old left before new now (Err fault) runs = tt
+one_host_of state below kept keeps steps determined runs_law old left before new now (Ok done) runs =
     let serves = rw (sym runs.ended.3.0) at runs.answered in
-    one_host_is_answered state below steps determined runs_law old.number old.drive left before new.drive now runs.text
-    runs.items runs.replies runs.known runs.ended.1 runs.ended.2 serves runs.ended.3.1
+    one_host_is_answered state below kept keeps steps determined runs_law old.number old.drive left before new.drive now
+    runs.text runs.items runs.replies runs.known runs.ended.1 runs.ended.2 serves runs.ended.3.1

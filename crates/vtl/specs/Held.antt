@@ -2,6 +2,8 @@
 use Rattle.std.specs.Prelude.{List, map}
 use Rattle.vtl_base.specs.Below.{Below}
 use Rattle.scsi_sense.specs.declared.replies.Reply.{Reply}
+use Rattle.pr_core.specs.declared.states.PrState.{PrState}
+use Rattle.pr_core.specs.Keepers.{KeeperState}
 use Rattle.volume_core.specs.declared.changes.Change.{Change}
 use Rattle.volume_core.specs.Medium.{MediumState}
 use Rattle.drive_core.specs.Run.{Serves}
@@ -22,5 +24,7 @@ requests_of items = map request_of (commands_to_run items)
 
 -- a drive answers some items so, one command after another (own)
 abbrev pub HeldAnswers :
-    {M : Type 0} → (M → MediumState) → Below M Change → HeldDrive M → List Item → List Reply → HeldDrive M → Type 0
-HeldAnswers state below old items replies new = Serves state below old.drive (requests_of items) replies new.drive
+    {M K : Type 0} → (M → MediumState) → Below M Change → (K → KeeperState) → Below K PrState
+    → HeldDrive M K → List Item → List Reply → HeldDrive M K → Type 0
+HeldAnswers state below kept keeps old items replies new =
+    Serves state below kept keeps old.drive (requests_of items) replies new.drive

@@ -4,11 +4,13 @@ use Rattle.std.specs.List.{list_all, list_any}
 use Rattle.std.specs.Io.KnownBytes.{Appends}
 use Rattle.scsi_sense.specs.declared.replies.Reply.{Reply}
 use Rattle.vtl_base.specs.Below.{Below}
+use Rattle.pr_core.specs.declared.states.PrState.{PrState}
+use Rattle.pr_core.specs.Keepers.{KeeperState}
 use Rattle.volume_core.specs.declared.changes.Change.{Change}
 use Rattle.volume_core.specs.Medium.{MediumState}
 use Rattle.drive_core.specs.declared.faults.Fault.{Fault}
 use Rattle.drive_core.specs.Faults.{reply_of}
-use Rattle.drive_core.specs.State.{DriveState, Kept, Machine, machine_of, medium_in}
+use Rattle.drive_core.specs.State.{DriveState, Machine, machine_of, medium_in}
 use Rattle.drive_core.specs.Execute.{HonestIn}
 use Rattle.drive_core.specs.Relations.{Made}
 use Rattle.drive_core.specs.Step.{Input, Execute, Output, Answered, replies_of}
@@ -45,9 +47,9 @@ OneHostInOrder =
 -- machine over the commands in the order of the lines, and the text of those answers was written, and nothing else;
 -- over an honest medium, and where no answer is a fault, want of memory or a full side, no other run of the machine in
 -- which none of these comes, wherever flusher's turns stand in it, has another text (own)
-pub record AnswersOneHost {M : Type 0}
-    (state : M → MediumState) (below : Below M Change) (number : ℕ)
-    (old : DriveState M Kept) (left before : Option (List ℕ)) (new : DriveState M Kept) (now : Option (List ℕ)) : Type
+pub record AnswersOneHost {M K : Type 0}
+    (state : M → MediumState) (below : Below M Change) (kept : K → KeeperState) (number : ℕ)
+    (old : DriveState M K) (left before : Option (List ℕ)) (new : DriveState M K) (now : Option (List ℕ)) : Type
     0 where
   -- the text of the script: all that the reader has, where that is known
   pub text : List ℕ
@@ -56,13 +58,13 @@ pub record AnswersOneHost {M : Type 0}
   pub made : Made
   pub run :
       (host : ℕ) → IsOfHost host (commands_in (parsed_lines (λ drive. drive == number) text))
-      → Run (HonestIn below (medium_in old.bay)) (machine_of state old)
-      (asked_in (parsed_lines (λ drive. drive == number) text)) (map Answered answers) made (machine_of state new)
+      → Run (HonestIn below (medium_in old.bay)) (machine_of state kept old)
+      (asked_in (parsed_lines (λ drive. drive == number) text)) (map Answered answers) made (machine_of state kept new)
   pub written : Appends before now (text_of (map reply_of answers))
   pub sole :
       (host : ℕ) → IsOfHost host (commands_in (parsed_lines (λ drive. drive == number) text))
       → HonestIn below (medium_in old.bay) → (silent : List Reply) → answers ≡ map Ok silent
       → (inputs : List Input) (outputs : List Output) (others : Made) (end : Machine)
       → without_turns inputs ≡ asked_in (parsed_lines (λ drive. drive == number) text) → All IsCalm outputs
-      → Run (Unit {0}) (machine_of state old) inputs outputs others end
+      → Run (Unit {0}) (machine_of state kept old) inputs outputs others end
       → Appends before now (text_of (replies_of outputs))

@@ -12,6 +12,7 @@ use crate::lines::Line;
 use crate::runners::Runner;
 use crate::scripts::run_script;
 use drive_core::{Drive, laws};
+use pr_core::Keeper;
 use scsi_sense::Reply;
 use std::alloc::Global;
 use std::io::{Read, Write};
@@ -20,15 +21,15 @@ use vtl_base::{DriveNo, NoMemory};
 
 /// One drive, which runs the commands of a phase one after another.
 #[derive(Drop)]
-pub struct HeldDrive<M: Medium> {
+pub struct HeldDrive<M: Medium, K: Keeper> {
     pub number: DriveNo,
-    pub drive: Drive<M>,
+    pub drive: Drive<M, K>,
 }
 
-impl<M: Medium> HeldDrive<M> {
+impl<M: Medium, K: Keeper> HeldDrive<M, K> {
     // Carries the commands of these lines out, in order.
     fn run_lines(&mut self, alloc: Global, lines: &[Line]) -> Result<Vec<Reply>, NoMemory>
-        ensures ok { IfOk result (λ replies. Serves M.state M.below self.old.drive
+        ensures ok { IfOk result (λ replies. Serves M.state M.below K.kept K.below self.old.drive
             (map request_of lines.now) replies.items self.new.drive) }
         ensures err { OnErr result (self.new ≡ self.old) }
         ensures same { self.new.number ≡ self.old.number }
@@ -44,10 +45,10 @@ impl<M: Medium> HeldDrive<M> {
     }
 }
 
-impl<M: Medium> Runner for HeldDrive<M> {
+impl<M: Medium, K: Keeper> Runner for HeldDrive<M, K> {
     ghost is_configured = { λ held number. number == held.number };
 
-    ghost answers = { HeldAnswers M.state M.below };
+    ghost answers = { HeldAnswers M.state M.below K.kept K.below };
 
     fn configured(&self, drive: DriveNo) -> bool {
         drive == self.number
@@ -59,28 +60,28 @@ impl<M: Medium> Runner for HeldDrive<M> {
         }
     }
 
-    ghost answers_none = { λ held. serves_none M.state M.below held.drive };
+    ghost answers_none = { λ held. serves_none M.state M.below K.kept K.below held.drive };
 
-    ghost answers_empty = { λ held. serves_none M.state M.below held.drive };
+    ghost answers_empty = { λ held. serves_none M.state M.below K.kept K.below held.drive };
 
     ghost answers_on = { λ old mid new first rest replies others one two.
-        held_on M.state M.below old.drive mid.drive new.drive
+        held_on M.state M.below K.kept K.below old.drive mid.drive new.drive
         first rest replies others one two };
 }
 
 /// Runs a script by one drive. Where it is of one host, and was run to its end with no fault, want of
 /// memory or full side over an honest medium, what is written is the text of the machine's replies
 /// to its lines, and nothing else.
-pub fn run_on_drive<M: Medium, R: Read, W: Write>(
+pub fn run_on_drive<M: Medium, K: Keeper, R: Read, W: Write>(
     alloc: Global,
-    held: &mut HeldDrive<M>,
+    held: &mut HeldDrive<M, K>,
     reader: &mut R,
     writer: &mut W,
 ) -> Result<(), ScriptFault>
     ensures runs { RunsScript (λ number. number == held.old.number)
-        (HeldAnswers M.state M.below) held.old (R.remaining reader.old) (W.contents writer.old)
+        (HeldAnswers M.state M.below K.kept K.below) held.old (R.remaining reader.old) (W.contents writer.old)
         held.new (W.contents writer.new) result }
-    ensures one_host { OnOk result (AnswersOneHost M.state M.below held.old.number
+    ensures one_host { OnOk result (AnswersOneHost M.state M.below K.kept held.old.number
         held.old.drive (R.remaining reader.old) (W.contents writer.old)
         held.new.drive (W.contents writer.new)) }
     ensures past { result ≢ Err ScriptFault.ReadFault →
@@ -89,6 +90,6 @@ pub fn run_on_drive<M: Medium, R: Read, W: Write>(
     // The laws of the machine, for the proof alone.
     laws::honest_steps::<M>();
     laws::answers_are_determined();
-    laws::served_hosts_run::<M>();
+    laws::served_hosts_run::<M, K>();
     run_script(alloc, held, reader, writer)
 }

@@ -12,6 +12,7 @@ use drive_core::Drive;
 use std::alloc::Global;
 use std::fmt;
 use std::io::{Read, Write};
+use pr_core::{Keeper, NoKeeper, Reservations};
 use volume_core::{Medium, PlainMedium};
 use vtl_base::{DriveNo, NoMemory};
 
@@ -98,8 +99,8 @@ pub fn fault_line(fault: &VtlFault) -> (u8, FaultLine)
 }
 
 /// The drive of the built-in configuration: drive 1, in which a cartridge of one partition of
-/// 16,777,216 bytes is loaded.
-pub fn built_in_drive(alloc: Global) -> Result<HeldDrive<PlainMedium>, VtlFault>
+/// 16,777,216 bytes is loaded. Its reservations are kept in memory alone, and none is there.
+pub fn built_in_drive(alloc: Global) -> Result<HeldDrive<PlainMedium, NoKeeper>, VtlFault>
     ensures ok { IfOk result (λ held. IsBuiltIn
         (record { volume = empty_volume (16777216 ∷ []); awake = true }) held) }
     ensures fault { IfErr result (λ fault. fault ≡ VtlFault.NoMemory) }
@@ -108,21 +109,21 @@ pub fn built_in_drive(alloc: Global) -> Result<HeldDrive<PlainMedium>, VtlFault>
         return Err(VtlFault::Config);
     };
     let medium = PlainMedium::new(alloc, &[CAPACITY])?;
-    match Drive::power_on(alloc, Some(medium)) {
+    match Drive::power_on(alloc, NoKeeper, Reservations::empty(), Some(medium)) {
         Ok(drive) => Ok(HeldDrive { number, drive }),
         Err(_) => Err(VtlFault::NoMemory),
     }
 }
 
 // Runs a script by this drive, where there is one.
-fn run_started<M: Medium + Drop, R: Read, W: Write>(
+fn run_started<M: Medium + Drop, K: Keeper + Drop, R: Read, W: Write>(
     alloc: Global,
-    start: Result<HeldDrive<M>, VtlFault>,
+    start: Result<HeldDrive<M, K>, VtlFault>,
     reader: &mut R,
     writer: &mut W,
 ) -> Result<(), VtlFault>
     ensures { RunsFrom (λ held number. number == held.number)
-        (HeldAnswers M.state M.below) start
+        (HeldAnswers M.state M.below K.kept K.below) start
         (R.remaining reader.old) (W.contents writer.old) (W.contents writer.new) result }
 {
     let mut held = start?;
@@ -139,15 +140,15 @@ pub struct Ended {
 
 /// The program over its three streams: it runs the script that the reader gives by this drive, writes
 /// the replies, and reports a fault by one line on the third stream and by its status.
-pub fn run<M: Medium + Drop, R: Read, W: Write, E: Write>(
+pub fn run<M: Medium + Drop, K: Keeper + Drop, R: Read, W: Write, E: Write>(
     alloc: Global,
-    start: Result<HeldDrive<M>, VtlFault>,
+    start: Result<HeldDrive<M, K>, VtlFault>,
     reader: &mut R,
     writer: &mut W,
     errors: &mut E,
 ) -> Ended
     ensures { RunsProgram (λ held number. number == held.number)
-        (HeldAnswers M.state M.below) start
+        (HeldAnswers M.state M.below K.kept K.below) start
         (R.remaining reader.old) (W.contents writer.old) (W.contents writer.new)
         (E.contents errors.old) (E.contents errors.new) result }
 {

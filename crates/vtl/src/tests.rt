@@ -12,6 +12,7 @@ use crate::scripts::run_script;
 use std::alloc::{AllocError, Global};
 use std::process::Abort;
 use std::test::Fail;
+use pr_core::NoKeeper;
 use volume_core::PlainMedium;
 use wires::{Plan, Wire, WireReader, WireWriter};
 
@@ -44,7 +45,7 @@ fn answered(alloc: Global, script: &[u8], plan: Plan) -> Result<Outcome, Fail> {
 
 fn answered_by(
     alloc: Global,
-    drive: &mut HeldDrive<PlainMedium>,
+    drive: &mut HeldDrive<PlainMedium, NoKeeper>,
     script: &[u8],
     plan: Plan,
 ) -> Result<Outcome, Fail> {

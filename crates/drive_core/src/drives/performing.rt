@@ -14,12 +14,13 @@ use crate::conditions::Condition;
 use crate::dispatch::carry_out;
 use crate::faults::Fault;
 use crate::telling::give;
+use pr_core::Keeper;
 use scsi_sense::{Reply, Sense};
 use scsi_wire::{Command, block_limits, cut_to, inquiry_data};
 use volume_core::Medium;
 use vtl_base::Nexus;
 
-impl<M: Medium> Drive<M> {
+impl<M: Medium, K: Keeper> Drive<M, K> {
     /// Carries a command out.
     pub(super) fn perform(
         &mut self,
@@ -27,26 +28,26 @@ impl<M: Medium> Drive<M> {
         command: Command,
         sent: &[u8],
     ) -> Result<Reply, Fault>
-        requires { IsPassed (machine_of M.state self.old) command sent.now }
-        ensures { Takes M.state M.below
+        requires { IsPassed (machine_of M.state K.kept self.old) command sent.now }
+        ensures { Takes M.state M.below K.kept K.below
             (Work (HonestIn M.below (medium_in self.old.bay)) command nexus sent.now
-            (machine_of M.state self.old))
+            (machine_of M.state K.kept self.old))
             self.old result self.new }
     {
         if command.opcode().needs_medium() {
             self.on_medium(command, sent)
         } else {
-            self.on_drive(nexus, command)
+            self.on_drive(nexus, command, sent)
         }
     }
 
     // The work of a command that needs a medium.
     fn on_medium(&mut self, command: Command, sent: &[u8]) -> Result<Reply, Fault>
-        requires passed { IsPassed (machine_of M.state self.old) command sent.now }
+        requires passed { IsPassed (machine_of M.state K.kept self.old) command sent.now }
         requires needs { needs_medium (code_of command) ≡ true }
-        ensures { Takes M.state M.below
+        ensures { Takes M.state M.below K.kept K.below
             (OnMedium (MediumWork (HonestIn M.below (medium_in self.old.bay)) command
-            self.old.buffered sent.now) (machine_of M.state self.old))
+            self.old.buffered sent.now) (machine_of M.state K.kept self.old))
             self.old result self.new }
     {
         let Bay::Loaded(medium) = &mut self.bay else {
@@ -63,15 +64,22 @@ impl<M: Medium> Drive<M> {
     }
 
     // The work of a command that needs none.
-    fn on_drive(&mut self, nexus: Nexus, command: Command) -> Result<Reply, Fault>
+    fn on_drive(
+        &mut self,
+        nexus: Nexus,
+        command: Command,
+        sent: &[u8],
+    ) -> Result<Reply, Fault>
         requires { needs_medium (code_of command) ≡ false }
-        ensures { Takes M.state M.below
-            (DriveWork command nexus (machine_of M.state self.old))
+        ensures { Takes M.state M.below K.kept K.below
+            (DriveWork command nexus sent.now (machine_of M.state K.kept self.old))
             self.old result self.new }
     {
         match command {
             Command::RequestSense { length } => self.request_sense(nexus, length),
             Command::ReadBlockLimits => give(self.alloc, &block_limits()),
+            Command::PersistentReserveIn { action, length } => self.reserve_in(action, length),
+            Command::PersistentReserveOut { action, .. } => self.reserve_out(nexus, action, sent),
             Command::Inquiry { length } => give(
                 self.alloc,
                 cut_to(&inquiry_data(), length as usize),
@@ -82,8 +90,8 @@ impl<M: Medium> Drive<M> {
 
     // Reports the condition that is due as data, and clears it (SPC-4, REQUEST SENSE).
     fn request_sense(&mut self, nexus: Nexus, room: u8) -> Result<Reply, Fault>
-        ensures { Takes M.state M.below
-            (RequestSenseWork room nexus (machine_of M.state self.old))
+        ensures { Takes M.state M.below K.kept K.below
+            (RequestSenseWork room nexus (machine_of M.state K.kept self.old))
             self.old result self.new }
     {
         let due = self.condition_due(nexus);

@@ -11,18 +11,19 @@ ghost use Rattle.drive_core.specs.Inner.Passing.{IsPassed, HasFields};
 use super::Drive;
 use crate::bays::Bay;
 use crate::conditions::{Condition, Denial};
+use pr_core::Keeper;
 use scsi_sense::Sense;
 use scsi_wire::{Command, Opcode};
 use volume_core::{Catalog, Medium};
 use vtl_base::Nexus;
 
-impl<M: Medium> Drive<M> {
+impl<M: Medium, K: Keeper> Drive<M, K> {
     /// The command of a request, or the first check that it does not pass.
     pub(super) fn verdict(&self, nexus: Nexus, cdb: &[u8], sent: &[u8]) -> Result<Command, Denial>
-        ensures verdict { result ≡ verdict (machine_of M.state self.now)
+        ensures verdict { result ≡ verdict (machine_of M.state K.kept self.now)
             (asked nexus cdb.now sent.now) }
         ensures passed { IfOk result (λ command.
-            IsPassed (machine_of M.state self.now) command sent.now) }
+            IsPassed (machine_of M.state K.kept self.now) command sent.now) }
     {
         let Some(opcode) = Opcode::of(cdb) else {
             return Err(Denial::Refused(Sense::invalid_operation_code()));
@@ -35,7 +36,7 @@ impl<M: Medium> Drive<M> {
 
     /// The condition that a nexus is reported next: the deferred error, or its first unit attention.
     pub(super) fn condition_due(&self, nexus: Nexus) -> Option<Condition>
-        ensures { result ≡ condition_due (machine_of M.state self.now) nexus }
+        ensures { result ≡ condition_due (machine_of M.state K.kept self.now) nexus }
     {
         if self.deferred {
             return Some(Condition::DeferredError);
@@ -46,7 +47,7 @@ impl<M: Medium> Drive<M> {
 
     // Conditions, reservation and medium, but for an exempt command.
     fn state_denial(&self, nexus: Nexus, opcode: Opcode) -> Option<Denial>
-        ensures { result ≡ state_denial (machine_of M.state self.now) nexus opcode }
+        ensures { result ≡ state_denial (machine_of M.state K.kept self.now) nexus opcode }
     {
         if opcode.is_exempt() {
             return None;
@@ -54,12 +55,15 @@ impl<M: Medium> Drive<M> {
         if let Some(condition) = self.condition_due(nexus) {
             return Some(Denial::Reported(condition));
         }
+        if opcode.is_stopped_by_reservation() && !self.reservations.allowed(nexus) {
+            return Some(Denial::Conflict);
+        }
         self.need_denial(opcode)
     }
 
     // A command that needs a medium finds one that is loaded and has not failed.
     fn need_denial(&self, opcode: Opcode) -> Option<Denial>
-        ensures { result ≡ need_denial (machine_of M.state self.now) opcode }
+        ensures { result ≡ need_denial (machine_of M.state K.kept self.now) opcode }
     {
         if !opcode.needs_medium() {
             return None;
@@ -76,10 +80,10 @@ impl<M: Medium> Drive<M> {
 
     // The block's length and fields, and the count of bytes that were sent.
     fn fields_verdict(&self, opcode: Opcode, cdb: &[u8], sent: &[u8]) -> Result<Command, Denial>
-        ensures verdict { result ≡ fields_verdict (machine_of M.state self.now) sent.now
+        ensures verdict { result ≡ fields_verdict (machine_of M.state K.kept self.now) sent.now
             (command_of opcode cdb.now) }
         ensures fields { IfOk result (λ command.
-            HasFields (machine_of M.state self.now) opcode command sent.now) }
+            HasFields (machine_of M.state K.kept self.now) opcode command sent.now) }
     {
         let Some(command) = Command::of(opcode, cdb) else {
             return Err(Denial::Refused(Sense::invalid_field()));
@@ -92,7 +96,7 @@ impl<M: Medium> Drive<M> {
 
     // An answer that does not wait needs the buffered mode, and a partition is one of the volume's.
     fn suits(&self, command: Command) -> bool
-        ensures { result ≡ suits (machine_of M.state self.now) command }
+        ensures { result ≡ suits (machine_of M.state K.kept self.now) command }
     {
         match (command, &self.bay) {
             (

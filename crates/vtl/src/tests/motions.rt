@@ -5,6 +5,7 @@ use drive_core::Drive;
 use std::alloc::{AllocError, Global};
 use std::process::Abort;
 use std::test::Fail;
+use pr_core::{NoKeeper, Reservations};
 use volume_core::{PlainMedium, are_capacities};
 use vtl_base::{DriveNo, NoMemory};
 
@@ -154,12 +155,12 @@ fn new_drive(
     rt: &impl Abort,
     alloc: Global,
     capacities: &[u64],
-) -> Result<HeldDrive<PlainMedium>, Fail> {
+) -> Result<HeldDrive<PlainMedium, NoKeeper>, Fail> {
     assert!(rt; are_capacities(capacities));
     let medium = PlainMedium::new(alloc, capacities)?;
     Ok(HeldDrive {
         number: DriveNo::new(1).expect(rt, "a drive"),
-        drive: Drive::power_on(alloc, Some(medium)).map_err(|_| NoMemory)?,
+        drive: Drive::power_on(alloc, NoKeeper, Reservations::empty(), Some(medium)).map_err(|_| NoMemory)?,
     })
 }
 

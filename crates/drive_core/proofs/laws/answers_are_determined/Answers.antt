@@ -5,8 +5,10 @@ use Rattle.drive_core.proofs.laws.answers_are_determined.Goals as goal
 pub returns-clause-step : goal.returns-clause-step
 returns-clause-step c =
     steps_determined c.each_space_has_one_end.ensures.one c.each_locate_has_one_end.ensures.one
+    c.each_order_has_one_end.ensures.one
 
 pub returns-clause-run : goal.returns-clause-run
 returns-clause-run c =
     runs_determined
-    (steps_determined c.each_space_has_one_end.ensures.one c.each_locate_has_one_end.ensures.one)
+    (steps_determined c.each_space_has_one_end.ensures.one c.each_locate_has_one_end.ensures.one
+    c.each_order_has_one_end.ensures.one)

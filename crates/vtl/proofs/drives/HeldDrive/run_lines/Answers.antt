@@ -10,6 +10,8 @@ pub loop-line-preserved : goal.loop-line-preserved
 loop-line-preserved g c =
     let state = g.M.Catalog.state in
     let below = g.M.Medium.below in
+    let kept = g.K.Keeper.kept in
+    let keeps = g.K.Keeper.below in
     let lines = c.args.lines.now in
     let line = c.line-item.result in
     let at = c.loop-line.line-index in
@@ -18,11 +20,11 @@ loop-line-preserved g c =
     (take_more lines at line c.loop-line-test.true
     ∙ ap (λ (x : Line). take at lines ++ x ∷ []) (sym c.line-item.is))
     ∙ map-append request_of (take at lines) (line ∷ []) in
-    let step : Answers state below c.loop-line.self.drive
+    let step : Answers state below kept keeps c.loop-line.self.drive
     (asked line.host line.cdb line.sent) c.execute-reply.result c.execute-reply.new.self =
     rw (c.as_slice.ensures, c.as_slice-in-loop-line.ensures) at c.execute-reply.ensures.step in
     let so =
-    serves_append state below c.args.self.now.drive c.loop-line.self.drive c.execute-reply.new.self
+    serves_append state below kept keeps c.args.self.now.drive c.loop-line.self.drive c.execute-reply.new.self
     (map request_of (take at lines)) (request_of line ∷ []) c.loop-line.replies.items (c.execute-reply.result ∷ [])
     c.loop-line.invariant.0 (c.execute-reply.new.self, step, refl) in
     let pushed = rw c.unwrap.ensures at c.push.ensures.items in

@@ -5,5 +5,5 @@ use Rattle.vtl.proofs.drives.HeldDriveRunner.run.Goals as goal
 pub returns-clause-err : goal.returns-clause-err
 returns-clause-err g c =
     none_answered _ c.args.self.now _ c.args.item.now c.run_lines.result
-    (serves_none g.M.Catalog.state g.M.Medium.below c.args.self.now.drive)
+    (serves_none g.M.Catalog.state g.M.Medium.below g.K.Keeper.kept g.K.Keeper.below c.args.self.now.drive)
     c.run_lines.ensures.err

@@ -1,0 +1,110 @@
+//! Persistent reservations: what is read of them, and what an order makes of them.
+ghost use Rattle.std.specs.Prelude.{◌≡◌, false};
+ghost use Rattle.scsi_wire.specs.Answers.{cut_to};
+ghost use Rattle.drive_core.specs.State.{machine_of};
+ghost use Rattle.drive_core.specs.ReserveIn.{ReserveInWork, data_read};
+ghost use Rattle.drive_core.specs.ReserveOut.{OrderWork, ReserveOutWork, order_reply, ordered};
+ghost use Rattle.drive_core.specs.Tell.{Gives};
+ghost use Rattle.drive_core.specs.Execute.{Takes};
+
+use super::Drive;
+use crate::faults::Fault;
+use crate::opening::check;
+use pr_core::{Attns, Keeper, PrAnswer, Reservations};
+use scsi_lists::{PrAction, PrList, PrOut};
+use scsi_sense::{Reply, Sense};
+use scsi_wire::PrRead;
+use std::alloc::Global;
+use volume_core::Medium;
+use vtl_base::{Bytes, Nexus};
+
+impl<M: Medium, K: Keeper> Drive<M, K> {
+    /// Gives the keys or the reservation, cut to the room that the host has (SPC-4, PERSISTENT
+    /// RESERVE IN).
+    pub(super) fn reserve_in(&mut self, action: PrRead, room: u16) -> Result<Reply, Fault>
+        ensures { Takes M.state M.below K.kept K.below
+            (ReserveInWork action room (machine_of M.state K.kept self.old))
+            self.old result self.new }
+    {
+        read(self.alloc, &self.reservations, action, room)
+    }
+
+    /// Reads a parameter list, and carries out its order (SPC-4, PERSISTENT RESERVE OUT).
+    pub(super) fn reserve_out(
+        &mut self,
+        nexus: Nexus,
+        action: PrAction,
+        sent: &[u8],
+    ) -> Result<Reply, Fault>
+        ensures { Takes M.state M.below K.kept K.below
+            (ReserveOutWork action nexus sent.now (machine_of M.state K.kept self.old))
+            self.old result self.new }
+    {
+        let order = match PrList::decode(action, sent) {
+            Ok(order) => order,
+            Err(sense) => return Ok(check(self.alloc, sense)),
+        };
+        if self.keeper.has_failed() {
+            return Ok(check(self.alloc, Sense::keeper_failed()));
+        }
+        self.carry_order(nexus, &order)
+    }
+
+    // Carries an order out, and saves what it leaves, where that is due.
+    fn carry_order(&mut self, nexus: Nexus, order: &PrOut) -> Result<Reply, Fault>
+        requires { (K.kept self.old.keeper).failed ≡ false }
+        ensures { Takes M.state M.below K.kept K.below
+            (OrderWork order.now nexus (machine_of M.state K.kept self.old))
+            self.old result self.new }
+    {
+        let mut reservations = self.reservations;
+        let (answer, told) = reservations.pr_out(nexus, order);
+        if reservations.needs_save(&self.reservations) {
+            self.keeper.save(&reservations)?;
+        }
+        self.install(reservations, &told);
+        Ok(order_reply(self.alloc, answer))
+    }
+
+    // These are the reservations now, and what each nexus is told is established for it.
+    fn install(&mut self, reservations: Reservations, told: &Attns)
+        ensures { self.new ≡ ordered self.old reservations told.now }
+    {
+        self.reservations = reservations;
+        self.attentions.establish_each(told.sets());
+    }
+}
+
+// What is read of these reservations, cut to the room that the host has. Of none it takes no memory.
+fn read(
+    alloc: Global,
+    reservations: &Reservations,
+    action: PrRead,
+    room: u16,
+) -> Result<Reply, Fault>
+    ensures { Gives (cut_to room (data_read action reservations.now)) result }
+{
+    if room == 0 {
+        return Ok(Reply::good(Bytes::new(alloc)));
+    }
+    let data = match action {
+        PrRead::ReadKeys => reservations.read_keys(alloc)?,
+        PrRead::ReadReservation => reservations.read_reservation(alloc)?,
+    };
+    let mut bytes = data.into_vec();
+    bytes.truncate(room as usize);
+    Ok(Reply::good(Bytes::from_vec(bytes)))
+}
+
+// What a host is told of how its order was answered. It takes no memory.
+fn order_reply(alloc: Global, answer: PrAnswer) -> Reply
+    ensures { result ≡ order_reply answer }
+{
+    match answer {
+        PrAnswer::Good => Reply::good(Bytes::new(alloc)),
+        PrAnswer::Conflict => Reply::conflict(alloc),
+        PrAnswer::BadType => check(alloc, Sense::invalid_field()),
+        PrAnswer::BadKey => check(alloc, Sense::invalid_parameter()),
+        PrAnswer::BadRelease => check(alloc, Sense::invalid_release()),
+    }
+}
