@@ -1,12 +1,15 @@
 -- What operations on bits do to the set that the bits stand for: each of the 64 bytes is tried.
-use Rattle.std.proofs.Common.{◌≡◌, ℕ, ◌<◌, ◌-◌, ◌^◌, Bool, true, ◌==◌, refl, bit_and, bit_or, lit<}
+use Rattle.std.proofs.Common.{◌≡◌, ℕ, zero, suc, ◌<◌, ◌-◌, ◌^◌, Bool, true, ◌==◌, ◌||◌, ◌∙◌, refl, ap, bit_and, bit_or, max, lit<, arith}
+use Rattle.std.specs.Int.{bit_at}
+use Rattle.std.proofs.lemmas.Nat.{or_lt}
+use Rattle.std.proofs.lemmas.Nat.Bits.{bit_at_or, bit_at-lt}
 use Rattle.std.specs.Prelude.{ltb}
 use Rattle.std.specs.List.{list_all}
 use Rattle.std.proofs.lemmas.List.Sums.{AllPass-from_list_all}
 use Rattle.std.proofs.lemmas.Bool.{agree_below, agree_below_at, ltb-true}
 use Rattle.scsi_attention.specs.declared.attention_sets.Attention.{Attention}
 use Rattle.scsi_attention.specs.declared.attention_sets.Attention.TheVariants.{PowerOn, MediumChanged, ReservationsPreempted, RegistrationsPreempted, ReservationsReleased, ModeChanged}
-use Rattle.scsi_attention.specs.AttentionSets.{AttentionSet, contains, with_attention, without, in_order}
+use Rattle.scsi_attention.specs.AttentionSets.{AttentionSet, contains, union, with_attention, without, in_order}
 use Rattle.scsi_attention.specs.Inner.AttentionBits.{bit_of, set_of_bits}
 
 -- a test that all conditions in order pass
@@ -86,3 +89,31 @@ or_fits a bits fits =
 pub and_not_fits : (a : Attention) (bits : ℕ) → bits < 64 → bit_and bits (2 ^ 8 - 1 - bit_of a) < 64
 and_not_fits a bits fits =
     ltb-true _ 64 (agree (λ a k. ltb (bit_and k (2 ^ 8 - 1 - bit_of a)) 64) (λ a k. true) refl a bits fits)
+
+-- of two bits the greater is 1 just where one of them is
+either_bit : (x y : ℕ) → x < 2 → y < 2 → (max x y == 1) ≡ (x == 1 || y == 1)
+either_bit zero zero h k = refl
+either_bit zero (suc zero) h k = refl
+either_bit zero (suc (suc y)) h k = absurd (omega arith)
+either_bit (suc zero) zero h k = refl
+either_bit (suc zero) (suc zero) h k = refl
+either_bit (suc zero) (suc (suc y)) h k = absurd (omega arith)
+either_bit (suc (suc x)) y h k = absurd (omega arith)
+
+bit_of_either : (a b place : ℕ) → (bit_at (bit_or a b) place == 1) ≡ (bit_at a place == 1 || bit_at b place == 1)
+bit_of_either a b place =
+    ap (λ (bit : ℕ). bit == 1) (bit_at_or a b place)
+    ∙ either_bit (bit_at a place) (bit_at b place) (bit_at-lt a place) (bit_at-lt b place)
+
+pub union_by_bits : (one other : ℕ) → set_of_bits (bit_or one other) ≡ union (set_of_bits one) (set_of_bits other)
+union_by_bits one other =
+    let power = bit_of_either one other 0 in
+    let medium = bit_of_either one other 1 in
+    let reservations = bit_of_either one other 2 in
+    let registrations = bit_of_either one other 3 in
+    let released = bit_of_either one other 4 in
+    let mode = bit_of_either one other 5 in
+    cc
+
+pub both_fit : (one other : ℕ) → one < 64 → other < 64 → bit_or one other < 64
+both_fit one other fits too = or_lt 6 one other fits too

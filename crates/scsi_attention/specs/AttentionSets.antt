@@ -1,5 +1,5 @@
 -- Sets of unit attention conditions.
-use Rattle.std.specs.Prelude.{Bool, true, false, List, [], ◌∷◌, Option, find}
+use Rattle.std.specs.Prelude.{◌||◌, Bool, true, false, List, [], ◌∷◌, Option, find}
 use Rattle.scsi_attention.specs.declared.attention_sets.Attention.{Attention}
 use Rattle.scsi_attention.specs.declared.attention_sets.Attention.TheVariants.{PowerOn, MediumChanged, ReservationsPreempted, RegistrationsPreempted, ReservationsReleased, ModeChanged}
 
@@ -57,3 +57,14 @@ in_order =
 -- the condition of a set that is reported first (own)
 abbrev pub first_of : AttentionSet → Option Attention
 first_of set = find (λ attention. contains attention set) in_order
+
+-- the conditions that are in one of two sets, or in both (own)
+abbrev pub union : AttentionSet → AttentionSet → AttentionSet
+union one other = record {
+  power_on = one.power_on || other.power_on;
+  medium_changed = one.medium_changed || other.medium_changed;
+  reservations_preempted = one.reservations_preempted || other.reservations_preempted;
+  registrations_preempted = one.registrations_preempted || other.registrations_preempted;
+  reservations_released = one.reservations_released || other.reservations_released;
+  mode_changed = one.mode_changed || other.mode_changed;
+}

@@ -1,7 +1,7 @@
 -- The unit attention conditions of all nexuses of a drive, by rising nexus.
-use Rattle.std.specs.Prelude.{ℕ, ◌-◌, List, map, slice_get, slice_set, Option, None, Some}
+use Rattle.std.specs.Prelude.{ℕ, ◌-◌, List, [], ◌∷◌, map, slice_get, slice_set, Option, None, Some}
 use Rattle.scsi_attention.specs.declared.attention_sets.Attention.{Attention}
-use Rattle.scsi_attention.specs.AttentionSets.{AttentionSet, first_of, with_attention, without}
+use Rattle.scsi_attention.specs.AttentionSets.{AttentionSet, first_of, union, with_attention, without}
 
 -- the condition of a nexus's set that is reported first (own)
 abbrev pub attention_in : Option AttentionSet → Option Attention
@@ -24,3 +24,10 @@ cleared sets nexus attention = cleared_in (slice_get sets (nexus - 1)) sets nexu
 -- all sets once a condition is established for every nexus (SAM-5, unit attention condition)
 abbrev pub established_for_all : List AttentionSet → Attention → List AttentionSet
 established_for_all sets attention = map (with_attention attention) sets
+
+-- all sets once what each nexus is told is established for it, by rising nexus; a nexus that is told nothing keeps its set
+-- (SAM-5, unit attention condition)
+abbrev pub established_by : List AttentionSet → List AttentionSet → List AttentionSet
+established_by sets [] = sets
+established_by [] (more ∷ told) = []
+established_by (set ∷ sets) (more ∷ told) = union set more ∷ established_by sets told

@@ -1,7 +1,8 @@
 -- Laws of sets of unit attention conditions.
-use Rattle.std.specs.Prelude.{◌≡◌, ◌≢◌, Bool, true, false}
+use Rattle.std.specs.Prelude.{◌≡◌, ◌≢◌, ◌||◌, ℕ, Bool, true, false, List, Some, None, length, slice_get}
 use Rattle.scsi_attention.specs.declared.attention_sets.Attention.{Attention}
-use Rattle.scsi_attention.specs.AttentionSets.{AttentionSet, contains, set_to, with_attention, without}
+use Rattle.scsi_attention.specs.AttentionSets.{AttentionSet, contains, set_to, union, with_attention, without}
+use Rattle.scsi_attention.specs.Attentions.{established_by}
 
 -- a condition that was put in is in (own)
 abbrev pub HasWhatIsPutIn : Type 0
@@ -24,3 +25,26 @@ abbrev pub MembersDecide : Type 0
 MembersDecide =
     (one other : AttentionSet) → ((attention : Attention) → contains attention one ≡ contains attention other)
     → one ≡ other
+
+-- a condition is in a union just where it is in one of the two sets (own)
+abbrev pub UnionHasBoth : Type 0
+UnionHasBoth =
+    (attention : Attention) (one other : AttentionSet)
+    → contains attention (union one other) ≡ (contains attention one || contains attention other)
+
+-- what a nexus is told is joined with its own set (own)
+abbrev pub EachIsToldItsOwn : Type 0
+EachIsToldItsOwn =
+    (sets told : List AttentionSet) (place : ℕ) (set more : AttentionSet)
+    → slice_get sets place ≡ Some set → slice_get told place ≡ Some more
+    → slice_get (established_by sets told) place ≡ Some (union set more)
+
+-- a nexus that is told nothing keeps its set (own)
+abbrev pub TheUntoldStay : Type 0
+TheUntoldStay =
+    (sets told : List AttentionSet) (place : ℕ)
+    → slice_get told place ≡ None → slice_get (established_by sets told) place ≡ slice_get sets place
+
+-- there are as many sets as before (own)
+abbrev pub NoNexusIsLost : Type 0
+NoNexusIsLost = (sets told : List AttentionSet) → length (established_by sets told) ≡ length sets

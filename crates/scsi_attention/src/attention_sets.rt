@@ -1,7 +1,7 @@
 //! Unit attention conditions, and the set of those that are established for one nexus.
 ghost use Rattle.std.specs.Prelude.{⊤, ◌≡◌, ◌==◌, ◌<◌, [], ◌∷◌, bit_and, codes};
 ghost use Rattle.scsi_attention.specs.Inner.AttentionBits.{bit_of};
-ghost use Rattle.scsi_attention.specs.AttentionSets.{contains, first_of, no_attentions, with_attention, without};
+ghost use Rattle.scsi_attention.specs.AttentionSets.{contains, first_of, no_attentions, union, with_attention, without};
 
 use bitflags::{Flag, Flags, bitflag_items};
 use std::marker::Model;
@@ -153,5 +153,15 @@ impl AttnSet {
         ensures { self.new ≡ without attention self.old }
     {
         self.flags.remove(attention.flag());
+    }
+
+    /// The conditions of both sets.
+    #[tactic(auto, using(crate::proofs::BitLemmas::union_by_bits, crate::proofs::BitLemmas::both_fit))]
+    pub fn join(self, other: AttnSet) -> AttnSet
+        ensures { result ≡ union self other }
+    {
+        AttnSet {
+            flags: self.flags.union(other.flags),
+        }
     }
 }

@@ -1,6 +1,6 @@
 //! The unit attention conditions of every nexus of a drive.
 ghost use Rattle.std.specs.Prelude.{◌≡◌, replicate};
-ghost use Rattle.scsi_attention.specs.Attentions.{attention_of, cleared, established_for_all};
+ghost use Rattle.scsi_attention.specs.Attentions.{attention_of, cleared, established_by, established_for_all};
 ghost use Rattle.vtl_base.specs.declared.limits.TheConstants.{NEXUSES};
 
 use crate::attention_sets::{Attention, AttnSet};
@@ -52,6 +52,14 @@ impl Attentions {
     {
         insert_in_each(&mut self.sets, attention);
     }
+
+    /// Establishes what each nexus is told: a set for each, by rising nexus. A nexus that is told nothing
+    /// keeps its own.
+    pub fn establish_each(&mut self, told: &[AttnSet])
+        ensures { self.new ≡ established_by self.old told.now }
+    {
+        join_each(&mut self.sets, told);
+    }
 }
 
 fn insert_in_each(sets: &mut [AttnSet], attention: Attention)
@@ -59,5 +67,13 @@ fn insert_in_each(sets: &mut [AttnSet], attention: Attention)
 {
     for set in sets.iter_mut() {
         set.insert(attention);
+    }
+}
+
+fn join_each(sets: &mut [AttnSet], told: &[AttnSet])
+    ensures { sets.new ≡ established_by sets.old told.now }
+{
+    for place in 0..sets.len().min(told.len()) {
+        sets[place] = sets[place].join(told[place]);
     }
 }

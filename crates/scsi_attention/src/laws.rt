@@ -1,5 +1,5 @@
 //! What the definitions of this crate say together: laws, which no code calls.
-ghost use Rattle.scsi_attention.specs.Laws.{HasWhatIsPutIn, LacksWhatIsTakenOut, OthersStay, MembersDecide};
+ghost use Rattle.scsi_attention.specs.Laws.{EachIsToldItsOwn, HasWhatIsPutIn, LacksWhatIsTakenOut, MembersDecide, NoNexusIsLost, OthersStay, TheUntoldStay, UnionHasBoth};
 
 /// A set has a condition that was put in, lacks one that was taken out, and neither touches another.
 pub fn sets_are_sets()
@@ -7,4 +7,12 @@ pub fn sets_are_sets()
     ensures taken_out { LacksWhatIsTakenOut }
     ensures others { OthersStay }
     ensures members { MembersDecide }
+    ensures unions { UnionHasBoth }
+{}
+
+/// What each nexus is told goes into its own set, and no other nexus's changes.
+pub fn each_is_told_its_own()
+    ensures told { EachIsToldItsOwn }
+    ensures untold { TheUntoldStay }
+    ensures all { NoNexusIsLost }
 {}

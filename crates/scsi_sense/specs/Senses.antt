@@ -54,6 +54,10 @@ medium_not_present = plain_sense NotReady 0x3a 0x00
 abbrev pub medium_failed : Sense
 medium_failed = plain_sense HardwareError 0x44 0x00
 
+-- what keeps the reservations has failed, and stays so until a restart: reported as a failed medium is (own)
+abbrev pub keeper_failed : Sense
+keeper_failed = plain_sense HardwareError 0x44 0x00
+
 -- a device failed while a command stored what was pending (own)
 abbrev pub write_error : Sense
 write_error = plain_sense MediumError 0x0c 0x00

@@ -1,6 +1,6 @@
 //! All sense data that drives and changers report, each by its name (SPC-4, SSC-4, SMC-3).
 ghost use Rattle.std.specs.Prelude.{◌≡◌};
-ghost use Rattle.scsi_sense.specs.Senses.{filemark_detected, attention_sense, invalid_element_address, invalid_field, invalid_parameter, parameter_list_length_error, invalid_release, beginning, destination_full, early_warning, end_of_data, deferred_write_error, medium_failed, insufficient_resources, volume_overflow, medium_not_present, no_sense, incorrect_length, read_error, source_empty, store_full, invalid_operation_code, write_error};
+ghost use Rattle.scsi_sense.specs.Senses.{filemark_detected, attention_sense, invalid_element_address, invalid_field, invalid_parameter, parameter_list_length_error, invalid_release, beginning, destination_full, early_warning, end_of_data, deferred_write_error, keeper_failed, medium_failed, insufficient_resources, volume_overflow, medium_not_present, no_sense, incorrect_length, read_error, source_empty, store_full, invalid_operation_code, write_error};
 
 use crate::sense_data::{Sense, SenseKey};
 use scsi_attention::Attention;
@@ -93,6 +93,14 @@ impl Sense {
         ensures { result ≡ medium_failed }
     {
         Sense::plain(SenseKey::HardwareError, 0x44, 0x00)
+    }
+
+    /// What keeps the reservations has failed, and stays so until a restart. It is reported
+    /// as a failed medium is (INTERNAL TARGET FAILURE, own).
+    pub fn keeper_failed() -> Self
+        ensures { result ≡ keeper_failed }
+    {
+        Sense::medium_failed()
     }
 
     /// A device failed while a command stored what was pending (WRITE ERROR).

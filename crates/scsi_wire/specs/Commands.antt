@@ -1,5 +1,5 @@
 -- Command descriptor blocks: the fields of each command, read from named bytes.
-use Rattle.std.specs.Prelude.{ℕ, ℤ, List, length, slice_index, drop, Option, None, Some, Result, Ok, Err, Bool, nat_lt, not, ◌%◌, ◌==◌, ◌||◌, if◌then◌else◌}
+use Rattle.std.specs.Prelude.{ℕ, ℤ, List, length, slice_index, drop, Option, None, Some, option_map, Result, Ok, Err, Bool, nat_lt, not, ◌%◌, ◌==◌, ◌||◌, if◌then◌else◌}
 use Rattle.std.specs.Int.{bit_at}
 use Rattle.byteorder.specs.Endian.{big_number, twos_complement}
 use Rattle.vtl_base.specs.declared.limits.TheConstants.{MAX_BLOCK}
@@ -8,7 +8,10 @@ use Rattle.vtl_base.specs.declared.space_codes.SpaceCode.TheVariants as counts
 use Rattle.scsi_wire.specs.declared.opcodes.Opcode.{Opcode}
 use Rattle.scsi_wire.specs.declared.opcodes.Opcode.TheVariants as code
 use Rattle.scsi_wire.specs.declared.commands.Command.{Command}
-use Rattle.scsi_wire.specs.declared.commands.Command.TheVariants.{TestUnitReady, Rewind, RequestSense, ReadBlockLimits, Read, Write, WriteFilemarks, Space, Inquiry, Erase, Locate, ReadPosition}
+use Rattle.scsi_wire.specs.declared.commands.Command.TheVariants.{TestUnitReady, Rewind, RequestSense, ReadBlockLimits, Read, Write, WriteFilemarks, Space, Inquiry, Erase, Locate, ReadPosition, PersistentReserveIn, PersistentReserveOut}
+use Rattle.scsi_wire.specs.declared.commands.PrRead.{PrRead}
+use Rattle.scsi_wire.specs.declared.commands.PrRead.TheVariants as pr_reads
+use Rattle.scsi_lists.specs.Actions.{action_of}
 use Rattle.scsi_sense.specs.declared.sense_data.Sense.{Sense}
 use Rattle.scsi_wire.specs.Opcodes.{opcode_of, block_length}
 use Rattle.scsi_sense.specs.Senses.{invalid_operation_code, invalid_field}
@@ -87,9 +90,29 @@ changes_partition cdb = is_bit_set (slice_index cdb 1) 1
 abbrev pub partition_asked : List ℕ → Option ℕ
 partition_asked cdb = if changes_partition cdb then Some (slice_index cdb 8) else None
 
--- SERVICE ACTION: byte 1 bits 4 to 0; 0 is the short form (SSC-4, READ POSITION)
+-- SERVICE ACTION: byte 1 bits 4 to 0 (SPC-4, SSC-4; 0 of READ POSITION is the short form)
 abbrev pub service_action : List ℕ → ℕ
 service_action cdb = slice_index cdb 1 % 32
+
+-- what PERSISTENT RESERVE IN reads, by its service action; no other is known
+-- (SPC-4, PERSISTENT RESERVE IN; that others are not known, own)
+abbrev pub pr_read_of : ℕ → Option PrRead
+pr_read_of action =
+    if action == 0 then Some pr_reads.Keys
+    else (if action == 1 then Some pr_reads.Reservation
+    else None)
+
+-- ALLOCATION LENGTH of a block of ten bytes: bytes 7 and 8, the highest first (SPC-4, PERSISTENT RESERVE IN)
+abbrev pub late_allocation : List ℕ → ℕ
+late_allocation cdb = big_number 2 (drop 7 cdb)
+
+-- SCOPE and TYPE: byte 2 (SPC-4, PERSISTENT RESERVE OUT)
+abbrev pub scope_and_type : List ℕ → ℕ
+scope_and_type cdb = slice_index cdb 2
+
+-- PARAMETER LIST LENGTH: bytes 5 to 8, the highest first (SPC-4, PERSISTENT RESERVE OUT)
+abbrev pub list_length : List ℕ → ℕ
+list_length cdb = big_number 4 (drop 5 cdb)
 
 -- the command of a block of the right length, where its fields are right; nothing else of the block counts
 -- (SPC-4, SSC-4; own that FIXED, DESC, MLOI, EVPD, pages and long forms are refused)
@@ -110,6 +133,11 @@ command_by_fields code.Inquiry cdb =
 command_by_fields code.Erase cdb = Some Erase
 command_by_fields code.Locate cdb = Some (Locate (object_identifier cdb) (partition_asked cdb))
 command_by_fields code.ReadPosition cdb = if service_action cdb == 0 then Some ReadPosition else None
+command_by_fields code.PersistentReserveIn cdb =
+    option_map (λ read. PersistentReserveIn read (late_allocation cdb)) (pr_read_of (service_action cdb))
+command_by_fields code.PersistentReserveOut cdb =
+    option_map (λ action. PersistentReserveOut action (list_length cdb))
+    (action_of (service_action cdb) (scope_and_type cdb))
 
 -- the command of a block, where its length and its fields are right (own)
 abbrev pub command_of : Opcode → List ℕ → Option Command
@@ -129,11 +157,20 @@ code_of (Inquiry length) = code.Inquiry
 code_of Erase = code.Erase
 code_of (Locate object part) = code.Locate
 code_of ReadPosition = code.ReadPosition
+code_of (PersistentReserveIn read length) = code.PersistentReserveIn
+code_of (PersistentReserveOut action length) = code.PersistentReserveOut
 
--- how many bytes a host sends with a command: a WRITE's block, and no others (SSC-4, WRITE(6))
+-- how many bytes a host sends with a command: a WRITE's block, or a parameter list
+-- (SSC-4, WRITE(6); SPC-4, PERSISTENT RESERVE OUT)
 abbrev pub sent_length : Command → ℕ
 sent_length (Write length) = length
+sent_length (PersistentReserveOut action length) = length
 sent_length _ = 0
+
+-- how many bytes a command writes on the medium: a WRITE's block (SSC-4, WRITE(6))
+abbrev pub written_length : Command → ℕ
+written_length (Write length) = length
+written_length _ = 0
 
 -- a command, or the refusal where there is none (SPC-4)
 abbrev pub checked : Option Command → Result Command Sense

@@ -1,7 +1,7 @@
 -- The operation codes, in one table.
 use Rattle.std.specs.Prelude.{ℕ, Bool, true, false, List, [], ◌∷◌, Option, None, option_map, find, ◌==◌}
 use Rattle.scsi_wire.specs.declared.opcodes.Opcode.{Opcode}
-use Rattle.scsi_wire.specs.declared.opcodes.Opcode.TheVariants.{TestUnitReady, Rewind, RequestSense, ReadBlockLimits, Read, Write, WriteFilemarks, Space, Inquiry, Erase, Locate, ReadPosition}
+use Rattle.scsi_wire.specs.declared.opcodes.Opcode.TheVariants.{TestUnitReady, Rewind, RequestSense, ReadBlockLimits, Read, Write, WriteFilemarks, Space, Inquiry, Erase, Locate, ReadPosition, PersistentReserveIn, PersistentReserveOut}
 use Rattle.scsi_wire.specs.declared.opcodes.Row.{Row}
 
 -- a row: code, bytes of its blocks, exempt from all checks of state, stopped by a reservation, needs a medium (own)
@@ -28,12 +28,14 @@ row_of Inquiry = new_row 0x12 6 true false false
 row_of Erase = new_row 0x19 6 false true true
 row_of Locate = new_row 0x2b 10 false true true
 row_of ReadPosition = new_row 0x34 10 false false true
+row_of PersistentReserveIn = new_row 0x5e 10 false false false
+row_of PersistentReserveOut = new_row 0x5f 10 false false false
 
 -- the codes that are known (own)
 abbrev pub opcodes : List Opcode
 opcodes =
     TestUnitReady ∷ Rewind ∷ RequestSense ∷ ReadBlockLimits ∷ Read ∷ Write ∷ WriteFilemarks ∷ Space ∷ Inquiry ∷ Erase
-    ∷ Locate ∷ ReadPosition ∷ []
+    ∷ Locate ∷ ReadPosition ∷ PersistentReserveIn ∷ PersistentReserveOut ∷ []
 
 -- the code that a byte is (own)
 abbrev pub opcode_at : ℕ → Option Opcode

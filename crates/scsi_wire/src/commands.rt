@@ -1,12 +1,20 @@
 //! Command descriptor blocks.
 ghost use Rattle.std.specs.Prelude.{◌≡◌, ◌≤◌, IfSome};
-ghost use Rattle.scsi_wire.specs.Commands.{code_of, command_of, decoded, sent_length};
+ghost use Rattle.scsi_wire.specs.Commands.{code_of, command_of, decoded, sent_length, written_length};
 ghost use Rattle.vtl_base.specs.declared.limits.TheConstants.{MAX_BLOCK};
 
 use crate::fields;
 use crate::opcodes::Opcode;
+use scsi_lists::PrAction;
 use scsi_sense::Sense;
 use vtl_base::{ObjNo, PartNo, SpaceCode};
+
+/// What PERSISTENT RESERVE IN reads, by its service action (SPC-4; which there are, own).
+#[derive(Clone, Copy, PartialEq, Eq, Debug)]
+pub enum PrRead {
+    Keys,
+    Reservation,
+}
 
 /// A command with its fields (SPC-4, SSC-4). Lengths are in bytes.
 #[derive(Clone, Copy, PartialEq, Eq, Debug)]
@@ -29,6 +37,10 @@ pub enum Command {
     /// `part` is the partition where another is asked for (CP).
     Locate { object: ObjNo, part: Option<PartNo> },
     ReadPosition,
+    /// `length` is the room that the host has for the data.
+    PersistentReserveIn { read: PrRead, length: u16 },
+    /// `length` is that of the parameter list, which the host sends: any that four bytes spell.
+    PersistentReserveOut { action: PrAction, length: u32 },
 }
 
 /// A command descriptor block, as a host sends it.
@@ -39,7 +51,7 @@ impl Command {
     pub fn of(opcode: Opcode, cdb: &[u8]) -> Option<Self>
         ensures command { result ≡ command_of opcode cdb.now }
         ensures code { IfSome result (λ command. code_of command ≡ opcode) }
-        ensures sent { IfSome result (λ command. sent_length command ≤ MAX_BLOCK) }
+        ensures written { IfSome result (λ command. written_length command ≤ MAX_BLOCK) }
     {
         if cdb.len() != opcode.block_length() {
             return None;
@@ -57,6 +69,8 @@ impl Command {
             Opcode::Erase => Some(Command::Erase),
             Opcode::Locate => Some(fields::locate(cdb)),
             Opcode::ReadPosition => fields::read_position(cdb),
+            Opcode::PersistentReserveIn => fields::persistent_reserve_in(cdb),
+            Opcode::PersistentReserveOut => fields::persistent_reserve_out(cdb),
         }
     }
 
@@ -77,6 +91,8 @@ impl Command {
             Command::Erase => Opcode::Erase,
             Command::Locate { .. } => Opcode::Locate,
             Command::ReadPosition => Opcode::ReadPosition,
+            Command::PersistentReserveIn { .. } => Opcode::PersistentReserveIn,
+            Command::PersistentReserveOut { .. } => Opcode::PersistentReserveOut,
         }
     }
 
@@ -86,6 +102,7 @@ impl Command {
     {
         match self {
             Command::Write { length } => length,
+            Command::PersistentReserveOut { length, .. } => length,
             _ => 0,
         }
     }

@@ -1,10 +1,11 @@
 //! The fields of command descriptor blocks, command by command. Each block has the length of its code.
 ghost use Rattle.std.specs.Prelude.{◌≡◌, ◌<◌, ◌≤◌, Some, length};
-ghost use Rattle.scsi_wire.specs.Commands.{command_by_fields, is_bit_set, is_fixed, space_code, transfer_length};
+ghost use Rattle.scsi_wire.specs.Commands.{command_by_fields, is_bit_set, is_fixed, pr_read_of, space_code, transfer_length};
 
-use crate::commands::Command;
+use crate::commands::{Command, PrRead};
 use crate::opcodes::Opcode;
 use byteorder::{BigEndian, ByteOrder};
+use scsi_lists::PrAction;
 use vtl_base::SpaceCode;
 use vtl_base::limits::MAX_BLOCK;
 
@@ -149,4 +150,39 @@ pub fn read_position(cdb: &[u8]) -> Option<Command>
         return None;
     }
     Some(Command::ReadPosition)
+}
+
+/// PERSISTENT RESERVE IN: a service action that is not known is refused.
+pub fn persistent_reserve_in(cdb: &[u8]) -> Option<Command>
+    requires { 9 ≤ length cdb.now }
+    ensures { result ≡ command_by_fields Opcode.PersistentReserveIn cdb.now }
+{
+    let read = pr_read(cdb[1] % 32)?;
+    Some(Command::PersistentReserveIn {
+        read,
+        length: BigEndian::read_u16(&cdb[7..]),
+    })
+}
+
+fn pr_read(service_action: u8) -> Option<PrRead>
+    ensures { result ≡ pr_read_of service_action }
+{
+    match service_action {
+        0 => Some(PrRead::Keys),
+        1 => Some(PrRead::Reservation),
+        _ => None,
+    }
+}
+
+/// PERSISTENT RESERVE OUT: a service action that is not known is refused, and a scope or type that is none
+/// where a reservation is made or released.
+pub fn persistent_reserve_out(cdb: &[u8]) -> Option<Command>
+    requires { 9 ≤ length cdb.now }
+    ensures { result ≡ command_by_fields Opcode.PersistentReserveOut cdb.now }
+{
+    let action = PrAction::of(cdb[1] % 32, cdb[2])?;
+    Some(Command::PersistentReserveOut {
+        action,
+        length: BigEndian::read_u32(&cdb[5..]),
+    })
 }

@@ -10,5 +10,5 @@ pub mod opcodes;
 mod tests;
 
 pub use answers::{block_limits, cut_to, inquiry_data};
-pub use commands::{Cdb, Command};
+pub use commands::{Cdb, Command, PrRead};
 pub use opcodes::{Opcode, length_of};

@@ -17,6 +17,8 @@ pub enum Opcode {
     Erase,
     Locate,
     ReadPosition,
+    PersistentReserveIn,
+    PersistentReserveOut,
 }
 
 /// What the table says of a code.
@@ -29,7 +31,7 @@ struct Row {
     on_medium: bool,
 }
 
-const KNOWN: [Opcode; 12] = [
+const KNOWN: [Opcode; 14] = [
     Opcode::TestUnitReady,
     Opcode::Rewind,
     Opcode::RequestSense,
@@ -42,6 +44,8 @@ const KNOWN: [Opcode; 12] = [
     Opcode::Erase,
     Opcode::Locate,
     Opcode::ReadPosition,
+    Opcode::PersistentReserveIn,
+    Opcode::PersistentReserveOut,
 ];
 
 impl Row {
@@ -122,6 +126,8 @@ impl Opcode {
             Opcode::Erase => Row::new(0x19, 6, false, true, true),
             Opcode::Locate => Row::new(0x2b, 10, false, true, true),
             Opcode::ReadPosition => Row::new(0x34, 10, false, false, true),
+            Opcode::PersistentReserveIn => Row::new(0x5e, 10, false, false, false),
+            Opcode::PersistentReserveOut => Row::new(0x5f, 10, false, false, false),
         }
     }
 }

@@ -42,7 +42,7 @@ fn of_requests() -> [(Sense, u128); 9] {
 }
 
 // What a medium or a device does.
-fn of_media() -> [(Sense, u128); 7] {
+fn of_media() -> [(Sense, u128); 8] {
     [
         (Sense::no_sense(), 0x70000000_0000000a_00000000_00000000),
         (
@@ -51,6 +51,10 @@ fn of_media() -> [(Sense, u128); 7] {
         ),
         (
             Sense::medium_failed(),
+            0x70000400_0000000a_00000000_44000000,
+        ),
+        (
+            Sense::keeper_failed(),
             0x70000400_0000000a_00000000_44000000,
         ),
         (Sense::write_error(), 0x70000300_0000000a_00000000_0c000000),
