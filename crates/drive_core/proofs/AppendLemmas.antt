@@ -16,7 +16,7 @@ use Rattle.volume_core.specs.Volume.{Part, objects_of, capacity_of, used_up_to, 
 use Rattle.volume_core.specs.Medium.{MediumState, volume_of, Accepts, met_fault}
 use Rattle.positioning.specs.declared.positions.Pos.{Pos}
 use Rattle.drive_core.specs.declared.faults.Fault.{Fault}
-use Rattle.drive_core.specs.declared.faults.Fault.TheVariants.{Writing, NoMemory, Reading, SideFull}
+use Rattle.drive_core.specs.declared.faults.Fault.TheVariants.{Writing, NoMemory, Reading, SideFull, Saving, StoreFull}
 use Rattle.drive_core.specs.State.{mounted}
 use Rattle.scsi_sense.specs.Replies.{check_with}
 use Rattle.scsi_sense.specs.Senses.{volume_overflow}
@@ -150,6 +150,8 @@ append_accepted settles change u mid t p count warned (Err NoMemory) ready at ac
 append_accepted settles change u mid t p count warned (Err Reading) ready at accepts counted warns done = absurd done
 append_accepted settles change u mid t p count warned (Err (SideFull residue)) ready at accepts counted warns done =
     absurd done
+append_accepted settles change u mid t p count warned (Err Saving) ready at accepts counted warns done = absurd done
+append_accepted settles change u mid t p count warned (Err StoreFull) ready at accepts counted warns done = absurd done
 
 -- the device fails where it failed in the medium's call
 pub fault_refused : (error : MediumError) (amount : Option ℕ)

@@ -24,10 +24,9 @@ use Rattle.drive_core.specs.declared.conditions.Condition.{Condition}
 use Rattle.drive_core.specs.declared.conditions.Condition.TheVariants.{DeferredError, UnitAttention}
 use Rattle.drive_core.specs.declared.conditions.Denial.{Denial}
 use Rattle.drive_core.specs.declared.conditions.Denial.TheVariants.{Refused, Reported, Conflict}
-use Rattle.drive_core.specs.declared.faults.Fault.{Fault}
 use Rattle.drive_core.specs.State.{Machine, mounted, with_mounted, bay_of, volume_in}
 use Rattle.drive_core.specs.Conditions.{attention_due, condition_due, denial_reply, denied, first_some, without_condition}
-use Rattle.drive_core.specs.Relations.{Made, made_nothing}
+use Rattle.drive_core.specs.Relations.{Made}
 use Rattle.drive_core.specs.RequestSense.{RequestSenseWork, once_reported, sense_due}
 use Rattle.drive_core.specs.ReserveIn.{data_read}
 use Rattle.drive_core.specs.Tell.{Tells}

@@ -1,5 +1,5 @@
 -- Where no fault comes, an order to the reservations has one answer.
-use Rattle.std.proofs.Common.{◌≡◌, ℕ, List, [], Option, None, Some, Result, Ok, Err, Bool, true, false, refl, sym, ◌∙◌, ap, subst}
+use Rattle.std.proofs.Common.{◌≡◌, ℕ, List, [], None, Result, Ok, Err, Bool, true, false, sym, ◌∙◌, ap, subst}
 use Rattle.scsi_attention.specs.AttentionSets.{AttentionSet}
 use Rattle.scsi_attention.specs.Attentions.{established_by}
 use Rattle.scsi_sense.specs.declared.replies.Reply.{Reply}
@@ -9,15 +9,14 @@ use Rattle.scsi_sense.specs.Senses.{keeper_failed}
 use Rattle.scsi_lists.specs.declared.pr_lists.PrOut.{PrOut}
 use Rattle.pr_core.specs.declared.states.PrState.{PrState}
 use Rattle.pr_core.specs.declared.states.PrAnswer.{PrAnswer}
-use Rattle.pr_core.specs.declared.keepers.KeeperError.{KeeperError}
 use Rattle.pr_core.specs.Orders.{Orders}
 use Rattle.pr_core.specs.Laws.{NoOrderEndsTwice}
 use Rattle.pr_core.specs.Saves.{needs_save}
-use Rattle.pr_core.specs.Keepers.{KeeperState, Saves, Stored, saved_by, saved_over}
+use Rattle.pr_core.specs.Keepers.{KeeperState, Stored, saved_over}
 use Rattle.drive_core.specs.declared.faults.Fault.{Fault}
 use Rattle.drive_core.specs.State.{Machine, DriveState}
 use Rattle.drive_core.specs.Relations.{Made, made_nothing}
-use Rattle.drive_core.specs.ReserveOut.{OrderOf, OrderUnlessFailed, OrderWork, StandsBy, StandsOnceSaved, made_by_save, order_reply, ordered}
+use Rattle.drive_core.specs.ReserveOut.{OrderOf, OrderUnlessFailed, OrderWork, StandsBy, order_reply, ordered}
 use Rattle.drive_core.specs.Step.{Answered}
 use Rattle.drive_core.specs.Determined.{Sight, seen_of, without_room, AreAlike}
 
@@ -101,8 +100,12 @@ module _ (orders : NoOrderEndsTwice) (old beside : Machine) (reply reply' : Repl
       let due : StandsBy (needs_save old.reservations k.2) k.0 k.2 k.1 beside (Ok reply') made' new' =
       subst (λ (s : PrState). StandsBy (needs_save s k.2) k.0 k.2 k.1 beside (Ok reply') made' new') before k.4 in
       let stands : StandsBy (needs_save old.reservations h.2) h.0 h.2 h.1 beside (Ok reply') made' new' =
-      transport (λ i. StandsBy (needs_save old.reservations (same.2 (~ i))) (same.0 (~ i)) (same.2 (~ i))
-      (same.1 (~ i)) beside (Ok reply') made' new') due in
+      subst (λ (a : PrAnswer). StandsBy (needs_save old.reservations h.2) a h.2 h.1 beside (Ok reply') made' new')
+      (sym same.0)
+      (subst (λ (t : List AttentionSet).
+      StandsBy (needs_save old.reservations h.2) k.0 h.2 t beside (Ok reply') made' new') (sym same.1)
+      (subst (λ (s : PrState). StandsBy (needs_save old.reservations s) k.0 s k.1 beside (Ok reply') made' new')
+      (sym same.2) due)) in
       stand_by (needs_save old.reservations h.2) h.0 h.2 h.1 h.4 stands
 
   unless_failed : (failed : Bool) (order : PrOut) (nexus : ℕ)

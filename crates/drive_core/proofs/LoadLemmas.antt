@@ -95,7 +95,7 @@ module _ {M K : Type 0} (state : M → MediumState) (below : Below M Change) (ke
 
   -- the same of whatever came of it
   pub power_on_where : (given : Option M) (reservations : PrState) (keeper : K)
-      (result : Result (DriveState M K) (Option M × (K × NoMemory)))
+      (result : Result (DriveState M K) (Option M × K × NoMemory))
       → reservations ≡ left_of (kept keeper).saved → SwitchesOn state below given reservations keeper result
       → IfOk result (λ new. PowerOnSteps state below kept given keeper new)
   power_on_where given reservations keeper (Ok new) left h = power_on_steps given reservations keeper new left h

@@ -7,7 +7,7 @@ use Rattle.volume_core.specs.declared.objects.Object.TheVariants.{Block, Mark}
 use Rattle.volume_core.specs.Medium.{MediumState}
 use Rattle.positioning.specs.declared.positions.Pos.{Pos}
 use Rattle.drive_core.specs.declared.faults.Fault.{Fault}
-use Rattle.drive_core.specs.declared.faults.Fault.TheVariants.{NoMemory, Writing, Reading, SideFull}
+use Rattle.drive_core.specs.declared.faults.Fault.TheVariants.{NoMemory, Writing, Reading, SideFull, Saving, StoreFull}
 use Rattle.drive_core.specs.State.{Mounted, mounted}
 use Rattle.drive_core.specs.Relations.{MediumRelation}
 use Rattle.drive_core.specs.StoredFirst.{IsStored, StoredFirst}
@@ -34,6 +34,8 @@ object_where H H' so suppress asked old (Err NoMemory) made new h = h
 object_where H H' so suppress asked old (Err Reading) made new h = h
 object_where H H' so suppress asked old (Err Writing) made new h = absurd h
 object_where H H' so suppress asked old (Err (SideFull residue)) made new h = absurd h
+object_where H H' so suppress asked old (Err Saving) made new h = absurd h
+object_where H H' so suppress asked old (Err StoreFull) made new h = absurd h
 
 -- work that is done once what was pending is stored
 pub stored_first : (W : MediumRelation) (old : MediumState) (between : MediumState) (position : Pos)
@@ -45,6 +47,8 @@ stored_first W old between position (Err NoMemory) made new stored work = (betwe
 stored_first W old between position (Err Writing) made new stored work = inr (between, stored, work)
 stored_first W old between position (Err Reading) made new stored work = (between, stored, work)
 stored_first W old between position (Err (SideFull residue)) made new stored work = (between, stored, work)
+stored_first W old between position (Err Saving) made new stored work = (between, stored, work)
+stored_first W old between position (Err StoreFull) made new stored work = (between, stored, work)
 
 -- one kind of work done once what was pending is stored is another, where each is
 pub stored_where : (W V : MediumRelation)
@@ -62,6 +66,10 @@ stored_where W V so old (Err Reading) made new h =
     (h.0, h.1, so (mounted h.0 old.position) (Err Reading) made new h.2)
 stored_where W V so old (Err (SideFull residue)) made new h =
     (h.0, h.1, so (mounted h.0 old.position) (Err (SideFull residue)) made new h.2)
+stored_where W V so old (Err Saving) made new h =
+    (h.0, h.1, so (mounted h.0 old.position) (Err Saving) made new h.2)
+stored_where W V so old (Err StoreFull) made new h =
+    (h.0, h.1, so (mounted h.0 old.position) (Err StoreFull) made new h.2)
 
 -- READ of some bytes
 pub read_some : (H : Type 0) (suppress : Bool) (asked : ℕ) → (asked ≡ 0 → ⊥) → (old : Mounted)

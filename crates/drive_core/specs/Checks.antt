@@ -1,5 +1,5 @@
 -- The checks of a command in their order, and then its work.
-use Rattle.std.specs.Prelude.{◌≡◌, ℕ, List, length, Option, None, Some, Bool, true, false, nat_lt, ◌==◌, ◌&&◌, not, if◌then◌else◌, Result, Ok, Err}
+use Rattle.std.specs.Prelude.{◌≡◌, ℕ, List, length, Option, None, Some, Bool, true, nat_lt, ◌==◌, ◌&&◌, not, if◌then◌else◌, Result, Ok, Err}
 use Rattle.scsi_wire.specs.declared.opcodes.Opcode.{Opcode}
 use Rattle.scsi_wire.specs.declared.commands.Command.{Command}
 use Rattle.scsi_wire.specs.declared.commands.Command.TheVariants.{WriteFilemarks, Locate}

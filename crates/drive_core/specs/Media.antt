@@ -44,7 +44,7 @@ module _ {M : Type 0} (state : M → MediumState) (below : Below M Change) where
     -- a drive is switched on with the medium as it opened, if any, these reservations and this keeper; where memory runs
     -- out, medium and keeper come back (own)
     abbrev pub SwitchesOn :
-        Option M → PrState → K → Result (DriveState M K) (Option M × (K × NoMemory)) → Type 0
+        Option M → PrState → K → Result (DriveState M K) (Option M × K × NoMemory) → Type 0
     SwitchesOn None reservations keeper (Ok new) = new ≡ powered_on Empty reservations keeper
     SwitchesOn None reservations keeper (Err back) = ⊥
     SwitchesOn (Some given) reservations keeper (Ok new) =
@@ -52,7 +52,7 @@ module _ {M : Type 0} (state : M → MediumState) (below : Below M Change) where
         × WakesAs given woke opened × (bay_when_on woke opened ≡ Some bay)
         × (new ≡ powered_on bay reservations keeper)
     SwitchesOn (Some given) reservations keeper (Err back) =
-        (opened : M) × WakesAs given (Err Errors.NoMemory) opened × (back.0 ≡ Some opened) × (back.1.0 ≡ keeper)
+        (opened : M) × WakesAs given (Err Errors.NoMemory) opened × (back.0 ≡ Some opened) × (back.1 ≡ keeper)
 
     module _ (kept : K → KeeperState) where
       -- a flusher's turn is a step of the machine, the medium follows, and the keeper is not touched (own)

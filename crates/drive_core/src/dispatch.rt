@@ -1,7 +1,7 @@
 //! The work of each command that needs a medium.
 ghost use Rattle.std.specs.Prelude.{◌≡◌, ◌<◌, ◌≤◌, true, length, nat_lt, IfSome};
 ghost use Rattle.vtl_base.specs.declared.limits.TheConstants.{MAX_BLOCK};
-ghost use Rattle.scsi_wire.specs.Commands.{code_of, sent_length};
+ghost use Rattle.scsi_wire.specs.Commands.{code_of, sent_length, written_length};
 ghost use Rattle.scsi_wire.specs.Opcodes.{needs_medium};
 ghost use Rattle.drive_core.specs.State.{IsPositioned, mounted};
 ghost use Rattle.drive_core.specs.Inner.Carries.{Carries, IsReady};
@@ -37,7 +37,7 @@ pub fn carry_out<M: Medium>(
     requires needs { needs_medium (code_of command) ≡ true }
     requires part { HasPart (M.state medium.old) command }
     requires sent { length sent.now ≡ sent_length command }
-    requires short { sent_length command ≤ MAX_BLOCK }
+    requires short { written_length command ≤ MAX_BLOCK }
     ensures carries { Carries M.state M.below
         (MediumWork (M.below.honest medium.old) command buffered sent.now)
         medium.old position.old result medium.new position.new }

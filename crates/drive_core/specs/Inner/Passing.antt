@@ -4,7 +4,7 @@ use Rattle.vtl_base.specs.declared.limits.TheConstants.{MAX_BLOCK}
 use Rattle.scsi_wire.specs.declared.opcodes.Opcode.{Opcode}
 use Rattle.scsi_wire.specs.declared.commands.Command.{Command}
 use Rattle.scsi_wire.specs.declared.commands.Command.TheVariants.{Locate}
-use Rattle.scsi_wire.specs.Commands.{code_of, sent_length}
+use Rattle.scsi_wire.specs.Commands.{code_of, sent_length, written_length}
 use Rattle.scsi_wire.specs.Opcodes.{needs_medium}
 use Rattle.volume_core.specs.Medium.{MediumState, volume_of}
 use Rattle.drive_core.specs.State.{Machine}
@@ -20,11 +20,11 @@ pub record IsPassed (machine : Machine) (command : Command) (sent : List ℕ) : 
   pub medium : needs_medium (code_of command) ≡ true → medium_denial machine.bay ≡ None
   pub suited : suits machine command ≡ true
   pub counted : length sent ≡ sent_length command
-  pub short : sent_length command ≤ MAX_BLOCK
+  pub short : written_length command ≤ MAX_BLOCK
 
 -- the fields of a command of this code suit the drive, and as many bytes came as the block says
 pub record HasFields (machine : Machine) (opcode : Opcode) (command : Command) (sent : List ℕ) : Type 0 where
   pub code : code_of command ≡ opcode
   pub suited : suits machine command ≡ true
   pub counted : length sent ≡ sent_length command
-  pub short : sent_length command ≤ MAX_BLOCK
+  pub short : written_length command ≤ MAX_BLOCK

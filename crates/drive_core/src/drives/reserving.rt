@@ -59,19 +59,22 @@ impl<M: Medium, K: Keeper> Drive<M, K> {
     {
         let mut reservations = self.reservations;
         let (answer, told) = reservations.pr_out(nexus, order);
-        if reservations.needs_save(&self.reservations) {
-            self.keeper.save(&reservations)?;
+        if !reservations.needs_save(&self.reservations) {
+            return Ok(self.install(reservations, &told, answer));
         }
-        self.install(reservations, &told);
-        Ok(order_reply(self.alloc, answer))
+        self.keeper.save(&reservations)?;
+        Ok(self.install(reservations, &told, answer))
     }
 
-    // These are the reservations now, and what each nexus is told is established for it.
-    fn install(&mut self, reservations: Reservations, told: &Attns)
-        ensures { self.new ≡ ordered self.old reservations told.now }
+    // An order stands: these are the reservations now, and what each nexus is told is established
+    // for it.
+    fn install(&mut self, reservations: Reservations, told: &Attns, answer: PrAnswer) -> Reply
+        ensures reply { result ≡ order_reply answer }
+        ensures left { self.new ≡ ordered self.old reservations told.now }
     {
         self.reservations = reservations;
         self.attentions.establish_each(told.sets());
+        order_reply(self.alloc, answer)
     }
 }
 
@@ -88,8 +91,8 @@ fn read(
         return Ok(Reply::good(Bytes::new(alloc)));
     }
     let data = match action {
-        PrRead::ReadKeys => reservations.read_keys(alloc)?,
-        PrRead::ReadReservation => reservations.read_reservation(alloc)?,
+        PrRead::Keys => reservations.read_keys(alloc)?,
+        PrRead::Reservation => reservations.read_reservation(alloc)?,
     };
     let mut bytes = data.into_vec();
     bytes.truncate(room as usize);
