@@ -8,6 +8,7 @@ use motions::{
     AFTER_A_FAULT, AFTER_A_LATE_FAULT, AFTER_ANOTHER, ASKED, ASKED_EMPTY, ASKED_LOADED,
     BEFORE_A_FAULT, ERASURES, MOVES, NO_ERASURE, STORED_FIRST,
 };
+use pr_core::{NoKeeper, Reservations};
 use scsi_sense::{Reply, Status};
 use std::alloc::Global;
 use std::process::Abort;
@@ -41,11 +42,19 @@ fn assert_reply(rt: &impl Abort, reply: &Reply, wanted: Wanted, at: usize) {
     assert_eq!(rt; reply.bytes.as_slice(), bytes, "bytes at {at}");
 }
 
-fn assert_rows(rt: &impl Abort, drive: &mut Drive<StagedMedium>, rows: &[Row]) {
+fn assert_rows(rt: &impl Abort, drive: &mut Drive<StagedMedium, NoKeeper>, rows: &[Row]) {
     for (at, (host, cdb, sent, wanted)) in rows.iter().enumerate() {
         let nexus = Nexus::new(*host).expect(rt, "a nexus");
         assert_reply(rt, &drive.execute(nexus, cdb, sent), *wanted, at);
     }
+}
+
+// A drive that was switched on with this medium in it, if any, and keeps nothing over a loss of power.
+fn switched_on(
+    alloc: Global,
+    medium: Option<StagedMedium>,
+) -> Result<Drive<StagedMedium, NoKeeper>, NoMemory> {
+    Drive::power_on(alloc, NoKeeper, Reservations::empty(), medium).map_err(|_| NoMemory)
 }
 
 fn assert_course(rt: &impl Abort, alloc: Global, course: &Course) -> Result<(), Fail> {
@@ -56,7 +65,7 @@ fn assert_course(rt: &impl Abort, alloc: Global, course: &Course) -> Result<(), 
         ..SOUND
     };
     let medium = StagedMedium::new(alloc, &[4_096], room, plan)?;
-    let mut drive = Drive::power_on(alloc, Some(medium)).map_err(|_| NoMemory)?;
+    let mut drive = switched_on(alloc, Some(medium))?;
     assert_rows(rt, &mut drive, rows);
     assert_eq!(rt; drive.turn(), turn);
     assert_rows(rt, &mut drive, then);
@@ -104,7 +113,7 @@ fn written(
 
 fn assert_loads(
     rt: &impl Abort,
-    drive: &mut Drive<StagedMedium>,
+    drive: &mut Drive<StagedMedium, NoKeeper>,
     medium: StagedMedium,
     wanted: Wanted,
 ) {
@@ -130,7 +139,7 @@ fn assert_loads(
 fn a_medium_comes_into_a_drive(rt: HostRuntime) -> Result<(), Fail> {
     let alloc = rt.alloc();
     for (plan, settles, parks, loading, loaded, powered_on) in ARRIVALS {
-        let mut drive = Drive::power_on(alloc, None).map_err(|_| NoMemory)?;
+        let mut drive = switched_on(alloc, None)?;
         assert_rows(&rt, &mut drive, &NOTHING_LOADED);
         assert_eq!(&rt; drive.turn(), Turn::Idle);
         assert_loads(
@@ -141,7 +150,7 @@ fn a_medium_comes_into_a_drive(rt: HostRuntime) -> Result<(), Fail> {
         );
         assert_rows(&rt, &mut drive, &[(1, READ_5, NONE, loaded)]);
         let medium = written(alloc, plan, settles, parks)?;
-        let mut drive = Drive::power_on(alloc, Some(medium)).map_err(|_| NoMemory)?;
+        let mut drive = switched_on(alloc, Some(medium))?;
         let rows: [Row; 2] = [(1, READ_5, NONE, POWERED_ON), (1, READ_5, NONE, powered_on)];
         assert_rows(&rt, &mut drive, &rows);
     }
@@ -150,14 +159,18 @@ fn a_medium_comes_into_a_drive(rt: HostRuntime) -> Result<(), Fail> {
 
 // A drive with two partitions, whose side has such room, and whose device fails as it stores for
 // the time of this number.
-fn powered(alloc: Global, room: u64, store: Option<u32>) -> Result<Drive<StagedMedium>, Fail> {
+fn powered(
+    alloc: Global,
+    room: u64,
+    store: Option<u32>,
+) -> Result<Drive<StagedMedium, NoKeeper>, Fail> {
     let plan = FaultPlan { store, ..SOUND };
     let medium = StagedMedium::new(alloc, &[4_096, 4_111], room, plan)?;
-    Ok(Drive::power_on(alloc, Some(medium)).map_err(|_| NoMemory)?)
+    Ok(switched_on(alloc, Some(medium))?)
 }
 
 // A medium comes into the empty drive, and then two conditions are due for a host.
-fn load_and_ask(rt: &impl Abort, drive: &mut Drive<StagedMedium>, medium: StagedMedium) {
+fn load_and_ask(rt: &impl Abort, drive: &mut Drive<StagedMedium, NoKeeper>, medium: StagedMedium) {
     if !drive.is_empty() {
         assert!(rt; false, "not empty");
         return;
@@ -178,7 +191,7 @@ fn a_drive_moves_and_tells(rt: HostRuntime) -> Result<(), Fail> {
         let mut drive = powered(alloc, room, None)?;
         assert_rows(&rt, &mut drive, rows);
     }
-    let mut drive = Drive::power_on(alloc, None).map_err(|_| NoMemory)?;
+    let mut drive = switched_on(alloc, None)?;
     assert_rows(&rt, &mut drive, &ASKED_EMPTY);
     load_and_ask(&rt, &mut drive, written(alloc, SOUND, true, true)?);
     Ok(())
@@ -218,7 +231,7 @@ fn faults_are_reported(rt: HostRuntime) {
         assert_reply(&rt, &fault.reply(alloc), wanted, at);
     }
     honest_steps::<PlainMedium>();
-    served_hosts_run::<PlainMedium>();
+    served_hosts_run::<PlainMedium, NoKeeper>();
     answers_are_determined();
     runs_append();
 }

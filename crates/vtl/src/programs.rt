@@ -9,10 +9,10 @@ ghost use Rattle.vtl.specs.Program.{RunsFrom, RunsProgram};
 use crate::drives::{HeldDrive, run_on_drive};
 use crate::faults::ScriptFault;
 use drive_core::Drive;
+use pr_core::{Keeper, NoKeeper, Reservations};
 use std::alloc::Global;
 use std::fmt;
 use std::io::{Read, Write};
-use pr_core::{Keeper, NoKeeper, Reservations};
 use volume_core::{Medium, PlainMedium};
 use vtl_base::{DriveNo, NoMemory};
 

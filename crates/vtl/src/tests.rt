@@ -9,10 +9,10 @@ use crate::drives::HeldDrive;
 use crate::faults::ScriptFault;
 use crate::programs::built_in_drive;
 use crate::scripts::run_script;
+use pr_core::NoKeeper;
 use std::alloc::{AllocError, Global};
 use std::process::Abort;
 use std::test::Fail;
-use pr_core::NoKeeper;
 use volume_core::PlainMedium;
 use wires::{Plan, Wire, WireReader, WireWriter};
 

@@ -64,12 +64,7 @@ impl<M: Medium, K: Keeper> Drive<M, K> {
     }
 
     // The work of a command that needs none.
-    fn on_drive(
-        &mut self,
-        nexus: Nexus,
-        command: Command,
-        sent: &[u8],
-    ) -> Result<Reply, Fault>
+    fn on_drive(&mut self, nexus: Nexus, command: Command, sent: &[u8]) -> Result<Reply, Fault>
         requires { needs_medium (code_of command) ≡ false }
         ensures { Takes M.state M.below K.kept K.below
             (DriveWork command nexus sent.now (machine_of M.state K.kept self.old))

@@ -2,10 +2,10 @@
 use super::{DONE, Plan, answered_by};
 use crate::drives::HeldDrive;
 use drive_core::Drive;
+use pr_core::{NoKeeper, Reservations};
 use std::alloc::{AllocError, Global};
 use std::process::Abort;
 use std::test::Fail;
-use pr_core::{NoKeeper, Reservations};
 use volume_core::{PlainMedium, are_capacities};
 use vtl_base::{DriveNo, NoMemory};
 
@@ -160,7 +160,9 @@ fn new_drive(
     let medium = PlainMedium::new(alloc, capacities)?;
     Ok(HeldDrive {
         number: DriveNo::new(1).expect(rt, "a drive"),
-        drive: Drive::power_on(alloc, NoKeeper, Reservations::empty(), Some(medium)).map_err(|_| NoMemory)?,
+        drive: Drive::power_on(alloc, NoKeeper, Reservations::empty(), Some(medium)).map_err(
+            |_| NoMemory,
+        )?,
     })
 }
 

@@ -1,4 +1,4 @@
-use Rattle.std.proofs.Common.{Err, refl, ap, ◌∙◌}
+use Rattle.std.proofs.Common.{Ok, Err, refl, ap, ◌∙◌}
 use Rattle.std.proofs.lemmas.Result.{err_from_is_err_and}
 use Rattle.vtl.proofs.programs.run_started.Goals as goal
 
@@ -11,4 +11,13 @@ returns-in_err-run_on_drive g c =
       ended = Err c.in_err-run_on_drive.field-0.0;
       runs = c.in_err-run_on_drive.ensures.runs;
       outcome_is = exit.1 ∙ ap Err exit.2;
+    })
+
+pub returns : goal.returns
+returns g c =
+    rw c.in_ok-held.was (record {
+      new = c.run_on_drive.new.held;
+      ended = Ok tt;
+      runs = c.in_ok-run_on_drive.ensures.runs;
+      outcome_is = refl;
     })
