@@ -25,8 +25,8 @@ cleared sets nexus attention = cleared_in (slice_get sets (nexus - 1)) sets nexu
 abbrev pub established_for_all : List AttentionSet → Attention → List AttentionSet
 established_for_all sets attention = map (with_attention attention) sets
 
--- all sets once what each nexus is told is established for it, by rising nexus; a nexus that is told nothing keeps its set
--- (SAM-5, unit attention condition)
+-- all sets once what each nexus is told is established for it, by rising nexus; a nexus that is told nothing keeps its
+-- set (SAM-5, unit attention condition)
 abbrev pub established_by : List AttentionSet → List AttentionSet → List AttentionSet
 established_by sets [] = sets
 established_by [] (more ∷ told) = []

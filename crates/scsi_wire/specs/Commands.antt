@@ -98,8 +98,8 @@ service_action cdb = slice_index cdb 1 % 32
 -- (SPC-4, PERSISTENT RESERVE IN; that others are not known, own)
 abbrev pub pr_read_of : ℕ → Option PrRead
 pr_read_of action =
-    if action == 0 then Some pr_reads.Keys
-    else (if action == 1 then Some pr_reads.Reservation
+    if action == 0 then Some pr_reads.ReadKeys
+    else (if action == 1 then Some pr_reads.ReadReservation
     else None)
 
 -- ALLOCATION LENGTH of a block of ten bytes: bytes 7 and 8, the highest first (SPC-4, PERSISTENT RESERVE IN)
@@ -134,7 +134,7 @@ command_by_fields code.Erase cdb = Some Erase
 command_by_fields code.Locate cdb = Some (Locate (object_identifier cdb) (partition_asked cdb))
 command_by_fields code.ReadPosition cdb = if service_action cdb == 0 then Some ReadPosition else None
 command_by_fields code.PersistentReserveIn cdb =
-    option_map (λ read. PersistentReserveIn read (late_allocation cdb)) (pr_read_of (service_action cdb))
+    option_map (λ action. PersistentReserveIn action (late_allocation cdb)) (pr_read_of (service_action cdb))
 command_by_fields code.PersistentReserveOut cdb =
     option_map (λ action. PersistentReserveOut action (list_length cdb))
     (action_of (service_action cdb) (scope_and_type cdb))
@@ -157,7 +157,7 @@ code_of (Inquiry length) = code.Inquiry
 code_of Erase = code.Erase
 code_of (Locate object part) = code.Locate
 code_of ReadPosition = code.ReadPosition
-code_of (PersistentReserveIn read length) = code.PersistentReserveIn
+code_of (PersistentReserveIn action length) = code.PersistentReserveIn
 code_of (PersistentReserveOut action length) = code.PersistentReserveOut
 
 -- how many bytes a host sends with a command: a WRITE's block, or a parameter list

@@ -12,8 +12,8 @@ use vtl_base::{ObjNo, PartNo, SpaceCode};
 /// What PERSISTENT RESERVE IN reads, by its service action (SPC-4; which there are, own).
 #[derive(Clone, Copy, PartialEq, Eq, Debug)]
 pub enum PrRead {
-    Keys,
-    Reservation,
+    ReadKeys,
+    ReadReservation,
 }
 
 /// A command with its fields (SPC-4, SSC-4). Lengths are in bytes.
@@ -38,7 +38,7 @@ pub enum Command {
     Locate { object: ObjNo, part: Option<PartNo> },
     ReadPosition,
     /// `length` is the room that the host has for the data.
-    PersistentReserveIn { read: PrRead, length: u16 },
+    PersistentReserveIn { action: PrRead, length: u16 },
     /// `length` is that of the parameter list, which the host sends: any that four bytes spell.
     PersistentReserveOut { action: PrAction, length: u32 },
 }

@@ -157,9 +157,9 @@ pub fn persistent_reserve_in(cdb: &[u8]) -> Option<Command>
     requires { 9 ≤ length cdb.now }
     ensures { result ≡ command_by_fields Opcode.PersistentReserveIn cdb.now }
 {
-    let read = pr_read(cdb[1] % 32)?;
+    let action = pr_read(cdb[1] % 32)?;
     Some(Command::PersistentReserveIn {
-        read,
+        action,
         length: BigEndian::read_u16(&cdb[7..]),
     })
 }
@@ -168,8 +168,8 @@ fn pr_read(service_action: u8) -> Option<PrRead>
     ensures { result ≡ pr_read_of service_action }
 {
     match service_action {
-        0 => Some(PrRead::Keys),
-        1 => Some(PrRead::Reservation),
+        0 => Some(PrRead::ReadKeys),
+        1 => Some(PrRead::ReadReservation),
         _ => None,
     }
 }

@@ -4,4 +4,5 @@ mod answers;
 mod attentions;
 mod blocks;
 mod fields;
+mod reservations;
 mod senses;

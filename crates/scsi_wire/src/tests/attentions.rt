@@ -55,3 +55,50 @@ fn each_nexus_is_reported_its_own(rt: HostRuntime) {
     assert!(rt; reports(&mut attentions, first, &ORDER));
     assert!(rt; reports(&mut attentions, first, &[]));
 }
+
+const MEDIUM: Attention = Attention::MediumChanged;
+
+const RELEASED: Attention = Attention::ReservationsReleased;
+
+const PREEMPTED: Attention = Attention::RegistrationsPreempted;
+
+// The set of these conditions.
+fn set_of(conditions: &[Attention]) -> AttnSet {
+    let mut set = AttnSet::empty();
+    for attention in conditions {
+        set.insert(*attention);
+    }
+    set
+}
+
+#[test]
+fn two_sets_are_joined(rt: HostRuntime) {
+    for one in ORDER.iter() {
+        for other in ORDER.iter() {
+            let joined = set_of(&[*one, MEDIUM]).join(set_of(&[*other]));
+            assert_eq!(rt; joined, set_of(&[*other, MEDIUM, *one]));
+        }
+        assert_eq!(rt; set_of(&[*one]).join(AttnSet::empty()), set_of(&[*one]));
+        assert_eq!(rt; AttnSet::empty().join(set_of(&[*one])), set_of(&[*one]));
+    }
+}
+
+#[test]
+fn each_nexus_is_told_its_own(rt: HostRuntime) {
+    let (Some(first), Some(second), Some(last)) = (Nexus::new(1), Nexus::new(2), Nexus::new(64))
+    else {
+        assert!(rt; false, "a nexus");
+        return;
+    };
+    let mut told = [AttnSet::empty(); 64];
+    told[0] = set_of(&[PREEMPTED]);
+    told[63] = set_of(&[MEDIUM, RELEASED]);
+    let mut attentions = Attentions::all(set_of(&[MEDIUM]));
+    attentions.establish_each(&told);
+    assert!(rt; reports(&mut attentions, first, &[MEDIUM, PREEMPTED]));
+    assert!(rt; reports(&mut attentions, second, &[MEDIUM]));
+    assert!(rt; reports(&mut attentions, last, &[MEDIUM, RELEASED]));
+    attentions.establish_each(&told[..1]);
+    assert!(rt; reports(&mut attentions, first, &[PREEMPTED]));
+    assert!(rt; reports(&mut attentions, last, &[]));
+}

@@ -1,5 +1,6 @@
 //! Every operation code in blocks of every length, and the table.
-use crate::{Cdb, Command, Opcode, length_of};
+use crate::{Cdb, Command, Opcode, PrRead, length_of};
+use scsi_lists::PrAction;
 use scsi_sense::Sense;
 use vtl_base::SpaceCode;
 
@@ -25,6 +26,16 @@ const TO_OBJECT_0: Command = Command::Locate {
     part: None,
 };
 
+const READ_NO_KEYS: Command = Command::PersistentReserveIn {
+    action: PrRead::ReadKeys,
+    length: 0,
+};
+
+const REGISTER_NOTHING: Command = Command::PersistentReserveOut {
+    action: PrAction::Register,
+    length: 0,
+};
+
 // What a block is that has this code and is 0 behind it, and how many bytes it has.
 fn known(code: u8) -> Option<(Opcode, Command, usize)> {
     match code {
@@ -40,6 +51,8 @@ fn known(code: u8) -> Option<(Opcode, Command, usize)> {
         0x19 => Some((Opcode::Erase, Command::Erase, 6)),
         0x2b => Some((Opcode::Locate, TO_OBJECT_0, 10)),
         0x34 => Some((Opcode::ReadPosition, Command::ReadPosition, 10)),
+        0x5e => Some((Opcode::PersistentReserveIn, READ_NO_KEYS, 10)),
+        0x5f => Some((Opcode::PersistentReserveOut, REGISTER_NOTHING, 10)),
         _ => None,
     }
 }
@@ -91,6 +104,8 @@ fn the_table(rt: HostRuntime) {
         (Opcode::Erase, 6, false, true, true),
         (Opcode::Locate, 10, false, true, true),
         (Opcode::ReadPosition, 10, false, false, true),
+        (Opcode::PersistentReserveIn, 10, false, false, false),
+        (Opcode::PersistentReserveOut, 10, false, false, false),
     ] {
         assert_eq!(rt; opcode.block_length(), bytes, "{opcode:?}");
         assert_eq!(rt; opcode.is_exempt(), exempt, "{opcode:?}");
