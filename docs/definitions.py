@@ -76,7 +76,7 @@ WORDS = {
     "fault": ["fault_sense", "fault_reply", "met_fault"],
     "EVPD, PAGE CODE": ["asks_product_page", "page_code"],
     "exempt": ["is_exempt", "state_denial"],
-    "fence": ["keeps_out", "reservation_denial"],
+    "fence": ["reservation_denial", "is_allowed"],
     "filemark": ["MarksWork", "filemark_detected", "IsMarkAt"],
     "FIXED": ["is_fixed"],
     "flush, flusher": ["Turns", "FlushTurns"],

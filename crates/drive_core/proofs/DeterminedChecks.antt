@@ -223,7 +223,8 @@ module _ (spaces : NoSpaceEndsTwice) (locates : NoLocateEndsTwice) (orders : NoO
       → ExecutesAs (Unit {0}) judged request old (Ok reply) made new
       → ExecutesAs (Unit {0}) judged request beside (Ok reply') made' new' → Alike
   judged_alike (Err denial) request h k =
-      ends orders old beside reply reply' made made' new new' e (Ok (denial_reply denial)) (denied denial request.nexus old) (denied denial request.nexus beside)
+      ends orders old beside reply reply' made made' new new' e (Ok (denial_reply denial)) (denied denial
+      request.nexus old) (denied denial request.nexus beside)
       (denied_same old beside e denial request.nexus) h k
   judged_alike (Ok command) request h k =
       work_alike (needs_medium (code_of command)) command request.nexus request.sent h k

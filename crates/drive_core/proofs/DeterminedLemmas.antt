@@ -72,7 +72,8 @@ turn_unseen old (Unanswered outcome) made new calm h =
     }
 turn_unseen old (Answered answer) made new calm h = absurd h
 
-module _ (spaces : NoSpaceEndsTwice) (locates : NoLocateEndsTwice) (orders : NoOrderEndsTwice) (old beside : Machine) (made made' : Made) (new
+module _ (spaces : NoSpaceEndsTwice) (locates : NoLocateEndsTwice) (orders : NoOrderEndsTwice) (old beside : Machine)
+    (made made' : Made) (new
     new' : Machine) (e : seen_of old ≡ seen_of beside) where
   execute_determined : (request other : Request) (output output' : Output) → request ≡ other
       → IsCalm output → IsCalm output' → Step (Unit {0}) old (Execute request) output made new
@@ -120,38 +121,51 @@ module _ (spaces : NoSpaceEndsTwice) (locates : NoLocateEndsTwice) (orders : NoO
 pub steps_determined : NoSpaceEndsTwice → NoLocateEndsTwice → NoOrderEndsTwice → StepsAreDetermined
 steps_determined spaces locates orders old beside (Execute request) (Execute other) output output' made made' new new' e
     asks calm calm' h k =
-    execute_determined spaces locates orders old beside made made' new new' e request other output output' asks calm calm' h k
-steps_determined spaces locates orders old beside (Load medium) (Load other) output output' made made' new new' e asks calm
+    execute_determined spaces locates orders old beside made made' new new' e request other output output' asks calm
+    calm' h k
+steps_determined spaces locates orders old beside (Load medium) (Load other) output output' made made' new new' e asks
+    calm
     calm' h k =
-    load_determined spaces locates orders old beside made made' new new' e medium other output output' asks calm calm' h k
+    load_determined spaces locates orders old beside made made' new new' e medium other output output' asks calm calm'
+    h k
 steps_determined spaces locates orders old beside (PowerOn medium keeper) (PowerOn other keeper') output output' made
     made' new new' e asks calm calm' h k =
-    power_on_determined spaces locates orders old beside made made' new new' e medium other keeper keeper' output output'
+    power_on_determined spaces locates orders old beside made made' new new' e medium other keeper keeper' output
+    output'
     asks.0 asks.1 calm calm' h k
-steps_determined spaces locates orders old beside FlushTurn FlushTurn output output' made made' new new' e asks calm calm' h
+steps_determined spaces locates orders old beside FlushTurn FlushTurn output output' made made' new new' e asks calm
+    calm' h
     k =
     turn_determined spaces locates orders old beside made made' new new' e output output' calm calm' h k
-steps_determined spaces locates orders old beside (Execute request) (Load other) o o' made made' new new' e asks c c' h k =
+steps_determined spaces locates orders old beside (Execute request) (Load other) o o' made made' new new' e asks c c'
+    h k =
     absurd asks
-steps_determined spaces locates orders old beside (Execute request) (PowerOn other kept) o o' made made' new new' e asks c c' h k =
+steps_determined spaces locates orders old beside (Execute request) (PowerOn other kept) o o' made made' new new' e
+    asks c c' h k =
     absurd asks
 steps_determined spaces locates orders old beside (Execute request) FlushTurn o o' made made' new new' e asks c c' h k =
     absurd asks
-steps_determined spaces locates orders old beside (Load medium) (Execute other) o o' made made' new new' e asks c c' h k =
+steps_determined spaces locates orders old beside (Load medium) (Execute other) o o' made made' new new' e asks c c' h
+    k =
     absurd asks
-steps_determined spaces locates orders old beside (Load medium) (PowerOn other kept) o o' made made' new new' e asks c c' h k =
+steps_determined spaces locates orders old beside (Load medium) (PowerOn other kept) o o' made made' new new' e asks c
+    c' h k =
     absurd asks
 steps_determined spaces locates orders old beside (Load medium) FlushTurn o o' made made' new new' e asks c c' h k =
     absurd asks
-steps_determined spaces locates orders old beside (PowerOn medium kept) (Execute other) o o' made made' new new' e asks c c' h k =
+steps_determined spaces locates orders old beside (PowerOn medium kept) (Execute other) o o' made made' new new' e
+    asks c c' h k =
     absurd asks
-steps_determined spaces locates orders old beside (PowerOn medium kept) (Load other) o o' made made' new new' e asks c c' h k =
+steps_determined spaces locates orders old beside (PowerOn medium kept) (Load other) o o' made made' new new' e asks c
+    c' h k =
     absurd asks
-steps_determined spaces locates orders old beside (PowerOn medium kept) FlushTurn o o' made made' new new' e asks c c' h k =
+steps_determined spaces locates orders old beside (PowerOn medium kept) FlushTurn o o' made made' new new' e asks c c'
+    h k =
     absurd asks
 steps_determined spaces locates orders old beside FlushTurn (Execute other) o o' made made' new new' e asks c c' h k =
     absurd asks
 steps_determined spaces locates orders old beside FlushTurn (Load other) o o' made made' new new' e asks c c' h k =
     absurd asks
-steps_determined spaces locates orders old beside FlushTurn (PowerOn other kept) o o' made made' new new' e asks c c' h k =
+steps_determined spaces locates orders old beside FlushTurn (PowerOn other kept) o o' made made' new new' e asks c c'
+    h k =
     absurd asks

@@ -104,7 +104,8 @@ untimed old (Load medium ∷ is) (o ∷ os) made new calm h =
     untimed_step old h.0 new (Load medium) (without_turns is) o os made h.1 h.2 (All-head IsCalm o os calm) h.3 h.5
     (untimed h.0 is os h.2 new (All-tail IsCalm o os calm) h.4)
 untimed old (PowerOn medium keeper ∷ is) (o ∷ os) made new calm h =
-    untimed_step old h.0 new (PowerOn medium keeper) (without_turns is) o os made h.1 h.2 (All-head IsCalm o os calm) h.3 h.5
+    untimed_step old h.0 new (PowerOn medium keeper) (without_turns is) o os made h.1 h.2 (All-head IsCalm o os calm)
+    h.3 h.5
     (untimed h.0 is os h.2 new (All-tail IsCalm o os calm) h.4)
 untimed old [] (o ∷ os) made new calm h = absurd h
 untimed old (i ∷ is) [] made new calm h = absurd h

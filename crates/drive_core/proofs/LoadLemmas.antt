@@ -24,7 +24,8 @@ module _ {M K : Type 0} (state : M → MediumState) (below : Below M Change) (ke
       (answer : Result Reply Fault)
       → old.bay ≡ Empty → WakesAs state below given woke opened
       → LoadsAs woke (state opened) (machine_of state kept old) answer (machine_of state kept new)
-      → Loads (below.honest given) (state given) (machine_of state kept old) answer made_nothing (machine_of state kept new)
+      → Loads (below.honest given) (state given) (machine_of state kept old) answer made_nothing (machine_of state
+      kept new)
   loads_at old new given opened woke answer empty wakes fits =
       subst
       (λ (bay : Bay M).

@@ -88,5 +88,6 @@ pub takes_from : {M K : Type 0}
     → Takes state below kept keeps (OrderWork order nexus (machine_of state kept now)) now answer new
 takes_from {M} {K} state below kept keeps order nexus old now answer new same h =
     subst
-    (λ (d : DriveState M K). Takes state below kept keeps (OrderWork order nexus (machine_of state kept d)) d answer new)
+    (λ (d : DriveState M K). Takes state below kept keeps (OrderWork order nexus (machine_of state kept d)) d answer
+    new)
     same h

@@ -94,7 +94,8 @@ module _ {M K : Type 0}
           here.taken.made,
           rest.made,
           here.taken.step,
-          run_where (HonestIn below (medium_in old.bay)) (HonestIn below (medium_in mid.bay)) so (machine_of state kept mid)
+          run_where (HonestIn below (medium_in old.bay)) (HonestIn below (medium_in mid.bay)) so (machine_of state
+              kept mid)
               (map Execute requests) (map Answered rest.answers) rest.made (machine_of state kept new) rest.run,
           refl,
         );

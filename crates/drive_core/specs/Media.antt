@@ -41,7 +41,8 @@ module _ {M : Type 0} (state : M → MediumState) (below : Below M Change) where
         (error : MediumError) × WakesAs given (Err error) back.0 × (back.1 ≡ reply_of (wake_answer error))
         × (new ≡ old)
 
-    -- a drive is switched on with the medium as it opened, if any, these reservations and this keeper; where memory runs
+    -- a drive is switched on with the medium as it opened, if any, these reservations and this keeper; where memory
+    -- runs
     -- out, medium and keeper come back (own)
     abbrev pub SwitchesOn :
         Option M → PrState → K → Result (DriveState M K) (Option M × K × NoMemory) → Type 0

@@ -1,7 +1,7 @@
 -- PERSISTENT RESERVE IN.
 use Rattle.std.specs.Prelude.{ℕ, List}
 use Rattle.scsi_wire.specs.declared.commands.PrRead.{PrRead}
-use Rattle.scsi_wire.specs.declared.commands.PrRead.TheVariants.{Keys, Reservation}
+use Rattle.scsi_wire.specs.declared.commands.PrRead.TheVariants.{ReadKeys, ReadReservation}
 use Rattle.scsi_wire.specs.Answers.{cut_to}
 use Rattle.pr_core.specs.declared.states.PrState.{PrState}
 use Rattle.pr_core.specs.Reads.{keys_read, reservation_read}
@@ -10,8 +10,8 @@ use Rattle.drive_core.specs.Tell.{Tells}
 
 -- what is read of the reservations (SPC-4, PERSISTENT RESERVE IN)
 abbrev pub data_read : PrRead → PrState → List ℕ
-data_read Keys state = keys_read state
-data_read Reservation state = reservation_read state
+data_read ReadKeys state = keys_read state
+data_read ReadReservation state = reservation_read state
 
 -- the reservations are read, cut to the room that the host has (SPC-4, PERSISTENT RESERVE IN)
 abbrev pub ReserveInWork : PrRead → ℕ → MachineRelation

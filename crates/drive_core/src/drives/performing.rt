@@ -73,7 +73,7 @@ impl<M: Medium, K: Keeper> Drive<M, K> {
         match command {
             Command::RequestSense { length } => self.request_sense(nexus, length),
             Command::ReadBlockLimits => give(self.alloc, &block_limits()),
-            Command::PersistentReserveIn { read, length } => self.reserve_in(read, length),
+            Command::PersistentReserveIn { action, length } => self.reserve_in(action, length),
             Command::PersistentReserveOut { action, .. } => self.reserve_out(nexus, action, sent),
             Command::Inquiry { length } => give(
                 self.alloc,

@@ -91,8 +91,8 @@ fn read(
         return Ok(Reply::good(Bytes::new(alloc)));
     }
     let data = match action {
-        PrRead::Keys => reservations.read_keys(alloc)?,
-        PrRead::Reservation => reservations.read_reservation(alloc)?,
+        PrRead::ReadKeys => reservations.read_keys(alloc)?,
+        PrRead::ReadReservation => reservations.read_reservation(alloc)?,
     };
     let mut bytes = data.into_vec();
     bytes.truncate(room as usize);
