@@ -10,6 +10,7 @@ use Rattle.pr_core.specs.declared.states.PrAnswer.{PrAnswer}
 use Rattle.pr_core.specs.States.{power_loss}
 use Rattle.pr_core.specs.Effects.{Effect, Brings}
 use Rattle.pr_core.specs.Orders.{Orders, effect_of}
+use Rattle.pr_core.specs.Saves.{AreSavedAlike}
 use Rattle.pr_core.proofs.SetLemmas.{row_shows, same_rows}
 
 -- a state by its fields
@@ -74,3 +75,18 @@ lost_once keys reservation false generation = refl
 
 pub loss_is_once : (state : PrState) → power_loss (power_loss state) ≡ power_loss state
 loss_is_once state = lost_once state.keys state.reservation state.aptpl state.generation
+
+-- what a loss of power leaves of a state hangs on what is saved of it
+left_by_saved :
+    (keys : List (Option ℕ)) (reservation : Option Reservation) (aptpl : Bool) (generation : ℕ)
+    → power_loss (state_of keys reservation aptpl generation) ≡ power_loss (state_of keys reservation aptpl 0)
+left_by_saved keys reservation true generation = refl
+left_by_saved keys reservation false generation = refl
+
+pub lost_alike : (one other : PrState) → AreSavedAlike one other → power_loss one ≡ power_loss other
+lost_alike one other alike =
+    left_by_saved one.keys one.reservation one.aptpl one.generation
+    ∙ (ap (λ (row : List (Option ℕ)). power_loss (state_of row one.reservation one.aptpl 0)) alike.keys
+    ∙ (ap (λ (held : Option Reservation). power_loss (state_of other.keys held one.aptpl 0)) alike.reservation
+    ∙ (ap (λ (stays : Bool). power_loss (state_of other.keys other.reservation stays 0)) alike.aptpl
+    ∙ sym (left_by_saved other.keys other.reservation other.aptpl other.generation))))

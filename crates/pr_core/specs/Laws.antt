@@ -41,6 +41,10 @@ PowerLossKeepsRules = (state : PrState) → IsSound state → IsSound (power_los
 abbrev pub PowerLossIsOnce : Type 0
 PowerLossIsOnce = (state : PrState) → power_loss (power_loss state) ≡ power_loss state
 
+-- what is saved of two states alike is lost alike: a loss of power leaves the same of them (own)
+abbrev pub SavedAlikeAreLostAlike : Type 0
+SavedAlikeAreLostAlike = (one other : PrState) → AreSavedAlike one other → power_loss one ≡ power_loss other
+
 -- a save is due exactly where what is saved is not the same (own)
 abbrev pub SavesAreDueByChange : Type 0
 SavesAreDueByChange =

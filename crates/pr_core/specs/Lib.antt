@@ -9,4 +9,5 @@ pub mod Orders
 pub mod Saves
 pub mod Reads
 pub mod Keepers
+pub mod Staged
 pub mod Laws

@@ -1,5 +1,5 @@
 //! Laws of the machine. Each is a function that does nothing, and its contract is the law.
-ghost use Rattle.pr_core.specs.Laws.{EachOrderEnds, EmptyKeepsRules, NoOrderEndsTwice, OrdersKeepRules, PowerLossIsOnce, PowerLossKeepsRules, SavesAreDueByChange};
+ghost use Rattle.pr_core.specs.Laws.{EachOrderEnds, EmptyKeepsRules, NoOrderEndsTwice, OrdersKeepRules, PowerLossIsOnce, PowerLossKeepsRules, SavedAlikeAreLostAlike, SavesAreDueByChange};
 
 /// Each order of each nexus in each state has one answer, one set of conditions that it tells, and one next
 /// state.
@@ -15,9 +15,10 @@ pub fn rules_are_kept()
     ensures power_loss { PowerLossKeepsRules }
 {}
 
-/// Two losses of power are as one.
+/// Two losses of power are as one, and what is saved decides what a loss of power leaves.
 pub fn power_loss_is_once()
-    ensures { PowerLossIsOnce }
+    ensures once { PowerLossIsOnce }
+    ensures alike { SavedAlikeAreLostAlike }
 {}
 
 /// A save is due exactly where registrations, reservation or APTPL are not the same.

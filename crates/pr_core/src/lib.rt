@@ -11,6 +11,7 @@ mod registering;
 pub mod reservations;
 mod reserving;
 mod rows;
+pub mod staged;
 pub mod states;
 #[cfg(test)]
 mod tests;
@@ -18,4 +19,5 @@ mod tests;
 pub use attns::Attns;
 pub use keepers::{Keeper, KeeperError, NoKeeper};
 pub use reservations::Reservations;
+pub use staged::{SaveFault, SavePlan, StagedKeeper};
 pub use states::{PrAnswer, PrState, Reservation};

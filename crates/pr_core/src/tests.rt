@@ -1,4 +1,5 @@
 //! Orders by the standard's rules, each row once; a plain program beside the definitions of reads.
+mod keeping;
 mod orders;
 mod preemptions;
 mod reads;

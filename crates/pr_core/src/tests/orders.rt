@@ -1,8 +1,10 @@
 //! REGISTER, RESERVE, RELEASE and CLEAR, row by row.
 use super::{A, B, C, Standing, TYPES, after, gives, host, register};
 use crate::PrAnswer::{BadRelease, Conflict, Good};
+use crate::{PrAnswer, Reservations};
 use scsi_attention::Attention;
 use scsi_lists::{PrOut, PrType};
+use std::process::Abort;
 
 #[test]
 fn a_host_registers(rt: HostRuntime) {
@@ -105,97 +107,82 @@ fn a_host_needs_its_key(rt: HostRuntime) {
     }
 }
 
+// Hosts 1 and 2 are registered, and host 1 has made a reservation of this type, where one is named.
+fn two_hosts(rt: &impl Abort, kind: Option<PrType>) -> Reservations {
+    let mut reservations = after(rt, &[(1, register(0, A)), (2, register(0, B))]);
+    if let Some(kind) = kind {
+        let _ = reservations.pr_out(host(rt, 1), &PrOut::Reserve { key: A, kind });
+    }
+    reservations
+}
+
+// Of the two hosts one gives an order; both stay registered, and this is held then.
+fn two_give(
+    rt: &impl Abort,
+    before: Reservations,
+    order: (u8, PrOut),
+    answer: PrAnswer,
+    told: &[(u8, Attention)],
+    held: (u8, u8),
+) {
+    let left = Standing {
+        keys: &[(1, A), (2, B)],
+        held,
+        generation: 2,
+    };
+    gives(rt, before, order, answer, told, left);
+}
+
+// A type's number, and host 1 where it names a holder.
+fn held_by_1(kind: PrType) -> (u8, u8) {
+    (kind.number(), if kind.number() >= 7 { 0 } else { 1 })
+}
+
+fn another(kind: PrType) -> PrType {
+    match kind {
+        PrType::WriteExclusive => PrType::ExclusiveAccess,
+        _ => PrType::WriteExclusive,
+    }
+}
+
 #[test]
-fn one_reserves_and_releases(rt: HostRuntime) {
-    let keys = &[(1, A), (2, B)];
+fn one_reserves(rt: HostRuntime) {
     for kind in TYPES {
-        let all = kind.number() >= 7;
-        let holder = if all { 0 } else { 1 };
-        let other = if kind.number() == 1 {
-            PrType::ExclusiveAccess
-        } else {
-            PrType::WriteExclusive
-        };
-        let both = [(1, register(0, A)), (2, register(0, B))];
-        let free = after(&rt, &both);
-        let [first, second] = both;
-        let taken = after(&rt, &[first, second, (1, PrOut::Reserve { key: A, kind })]);
-        let gone = (0, 0);
-        let stands = (kind.number(), holder);
-        // Host 0 is nobody.
-        let told = [(
-            if kind.number() >= 5 { 2 } else { 0 },
-            Attention::ReservationsReleased,
-        )];
+        let (free, taken) = (two_hosts(&rt, None), two_hosts(&rt, Some(kind)));
         let mine = |kind| (1u8, PrOut::Reserve { key: A, kind });
         let theirs = |kind| (2u8, PrOut::Reserve { key: B, kind });
-        let shared = if all { Good } else { Conflict };
-        for (before, order, answer, held) in [
-            (free, mine(kind), Good, stands),
-            (taken, mine(kind), Good, stands),
-            (taken, mine(other), Conflict, stands),
-            (taken, theirs(kind), shared, stands),
-            (taken, theirs(other), Conflict, stands),
-            (free, (1, PrOut::Release { key: A, kind }), Good, gone),
-            (
-                taken,
-                (
-                    1,
-                    PrOut::Release {
-                        key: A,
-                        kind: other,
-                    },
-                ),
-                BadRelease,
-                stands,
-            ),
+        let shared = if kind.number() >= 7 { Good } else { Conflict };
+        for (before, order, answer) in [
+            (free, mine(kind), Good),
+            (taken, mine(kind), Good),
+            (taken, mine(another(kind)), Conflict),
+            (taken, theirs(kind), shared),
+            (taken, theirs(another(kind)), Conflict),
         ] {
-            gives(
-                &rt,
-                before,
-                order,
-                answer,
-                &[],
-                Standing {
-                    keys,
-                    held,
-                    generation: 2,
-                },
-            );
+            two_give(&rt, before, order, answer, &[], held_by_1(kind));
         }
-        let released = (1, PrOut::Release { key: A, kind });
-        gives(
-            &rt,
-            taken,
-            released,
-            Good,
-            &told,
-            Standing {
-                keys,
-                held: gone,
-                generation: 2,
-            },
-        );
-        if !all {
-            let order = (
-                2,
-                PrOut::Release {
-                    key: B,
-                    kind: other,
-                },
-            );
-            gives(
-                &rt,
-                taken,
-                order,
-                Good,
-                &[],
-                Standing {
-                    keys,
-                    held: stands,
-                    generation: 2,
-                },
-            );
+    }
+}
+
+#[test]
+fn one_releases(rt: HostRuntime) {
+    let released = Attention::ReservationsReleased;
+    for kind in TYPES {
+        let (free, taken) = (two_hosts(&rt, None), two_hosts(&rt, Some(kind)));
+        let stands = held_by_1(kind);
+        let mine = |kind| (1u8, PrOut::Release { key: A, kind });
+        let theirs = |kind| (2u8, PrOut::Release { key: B, kind });
+        // Host 0 is nobody.
+        let told = [(if kind.number() >= 5 { 2 } else { 0 }, released)];
+        two_give(&rt, free, mine(kind), Good, &[], (0, 0));
+        two_give(&rt, taken, mine(another(kind)), BadRelease, &[], stands);
+        two_give(&rt, taken, mine(kind), Good, &told, (0, 0));
+        if kind.number() >= 7 {
+            two_give(&rt, taken, theirs(another(kind)), BadRelease, &[], stands);
+            two_give(&rt, taken, theirs(kind), Good, &[(1, released)], (0, 0));
+        } else {
+            two_give(&rt, taken, theirs(another(kind)), Good, &[], stands);
+            two_give(&rt, taken, theirs(kind), Good, &[], stands);
         }
     }
 }

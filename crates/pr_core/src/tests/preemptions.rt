@@ -129,7 +129,12 @@ fn the_key_is_of_the_holder(rt: HostRuntime) {
             left,
         );
     }
-    // The holder preempts its own key: the other with that key goes, and the type may change.
+}
+
+// The other host with that key goes, and the type may change.
+#[test]
+fn the_holder_preempts_its_own_key(rt: HostRuntime) {
+    let before = reserved(&rt, 2, B, ONE);
     let own: [(u8, Attention); 1] = [(3, RegistrationsPreempted)];
     let own_and_type: [(u8, Attention); 3] = [
         (1, ReservationsReleased),

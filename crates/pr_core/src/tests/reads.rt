@@ -2,51 +2,48 @@
 use super::{A, B, after, host, register};
 use crate::{Keeper, NoKeeper, Reservations};
 use scsi_lists::{PrOut, PrType};
+use std::alloc::Global;
+use std::process::Abort;
 use std::test::Fail;
+
+// These are read so: the keys, and the reservation.
+fn reads(
+    rt: &impl Abort,
+    alloc: Global,
+    reservations: Reservations,
+    keys: &[u8],
+    reservation: &[u8],
+) -> Result<(), Fail> {
+    assert_eq!(rt; reservations.read_keys(alloc)?.as_slice(), keys);
+    assert_eq!(rt;
+        reservations.read_reservation(alloc)?.as_slice(),
+        reservation
+    );
+    Ok(())
+}
 
 #[test]
 fn keys_and_reservations_are_read(rt: HostRuntime) -> Result<(), Fail> {
+    let none = b"\0\0\0\0\0\0\0\0";
     let alloc = rt.alloc();
-    let both = [(1, register(0, A)), (2, register(0, B))];
-    let [first, second] = both;
-    let reserve = |kind| (1, PrOut::Reserve { key: A, kind });
-    let none = Reservations::empty();
-    let only = after(
+    reads(&rt, alloc, Reservations::empty(), none, none)?;
+    let reserve = |kind| (1u8, PrOut::Reserve { key: A, kind });
+    let only = reserve(PrType::WriteExclusiveRegistrantsOnly);
+    reads(
         &rt,
-        &[first, reserve(PrType::WriteExclusiveRegistrantsOnly)],
-    );
-    let all = after(
+        alloc,
+        after(&rt, &[(1, register(0, A)), only]),
+        b"\0\0\0\x01\0\0\0\x08\0\0\0\0\0\0\0\xa1",
+        b"\0\0\0\x01\0\0\0\x10\0\0\0\0\0\0\0\xa1\0\0\0\0\0\x05\0\0",
+    )?;
+    let all = reserve(PrType::ExclusiveAccessAllRegistrants);
+    reads(
         &rt,
-        &[
-            first,
-            second,
-            reserve(PrType::ExclusiveAccessAllRegistrants),
-        ],
-    );
-    for (reservations, keys, reservation) in [
-        (
-            none,
-            b"\0\0\0\0\0\0\0\0".as_slice(),
-            b"\0\0\0\0\0\0\0\0".as_slice(),
-        ),
-        (
-            only,
-            b"\0\0\0\x01\0\0\0\x08\0\0\0\0\0\0\0\xa1".as_slice(),
-            b"\0\0\0\x01\0\0\0\x10\0\0\0\0\0\0\0\xa1\0\0\0\0\0\x05\0\0".as_slice(),
-        ),
-        (
-            all,
-            b"\0\0\0\x02\0\0\0\x10\0\0\0\0\0\0\0\xa1\0\0\0\0\0\0\0\xb2".as_slice(),
-            b"\0\0\0\x02\0\0\0\x10\0\0\0\0\0\0\0\0\0\0\0\0\0\x08\0\0".as_slice(),
-        ),
-    ] {
-        assert_eq!(rt; reservations.read_keys(alloc)?.as_slice(), keys);
-        assert_eq!(rt;
-            reservations.read_reservation(alloc)?.as_slice(),
-            reservation
-        );
-    }
-    Ok(())
+        alloc,
+        after(&rt, &[(1, register(0, A)), (2, register(0, B)), all]),
+        b"\0\0\0\x02\0\0\0\x10\0\0\0\0\0\0\0\xa1\0\0\0\0\0\0\0\xb2",
+        b"\0\0\0\x02\0\0\0\x10\0\0\0\0\0\0\0\0\0\0\0\0\0\x08\0\0",
+    )
 }
 
 #[test]
