@@ -2,7 +2,7 @@
 use Rattle.std.proofs.Common.{◌≡◌, ℕ, zero, suc, List, [], ◌∷◌, Result, Ok, Err, Bool, true, false, refl}
 use Rattle.scsi_sense.specs.declared.replies.Reply.{Reply}
 use Rattle.scsi_wire.specs.declared.commands.Command.{Command}
-use Rattle.scsi_wire.specs.declared.commands.Command.TheVariants.{TestUnitReady, Rewind, RequestSense, ReadBlockLimits, Read, Write, WriteFilemarks, Space, Inquiry, Erase, Locate, ReadPosition, PersistentReserveIn, PersistentReserveOut}
+use Rattle.scsi_wire.specs.declared.commands.Command.TheVariants.{TestUnitReady, Rewind, RequestSense, ReadBlockLimits, Read, Write, WriteFilemarks, Space, Inquiry, Erase, Locate, ReadPosition, PersistentReserveIn, PersistentReserveOut, ModeSelect, ModeSense, LoadUnload}
 use Rattle.volume_core.specs.declared.changes.Change.{Change}
 use Rattle.drive_core.specs.declared.faults.Fault.{Fault}
 use Rattle.drive_core.specs.declared.faults.Fault.TheVariants.{NoMemory, Writing, Reading, SideFull, Saving, StoreFull}
@@ -45,6 +45,9 @@ module _ (H : Type 0) (sent : List ℕ) (old : Mounted) (made : List Change) (ne
   saves_nothing (Inquiry room) buffered h = h
   saves_nothing (PersistentReserveIn action room) buffered h = h
   saves_nothing (PersistentReserveOut action bytes) buffered h = h
+  saves_nothing (ModeSelect length) buffered h = h
+  saves_nothing (ModeSense room bare) buffered h = h
+  saves_nothing (LoadUnload load) buffered h = h
 
 pub faultless_keeper : (H : Type 0) (command : Command) (buffered : Bool) (sent : List ℕ) (old : Mounted)
     (answer : Result Reply Fault) (made : List Change) (new : Mounted)

@@ -4,7 +4,10 @@ pub mod OrderLemmas
 pub mod TestLemmas
 pub mod CommandLemmas
 pub mod DeterminedLoads
+pub mod DeterminedParks
 pub mod DeterminedOrders
+pub mod DeterminedVerdicts
+pub mod DeterminedWorks
 pub mod DeterminedChecks
 pub mod DeterminedLemmas
 pub mod DeterminedRuns

@@ -9,7 +9,7 @@ use Rattle.scsi_attention.specs.declared.attention_sets.Attention.{Attention}
 use Rattle.scsi_attention.specs.declared.attention_sets.Attention.TheVariants.{PowerOn, MediumChanged, ReservationsPreempted, RegistrationsPreempted, ReservationsReleased, ModeChanged}
 use Rattle.scsi_wire.specs.declared.opcodes.Opcode.{Opcode}
 use Rattle.scsi_wire.specs.declared.commands.Command.{Command}
-use Rattle.scsi_wire.specs.declared.commands.Command.TheVariants.{TestUnitReady, Rewind, RequestSense, ReadBlockLimits, Read, Write, WriteFilemarks, Space, Inquiry, Erase, Locate, ReadPosition, PersistentReserveIn, PersistentReserveOut}
+use Rattle.scsi_wire.specs.declared.commands.Command.TheVariants.{TestUnitReady, Rewind, RequestSense, ReadBlockLimits, Read, Write, WriteFilemarks, Space, Inquiry, Erase, Locate, ReadPosition, PersistentReserveIn, PersistentReserveOut, ModeSelect, ModeSense, LoadUnload}
 use Rattle.scsi_wire.specs.Opcodes.{opcode_of, is_exempt, needs_medium, is_stopped_by_reservation}
 use Rattle.scsi_wire.specs.Commands.{command_of, sent_length, checked, decoded, decoded_as}
 use Rattle.scsi_sense.specs.Senses.{invalid_field, invalid_operation_code, medium_not_present, medium_failed, deferred_write_error, attention_sense, volume_overflow}
@@ -35,7 +35,8 @@ use Rattle.drive_core.specs.Erase.{EraseWork, erase_at}
 use Rattle.drive_core.specs.Write.{WriteWork, put_at}
 use Rattle.drive_core.specs.Marks.{MarksWork, marks_at}
 use Rattle.drive_core.specs.Read.{ReadWork}
-use Rattle.drive_core.specs.Work.{Request, MediumWork, OnMediumIn, Work}
+use Rattle.drive_core.specs.Work.{Request, MediumWork, Work}
+use Rattle.drive_core.specs.OnMedium.{OnMediumIn}
 use Rattle.drive_core.specs.Conditions.{condition_due, denial_reply, first_some}
 use Rattle.drive_core.specs.Checks.{Executes, ExecutesAs, condition_denial, fields_verdict, medium_denial, need_denial, reservation_denial, state_denial, suits, unless_denied, verdict, verdict_at}
 use Rattle.drive_core.specs.Synchronize.{synchronizes, IsSynchronizing, Acknowledges, NothingPending}

@@ -26,7 +26,8 @@ use Rattle.drive_core.specs.Conditions.{condition_due, denial_reply, denied, wit
 use Rattle.drive_core.specs.Relations.{Made, MediumRelation, made_nothing, made_on_medium}
 use Rattle.drive_core.specs.RequestSense.{RequestSenseWork, after_report, once_reported, sense_due}
 use Rattle.drive_core.specs.Tell.{Gives, Tells}
-use Rattle.drive_core.specs.Work.{Request, OnMediumIn, Work, WorkBy}
+use Rattle.drive_core.specs.Work.{Request, Work, WorkBy}
+use Rattle.drive_core.specs.OnMedium.{OnMediumIn}
 use Rattle.drive_core.specs.Checks.{Executes, verdict}
 use Rattle.drive_core.specs.Inner.Carries.{Carries}
 use Rattle.drive_core.specs.Execute.{Takes, AdvancesIn, StoresIn, HonestIn, is_device_fault, is_keeper_fault}
