@@ -1,3 +1,4 @@
 pub mod Actions
+pub mod ModeLists
 pub mod PrLists
 pub mod Laws

@@ -8,7 +8,7 @@ use Rattle.vtl_base.specs.declared.space_codes.SpaceCode.TheVariants as counts
 use Rattle.scsi_wire.specs.declared.opcodes.Opcode.{Opcode}
 use Rattle.scsi_wire.specs.declared.opcodes.Opcode.TheVariants as code
 use Rattle.scsi_wire.specs.declared.commands.Command.{Command}
-use Rattle.scsi_wire.specs.declared.commands.Command.TheVariants.{TestUnitReady, Rewind, RequestSense, ReadBlockLimits, Read, Write, WriteFilemarks, Space, Inquiry, Erase, Locate, ReadPosition, PersistentReserveIn, PersistentReserveOut}
+use Rattle.scsi_wire.specs.declared.commands.Command.TheVariants.{TestUnitReady, Rewind, RequestSense, ReadBlockLimits, Read, Write, WriteFilemarks, Space, Inquiry, ModeSelect, Erase, ModeSense, LoadUnload, Locate, ReadPosition, PersistentReserveIn, PersistentReserveOut}
 use Rattle.scsi_wire.specs.declared.commands.PrRead.{PrRead}
 use Rattle.scsi_wire.specs.declared.commands.PrRead.TheVariants as pr_reads
 use Rattle.scsi_lists.specs.Actions.{action_of}
@@ -40,7 +40,7 @@ transfer_length cdb = big_number 3 (drop 2 cdb)
 abbrev pub asks_descriptors : List ℕ → Bool
 asks_descriptors cdb = is_bit_set (slice_index cdb 1) 0
 
--- ALLOCATION LENGTH of one byte: byte 4 (SPC-4, REQUEST SENSE)
+-- ALLOCATION LENGTH of one byte: byte 4 (SPC-4, REQUEST SENSE, MODE SENSE(6))
 abbrev pub short_allocation : List ℕ → ℕ
 short_allocation cdb = slice_index cdb 4
 
@@ -77,6 +77,30 @@ space_count cdb = twos_complement 3 (big_number 3 (drop 2 cdb))
 abbrev pub space_of : Option SpaceCode → ℤ → Option Command
 space_of None count = None
 space_of (Some code) count = Some (Space code count)
+
+-- SP: byte 1 bit 0 (SPC-4, MODE SELECT(6))
+abbrev pub asks_saving : List ℕ → Bool
+asks_saving cdb = is_bit_set (slice_index cdb 1) 0
+
+-- PARAMETER LIST LENGTH of one byte: byte 4 (SPC-4, MODE SELECT(6))
+abbrev pub short_list_length : List ℕ → ℕ
+short_list_length cdb = slice_index cdb 4
+
+-- DBD, disable block descriptors: byte 1 bit 3 (SPC-4, MODE SENSE(6))
+abbrev pub disables_descriptors : List ℕ → Bool
+disables_descriptors cdb = is_bit_set (slice_index cdb 1) 3
+
+-- PAGE CODE: byte 2 bits 5 to 0 (SPC-4, MODE SENSE(6))
+abbrev pub mode_page : List ℕ → ℕ
+mode_page cdb = slice_index cdb 2 % 64
+
+-- page 0 asks for no page, 3Fh for all that there are, which are none (SPC-4, MODE SENSE(6); no pages, own)
+abbrev pub is_mode_page_known : List ℕ → Bool
+is_mode_page_known cdb = mode_page cdb == 0x00 || mode_page cdb == 0x3f
+
+-- LOAD: byte 4 bit 0 (SSC-4, LOAD UNLOAD)
+abbrev pub asks_load : List ℕ → Bool
+asks_load cdb = is_bit_set (slice_index cdb 4) 0
 
 -- LOGICAL OBJECT IDENTIFIER: bytes 3 to 6, the highest first (SSC-4, LOCATE(10))
 abbrev pub object_identifier : List ℕ → ℕ
@@ -115,7 +139,7 @@ abbrev pub list_length : List ℕ → ℕ
 list_length cdb = big_number 4 (drop 5 cdb)
 
 -- the command of a block of the right length, where its fields are right; nothing else of the block counts
--- (SPC-4, SSC-4; own that FIXED, DESC, MLOI, EVPD, pages and long forms are refused)
+-- (SPC-4, SSC-4; own that FIXED, DESC, MLOI, EVPD, SP, pages and long forms are refused)
 abbrev pub command_by_fields : Opcode → List ℕ → Option Command
 command_by_fields code.TestUnitReady cdb = Some TestUnitReady
 command_by_fields code.Rewind cdb = Some Rewind
@@ -130,7 +154,11 @@ command_by_fields code.WriteFilemarks cdb = Some (WriteFilemarks (transfer_lengt
 command_by_fields code.Space cdb = space_of (space_code (slice_index cdb 1 % 16)) (space_count cdb)
 command_by_fields code.Inquiry cdb =
     if asks_product_page cdb || not (page_code cdb == 0) then None else Some (Inquiry (allocation_length cdb))
+command_by_fields code.ModeSelect cdb = if asks_saving cdb then None else Some (ModeSelect (short_list_length cdb))
 command_by_fields code.Erase cdb = Some Erase
+command_by_fields code.ModeSense cdb =
+    if is_mode_page_known cdb then Some (ModeSense (short_allocation cdb) (disables_descriptors cdb)) else None
+command_by_fields code.LoadUnload cdb = Some (LoadUnload (asks_load cdb))
 command_by_fields code.Locate cdb = Some (Locate (object_identifier cdb) (partition_asked cdb))
 command_by_fields code.ReadPosition cdb = if service_action cdb == 0 then Some ReadPosition else None
 command_by_fields code.PersistentReserveIn cdb =
@@ -154,16 +182,20 @@ code_of (Write length) = code.Write
 code_of (WriteFilemarks count immediate) = code.WriteFilemarks
 code_of (Space counted count) = code.Space
 code_of (Inquiry length) = code.Inquiry
+code_of (ModeSelect length) = code.ModeSelect
 code_of Erase = code.Erase
+code_of (ModeSense length disables) = code.ModeSense
+code_of (LoadUnload load) = code.LoadUnload
 code_of (Locate object part) = code.Locate
 code_of ReadPosition = code.ReadPosition
 code_of (PersistentReserveIn action length) = code.PersistentReserveIn
 code_of (PersistentReserveOut action length) = code.PersistentReserveOut
 
 -- how many bytes a host sends with a command: a WRITE's block, or a parameter list
--- (SSC-4, WRITE(6); SPC-4, PERSISTENT RESERVE OUT)
+-- (SSC-4, WRITE(6); SPC-4, MODE SELECT(6), PERSISTENT RESERVE OUT)
 abbrev pub sent_length : Command → ℕ
 sent_length (Write length) = length
+sent_length (ModeSelect length) = length
 sent_length (PersistentReserveOut action length) = length
 sent_length _ = 0
 

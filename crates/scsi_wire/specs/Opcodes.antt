@@ -1,7 +1,7 @@
 -- The operation codes, in one table.
 use Rattle.std.specs.Prelude.{ℕ, Bool, true, false, List, [], ◌∷◌, Option, None, option_map, find, ◌==◌}
 use Rattle.scsi_wire.specs.declared.opcodes.Opcode.{Opcode}
-use Rattle.scsi_wire.specs.declared.opcodes.Opcode.TheVariants.{TestUnitReady, Rewind, RequestSense, ReadBlockLimits, Read, Write, WriteFilemarks, Space, Inquiry, Erase, Locate, ReadPosition, PersistentReserveIn, PersistentReserveOut}
+use Rattle.scsi_wire.specs.declared.opcodes.Opcode.TheVariants.{TestUnitReady, Rewind, RequestSense, ReadBlockLimits, Read, Write, WriteFilemarks, Space, Inquiry, ModeSelect, Erase, ModeSense, LoadUnload, Locate, ReadPosition, PersistentReserveIn, PersistentReserveOut}
 use Rattle.scsi_wire.specs.declared.opcodes.Row.{Row}
 
 -- a row: code, bytes of its blocks, exempt from all checks of state, stopped by a reservation, needs a medium (own)
@@ -25,7 +25,10 @@ row_of Write = new_row 0x0a 6 false true true
 row_of WriteFilemarks = new_row 0x10 6 false true true
 row_of Space = new_row 0x11 6 false true true
 row_of Inquiry = new_row 0x12 6 true false false
+row_of ModeSelect = new_row 0x15 6 false true false
 row_of Erase = new_row 0x19 6 false true true
+row_of ModeSense = new_row 0x1a 6 false false false
+row_of LoadUnload = new_row 0x1b 6 false true false
 row_of Locate = new_row 0x2b 10 false true true
 row_of ReadPosition = new_row 0x34 10 false false true
 row_of PersistentReserveIn = new_row 0x5e 10 false false false
@@ -34,8 +37,9 @@ row_of PersistentReserveOut = new_row 0x5f 10 false false false
 -- the codes that are known (own)
 abbrev pub opcodes : List Opcode
 opcodes =
-    TestUnitReady ∷ Rewind ∷ RequestSense ∷ ReadBlockLimits ∷ Read ∷ Write ∷ WriteFilemarks ∷ Space ∷ Inquiry ∷ Erase
-    ∷ Locate ∷ ReadPosition ∷ PersistentReserveIn ∷ PersistentReserveOut ∷ []
+    TestUnitReady ∷ Rewind ∷ RequestSense ∷ ReadBlockLimits ∷ Read ∷ Write ∷ WriteFilemarks ∷ Space ∷ Inquiry
+    ∷ ModeSelect ∷ Erase ∷ ModeSense ∷ LoadUnload ∷ Locate ∷ ReadPosition ∷ PersistentReserveIn
+    ∷ PersistentReserveOut ∷ []
 
 -- the code that a byte is (own)
 abbrev pub opcode_at : ℕ → Option Opcode

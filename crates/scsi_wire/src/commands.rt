@@ -22,25 +22,63 @@ pub enum Command {
     TestUnitReady,
     Rewind,
     /// `length` is the room that the host has for sense data.
-    RequestSense { length: u8 },
+    RequestSense {
+        length: u8,
+    },
     ReadBlockLimits,
     /// `suppress_length` is SILI: an incorrect length is not reported.
-    Read { length: u32, suppress_length: bool },
-    Write { length: u32 },
+    Read {
+        length: u32,
+        suppress_length: bool,
+    },
+    Write {
+        length: u32,
+    },
     /// `immediate` is IMMED: the status does not wait until all is stored.
-    WriteFilemarks { count: u32, immediate: bool },
+    WriteFilemarks {
+        count: u32,
+        immediate: bool,
+    },
     /// A `count` below 0 is backward, -8,388,608 to 8,388,607.
-    Space { code: SpaceCode, count: i32 },
+    Space {
+        code: SpaceCode,
+        count: i32,
+    },
     /// `length` is the room that the host has for the data.
-    Inquiry { length: u16 },
+    Inquiry {
+        length: u16,
+    },
+    /// `length` is that of the parameter list, which the host sends.
+    ModeSelect {
+        length: u8,
+    },
     Erase,
+    /// `length` is the room that the host has for the data; `disable_descriptors` is DBD: it wants no block
+    /// descriptor.
+    ModeSense {
+        length: u8,
+        disable_descriptors: bool,
+    },
+    /// `load` is LOAD: the medium is loaded, else it is unloaded.
+    LoadUnload {
+        load: bool,
+    },
     /// `part` is the partition where another is asked for (CP).
-    Locate { object: ObjNo, part: Option<PartNo> },
+    Locate {
+        object: ObjNo,
+        part: Option<PartNo>,
+    },
     ReadPosition,
     /// `length` is the room that the host has for the data.
-    PersistentReserveIn { action: PrRead, length: u16 },
+    PersistentReserveIn {
+        action: PrRead,
+        length: u16,
+    },
     /// `length` is that of the parameter list, which the host sends: any that four bytes spell.
-    PersistentReserveOut { action: PrAction, length: u32 },
+    PersistentReserveOut {
+        action: PrAction,
+        length: u32,
+    },
 }
 
 /// A command descriptor block, as a host sends it.
@@ -66,7 +104,10 @@ impl Command {
             Opcode::WriteFilemarks => Some(fields::write_filemarks(cdb)),
             Opcode::Space => fields::space(cdb),
             Opcode::Inquiry => fields::inquiry(cdb),
+            Opcode::ModeSelect => fields::mode_select(cdb),
             Opcode::Erase => Some(Command::Erase),
+            Opcode::ModeSense => fields::mode_sense(cdb),
+            Opcode::LoadUnload => Some(fields::load_unload(cdb)),
             Opcode::Locate => Some(fields::locate(cdb)),
             Opcode::ReadPosition => fields::read_position(cdb),
             Opcode::PersistentReserveIn => fields::persistent_reserve_in(cdb),
@@ -88,7 +129,10 @@ impl Command {
             Command::WriteFilemarks { .. } => Opcode::WriteFilemarks,
             Command::Space { .. } => Opcode::Space,
             Command::Inquiry { .. } => Opcode::Inquiry,
+            Command::ModeSelect { .. } => Opcode::ModeSelect,
             Command::Erase => Opcode::Erase,
+            Command::ModeSense { .. } => Opcode::ModeSense,
+            Command::LoadUnload { .. } => Opcode::LoadUnload,
             Command::Locate { .. } => Opcode::Locate,
             Command::ReadPosition => Opcode::ReadPosition,
             Command::PersistentReserveIn { .. } => Opcode::PersistentReserveIn,
@@ -102,6 +146,7 @@ impl Command {
     {
         match self {
             Command::Write { length } => length,
+            Command::ModeSelect { length } => u32::from(length),
             Command::PersistentReserveOut { length, .. } => length,
             _ => 0,
         }

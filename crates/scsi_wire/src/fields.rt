@@ -1,6 +1,6 @@
 //! The fields of command descriptor blocks, command by command. Each block has the length of its code.
 ghost use Rattle.std.specs.Prelude.{◌≡◌, ◌<◌, ◌≤◌, Some, length};
-ghost use Rattle.scsi_wire.specs.Commands.{command_by_fields, is_bit_set, is_fixed, pr_read_of, space_code, transfer_length};
+ghost use Rattle.scsi_wire.specs.Commands.{command_by_fields, is_bit_set, is_fixed, is_mode_page_known, pr_read_of, space_code, transfer_length};
 
 use crate::commands::{Command, PrRead};
 use crate::opcodes::Opcode;
@@ -123,6 +123,49 @@ pub fn inquiry(cdb: &[u8]) -> Option<Command>
     Some(Command::Inquiry {
         length: BigEndian::read_u16(&cdb[3..]),
     })
+}
+
+/// MODE SELECT: SP is refused.
+pub fn mode_select(cdb: &[u8]) -> Option<Command>
+    requires { 5 ≤ length cdb.now }
+    ensures { result ≡ command_by_fields Opcode.ModeSelect cdb.now }
+{
+    if is_bit_set(cdb[1], 0) {
+        return None;
+    }
+    Some(Command::ModeSelect { length: cdb[4] })
+}
+
+/// MODE SENSE: a page that there is not is refused.
+pub fn mode_sense(cdb: &[u8]) -> Option<Command>
+    requires { 5 ≤ length cdb.now }
+    ensures { result ≡ command_by_fields Opcode.ModeSense cdb.now }
+{
+    if !is_mode_page_known(cdb) {
+        return None;
+    }
+    Some(Command::ModeSense {
+        length: cdb[4],
+        disable_descriptors: is_bit_set(cdb[1], 3),
+    })
+}
+
+// No page, or all that there are: none.
+fn is_mode_page_known(cdb: &[u8]) -> bool
+    requires { 3 ≤ length cdb.now }
+    ensures { result ≡ is_mode_page_known cdb.now }
+{
+    matches!(cdb[2] % 64, 0x00 | 0x3f)
+}
+
+/// LOAD UNLOAD.
+pub fn load_unload(cdb: &[u8]) -> Command
+    requires { 5 ≤ length cdb.now }
+    ensures { Some result ≡ command_by_fields Opcode.LoadUnload cdb.now }
+{
+    Command::LoadUnload {
+        load: is_bit_set(cdb[4], 0),
+    }
 }
 
 /// LOCATE.

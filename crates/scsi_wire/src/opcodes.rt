@@ -14,7 +14,10 @@ pub enum Opcode {
     WriteFilemarks,
     Space,
     Inquiry,
+    ModeSelect,
     Erase,
+    ModeSense,
+    LoadUnload,
     Locate,
     ReadPosition,
     PersistentReserveIn,
@@ -31,7 +34,7 @@ struct Row {
     on_medium: bool,
 }
 
-const KNOWN: [Opcode; 14] = [
+const KNOWN: [Opcode; 17] = [
     Opcode::TestUnitReady,
     Opcode::Rewind,
     Opcode::RequestSense,
@@ -41,7 +44,10 @@ const KNOWN: [Opcode; 14] = [
     Opcode::WriteFilemarks,
     Opcode::Space,
     Opcode::Inquiry,
+    Opcode::ModeSelect,
     Opcode::Erase,
+    Opcode::ModeSense,
+    Opcode::LoadUnload,
     Opcode::Locate,
     Opcode::ReadPosition,
     Opcode::PersistentReserveIn,
@@ -123,7 +129,10 @@ impl Opcode {
             Opcode::WriteFilemarks => Row::new(0x10, 6, false, true, true),
             Opcode::Space => Row::new(0x11, 6, false, true, true),
             Opcode::Inquiry => Row::new(0x12, 6, true, false, false),
+            Opcode::ModeSelect => Row::new(0x15, 6, false, true, false),
             Opcode::Erase => Row::new(0x19, 6, false, true, true),
+            Opcode::ModeSense => Row::new(0x1a, 6, false, false, false),
+            Opcode::LoadUnload => Row::new(0x1b, 6, false, true, false),
             Opcode::Locate => Row::new(0x2b, 10, false, true, true),
             Opcode::ReadPosition => Row::new(0x34, 10, false, false, true),
             Opcode::PersistentReserveIn => Row::new(0x5e, 10, false, false, false),

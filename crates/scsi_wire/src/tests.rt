@@ -4,5 +4,6 @@ mod answers;
 mod attentions;
 mod blocks;
 mod fields;
+mod modes;
 mod reservations;
 mod senses;

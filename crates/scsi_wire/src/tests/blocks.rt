@@ -21,6 +21,15 @@ const NO_BLOCK: Command = Command::Space {
     count: 0,
 };
 
+const SELECT_NOTHING: Command = Command::ModeSelect { length: 0 };
+
+const SENSE_NO_MODE: Command = Command::ModeSense {
+    length: 0,
+    disable_descriptors: false,
+};
+
+const UNLOAD: Command = Command::LoadUnload { load: false };
+
 const TO_OBJECT_0: Command = Command::Locate {
     object: 0,
     part: None,
@@ -48,7 +57,10 @@ fn known(code: u8) -> Option<(Opcode, Command, usize)> {
         0x10 => Some((Opcode::WriteFilemarks, NO_FILEMARK, 6)),
         0x11 => Some((Opcode::Space, NO_BLOCK, 6)),
         0x12 => Some((Opcode::Inquiry, Command::Inquiry { length: 0 }, 6)),
+        0x15 => Some((Opcode::ModeSelect, SELECT_NOTHING, 6)),
         0x19 => Some((Opcode::Erase, Command::Erase, 6)),
+        0x1a => Some((Opcode::ModeSense, SENSE_NO_MODE, 6)),
+        0x1b => Some((Opcode::LoadUnload, UNLOAD, 6)),
         0x2b => Some((Opcode::Locate, TO_OBJECT_0, 10)),
         0x34 => Some((Opcode::ReadPosition, Command::ReadPosition, 10)),
         0x5e => Some((Opcode::PersistentReserveIn, READ_NO_KEYS, 10)),
@@ -101,7 +113,10 @@ fn the_table(rt: HostRuntime) {
         (Opcode::WriteFilemarks, 6, false, true, true),
         (Opcode::Space, 6, false, true, true),
         (Opcode::Inquiry, 6, true, false, false),
+        (Opcode::ModeSelect, 6, false, true, false),
         (Opcode::Erase, 6, false, true, true),
+        (Opcode::ModeSense, 6, false, false, false),
+        (Opcode::LoadUnload, 6, false, true, false),
         (Opcode::Locate, 10, false, true, true),
         (Opcode::ReadPosition, 10, false, false, true),
         (Opcode::PersistentReserveIn, 10, false, false, false),
