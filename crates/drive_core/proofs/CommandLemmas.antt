@@ -29,7 +29,7 @@ use Rattle.drive_core.specs.Write.{WriteWork, put_at}
 use Rattle.drive_core.specs.Marks.{MarksWork, marks_at}
 use Rattle.drive_core.specs.Read.{ReadWork, ReadAnswer, GivesObject, object_at, next, block_reply}
 use Rattle.drive_core.specs.Work.{MediumWork}
-use Rattle.drive_core.specs.Determined.{IsSureSight, Sight, is_sound, sight_of, side_sight}
+use Rattle.drive_core.specs.Determined.{IsSureSight, Sight, sight_of, side_sight}
 
 -- loaded media that are seen alike, and of which it is sure what their sides give, at one position
 pub record MountedAlike (m m' : Mounted) : Type 0 where

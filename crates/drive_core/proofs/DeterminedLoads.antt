@@ -1,9 +1,8 @@
 -- Where no fault comes, a medium that it is sure of opens in one way, and so a loading and a power on have one outcome.
-use Rattle.std.proofs.Common.{◌≡◌, ℕ, List, [], Option, None, Some, Result, Ok, Err, Bool, true, false, sym, ◌∙◌, ap, subst, refl, inl, inr}
+use Rattle.std.proofs.Common.{◌≡◌, List, [], Option, None, Some, Result, Ok, Err, Bool, true, false, sym, ◌∙◌, ap, subst, refl, inl, inr}
 use Rattle.std.specs.Prelude.{option_map, IfSome, ◌&&◌, not}
 use Rattle.scsi_sense.specs.declared.replies.Reply.{Reply}
 use Rattle.pr_core.specs.Keepers.{KeeperState}
-use Rattle.volume_core.specs.declared.changes.Change.{Change}
 use Rattle.volume_core.specs.declared.media.MediumError.{MediumError}
 use Rattle.volume_core.specs.declared.media.MediumError.TheVariants as Errors
 use Rattle.volume_core.specs.Volume.{Part, after}
@@ -120,7 +119,7 @@ stored_in None = None
 stored_in (Some side) = side.stored
 
 -- two media answered alike, and are seen alike
-record WokeAlike (woke woke' : Result Unit MediumError) (opened opened' : MediumState) : Type 0 where
+pub record WokeAlike (woke woke' : Result Unit MediumError) (opened opened' : MediumState) : Type 0 where
   pub answers : woke ≡ woke'
   pub sights : sight_of opened ≡ sight_of opened'
   pub sure : IsSureSight (sight_of opened)

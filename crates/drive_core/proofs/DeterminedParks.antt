@@ -2,8 +2,7 @@
 use Rattle.std.proofs.Common.{◌≡◌, ℕ, List, [], Option, None, Some, Result, Ok, Err, Bool, true, false, sym, ◌∙◌, ap, subst, refl}
 use Rattle.std.specs.Prelude.{IfSome, ◌&&◌, not}
 use Rattle.scsi_sense.specs.declared.replies.Reply.{Reply}
-use Rattle.scsi_sense.specs.Replies.{check_with, good_with}
-use Rattle.scsi_sense.specs.Senses.{medium_not_present}
+use Rattle.scsi_sense.specs.Replies.{good_with}
 use Rattle.volume_core.specs.declared.changes.Change.{Change}
 use Rattle.volume_core.specs.declared.media.MediumError.{MediumError}
 use Rattle.volume_core.specs.Volume.{Part, after}
@@ -11,7 +10,7 @@ use Rattle.volume_core.specs.Medium.{MediumState, IsParked, IsParkedFrom, Parks,
 use Rattle.drive_core.specs.declared.bays.Bay.{Bay}
 use Rattle.drive_core.specs.declared.bays.Bay.TheVariants.{Empty, Unloaded, Loaded}
 use Rattle.drive_core.specs.State.{Machine, bay_of, medium_in}
-use Rattle.drive_core.specs.Relations.{Made, made_nothing}
+use Rattle.drive_core.specs.Relations.{Made}
 use Rattle.drive_core.specs.declared.faults.Fault.{Fault}
 use Rattle.volume_core.specs.declared.media.MediumError.TheVariants as Errors
 use Rattle.drive_core.specs.LoadUnload.{LoadsIn, ParksAs, ReloadsAs, UnloadsInto, reloaded, unloaded}

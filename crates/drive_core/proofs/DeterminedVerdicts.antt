@@ -1,47 +1,28 @@
 -- Drives that are seen alike judge a request alike.
-use Rattle.std.proofs.Common.{◌≡◌, ℕ, List, [], Option, None, Some, IfSome, Result, Ok, Err, Bool, true, false, refl, sym, ◌∙◌, ap, subst, length, nat_lt, ◌==◌, ◌&&◌, not, if◌then◌else◌}
-use Rattle.scsi_sense.specs.declared.replies.Reply.{Reply}
+use Rattle.std.proofs.Common.{◌≡◌, ℕ, List, [], Option, None, Some, Ok, Err, Bool, true, false, refl, sym, ◌∙◌, ap, length, nat_lt, ◌==◌, ◌&&◌, not, if◌then◌else◌}
 use Rattle.scsi_attention.specs.Attentions.{attention_of, cleared}
-use Rattle.scsi_sense.specs.Replies.{check_with, good_with}
-use Rattle.scsi_sense.specs.declared.sense_data.Sense.{Sense}
-use Rattle.scsi_sense.specs.SenseData.{sense_bytes}
 use Rattle.scsi_sense.specs.Senses.{invalid_field, medium_not_present, medium_failed}
 use Rattle.scsi_wire.specs.declared.opcodes.Opcode.{Opcode}
 use Rattle.scsi_wire.specs.declared.commands.Command.{Command}
 use Rattle.scsi_wire.specs.declared.commands.Command.TheVariants.{TestUnitReady, Rewind, RequestSense, ReadBlockLimits, Read, Write, WriteFilemarks, Space, Inquiry, Erase, Locate, ReadPosition, PersistentReserveIn, PersistentReserveOut, ModeSelect, ModeSense, LoadUnload}
-use Rattle.scsi_wire.specs.Answers.{block_limits, cut_to, inquiry_data}
 use Rattle.scsi_wire.specs.Opcodes.{opcode_of, is_exempt, is_stopped_by_reservation, needs_medium}
-use Rattle.scsi_wire.specs.Commands.{code_of, command_of, sent_length}
+use Rattle.scsi_wire.specs.Commands.{command_of, sent_length}
 use Rattle.volume_core.specs.Volume.{Part}
 use Rattle.volume_core.specs.Medium.{MediumState}
-use Rattle.positioning.specs.Laws.{NoSpaceEndsTwice, NoLocateEndsTwice}
-use Rattle.pr_core.specs.declared.states.PrState.{PrState}
 use Rattle.pr_core.specs.States.{is_allowed}
-use Rattle.pr_core.specs.Laws.{NoOrderEndsTwice}
-use Rattle.scsi_lists.specs.PrLists.{list_decoded}
 use Rattle.drive_core.specs.declared.bays.Bay.{Bay}
 use Rattle.drive_core.specs.declared.bays.Bay.TheVariants.{Empty, Unloaded, Loaded}
 use Rattle.drive_core.specs.declared.conditions.Condition.{Condition}
 use Rattle.drive_core.specs.declared.conditions.Condition.TheVariants.{DeferredError, UnitAttention}
 use Rattle.drive_core.specs.declared.conditions.Denial.{Denial}
 use Rattle.drive_core.specs.declared.conditions.Denial.TheVariants.{Refused, Reported, Conflict}
-use Rattle.drive_core.specs.State.{Machine, medium_in, mounted, start, with_mounted, bay_of, volume_in}
-use Rattle.drive_core.specs.Conditions.{attention_due, condition_due, denial_reply, denied, first_some, without_condition}
-use Rattle.drive_core.specs.Relations.{Made, MediumRelation}
-use Rattle.drive_core.specs.RequestSense.{RequestSenseWork, once_reported, sense_due}
-use Rattle.drive_core.specs.ReserveIn.{data_read}
-use Rattle.drive_core.specs.Tell.{Tells}
-use Rattle.drive_core.specs.Work.{Request, MediumWork, DriveWork, WorkBy}
-use Rattle.drive_core.specs.LoadUnload.{LoadUnloadWork, LoadsAgain, LoadsIn, unloaded}
-use Rattle.drive_core.specs.Mode.{ModeSelectOf, changed_mode, in_asked_mode, in_mode}
-use Rattle.drive_core.specs.StoredFirst.{GoesTo, StoredFirst}
-use Rattle.scsi_lists.specs.declared.mode_lists.ModeList.{ModeList}
-use Rattle.scsi_lists.specs.ModeLists.{mode_data, mode_decoded}
-use Rattle.drive_core.specs.OnMedium.{OnMediumIn}
-use Rattle.drive_core.specs.Checks.{Executes, ExecutesAs, condition_denial, fields_verdict, medium_denial, state_denial, suits, unless_denied, verdict, verdict_at}
-use Rattle.drive_core.specs.Step.{Answered}
-use Rattle.drive_core.specs.Determined.{IsSureDrive, IsSureSight, Sight, sight_of, seen_of, AreAlike}
-use Rattle.drive_core.proofs.DeterminedOrders.{Seen, ends, lists_alike}
+use Rattle.drive_core.specs.State.{Machine, bay_of, volume_in}
+use Rattle.drive_core.specs.Conditions.{attention_due, condition_due, denied, first_some, without_condition}
+use Rattle.drive_core.specs.RequestSense.{once_reported}
+use Rattle.drive_core.specs.Work.{Request}
+use Rattle.drive_core.specs.Checks.{condition_denial, fields_verdict, medium_denial, state_denial, suits, unless_denied, verdict, verdict_at}
+use Rattle.drive_core.specs.Determined.{IsSureDrive, Sight, sight_of, seen_of}
+use Rattle.drive_core.proofs.DeterminedOrders.{Seen}
 
 -- what denies a command that needs a medium, by what is seen of it
 abbrev denial_seen : Bay Sight → Option Denial

@@ -11,10 +11,12 @@ pub mod DeterminedWorks
 pub mod DeterminedChecks
 pub mod DeterminedLemmas
 pub mod DeterminedRuns
+pub mod CleanLemmas
 pub mod SettledLemmas
 pub mod AppendLemmas
 pub mod ReadLemmas
 pub mod PassLemmas
 pub mod LoadLemmas
+pub mod LoadingLemmas
 pub mod StepLemmas
 pub mod RunLemmas

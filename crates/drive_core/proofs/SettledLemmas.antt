@@ -1,5 +1,5 @@
 -- A synchronizing command that is acknowledged leaves nothing pending, check by check.
-use Rattle.std.proofs.Common.{◌≡◌, ◌≢◌, ℕ, ℤ, zero, suc, List, [], ◌∷◌, Option, None, Some, Result, Ok, Err, Bool, true, false, length, ◌==◌, refl, subst, sym, ap, inl, inr, nat_lt, not, ◌&&◌, if◌then◌else◌}
+use Rattle.std.proofs.Common.{◌≡◌, ◌≢◌, ℕ, ℤ, zero, suc, List, [], ◌∷◌, Option, None, Some, Result, Ok, Err, Bool, true, false, length, ◌==◌, refl, subst, ap, inl, inr, nat_lt, not, ◌&&◌, if◌then◌else◌}
 use Rattle.std.proofs.lemmas.Bool.{eqb-true}
 use Rattle.vtl_base.specs.declared.space_codes.SpaceCode.{SpaceCode}
 use Rattle.scsi_sense.specs.declared.replies.Reply.{Reply}
@@ -28,7 +28,6 @@ use Rattle.drive_core.specs.declared.conditions.Denial.{Denial}
 use Rattle.drive_core.specs.declared.conditions.Denial.TheVariants.{Refused, Conflict}
 use Rattle.drive_core.specs.State.{Machine, Mounted, mounted, contents_of}
 use Rattle.drive_core.specs.Relations.{Made}
-use Rattle.drive_core.specs.StoredFirst.{IsStored}
 use Rattle.drive_core.specs.Append.{AppendAnswer, LacksRoom, amount_of}
 use Rattle.drive_core.specs.Space.{SpaceWhen, is_over_nothing}
 use Rattle.drive_core.specs.Erase.{EraseWork, erase_at}
@@ -40,6 +39,7 @@ use Rattle.drive_core.specs.OnMedium.{OnMediumIn}
 use Rattle.drive_core.specs.Conditions.{condition_due, denial_reply, first_some}
 use Rattle.drive_core.specs.Checks.{Executes, ExecutesAs, condition_denial, fields_verdict, medium_denial, need_denial, reservation_denial, state_denial, suits, unless_denied, verdict, verdict_at}
 use Rattle.drive_core.specs.Synchronize.{synchronizes, IsSynchronizing, Acknowledges, NothingPending}
+use Rattle.drive_core.proofs.CleanLemmas.{IsClean, load_unload_settled, stored_clean}
 
 attention_key : (attention : Attention) → (attention_sense attention).key ≢ NoSense
 attention_key PowerOn = λ e. cc
@@ -58,15 +58,6 @@ unacknowledged sense bytes other (inr warning) = other warning.1.0
 conflict_unacknowledged : Acknowledges conflict → ⊥
 conflict_unacknowledged (inl good) = cc
 conflict_unacknowledged (inr warning) = cc warning.0
-
--- a medium that has not failed, and has nothing pending
-abbrev IsClean : MediumState → Type 0
-IsClean medium = (medium.failed ≡ false) × (medium.pending ≡ [])
-
--- a medium on which all is stored is clean, and so is what is equal to it
-stored_clean : (old between medium : MediumState) → IsStored old between → medium ≡ between → IsClean medium
-stored_clean old between medium h e =
-    subst (λ (m : MediumState). IsClean m) (sym e) (h.works.works, h.nothing_pending)
 
 -- want of room acknowledges nothing
 lacks_unacknowledged : (amount : Option ℕ) (old : Mounted) (reply : Reply) (made : List Change) (new : Mounted)
@@ -154,6 +145,9 @@ module _ (H : Type 0) where
   work_settled (Inquiry room) machine sent old reply made new sure counted h acknowledged = cc
   work_settled (PersistentReserveIn action room) machine sent old reply made new sure counted h acknowledged = cc
   work_settled (PersistentReserveOut action bytes) machine sent old reply made new sure counted h acknowledged = cc
+  work_settled (ModeSelect length) machine sent old reply made new sure counted h acknowledged = cc
+  work_settled (ModeSense room bare) machine sent old reply made new sure counted h acknowledged = cc
+  work_settled (LoadUnload load) machine sent old reply made new sure counted h acknowledged = absurd h
 
   module _ (old : Machine) (nexus : ℕ) (sent : List ℕ) (reply : Reply) (made : Made) (new : Machine)
       (acknowledged : Acknowledges reply) where
@@ -186,6 +180,9 @@ module _ (H : Type 0) where
     command_settled (Inquiry room) sure counted h = cc
     command_settled (PersistentReserveIn action room) sure counted h = cc
     command_settled (PersistentReserveOut action bytes) sure counted h = cc
+    command_settled (ModeSelect length) sure counted h = cc
+    command_settled (ModeSense room bare) sure counted h = cc
+    command_settled (LoadUnload load) sure counted h = load_unload_settled H old reply made new load nexus sure h
 
 -- a command that is denied is not acknowledged, one that is carried out is the block's and came with its bytes
 abbrev Judged : Request → Result Command Denial → Type 0

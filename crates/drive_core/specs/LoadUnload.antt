@@ -11,7 +11,7 @@ use Rattle.drive_core.specs.declared.bays.Bay.{Bay}
 use Rattle.drive_core.specs.declared.bays.Bay.TheVariants.{Empty, Unloaded, Loaded}
 use Rattle.drive_core.specs.declared.faults.Fault.{Fault}
 use Rattle.drive_core.specs.declared.faults.Fault.TheVariants.{Writing}
-use Rattle.drive_core.specs.State.{Machine, DriveState, Mounted, start}
+use Rattle.drive_core.specs.State.{Machine, DriveState, start}
 use Rattle.drive_core.specs.Relations.{MachineRelation, RepliesAlone, made_nothing}
 use Rattle.drive_core.specs.Load.{wake_answer}
 use Rattle.drive_core.specs.OnMedium.{OnMediumIn}

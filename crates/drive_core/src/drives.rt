@@ -14,7 +14,7 @@ mod performing;
 mod reserving;
 mod verdicts;
 
-use crate::bays::Bay;
+use crate::bays::{Bay, fill};
 use crate::conditions::{Condition, Denial};
 use crate::faults::Fault;
 use crate::opening::{START, check, open, start_of, wake_reply};
@@ -170,10 +170,7 @@ impl<M: Medium, K: Keeper> Drive<M, K> {
             return Err((medium, wake_reply(self.alloc, error)));
         }
         self.position = start_of(&medium);
-        match mem::replace(&mut self.bay, Bay::Loaded(medium)) {
-            Bay::Empty => {}
-            Bay::Unloaded(_other) | Bay::Loaded(_other) => unreachable!(),
-        }
+        fill(&mut self.bay, Bay::Loaded(medium));
         self.attentions.establish_for_all(Attention::MediumChanged);
         Ok(())
     }
@@ -188,7 +185,7 @@ impl<M: Medium, K: Keeper> Drive<M, K> {
             Bay::Loaded(medium) => match park(medium) {
                 Ok(parked) => Ok(parked),
                 Err(broken) => {
-                    self.bay = Bay::Loaded(broken);
+                    fill(&mut self.bay, Bay::Loaded(broken));
                     Err(Fault::Writing.reply(self.alloc))
                 }
             },

@@ -7,7 +7,7 @@ ghost use Rattle.drive_core.specs.Media.{ParksFrom};
 ghost use Rattle.drive_core.specs.Inner.Opening.{WakesTo};
 
 use super::Drive;
-use crate::bays::Bay;
+use crate::bays::{Bay, fill};
 use crate::faults::Fault;
 use crate::opening::{check, start_of, wake_answer};
 use crate::rewinds::go_to_start;
@@ -44,16 +44,16 @@ impl<M: Medium, K: Keeper> Drive<M, K> {
         match mem::replace(&mut self.bay, Bay::Empty) {
             Bay::Empty => Ok(check(self.alloc, Sense::medium_not_present())),
             Bay::Unloaded(medium) => {
-                self.bay = Bay::Unloaded(medium);
+                fill(&mut self.bay, Bay::Unloaded(medium));
                 Ok(Reply::good(Bytes::new(self.alloc)))
             }
             Bay::Loaded(medium) => match park(medium) {
                 Ok(parked) => {
-                    self.bay = Bay::Unloaded(parked);
+                    fill(&mut self.bay, Bay::Unloaded(parked));
                     Ok(Reply::good(Bytes::new(self.alloc)))
                 }
                 Err(broken) => {
-                    self.bay = Bay::Loaded(broken);
+                    fill(&mut self.bay, Bay::Loaded(broken));
                     Err(Fault::Writing)
                 }
             },
@@ -78,17 +78,17 @@ impl<M: Medium, K: Keeper> Drive<M, K> {
             Bay::Unloaded(medium) => match wake(medium) {
                 Ok(opened) => {
                     self.position = start_of(&opened);
-                    self.bay = Bay::Loaded(opened);
+                    fill(&mut self.bay, Bay::Loaded(opened));
                     self.attentions
                         .establish_for_others(nexus, Attention::MediumChanged);
                     Ok(Reply::good(Bytes::new(self.alloc)))
                 }
                 Err((parked, error)) => {
-                    self.bay = Bay::Unloaded(parked);
+                    fill(&mut self.bay, Bay::Unloaded(parked));
                     wake_answer(self.alloc, error)
                 }
             },
-            Bay::Loaded(_) => unreachable!(),
+            Bay::Loaded(_other) => unreachable!(),
         }
     }
 }

@@ -64,7 +64,10 @@ fn tell_mode(alloc: Global, buffered: bool, bare: bool, room: u8) -> Result<Repl
     ensures { Gives (cut_to room (mode_data buffered bare)) result }
 {
     if bare {
-        give(alloc, cut_to(&mode_data_without_descriptors(buffered), room as usize))
+        give(
+            alloc,
+            cut_to(&mode_data_without_descriptors(buffered), room as usize),
+        )
     } else {
         give(alloc, cut_to(&mode_data(buffered), room as usize))
     }
