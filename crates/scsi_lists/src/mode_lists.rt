@@ -74,25 +74,14 @@ fn device_specific(buffered: bool) -> u8
 pub fn mode_data(buffered: bool) -> [u8; 12]
     ensures { result ≡ mode_data buffered false }
 {
-    [
-        0x0b,
-        0,
-        device_specific(buffered),
-        8,
-        0,
-        0,
-        0,
-        0,
-        0,
-        0,
-        0,
-        0,
-    ]
+    let mode = device_specific(buffered);
+    [0x0b, 0, mode, 8, 0, 0, 0, 0, 0, 0, 0, 0]
 }
 
 /// The 4 bytes of MODE SENSE(6) where block descriptors are disabled (DBD): the header alone (SPC-4, SSC-4).
 pub fn mode_data_without_descriptors(buffered: bool) -> [u8; 4]
     ensures { result ≡ mode_data buffered true }
 {
-    [0x03, 0, device_specific(buffered), 0]
+    let mode = device_specific(buffered);
+    [0x03, 0, mode, 0]
 }
