@@ -7,20 +7,22 @@ use super::asking::{
 use super::tables::{NONE, REWIND, TEST_UNIT_READY};
 use crate::Drive;
 use pr_core::{Reservations, SaveFault, SavePlan, StagedKeeper};
+use scsi_lists::{PrOut, PrType};
 use std::alloc::Global;
 use std::process::Abort;
 use std::test::Fail;
 use volume_core::StagedMedium;
-use vtl_base::NoMemory;
+use vtl_base::{Nexus, NoMemory};
 
-// A drive with a tape whose keeper has such room, and a save of which fails.
+// A drive with a tape, whose keeper holds this and has such room, and a save of which fails.
 fn with_keeper(
     alloc: Global,
+    saved: Reservations,
     room: u64,
     plan: Option<SavePlan>,
 ) -> Result<Drive<StagedMedium, StagedKeeper>, NoMemory> {
-    let keeper = StagedKeeper::new(Reservations::empty(), room, plan);
-    let left = keeper.saved().power_loss();
+    let keeper = StagedKeeper::new(saved, room, plan);
+    let left = saved.power_loss();
     Drive::power_on(alloc, keeper, left, Some(tape(alloc)?)).map_err(|_| NoMemory)
 }
 
@@ -30,7 +32,12 @@ fn failing(
     after: u32,
     by: SaveFault,
 ) -> Result<Drive<StagedMedium, StagedKeeper>, NoMemory> {
-    with_keeper(alloc, 4_096, Some(SavePlan { after, by }))
+    with_keeper(
+        alloc,
+        Reservations::empty(),
+        4_096,
+        Some(SavePlan { after, by }),
+    )
 }
 
 // Orders of which each is to be saved, and what stands before each: the keys and the reservation.
@@ -135,7 +142,7 @@ fn a_store_is_full(rt: HostRuntime) -> Result<(), Fail> {
         (1, CLEAR, BY_A, GOOD),
         (1, READ_KEYS, NONE, Answer::Good(none)),
     ];
-    let mut drive = with_keeper(rt.alloc(), 27, None)?;
+    let mut drive = with_keeper(rt.alloc(), Reservations::empty(), 27, None)?;
     greet(&rt, &mut drive, &[1, 2]);
     ask_all(&rt, &mut drive, &rows);
     Ok(())
@@ -164,5 +171,36 @@ fn saves_are_counted(rt: HostRuntime) -> Result<(), Fail> {
     let mut drive = failing(rt.alloc(), 1, SaveFault::NoMemory)?;
     greet(&rt, &mut drive, &[1, 2]);
     ask_all(&rt, &mut drive, &rows);
+    Ok(())
+}
+
+#[test]
+fn a_drive_begins_with_what_was_saved(rt: HostRuntime) -> Result<(), Fail> {
+    let key = b"\0\0\0\0\0\0\0\x08\0\0\0\0\0\0\0\xa1";
+    for (aptpl, keys, stopped) in [(true, key.as_slice(), CONFLICT), (false, &[0; 8], GOOD)] {
+        let host = Nexus::new(1).expect(&rt, "a nexus");
+        let mut saved = Reservations::empty();
+        for order in [
+            PrOut::Register {
+                key: 0,
+                new_key: 0xa1,
+                aptpl,
+            },
+            PrOut::Reserve {
+                key: 0xa1,
+                kind: PrType::ExclusiveAccess,
+            },
+        ] {
+            let _ = saved.pr_out(host, &order);
+        }
+        let mut drive = with_keeper(rt.alloc(), saved, 4_096, None)?;
+        greet(&rt, &mut drive, &[1, 2]);
+        let rows: [Row; 3] = [
+            (1, READ_KEYS, NONE, Answer::Good(keys)),
+            (2, REWIND, NONE, stopped),
+            (1, REWIND, NONE, GOOD),
+        ];
+        ask_all(&rt, &mut drive, &rows);
+    }
     Ok(())
 }
