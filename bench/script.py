@@ -170,11 +170,11 @@ def reservations(folder):
                   f"{seconds * 1e9:.0f} ns a command")
     script, answers = registered(64)
     fenced, seen = ([*script, (order(64, 1, 5, 64) + BREAK, 1)], [*answers, (GOOD, 1)]), []
-    for name, command, times in (("TEST UNIT READY", READY, 1_000_000), ("WRITE of one byte", ONE, 200_000)):
+    for name, command, times in (("TEST UNIT READY", READY, 1_000_000), ("WRITE of one byte", ONE, 450_000)):
         free, held = (time_of(folder, name, before, (command, command), times)
                       for before in (([(READY, 1)], [ATTENTION]), fenced))
         print(f"{name}: {free * 1e9:.0f} ns without a reservation, {held * 1e9:.0f} ns by a registered host under one")
-        seen += [name] if held > 1.25 * free else []
+        seen += [name] if held > 1.5 * free else []
     if seen:
         sys.exit(f"{' and '.join(seen)} takes longer under a reservation")
 
