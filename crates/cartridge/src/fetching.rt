@@ -35,7 +35,9 @@ impl<D: Disk> Cartridge<D> {
         } }
         ensures answer { MatchCall result
             ((self.old.failed ≡ false) × (self.new.failed ≡ false)
-            × NoneFailed (D.state self.old.disk) (D.state self.new.disk))
+            × NoneFailed (D.state self.old.disk) (D.state self.new.disk)
+            × IfSome (block_at (volume_made self.old.contents) part at)
+            (λ block. length into.new.items ≡ length block))
             ((self.old.failed ≡ false) × (self.new ≡ self.old)
             × IfSome (block_at (volume_made self.old.contents) part at)
             (λ block. vec_capacity into.old < length block)) ⊥

@@ -61,6 +61,44 @@ returns-in_err-resize-clause-answer g c =
           short),
     )
 
+pub returns-clause-answer : goal.returns-clause-answer
+returns-clause-answer g c = rw (← c.self.view_is) (elim c.match-read.branch [
+  | in-Ok w ↦ rw w.result-is (
+    search rules,
+    search rules,
+    search rules,
+    (let i = c.self.inside in
+        let found = indexes_block (LiesOnSide i.noted.notes i.journal.extents) (volume_made (noted_contents
+        i.noted.notes))
+        i.index c.args.part c.args.at c.in-Some-Block.place c.in-Some-Block.length c.self.invariant.0.lies
+        (sym c.place.ensures ∙ c.in-Some-Block.is ∙ ap Some c.in-Some-Block.field-0-is) in
+        let count : length c.deref_mut.result.now ≡ c.in-Some-Block.length =
+        omega (
+          arith,
+          c.deref_mut.ensures.len,
+          ap (λ (l : List ℕ). length l) c.deref_mut.ensures.value,
+          c.in_ok-resize.ensures.len,
+        ) in
+        let bytes = c.read_body-read.new.buffer in
+        let items = c.resize.new.self.items in
+        let long : length bytes ≡ c.in-Some-Block.length = omega (arith, count, c.read_body-read.auto.buffer) in
+        let same : length items ≡ c.in-Some-Block.length = omega (
+          arith,
+          c.in_ok-resize.ensures.len,
+          c.resize.new.self.ok.0,
+        ) in
+        let whole : take c.resize.new.self.len (bytes ++ drop (length bytes) items) ≡ bytes =
+        filled_whole c.resize.new.self.len bytes items (omega (arith, long, c.in_ok-resize.ensures.len))
+        (omega (arith, same, c.in_ok-resize.ensures.len)) in
+        subst
+        (λ (o : Option (List ℕ)).
+        IfSome o (λ block.
+        length (take c.resize.new.self.len (bytes ++ drop (length bytes) items)) ≡ length block)) (sym found.1)
+        (ap length whole ∙ long ∙ found.2)),
+  )
+  | in-Err-Device w ↦ rw w.result-is (search rules)
+])
+
 pub returns-clause-bytes : goal.returns-clause-bytes
 returns-clause-bytes g c = rw (← c.self.view_is) (λ h. elim c.match-read.branch [
   | in-Ok w ↦
