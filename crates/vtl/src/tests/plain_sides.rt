@@ -33,22 +33,13 @@ fn number(bytes: &[u8], at: usize, width: usize) -> Option<u64> {
     Some(number)
 }
 
-// The bytes of the barcode, where these are one with spaces behind it.
-fn barcode_length(name: &[u8]) -> Option<usize> {
-    let mut length = 0;
-    for byte in name {
-        if byte.is_ascii_uppercase() || byte.is_ascii_digit() {
-            length += 1;
-        } else {
-            break;
-        }
-    }
-    let spaces = name.get(length..)?;
-    if length > 0 && spaces.iter().all(|byte| *byte == b' ') {
-        Some(length)
-    } else {
-        None
-    }
+// Whether a name is a barcode with spaces behind it.
+fn is_name(name: &[u8]) -> bool {
+    let count = name
+        .iter()
+        .position(|byte| !byte.is_ascii_uppercase() && !byte.is_ascii_digit())
+        .unwrap_or(name.len());
+    count > 0 && name.iter().skip(count).all(|byte| *byte == b' ')
 }
 
 // The empty partitions of a cartridge whose header the bytes begin with.
@@ -58,7 +49,7 @@ fn header(alloc: Global, bytes: &[u8]) -> Result<Option<Vec<Partition>>, AllocEr
     };
     let kind = part(bytes, 1, 8) == Some(b"VTLCART1".as_slice());
     let gates = number(bytes, 0, 1) == Some(GATE) && number(bytes, 9, 1) == Some(0);
-    if !kind || !gates || barcode_length(name).is_none() {
+    if !kind || !gates || !is_name(name) {
         return Ok(None);
     }
     let count = number(bytes, 10, 1).unwrap_or(0);
