@@ -15,9 +15,12 @@ use Rattle.volume_core.specs.Volume.{Part, count_of, objects_of, used_of, used_u
 use Rattle.cartridge.specs.declared.error.CartridgeError.{CartridgeError}
 use Rattle.cartridge.specs.declared.error.CartridgeError.TheVariants.{NotOurs, Damaged, BadRecord, SideFull, Device, Failed, NoMemory}
 use Rattle.cartridge.specs.Answers.{IsNotOpened}
+use Rattle.cartridge.specs.Contents.{Contents, GivesContents, IsAnswered, IsBadFrameAt, IsNoCartridge, volume_made}
 use Rattle.vtl.specs.declared.programs.VtlFault.{VtlFault}
-use Rattle.gate_journal.specs.Side.{padded}
-use Rattle.vtl.specs.SideText.{SideText, bad_record_line, cartridge_line, damaged_line, not_a_side_line, partition_line}
+use Rattle.gate_journal.specs.declared.header.SideKind.{SideKind}
+use Rattle.gate_journal.specs.declared.header.SideKind.TheVariants.{Cartridge}
+use Rattle.gate_journal.specs.Side.{IsDamagedOf, IsName, padded}
+use Rattle.vtl.specs.SideText.{SideText, TellsContents, bad_record_line, cartridge_line, damaged_line, not_a_side_line, partition_line, partition_lines}
 
 -- no symbol of a barcode is a space
 no_space : (byte : ℕ) → IsTrue (is_symbol byte) → (byte == 32) ≡ false
@@ -151,3 +154,85 @@ refusal_told (Device other) (Err fault) old new why is = tt
 refusal_told NoMemory (Err fault) old new why is = tt
 refusal_told SideFull (Err fault) old new why is = tt
 refusal_told Failed (Err fault) old new why is = tt
+
+-- two names that are one have one barcode
+one_barcode : (name a b : List ℕ) → IsBarcode a → IsBarcode b → name ≡ padded a → name ≡ padded b → a ≡ b
+one_barcode name a b is_a is_b e f =
+    sym (take-append_seam a (replicate (16 - length a) 32)) ∙ ap (take (length a)) (sym e ∙ f)
+    ∙ ap (λ (n : ℕ). take n (padded b)) (sym (at_end name a is_a e) ∙ at_end name b is_b f)
+    ∙ take-append_seam b (replicate (16 - length b) 32)
+
+-- one cartridge's contents are told by one text
+told_once : (contents : Contents) (a b : List ℕ) → TellsContents contents a → TellsContents contents b → a ≡ b
+told_once contents a b one other =
+    one.lines
+    ∙ ap (λ (barcode : List ℕ). cartridge_line barcode (length (volume_made contents)) (length contents.frames)
+    ++ partition_lines (volume_made contents))
+    (one_barcode contents.heading.name one.barcode other.barcode one.is_barcode other.is_barcode one.named other.named)
+    ∙ sym other.lines
+
+-- the cartridge's laws, by which an image has one text
+pub record HaveOneAnswer : Type 0 where
+  pub contents :
+      (image : List ℕ) (a b : Contents) → GivesContents a image → GivesContents b image → a ≡ b
+  pub ours : (image : List ℕ) (contents : Contents) → GivesContents contents image → IsNoCartridge image → ⊥
+  pub whole :
+      (image : List ℕ) (contents : Contents) (at : ℕ) → GivesContents contents image
+      → IsDamagedOf Cartridge image at → ⊥
+  pub bad :
+      (image : List ℕ) (contents : Contents) (at : ℕ) → GivesContents contents image → IsBadFrameAt image at → ⊥
+  pub bad_once : (image : List ℕ) (a b : ℕ) → IsBadFrameAt image a → IsBadFrameAt image b → a ≡ b
+  pub none_damaged : (image : List ℕ) (at : ℕ) → IsNoCartridge image → IsDamagedOf Cartridge image at → ⊥
+  pub none_bad : (image : List ℕ) (at : ℕ) → IsNoCartridge image → IsBadFrameAt image at → ⊥
+  pub damaged_bad : (image : List ℕ) (a b : ℕ) → IsDamagedOf Cartridge image a → IsBadFrameAt image b → ⊥
+  pub damaged_once :
+      (image : List ℕ) (a b : ℕ) → IsDamagedOf Cartridge image a → IsDamagedOf Cartridge image b → a ≡ b
+
+module _ (laws : HaveOneAnswer) (image a b : List ℕ) where
+  pub one_text : SideText image a → SideText image b → a ≡ b
+  one_text (inl (c, gives, tells)) (inl (d, gives', tells')) =
+      told_once d a b
+      (subst (λ (found : Contents). TellsContents found a) (laws.contents image c d gives gives') tells) tells'
+  one_text (inl (c, gives, tells)) (inr (inl (none, is))) = absurd (laws.ours image c gives none)
+  one_text (inl (c, gives, tells)) (inr (inr (inl (at, damaged, is)))) = absurd (laws.whole image c at gives damaged)
+  one_text (inl (c, gives, tells)) (inr (inr (inr (at, bad, is)))) = absurd (laws.bad image c at gives bad)
+  one_text (inr (inl (none, is))) (inl (d, gives, tells)) = absurd (laws.ours image d gives none)
+  one_text (inr (inl (none, is))) (inr (inl (none', is'))) = is ∙ sym is'
+  one_text (inr (inl (none, is))) (inr (inr (inl (at, damaged, is')))) =
+      absurd (laws.none_damaged image at none damaged)
+  one_text (inr (inl (none, is))) (inr (inr (inr (at, bad, is')))) = absurd (laws.none_bad image at none bad)
+  one_text (inr (inr (inl (at, damaged, is)))) (inl (d, gives, tells)) =
+      absurd (laws.whole image d at gives damaged)
+  one_text (inr (inr (inl (at, damaged, is)))) (inr (inl (none, is'))) =
+      absurd (laws.none_damaged image at none damaged)
+  one_text (inr (inr (inl (at, damaged, is)))) (inr (inr (inl (at', damaged', is')))) =
+      is ∙ ap damaged_line (laws.damaged_once image at at' damaged damaged') ∙ sym is'
+  one_text (inr (inr (inl (at, damaged, is)))) (inr (inr (inr (at', bad, is')))) =
+      absurd (laws.damaged_bad image at at' damaged bad)
+  one_text (inr (inr (inr (at, bad, is)))) (inl (d, gives, tells)) = absurd (laws.bad image d at gives bad)
+  one_text (inr (inr (inr (at, bad, is)))) (inr (inl (none, is'))) = absurd (laws.none_bad image at none bad)
+  one_text (inr (inr (inr (at, bad, is)))) (inr (inr (inl (at', damaged, is')))) =
+      absurd (laws.damaged_bad image at' at damaged bad)
+  one_text (inr (inr (inr (at, bad, is)))) (inr (inr (inr (at', bad', is')))) =
+      is ∙ ap bad_record_line (laws.bad_once image at at' bad bad') ∙ sym is'
+
+-- contents of a cartridge have their text
+some_lines : (contents : Contents) (image : List ℕ) → GivesContents contents image → (text : List ℕ) × SideText image text
+some_lines contents image gives =
+    let named : IsName Cartridge contents.heading.name =
+    subst (λ (kind : SideKind). IsName kind contents.heading.name) gives.0.kind gives.1.0.begins.name in (
+      cartridge_line named.0 (length (volume_made contents)) (length contents.frames)
+          ++ partition_lines (volume_made contents),
+      inl (
+        contents,
+        gives,
+        record { barcode = named.0; is_barcode = named.1; named = named.2; lines = refl },
+      ),
+    )
+
+-- each image has a text
+pub some_text : (image : List ℕ) → IsAnswered image → (text : List ℕ) × SideText image text
+some_text image (inl (contents, gives)) = some_lines contents image gives
+some_text image (inr (inl none)) = (not_a_side_line, inr (inl (none, refl)))
+some_text image (inr (inr (inl (at, damaged)))) = (damaged_line at, inr (inr (inl (at, damaged, refl))))
+some_text image (inr (inr (inr (at, bad)))) = (bad_record_line at, inr (inr (inr (at, bad, refl))))

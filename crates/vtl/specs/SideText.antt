@@ -3,9 +3,10 @@ use Rattle.std.specs.Prelude.{◌≡◌, ◌⊎◌, ◌<◌, ℕ, List, [], ◌�
 use Rattle.std.specs.List.{range_with_len}
 use Rattle.vtl_base.specs.Barcode.{IsBarcode}
 use Rattle.volume_core.specs.Volume.{Part, objects_of, used_of}
-use Rattle.tape_disk.specs.Disk.{DiskState}
+use Rattle.tape_disk.specs.Disk.{DiskState, Only}
 use Rattle.gate_journal.specs.Answers.{NoneFailed}
-use Rattle.gate_journal.specs.Side.{IsDamagedAt, padded}
+use Rattle.gate_journal.specs.declared.header.SideKind.TheVariants.{Cartridge}
+use Rattle.gate_journal.specs.Side.{IsDamagedOf, padded}
 use Rattle.cartridge.specs.Contents.{Contents, GivesContents, IsBadFrameAt, IsNoCartridge, volume_made}
 use Rattle.vtl.specs.declared.programs.VtlFault.{VtlFault}
 use Rattle.vtl.specs.declared.programs.VtlFault.TheVariants.{Words, Config, Script, Device, NoMemory}
@@ -48,19 +49,20 @@ damaged_line at = codes "damaged at " ++ decimal at ++ 10 ∷ []
 abbrev pub bad_record_line : ℕ → List ℕ
 bad_record_line at = codes "bad record at " ++ decimal at ++ 10 ∷ []
 
--- What `vtl check` prints of the side on an image: the lines of the cartridge that it gives; or that it is no
--- cartridge's side; or the gate of its first frame that is not whole, or whose body is bad (own).
+-- What `vtl check` prints of the side on an image: the lines of the cartridge whose contents it gives; or one line:
+-- that it is no cartridge's side, the gate of its first frame that is not whole, or that of its first bad frame (own).
 abbrev pub SideText : List ℕ → List ℕ → Type 0
 SideText image text =
     ((contents : Contents) × GivesContents contents image × TellsContents contents text)
     ⊎ ((IsNoCartridge image × (text ≡ not_a_side_line))
-    ⊎ (((at : ℕ) × IsDamagedAt image at × (text ≡ damaged_line at))
+    ⊎ (((at : ℕ) × IsDamagedOf Cartridge image at × (text ≡ damaged_line at))
     ⊎ ((at : ℕ) × IsBadFrameAt image at × (text ≡ bad_record_line at))))
 
--- why the lines of a side are not told: a call of the disk failed; or memory ran out, and none did (own)
+-- why the lines of a side are not told: a call of the disk failed; or memory ran out, and none did, and what stands on
+-- the disk is sure (own)
 abbrev pub IsNotTold : VtlFault → DiskState → DiskState → Type 0
 IsNotTold Device old new = old.failures < new.failures
-IsNotTold NoMemory old new = NoneFailed old new
+IsNotTold NoMemory old new = NoneFailed old new × (old.honest → Only old.seen new.may_leave)
 IsNotTold Words old new = ⊥
 IsNotTold Config old new = ⊥
 IsNotTold (Script line) old new = ⊥
