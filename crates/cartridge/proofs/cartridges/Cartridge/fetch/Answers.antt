@@ -1,4 +1,6 @@
-use Rattle.std.proofs.Common.{◌≡◌, ◌++◌, ℕ, List, length, take, drop, Some, ap, sym, ◌∙◌, arith}
+use Rattle.std.proofs.Common.{◌≡◌, ◌++◌, ◌<◌, ℕ, List, length, take, drop, Option, Some, false, refl, ap, subst, sym, ◌∙◌, arith, rules}
+use Rattle.std.specs.Prelude.{IfSome, vec_capacity}
+use Rattle.std.proofs.lemmas.Result.{err_from_is_err_and}
 use Rattle.record_index.specs.Indexes.{indexes_block}
 use Rattle.cartridge.specs.Contents.{bodies_of, volume_made}
 use Rattle.cartridge.specs.Lying.{LiesOnSide}
@@ -40,6 +42,24 @@ read_body-read-requires g c =
     ) in
     can_be_read (bodies_of i.noted.notes.frames) i.journal.extents found.0 c.in-Some-Block.place
     (length c.deref_mut.result.now) found.3 (count ∙ found.2)
+
+pub returns-in_err-resize-clause-answer : goal.returns-in_err-resize-clause-answer
+returns-in_err-resize-clause-answer g c =
+    let i = c.self.inside in
+    let found = indexes_block (LiesOnSide i.noted.notes i.journal.extents) (volume_made (noted_contents i.noted.notes))
+    i.index c.args.part c.args.at c.in-Some-Block.place c.in-Some-Block.length c.self.invariant.0.lies
+    (sym c.place.ensures ∙ c.in-Some-Block.is ∙ ap Some c.in-Some-Block.field-0-is) in
+    let short : vec_capacity c.args.into.now < length found.0 =
+    omega (arith, c.in_err-resize.ensures.full, c.clear.ensures.capacity, found.2) in
+    let fine : c.args.self.now.failed ≡ false = search rules in
+    let p = err_from_is_err_and c.from_residual.result c.from_residual.ensures.1 in
+    rw (p.1, p.2) (
+      fine,
+      refl,
+      rw (← c.self.view_is) (subst
+          (λ (o : Option (List ℕ)). IfSome o (λ block. vec_capacity c.args.into.now < length block)) (sym found.1)
+          short),
+    )
 
 pub returns-clause-bytes : goal.returns-clause-bytes
 returns-clause-bytes g c = rw (← c.self.view_is) (λ h. elim c.match-read.branch [
