@@ -217,7 +217,8 @@ module _ (laws : HaveOneAnswer) (image a b : List ℕ) where
       is ∙ ap bad_record_line (laws.bad_once image at at' bad bad') ∙ sym is'
 
 -- contents of a cartridge have their text
-some_lines : (contents : Contents) (image : List ℕ) → GivesContents contents image → (text : List ℕ) × SideText image text
+some_lines : (contents : Contents) (image : List ℕ) → GivesContents contents image
+    → (text : List ℕ) × SideText image text
 some_lines contents image gives =
     let named : IsName Cartridge contents.heading.name =
     subst (λ (kind : SideKind). IsName kind contents.heading.name) gives.0.kind gives.1.0.begins.name in (

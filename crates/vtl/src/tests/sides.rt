@@ -15,6 +15,9 @@ const SIDE: [u8; 71] = *b"\xa5VTLCART1\0\x01T00001L6        \0\0\0\0\0\0\x10\0\
     \xa5\0\0\0\x0a\x02\0\0\0\0\x01\0\0\0\x01\
     \0";
 
+// How often the disk is called until its two frames are opened.
+const CALLS: u64 = 8;
+
 const WHOLE: &str = "cartridge T00001L6 partitions 1 frames 2\npartition 0 objects 2 used 37\n";
 
 // The lines of the side with these bytes, which stay as they are.
@@ -112,9 +115,17 @@ fn sides_of_several_partitions(rt: HostRuntime) -> Result<(), Fail> {
 }
 
 #[test]
-fn a_store_is_no_side(rt: HostRuntime) -> Result<(), Fail> {
-    let store = b"\xa5VTLRESV1\0\0DRIVE1          \0";
-    assert_tells(&rt, rt.alloc(), store, "not a side\n", 0)
+fn stores_are_no_sides(rt: HostRuntime) -> Result<(), Fail> {
+    // Whole with no frame, without its gate, and with a frame that is not whole.
+    let stores: [&[u8]; 3] = [
+        b"\xa5VTLRESV1\0\0DRIVE1          \0",
+        b"\xa5VTLRESV1\0\0DRIVE16         ",
+        b"\xa5VTLRESV1\0\0DRIVE1          \xa5\0\0\0\x04\x01\0",
+    ];
+    for (at, store) in stores.into_iter().enumerate() {
+        assert_tells(&rt, rt.alloc(), store, "not a side\n", at)?;
+    }
+    Ok(())
 }
 
 #[test]
@@ -134,7 +145,6 @@ fn each_byte_with_each_value(rt: HostRuntime) -> Result<(), Fail> {
 #[test]
 fn a_disk_that_fails(rt: HostRuntime) -> Result<(), Fail> {
     let alloc = rt.alloc();
-    // A sync, the header, three gates with two lengths, and two bodies.
     for calls in 0..20 {
         let disk = MemDisk::from_bytes(alloc, &SIDE)?;
         let stopped = check_side(alloc, FuseDisk::new(disk, calls));
@@ -157,6 +167,3 @@ fn a_disk_that_fails(rt: HostRuntime) -> Result<(), Fail> {
     }
     Ok(())
 }
-
-// The calls of the disk in which the side is opened.
-const CALLS: u64 = 8;

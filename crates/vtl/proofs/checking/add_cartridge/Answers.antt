@@ -9,6 +9,7 @@ returns c =
     c.in_ok-extend_from_slice-2.ensures.items
     ∙ ap (λ (xs : List ℕ). xs ++ c.args.barcode.now) c.in_ok-extend_from_slice.ensures.items in
     let counts : c.as_bytes.result.now ≡ codes " partitions " ++ (decimal c.args.partitions
-    ++ (codes " frames " ++ (decimal c.args.frames ++ 10 ∷ []))) = c.as_bytes.ensures.value ∙ c.in_ok-counts.ensures.ok in
+    ++ (codes " frames " ++ (decimal c.args.frames ++ 10 ∷ []))) =
+    c.as_bytes.ensures.value ∙ c.in_ok-counts.ensures.ok in
     c.in_ok-extend_from_slice-3.ensures.items ∙ ap (λ (xs : List ℕ). xs ++ c.as_bytes.result.now) front
     ∙ cartridge_line_is old c.args.barcode.now c.as_bytes.result.now c.args.partitions c.args.frames counts
