@@ -59,7 +59,8 @@ in_front h bodies rest image is =
     ∙ ap (λ (x : List ℕ). x ++ (flat_map frame bodies ++ rest)) (sym (append-nil (spell_heading h)))
 
 -- a side begins with its header
-pub begins_so : (image : List ℕ) (h : Heading) (bodies : List (List ℕ)) → StandsFor h bodies image → BeginsAs h.kind image
+pub begins_so : (image : List ℕ) (h : Heading) (bodies : List (List ℕ)) → StandsFor h bodies image
+    → BeginsAs h.kind image
 begins_so image h bodies s =
     (h, flat_map frame bodies ++ s.1.0 ∷ s.1.1, s.0.begins, refl, in_front h bodies (s.1.0 ∷ s.1.1) image s.1.3)
 

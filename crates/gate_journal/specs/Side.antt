@@ -98,7 +98,8 @@ IsNotOurs image = (heading : Heading) (rest : List ℕ) → IsHeading heading �
 -- the image begins with the spelling of a heading of this kind (own)
 abbrev pub BeginsAs : SideKind → List ℕ → Type 0
 BeginsAs kind image =
-    (heading : Heading) × (rest : List ℕ) × IsHeading heading × (heading.kind ≡ kind) × (image ≡ spell heading [] ++ rest)
+    (heading : Heading) × (rest : List ℕ) × IsHeading heading × (heading.kind ≡ kind)
+    × (image ≡ spell heading [] ++ rest)
 
 -- the image is no side of this kind: it begins with no heading's spelling, or with that of another kind (own)
 abbrev pub IsNotOf : SideKind → List ℕ → Type 0
