@@ -1,5 +1,5 @@
 -- The lines of a side.
-use Rattle.std.proofs.Common.{◌≡◌, inl, inr, ℕ, ◌+◌, ◌-◌, ◌<◌, ◌≤◌, ◌==◌, nat_lt, cond, Bool, true, false, not, List, [], ◌∷◌, ◌++◌, length, take, replicate, Some, None, unwrap_or, flat_map, position, codes, decimal, refl, sym, ap, ◌∙◌, subst, arith, append_assoc, Result, Ok, Err, IfOk, MatchResult, string_bytes, String, Global, zero, suc, add-one}
+use Rattle.std.proofs.Common.{◌≡◌, inl, inr, ℕ, ◌+◌, ◌-◌, ◌≤◌, ◌==◌, nat_lt, cond, Bool, true, false, List, [], ◌∷◌, ◌++◌, length, take, replicate, Some, None, flat_map, position, codes, decimal, refl, sym, ap, ◌∙◌, subst, arith, append_assoc, Result, Ok, Err, IfOk, MatchResult, string_bytes, String, Global, zero, suc, add-one}
 use Rattle.std.specs.declared.alloc.AllocError.{AllocError}
 use Rattle.std.specs.Prelude.{IsTrue}
 use Rattle.std.specs.List.{All, position_or_len, range_with_len}

@@ -1,4 +1,4 @@
-use Rattle.std.proofs.Common.{◌≡◌, ◌++◌, ◌∙◌, List, ℕ, [], ◌∷◌, codes, decimal}
+use Rattle.std.proofs.Common.{◌≡◌, ◌∙◌}
 use Rattle.cartridge.specs.Contents.{volume_made}
 use Rattle.vtl.specs.SideText.{partition_line}
 use Rattle.vtl.proofs.SideTextLemmas.{partition_line_is, partition_more}

@@ -1,4 +1,3 @@
-use Rattle.std.proofs.Common.{◌≡◌, ◌++◌, ◌∙◌, List, ℕ, [], ◌∷◌, codes, decimal, rules}
 use Rattle.vtl.specs.SideText.{bad_record_line, damaged_line, not_a_side_line}
 use Rattle.vtl.proofs.SideTextLemmas.{TellsRefusal, line_told, refusal_told}
 use Rattle.vtl.proofs.checking.check_side.Goals as goal
