@@ -46,6 +46,7 @@ WORDS = {
     "CDB, command block": ["decoded", "command_of", "opcode_of", "block_length"],
     "change": ["changed", "Applies", "after"],
     "CHECK CONDITION": ["check_with"],
+    "check of a side": ["SideText", "IsNotTold"],
     "checks, their order": ["Executes", "verdict", "state_denial"],
     "clear": ["cleared", "without_condition", "denied"],
     "CODE and COUNT of SPACE": ["space_code", "space_count", "is_over_nothing"],
