@@ -1,0 +1,36 @@
+//! Over a disk that is not honest every call returns.
+use crate::liar::Liar;
+use crate::samples::{erased, fetched, opened};
+use cartridge::{Cartridge, CartridgeError};
+use std::test::Fail;
+use vtl_base::Barcode;
+
+#[test]
+fn every_call_returns(rt: HostRuntime) -> Result<(), Fail> {
+    let alloc = rt.alloc();
+    let Ok(barcode) = Barcode::parse(b"T00001L6") else {
+        return Err(Fail::from("no barcode"));
+    };
+    let mut open = 0;
+    for shift in 0..71 {
+        for step in [0, 1, 35, 70] {
+            // What is found does not matter, only that each call ends.
+            if let Ok(mut cartridge) = opened(alloc, Liar { shift, step }) {
+                open += 1;
+                for at in 0..3 {
+                    assert!(rt; fetched(alloc, &mut cartridge, 0, at).is_ok());
+                }
+                let frames = cartridge.frames();
+                assert_eq!(rt; erased(&mut cartridge), Ok(()));
+                assert_eq!(rt; (cartridge.frames(), cartridge.count(0)), (frames + 1, 0));
+                let shelved = cartridge.shelve();
+                shelved.known();
+                let _ = opened(alloc, shelved.into_disk());
+            }
+            let made = Cartridge::create(alloc, Liar { shift, step }, &barcode, &[4_096]);
+            assert!(rt; made.is_ok());
+        }
+    }
+    assert!(rt; open > 0);
+    Ok(())
+}

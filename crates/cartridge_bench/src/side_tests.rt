@@ -1,0 +1,172 @@
+//! The vector byte by byte, and changed copies of it.
+use crate::beside::Known;
+use crate::samples::{SIDE, STORE, block, fetched, found, marks, opened, told, written};
+use cartridge::{CartridgeError, Shelved};
+use std::test::Fail;
+use tape_disk::MemDisk;
+use volume_core::Kind;
+
+#[test]
+fn the_vector_is_read(rt: HostRuntime) -> Result<(), Fail> {
+    let alloc = rt.alloc();
+    let Ok(mut cartridge) = opened(alloc, MemDisk::from_bytes(alloc, &SIDE)?) else {
+        return Err(Fail::from("not opened"));
+    };
+    assert_eq!(rt; told(&cartridge), (2, 2, 37));
+    assert_eq!(rt; *cartridge.barcode(), *b"T00001L6        ");
+    assert_eq!(rt;
+        (
+            cartridge.parts(),
+            cartridge.capacity(0),
+            cartridge.capacity(1)
+        ),
+        (1, 4_096, 0)
+    );
+    assert_eq!(rt;
+        (cartridge.room(), cartridge.has_failed()),
+        (1_099_511_627_705, false)
+    );
+    for (at, kind, used) in [
+        (0, Some(Kind::Block), 0),
+        (1, Some(Kind::Mark), 21),
+        (2, None, 37),
+        (3, None, 37),
+    ] {
+        assert_eq!(rt;
+            (cartridge.kind_at(0, at), cartridge.used(0, at)),
+            (kind, used),
+            "object {at}"
+        );
+    }
+    let Ok(Some(bytes)) = fetched(alloc, &mut cartridge, 0, 0) else {
+        return Err(Fail::from("not fetched"));
+    };
+    assert_eq!(rt; bytes.as_slice(), b"hello".as_slice());
+    let shelved = cartridge.shelve();
+    shelved.known();
+    assert_eq!(rt; shelved.disk().bytes(), SIDE.as_slice());
+    assert_eq!(rt;
+        Shelved::of(shelved.into_disk()).into_disk().bytes(),
+        SIDE.as_slice()
+    );
+    Ok(())
+}
+
+#[test]
+fn the_vector_is_written(rt: HostRuntime) -> Result<(), Fail> {
+    let alloc = rt.alloc();
+    let Ok(known) = Known::made(alloc, MemDisk::from_bytes(alloc, &STORE)?, &[4_096]) else {
+        return Err(Fail::from("not made"));
+    };
+    let mut begin = Vec::from_slice(alloc, &SIDE[..35])?;
+    begin.push(0)?;
+    assert_eq!(rt; known.cartridge().disk().bytes(), begin.as_slice());
+    let known = written(alloc)?;
+    known.cartridge().known();
+    assert_eq!(rt; known.cartridge().disk().bytes(), SIDE.as_slice());
+    let syncs = known.cartridge().disk().syncs();
+    let mut known = known;
+    assert_eq!(rt;
+        known.store(alloc, &[marks(0, 0, 2), block(alloc, 0, 1, b"x")?]),
+        Ok(())
+    );
+    // The body of 21 bytes begins at 75, behind the gate and the length.
+    let bytes = known.cartridge().disk().bytes();
+    assert_eq!(rt; &bytes[..70], &SIDE[..70]);
+    assert_eq!(rt;
+        &bytes[70..],
+        b"\xa5\0\0\0\x15\x02\0\0\0\0\0\0\0\0\x02\x01\0\0\0\0\x01\0\0\0\x01x\0".as_slice()
+    );
+    assert_eq!(rt; known.cartridge().disk().syncs(), syncs + 2);
+    Ok(())
+}
+
+#[test]
+fn changed_copies(rt: HostRuntime) -> Result<(), Fail> {
+    let alloc = rt.alloc();
+    for (place, value, expected) in [
+        (40, 0x04, Err(CartridgeError::BadRecord { at: 35 })),
+        (65, 0x03, Err(CartridgeError::BadRecord { at: 55 })),
+        (61, 0x01, Err(CartridgeError::BadRecord { at: 55 })),
+        (69, 0x00, Err(CartridgeError::BadRecord { at: 55 })),
+        (65, 0x00, Ok((2, 1, 16))),
+        (70, 0xa5, Err(CartridgeError::Damaged { at: 70 })),
+        (55, 0x00, Ok((1, 1, 21))),
+        (0, 0x00, Err(CartridgeError::NotOurs)),
+    ] {
+        let mut bytes = SIDE;
+        if place < bytes.len() {
+            bytes[place] = value;
+        }
+        let found = found(alloc, MemDisk::from_bytes(alloc, &bytes)?);
+        assert_eq!(rt; found, expected, "{value} at {place}");
+    }
+    Ok(())
+}
+
+#[test]
+fn every_cut_and_a_store(rt: HostRuntime) -> Result<(), Fail> {
+    let alloc = rt.alloc();
+    for len in 0..SIDE.len() {
+        let found = found(alloc, MemDisk::from_bytes(alloc, &SIDE[..len])?);
+        let expected = match len {
+            0..=34 => Err(CartridgeError::NotOurs),
+            35..=55 => Err(CartridgeError::Damaged { at: 35 }),
+            _ => Err(CartridgeError::Damaged { at: 55 }),
+        };
+        assert_eq!(rt; found, expected, "cut to {len} bytes");
+    }
+    let found = found(alloc, MemDisk::from_bytes(alloc, &STORE)?);
+    assert_eq!(rt; found, Err(CartridgeError::NotOurs));
+    Ok(())
+}
+
+#[test]
+fn partitions_and_blocks(rt: HostRuntime) -> Result<(), Fail> {
+    let alloc = rt.alloc();
+    let long = vec![in alloc; 0x5a; 1_048_576]?;
+    for parts in 1..=4u8 {
+        let capacities = vec![in alloc; 4_194_304; parts as usize]?;
+        let Ok(mut known) = Known::made(alloc, MemDisk::new(alloc), &capacities) else {
+            return Err(Fail::from("not made"));
+        };
+        let last = parts - 1;
+        let frame = [
+            block(alloc, last, 0, b"a")?,
+            block(alloc, last, 1, &long)?,
+            marks(last, 2, 3),
+            block(alloc, last, 5, b"b")?,
+        ];
+        assert_eq!(rt; known.store(alloc, &frame), Ok(()));
+        // A block in the middle takes the place of all behind it.
+        assert_eq!(rt; known.store(alloc, &[block(alloc, last, 4, b"c")?]), Ok(()));
+        let Ok(known) = known.opened_again(alloc) else {
+            return Err(Fail::from("not opened again"));
+        };
+        let mut cartridge = known.into_cartridge();
+        assert_eq!(rt; (cartridge.parts(), cartridge.frames()), (parts, 2));
+        for part in 0..parts {
+            let count = cartridge.count(part);
+            let expected = if part == last { (5, 1_048_658) } else { (0, 0) };
+            assert_eq!(rt; (count, cartridge.used(part, count)), expected);
+        }
+        for (at, bytes) in [
+            (0, Some(b"a".as_slice())),
+            (1, Some(long.as_slice())),
+            (2, None),
+            (3, None),
+            (4, Some(b"c".as_slice())),
+            (5, None),
+        ] {
+            let Ok(found) = fetched(alloc, &mut cartridge, last, at) else {
+                return Err(Fail::from("not fetched"));
+            };
+            let same = match (&found, bytes) {
+                (Some(found), Some(bytes)) => found.as_slice() == bytes,
+                (found, bytes) => found.is_none() && bytes.is_none(),
+            };
+            assert!(rt; same, "block {at}");
+        }
+    }
+    Ok(())
+}
