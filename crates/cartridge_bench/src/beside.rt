@@ -1,26 +1,42 @@
 //! A cartridge, and beside it in memory the volume that it holds, which tells whether changes apply.
-ghost use Rattle.std.specs.Prelude.{◌≡◌, ◌×◌, ◌≤◌, [], length, true, IfOk, IfSome};
+ghost use Rattle.std.specs.Prelude.{◌≡◌, ◌≤◌, [], ◌∷◌, length, true, IfSome, OnOk};
 ghost use Rattle.volume_core.specs.Volume.{AllApply, after};
 ghost use Rattle.record_index.specs.Records.{spell_all};
 ghost use Rattle.vtl_base.specs.declared.limits.TheConstants.{MAX_BODY};
-ghost use Rattle.cartridge.specs.Contents.{volume_made};
+ghost use Rattle.cartridge.specs.Contents.{volume_made, with_frames};
 
 use cartridge::laws::an_image_gives_one_volume;
 use cartridge::{Cartridge, CartridgeError, NotCreated, NotOpened, Shelved};
 use std::alloc::Global;
+use std::marker::Model;
+use std::time::{Duration, Instant};
 use tape_disk::Disk;
 use volume_core::{Change, Volume, are_capacities};
+use vtl_base::Barcode;
 use vtl_base::limits::MAX_BODY;
-use vtl_base::{Barcode, ObjNo, PartNo};
 
-/// An open cartridge `T00001L6`, and the volume that it holds. Where a store did not go through no
-/// volume stands beside it.
+/// An open cartridge `T00001L6`, and the volume that it holds. After a store that did not go through
+/// no volume stands beside it. To a contract it is the cartridge.
 #[derive(Drop)]
 pub struct Known<D: Disk> {
     cartridge: Cartridge<D>,
     volume: Option<Volume>,
-    ghost holds: { IfSome volume (λ v. (v ≡ volume_made cartridge.contents)
-        × (cartridge.torn ≡ []) × (D.state cartridge.disk).honest) },
+}
+
+impl<D: Disk> Model for Known<D> {
+    ghost use Rattle.std.specs.Prelude.{◌≡◌, [], IfSome};
+    ghost use Rattle.cartridge.specs.Contents.{volume_made};
+    ghost use Rattle.cartridge.specs.State.{OpenCartridge, open_code};
+
+    ghost Value = { OpenCartridge D };
+
+    ghost coded = { open_code D.code };
+
+    ghost view = { λ known. known.cartridge };
+
+    ghost invariant = { λ known. IfSome known.volume (λ volume.
+        (volume ≡ volume_made known.cartridge.contents) × (known.cartridge.torn ≡ [])
+        × (D.state known.cartridge.disk).honest) };
 }
 
 impl<D: Disk + Drop> Known<D> {
@@ -85,9 +101,26 @@ impl<D: Disk + Drop> Known<D> {
         let Some(volume) = carried_out(alloc, volume, changes) else {
             return Err(CartridgeError::BadRecord { at: 0 });
         };
-        self.cartridge.store(changes)?;
+        store_frame(&mut self.cartridge, changes)?;
         self.volume = Some(volume);
         Ok(())
+    }
+
+    /// Stores changes as one frame, and tells the time that the store took.
+    pub fn store_by_the_clock(&mut self, rt: &HostRuntime, changes: &[Change]) -> Option<Duration> {
+        let Some(volume) = self.volume.take() else {
+            return None;
+        };
+        let Some(volume) = carried_out(rt.alloc(), volume, changes) else {
+            return None;
+        };
+        let start = Instant::now(rt).ok()?;
+        let Ok(()) = store_frame(&mut self.cartridge, changes) else {
+            return None;
+        };
+        let time = start.elapsed(rt).ok()?;
+        self.volume = Some(volume);
+        Some(time)
     }
 
     /// The cartridge, to be looked at.
@@ -103,6 +136,24 @@ impl<D: Disk + Drop> Known<D> {
     /// Its disk.
     pub fn into_disk(self) -> D {
         self.cartridge.shelve().into_disk()
+    }
+}
+
+// Stores changes as one frame. Where memory ran out it is tried once more, since nothing changed.
+fn store_frame<D: Disk>(
+    cartridge: &mut Cartridge<D>,
+    changes: &[Change],
+) -> Result<(), CartridgeError>
+    requires some { 1 ≤ length changes.now }
+    requires apply { AllApply (volume_made cartridge.old.contents) changes.now }
+    requires short { length (spell_all changes.now) ≤ MAX_BODY }
+    ensures honest { (D.state cartridge.old.disk).honest → (D.state cartridge.new.disk).honest }
+    ensures ok { OnOk result ((cartridge.new.torn ≡ cartridge.old.torn)
+        × (cartridge.new.contents ≡ with_frames cartridge.old.contents (changes.now ∷ []))) }
+{
+    match cartridge.store(changes) {
+        Err(CartridgeError::NoMemory) => cartridge.store(changes),
+        answer => answer,
     }
 }
 
@@ -123,8 +174,12 @@ fn carried_out(alloc: Global, volume: Volume, changes: &[Change]) -> Option<Volu
             return None;
         }
         left -= size;
-        let copy = change.copy(alloc).ok()?;
-        volume.apply(copy).ok()?;
+        let Ok(copy) = change.copy(alloc) else {
+            return None;
+        };
+        let Ok(()) = volume.apply(copy) else {
+            return None;
+        };
     }
     Some(volume)
 }

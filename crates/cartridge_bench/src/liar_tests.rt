@@ -11,12 +11,12 @@ fn every_call_returns(rt: HostRuntime) -> Result<(), Fail> {
     let Ok(barcode) = Barcode::parse(b"T00001L6") else {
         return Err(Fail::from("no barcode"));
     };
-    let mut open = 0;
+    let mut some = false;
     for shift in 0..71 {
         for step in [0, 1, 35, 70] {
             // What is found does not matter, only that each call ends.
             if let Ok(mut cartridge) = opened(alloc, Liar { shift, step }) {
-                open += 1;
+                some = true;
                 for at in 0..3 {
                     assert!(rt; fetched(alloc, &mut cartridge, 0, at).is_ok());
                 }
@@ -31,6 +31,6 @@ fn every_call_returns(rt: HostRuntime) -> Result<(), Fail> {
             assert!(rt; made.is_ok());
         }
     }
-    assert!(rt; open > 0);
+    assert!(rt; some);
     Ok(())
 }
