@@ -20,9 +20,9 @@ fn every_call_returns(rt: HostRuntime) -> Result<(), Fail> {
                 for at in 0..3 {
                     assert!(rt; fetched(alloc, &mut cartridge, 0, at).is_ok());
                 }
-                let frames = cartridge.frames();
+                assert_eq!(rt; cartridge.reserve(0, 10, 1), Ok(()));
                 assert_eq!(rt; erased(&mut cartridge), Ok(()));
-                assert_eq!(rt; (cartridge.frames(), cartridge.count(0)), (frames + 1, 0));
+                assert_eq!(rt; (cartridge.count(0), cartridge.used(0, 1)), (0, 0));
                 let shelved = cartridge.shelve();
                 shelved.known();
                 let _ = opened(alloc, shelved.into_disk());

@@ -1,6 +1,6 @@
 //! The vector byte by byte, and changed copies of it.
 use crate::beside::Known;
-use crate::samples::{SIDE, STORE, block, fetched, found, marks, opened, told, written};
+use crate::samples::{FAULT, SIDE, STORE, block, fetched, found, marks, opened, told, written};
 use cartridge::{CartridgeError, Shelved};
 use std::test::Fail;
 use tape_disk::MemDisk;
@@ -42,6 +42,9 @@ fn the_vector_is_read(rt: HostRuntime) -> Result<(), Fail> {
         return Err(Fail::from("not fetched"));
     };
     assert_eq!(rt; bytes.as_slice(), b"hello".as_slice());
+    assert_eq!(rt; cartridge.reserve(0, 100, 4), Ok(()));
+    assert_eq!(rt; cartridge.reserve(9, 0, 4), Ok(()));
+    assert_eq!(rt; told(&cartridge), (2, 2, 37));
     let shelved = cartridge.shelve();
     shelved.known();
     assert_eq!(rt; shelved.disk().bytes(), SIDE.as_slice());
@@ -61,23 +64,36 @@ fn the_vector_is_written(rt: HostRuntime) -> Result<(), Fail> {
     let mut begin = Vec::from_slice(alloc, &SIDE[..35])?;
     begin.push(0)?;
     assert_eq!(rt; known.cartridge().disk().bytes(), begin.as_slice());
-    let known = written(alloc)?;
+    let mut known = written(alloc)?;
     known.cartridge().known();
     assert_eq!(rt; known.cartridge().disk().bytes(), SIDE.as_slice());
-    let syncs = known.cartridge().disk().syncs();
-    let mut known = known;
+    // Two syncs to make it, one to open it, and two for each frame.
+    assert_eq!(rt; known.cartridge().disk().syncs(), 7);
     assert_eq!(rt;
         known.store(alloc, &[marks(0, 0, 2), block(alloc, 0, 1, b"x")?]),
         Ok(())
     );
-    // The body of 21 bytes begins at 75, behind the gate and the length.
-    let bytes = known.cartridge().disk().bytes();
-    assert_eq!(rt; &bytes[..70], &SIDE[..70]);
-    assert_eq!(rt;
-        &bytes[70..],
-        b"\xa5\0\0\0\x15\x02\0\0\0\0\0\0\0\0\x02\x01\0\0\0\0\x01\0\0\0\x01x\0".as_slice()
-    );
-    assert_eq!(rt; known.cartridge().disk().syncs(), syncs + 2);
+    let mut whole = Vec::from_slice(alloc, &SIDE[..70])?;
+    whole.extend_from_slice(b"\xa5\0\0\0\x15\x02\0\0\0\0\0\0\0\0\x02")?;
+    whole.extend_from_slice(b"\x01\0\0\0\0\x01\0\0\0\x01x\0")?;
+    assert_eq!(rt; known.cartridge().disk().bytes(), whole.as_slice());
+    assert_eq!(rt; known.cartridge().disk().syncs(), 9);
+    Ok(())
+}
+
+#[test]
+fn the_texts_of_the_refusals(rt: HostRuntime) -> Result<(), Fail> {
+    for (error, text) in [
+        (CartridgeError::NotOurs, "not a cartridge"),
+        (CartridgeError::Damaged { at: 35 }, "damaged at 35"),
+        (CartridgeError::BadRecord { at: 55 }, "bad record at 55"),
+        (CartridgeError::SideFull, "side full"),
+        (FAULT, "device fault"),
+        (CartridgeError::Failed, "failed before"),
+        (CartridgeError::NoMemory, "out of memory"),
+    ] {
+        assert_eq!(rt; format!(in rt.alloc(); "{error}")?.as_str(), text);
+    }
     Ok(())
 }
 

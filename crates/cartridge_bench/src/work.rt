@@ -100,23 +100,28 @@ fn side_of(alloc: Global, count: u32) -> Option<Vec<u8>> {
         bytes.extend_from_slice(&block).ok()?;
     }
     bytes.push(0).ok()?;
-    MemDisk::from_bytes(alloc, &bytes).ok()
+    Some(bytes)
 }
 
-/// Makes a side of that many frames of one block of 1,024 bytes: how many bytes it has.
+/// Puts a side of that many frames of one block of 1,024 bytes on a disk: how many bytes it has.
 pub fn made(rt: &HostRuntime, count: u32) -> Option<Timed> {
     let start = Instant::now(rt).ok()?;
-    let disk = side_of(rt.alloc(), count)?;
+    let bytes = side_of(rt.alloc(), count)?;
+    let disk = MemDisk::from_bytes(rt.alloc(), &bytes).ok()?;
     Some((start.elapsed(rt).ok()?.as_nanos(), disk.bytes().len()))
 }
 
-/// Opens it: how many objects it has.
+/// Opens such a side: how many objects it has. Its bytes stay, so that the memory above that of
+/// `made` is the open cartridge's.
 pub fn opened(rt: &HostRuntime, count: u32) -> Option<Timed> {
-    let shelved = Shelved::of(side_of(rt.alloc(), count)?);
+    let bytes = side_of(rt.alloc(), count)?;
+    let shelved = Shelved::of(MemDisk::from_bytes(rt.alloc(), &bytes).ok()?);
     let start = Instant::now(rt).ok()?;
     let cartridge = Cartridge::open(rt.alloc(), shelved).ok()?;
-    Some((
-        start.elapsed(rt).ok()?.as_nanos(),
-        cartridge.count(0) as usize,
-    ))
+    let time = start.elapsed(rt).ok()?.as_nanos();
+    // The last byte of the side is its end gate, which is closed.
+    match bytes.last() {
+        Some(0) => Some((time, cartridge.count(0) as usize)),
+        _ => None,
+    }
 }
