@@ -41,7 +41,7 @@ fn main(rt: HostRuntime) -> ExitCode {
     let mut words = words.skip(1);
     let (Some(word), Some(count)) = (words.next(), words.next()) else {
         for word in ["store", "frame", "copy", "fetch", "side", "open"] {
-            match timed(&rt, word, 3) {
+            match timed(&rt, word, 1) {
                 Some((_, count)) => {
                     let _ = println!(rt; "{word} {count}");
                 }
