@@ -72,19 +72,18 @@ pub fn found<D: Disk + Drop>(
     Ok(told(&cartridge))
 }
 
-/// The bytes of a block, or none where there is no block.
+/// The bytes of a block; none where there is no block.
 pub fn fetched<D: Disk>(
     alloc: Global,
     cartridge: &mut Cartridge<D>,
     part: PartNo,
     at: ObjNo,
-) -> Result<Option<Vec<u8>>, CartridgeError> {
-    if cartridge.kind_at(part, at) != Some(Kind::Block) {
-        return Ok(None);
-    }
+) -> Result<Vec<u8>, CartridgeError> {
     let mut bytes = Vec::new(alloc);
-    cartridge.fetch(part, at, &mut bytes)?;
-    Ok(Some(bytes))
+    if cartridge.kind_at(part, at) == Some(Kind::Block) {
+        cartridge.fetch(part, at, &mut bytes)?;
+    }
+    Ok(bytes)
 }
 
 /// Erases the first partition.

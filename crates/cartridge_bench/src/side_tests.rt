@@ -1,10 +1,12 @@
 //! The vector byte by byte, and changed copies of it.
 use crate::beside::Known;
 use crate::samples::{FAULT, SIDE, STORE, block, fetched, found, marks, opened, told, written};
-use cartridge::{CartridgeError, Shelved};
+use cartridge::{Cartridge, CartridgeError, Shelved};
+use std::alloc::Global;
 use std::test::Fail;
 use tape_disk::MemDisk;
 use volume_core::Kind;
+use vtl_base::PartNo;
 
 #[test]
 fn the_vector_is_read(rt: HostRuntime) -> Result<(), Fail> {
@@ -38,10 +40,10 @@ fn the_vector_is_read(rt: HostRuntime) -> Result<(), Fail> {
             "object {at}"
         );
     }
-    let Ok(Some(bytes)) = fetched(alloc, &mut cartridge, 0, 0) else {
+    let Ok(found) = fetched(alloc, &mut cartridge, 0, 0) else {
         return Err(Fail::from("not fetched"));
     };
-    assert_eq!(rt; bytes.as_slice(), b"hello".as_slice());
+    assert_eq!(rt; found.as_slice(), b"hello".as_slice());
     assert_eq!(rt; cartridge.reserve(0, 100, 4), Ok(()));
     assert_eq!(rt; cartridge.reserve(9, 0, 4), Ok(()));
     assert_eq!(rt; told(&cartridge), (2, 2, 37));
@@ -132,56 +134,71 @@ fn every_cut_and_a_store(rt: HostRuntime) -> Result<(), Fail> {
         };
         assert_eq!(rt; found, expected, "cut to {len} bytes");
     }
-    let found = found(alloc, MemDisk::from_bytes(alloc, &STORE)?);
-    assert_eq!(rt; found, Err(CartridgeError::NotOurs));
+    // A store's side, whole, cut and damaged.
+    let mut damaged = STORE;
+    damaged[27] = 0xa5;
+    for bytes in [STORE.as_slice(), &STORE[..27], damaged.as_slice()] {
+        let found = found(alloc, MemDisk::from_bytes(alloc, bytes)?);
+        assert_eq!(rt; found, Err(CartridgeError::NotOurs));
+    }
     Ok(())
+}
+
+// A cartridge of so many partitions, whose last one has two frames: blocks of one byte and of so many
+// as a block can have, three marks and a block; then a block in the middle, which takes the place of
+// all behind it.
+fn with_blocks(alloc: Global, parts: PartNo, long: &[u8]) -> Result<Cartridge<MemDisk>, Fail> {
+    let capacities = vec![in alloc; 4_194_304; parts as usize]?;
+    let Ok(mut known) = Known::made(alloc, MemDisk::new(alloc), &capacities) else {
+        return Err(Fail::from("not made"));
+    };
+    let last = parts.saturating_sub(1);
+    let frame = [
+        block(alloc, last, 0, b"a")?,
+        block(alloc, last, 1, long)?,
+        marks(last, 2, 3),
+        block(alloc, last, 5, b"b")?,
+    ];
+    if known.store(alloc, &frame).is_err() {
+        return Err(Fail::from("not stored"));
+    }
+    if known.store(alloc, &[block(alloc, last, 4, b"c")?]).is_err() {
+        return Err(Fail::from("not stored in the middle"));
+    }
+    match known.opened_again(alloc) {
+        Ok(known) => Ok(known.into_cartridge()),
+        Err(_) => Err(Fail::from("not opened again")),
+    }
 }
 
 #[test]
 fn partitions_and_blocks(rt: HostRuntime) -> Result<(), Fail> {
     let alloc = rt.alloc();
     let long = vec![in alloc; 0x5a; 1_048_576]?;
-    for parts in 1..=4u8 {
-        let capacities = vec![in alloc; 4_194_304; parts as usize]?;
-        let Ok(mut known) = Known::made(alloc, MemDisk::new(alloc), &capacities) else {
-            return Err(Fail::from("not made"));
-        };
-        let last = parts - 1;
-        let frame = [
-            block(alloc, last, 0, b"a")?,
-            block(alloc, last, 1, &long)?,
-            marks(last, 2, 3),
-            block(alloc, last, 5, b"b")?,
-        ];
-        assert_eq!(rt; known.store(alloc, &frame), Ok(()));
-        // A block in the middle takes the place of all behind it.
-        assert_eq!(rt; known.store(alloc, &[block(alloc, last, 4, b"c")?]), Ok(()));
-        let Ok(known) = known.opened_again(alloc) else {
-            return Err(Fail::from("not opened again"));
-        };
-        let mut cartridge = known.into_cartridge();
+    for parts in 1..=4 {
+        let mut cartridge = with_blocks(alloc, parts, &long)?;
         assert_eq!(rt; (cartridge.parts(), cartridge.frames()), (parts, 2));
-        for part in 0..parts {
+        for part in 0..5 {
             let count = cartridge.count(part);
-            let expected = if part == last { (5, 1_048_658) } else { (0, 0) };
-            assert_eq!(rt; (count, cartridge.used(part, count)), expected);
+            let told = (cartridge.capacity(part), count, cartridge.used(part, count));
+            let expected = match parts - 1 {
+                last if part > last => (0, 0, 0),
+                last if part == last => (4_194_304, 5, 1_048_658),
+                _ => (4_194_304, 0, 0),
+            };
+            assert_eq!(rt; told, expected, "partition {part} of {parts}");
         }
-        for (at, bytes) in [
-            (0, Some(b"a".as_slice())),
-            (1, Some(long.as_slice())),
-            (2, None),
-            (3, None),
-            (4, Some(b"c".as_slice())),
-            (5, None),
-        ] {
-            let Ok(found) = fetched(alloc, &mut cartridge, last, at) else {
+        for at in 0..6 {
+            let bytes = match at {
+                0 => b"a".as_slice(),
+                1 => long.as_slice(),
+                4 => b"c".as_slice(),
+                _ => b"".as_slice(),
+            };
+            let Ok(found) = fetched(alloc, &mut cartridge, parts - 1, at) else {
                 return Err(Fail::from("not fetched"));
             };
-            let same = match (&found, bytes) {
-                (Some(found), Some(bytes)) => found.as_slice() == bytes,
-                (found, bytes) => found.is_none() && bytes.is_none(),
-            };
-            assert!(rt; same, "block {at}");
+            assert!(rt; found.as_slice() == bytes, "block {at}");
         }
     }
     Ok(())
