@@ -135,64 +135,80 @@ module _ (spaces : NoSpaceEndsTwice) (locates : NoLocateEndsTwice) (orders : NoO
       }
 
 pub steps_determined : NoSpaceEndsTwice → NoLocateEndsTwice → NoOrderEndsTwice → StepsAreDetermined
-steps_determined spaces locates orders old beside (Execute request) (Execute other) output output' made made' new new' e sure
+steps_determined spaces locates orders old beside (Execute request) (Execute other) output output' made made' new new'
+    e sure
     asks calm calm' h k =
-    execute_determined spaces locates orders old beside made made' new new' e sure request other output output' asks calm
+    execute_determined spaces locates orders old beside made made' new new' e sure request other output output' asks
+    calm
     calm' h k
-steps_determined spaces locates orders old beside (Load medium) (Load other) output output' made made' new new' e sure asks
+steps_determined spaces locates orders old beside (Load medium) (Load other) output output' made made' new new' e sure
+    asks
     calm
     calm' h k =
-    load_determined spaces locates orders old beside made made' new new' e sure medium other output output' asks calm calm'
+    load_determined spaces locates orders old beside made made' new new' e sure medium other output output' asks calm
+    calm'
     h k
 steps_determined spaces locates orders old beside (PowerOn medium keeper) (PowerOn other keeper') output output' made
     made' new new' e sure asks calm calm' h k =
     power_on_determined spaces locates orders old beside made made' new new' e sure medium other keeper keeper' output
     output'
     asks.0 asks.1 calm calm' h k
-steps_determined spaces locates orders old beside FlushTurn FlushTurn output output' made made' new new' e sure asks calm
+steps_determined spaces locates orders old beside FlushTurn FlushTurn output output' made made' new new' e sure asks
+    calm
     calm' h
     k =
     turn_determined spaces locates orders old beside made made' new new' e sure output output' calm calm' h k
-steps_determined spaces locates orders old beside (Execute request) (Load other) o o' made made' new new' e sure asks c c'
+steps_determined spaces locates orders old beside (Execute request) (Load other) o o' made made' new new' e sure asks
+    c c'
     h k =
     absurd asks
 steps_determined spaces locates orders old beside (Execute request) (PowerOn other kept) o o' made made' new new' e sure
     asks c c' h k =
     absurd asks
-steps_determined spaces locates orders old beside (Execute request) FlushTurn o o' made made' new new' e sure asks c c' h k =
-    absurd asks
-steps_determined spaces locates orders old beside (Load medium) (Execute other) o o' made made' new new' e sure asks c c' h
-    k =
-    absurd asks
-steps_determined spaces locates orders old beside (Load medium) (PowerOn other kept) o o' made made' new new' e sure asks c
+steps_determined spaces locates orders old beside (Execute request) FlushTurn o o' made made' new new' e sure asks c
     c' h k =
     absurd asks
-steps_determined spaces locates orders old beside (Load medium) FlushTurn o o' made made' new new' e sure asks c c' h k =
+steps_determined spaces locates orders old beside (Load medium) (Execute other) o o' made made' new new' e sure asks c
+    c' h
+    k =
+    absurd asks
+steps_determined spaces locates orders old beside (Load medium) (PowerOn other kept) o o' made made' new new' e sure
+    asks c
+    c' h k =
+    absurd asks
+steps_determined spaces locates orders old beside (Load medium) FlushTurn o o' made made' new new' e sure asks c c' h
+    k =
     absurd asks
 steps_determined spaces locates orders old beside (PowerOn medium kept) (Execute other) o o' made made' new new' e sure
     asks c c' h k =
     absurd asks
-steps_determined spaces locates orders old beside (PowerOn medium kept) (Load other) o o' made made' new new' e sure asks c
+steps_determined spaces locates orders old beside (PowerOn medium kept) (Load other) o o' made made' new new' e sure
+    asks c
     c' h k =
     absurd asks
-steps_determined spaces locates orders old beside (PowerOn medium kept) FlushTurn o o' made made' new new' e sure asks c c'
+steps_determined spaces locates orders old beside (PowerOn medium kept) FlushTurn o o' made made' new new' e sure asks
+    c c'
     h k =
     absurd asks
-steps_determined spaces locates orders old beside FlushTurn (Execute other) o o' made made' new new' e sure asks c c' h k =
+steps_determined spaces locates orders old beside FlushTurn (Execute other) o o' made made' new new' e sure asks c c'
+    h k =
     absurd asks
 steps_determined spaces locates orders old beside FlushTurn (Load other) o o' made made' new new' e sure asks c c' h k =
     absurd asks
-steps_determined spaces locates orders old beside FlushTurn (PowerOn other kept) o o' made made' new new' e sure asks c c'
+steps_determined spaces locates orders old beside FlushTurn (PowerOn other kept) o o' made made' new new' e sure asks
+    c c'
     h k =
     absurd asks
 steps_determined spaces locates orders old beside Unload Unload output output' made made' new new' e sure asks calm
     calm' h k =
     unload_determined spaces locates orders old beside made made' new new' e sure output output' calm calm' h k
-steps_determined spaces locates orders old beside (Execute request) Unload o o' made made' new new' e sure asks c c' h k =
+steps_determined spaces locates orders old beside (Execute request) Unload o o' made made' new new' e sure asks c c' h
+    k =
     absurd asks
 steps_determined spaces locates orders old beside (Load medium) Unload o o' made made' new new' e sure asks c c' h k =
     absurd asks
-steps_determined spaces locates orders old beside (PowerOn medium kept) Unload o o' made made' new new' e sure asks c c' h k =
+steps_determined spaces locates orders old beside (PowerOn medium kept) Unload o o' made made' new new' e sure asks c
+    c' h k =
     absurd asks
 steps_determined spaces locates orders old beside FlushTurn Unload o o' made made' new new' e sure asks c c' h k =
     absurd asks
@@ -200,7 +216,8 @@ steps_determined spaces locates orders old beside Unload (Execute other) o o' ma
     absurd asks
 steps_determined spaces locates orders old beside Unload (Load other) o o' made made' new new' e sure asks c c' h k =
     absurd asks
-steps_determined spaces locates orders old beside Unload (PowerOn other kept) o o' made made' new new' e sure asks c c' h k =
+steps_determined spaces locates orders old beside Unload (PowerOn other kept) o o' made made' new new' e sure asks c
+    c' h k =
     absurd asks
 steps_determined spaces locates orders old beside Unload FlushTurn o o' made made' new new' e sure asks c c' h k =
     absurd asks

@@ -114,7 +114,8 @@ module _ (old beside : Machine) (e : seen_of old ≡ seen_of beside) where
   without_same (UnitAttention attention) nexus =
       ap (λ (x : Seen). record x { attentions = cleared x.attentions nexus attention }) e
 
-  pub denied_same : (denial : Denial) (nexus : ℕ) → seen_of (denied denial nexus old) ≡ seen_of (denied denial nexus beside)
+  pub denied_same : (denial : Denial) (nexus : ℕ) → seen_of (denied denial nexus old) ≡ seen_of (denied denial nexus
+      beside)
   denied_same (Refused sense) nexus = e
   denied_same (Reported condition) nexus = without_same condition nexus
   denied_same Conflict nexus = e

@@ -123,7 +123,8 @@ module _ (spaces : NoSpaceEndsTwice) (locates : NoLocateEndsTwice) (orders : NoO
       ends orders old beside reply reply' made made' new new' e sure (Ok (check_with sense [])) old beside e sure h k
   modes (Ok list) nexus h k =
       ends orders old beside reply reply' made made' new new' e sure (Ok (good_with []))
-      (in_asked_mode list.buffered nexus old) (in_asked_mode list.buffered nexus beside) (asked_same list.buffered nexus)
+      (in_asked_mode list.buffered nexus old) (in_asked_mode list.buffered nexus beside) (asked_same list.buffered
+      nexus)
       (asked_sure list.buffered nexus) h k
 
   -- a loaded medium is loaded again
@@ -131,7 +132,8 @@ module _ (spaces : NoSpaceEndsTwice) (locates : NoLocateEndsTwice) (orders : NoO
       → bay_of sight_of (Loaded m) ≡ bay_of sight_of (Loaded m') → IsSureSight (sight_of m)
       → LoadsAgain failed m old (Ok reply) made new → LoadsAgain failed m' beside (Ok reply') made' new' → Alike
   loads_again true m m' same surely h k =
-      ends orders old beside reply reply' made made' new new' e sure (Ok (check_with medium_failed [])) old beside e sure
+      ends orders old beside reply reply' made made' new new' e sure (Ok (check_with medium_failed [])) old beside e
+      sure
       h k
   loads_again false m m' same surely h k =
       on_medium (StoredFirst (GoesTo (λ x. start)))
@@ -143,7 +145,8 @@ module _ (spaces : NoSpaceEndsTwice) (locates : NoLocateEndsTwice) (orders : NoO
       → LoadsIn (Unit {0}) bay nexus old (Ok reply) made new
       → LoadsIn (Unit {0}) bay' nexus beside (Ok reply') made' new' → Alike
   loads_in Empty Empty nexus same surely h k =
-      ends orders old beside reply reply' made made' new new' e sure (Ok (check_with medium_not_present [])) old beside e
+      ends orders old beside reply reply' made made' new new' e sure (Ok (check_with medium_not_present [])) old
+      beside e
       sure h k
   loads_in (Unloaded m) (Unloaded m') nexus same surely h k =
       let sights : sight_of m ≡ sight_of m' = cc same in
@@ -151,7 +154,8 @@ module _ (spaces : NoSpaceEndsTwice) (locates : NoLocateEndsTwice) (orders : NoO
   loads_in (Loaded m) (Loaded m') nexus same surely h k =
       let sights : sight_of m ≡ sight_of m' = cc same in
       loads_again m.failed m m' same surely h
-      (subst (λ (b : Bool). LoadsAgain b m' beside (Ok reply') made' new') (ap (λ (x : Sight). x.failed) (sym sights)) k)
+      (subst (λ (b : Bool). LoadsAgain b m' beside (Ok reply') made' new') (ap (λ (x : Sight). x.failed) (sym sights))
+      k)
   loads_in Empty (Unloaded m') nexus same surely h k = cc same
   loads_in Empty (Loaded m') nexus same surely h k = cc same
   loads_in (Unloaded m) Empty nexus same surely h k = cc same
@@ -168,7 +172,8 @@ module _ (spaces : NoSpaceEndsTwice) (locates : NoLocateEndsTwice) (orders : NoO
       (λ m m' same surely. ((λ i. record (e i) { bay = Unloaded (same i) }), surely))
       reply reply' e sure old.bay beside.bay (ap (λ (x : Seen). x.bay) e) sure h k
 
-  pub on_drive : (command : Command) (nexus : ℕ) (sent : List ℕ) → DriveWork (Unit {0}) command nexus sent old (Ok reply) made new
+  pub on_drive : (command : Command) (nexus : ℕ) (sent : List ℕ) → DriveWork (Unit {0}) command nexus sent old (Ok
+      reply) made new
       → DriveWork (Unit {0}) command nexus sent beside (Ok reply') made' new' → Alike
   on_drive (RequestSense room) nexus sent h k = senses room nexus h k
   on_drive ReadBlockLimits nexus sent h k = tells block_limits h k

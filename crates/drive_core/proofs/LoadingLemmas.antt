@@ -65,7 +65,10 @@ module _ {M K : Type 0}
 
   -- the machine of a drive with this in its bay
   bay_machine : (old : DriveState M K) (slot left : Bay M) → slot ≡ left
-      → machine_of state kept (record old { bay = slot }) ≡ record (machine_of state kept old) { bay = bay_of state left }
+      → machine_of state kept (record old { bay = slot }) ≡ record (machine_of state kept old) {
+        bay = bay_of state
+            left;
+      }
   bay_machine old slot left e = ap (λ (b : Bay M). record (machine_of state kept old) { bay = bay_of state b }) e
 
   module _ (nowhere : (m : M) → Advances below m [] false m) (keeps_nowhere : (k : K) → Advances keeps k [] false k)
@@ -155,7 +158,8 @@ module _ {M K : Type 0}
       pub load_failed : (given : M) (slot : Bay M) → old.bay ≡ Loaded given → slot ≡ Loaded given
           → (state given).failed ≡ true → Loads nexus now (Ok (check_with medium_failed [])) (record old { bay = slot })
       load_failed given slot is e failed =
-          load_takes nexus (record old { bay = slot }) (Ok (check_with medium_failed [])) (Loaded given) (Loaded given) is
+          load_takes nexus (record old { bay = slot }) (Ok (check_with medium_failed [])) (Loaded given) (Loaded
+          given) is
           e refl refl (nowhere given) (stores_nowhere (state given))
           (rw failed (refl, refl, stays slot (Loaded given) is e))
 

@@ -108,7 +108,8 @@ module _ (H H' : Type 0) (so : H → H') where
   loads_in_where (Loaded medium) nexus old answer made new h = h
 
   load_unload_where : (load : Bool) (nexus : ℕ) (old : Machine) (answer : Result Reply Fault) (made : Made)
-      (new : Machine) → LoadUnloadWork H' load nexus old answer made new → LoadUnloadWork H load nexus old answer made new
+      (new : Machine) → LoadUnloadWork H' load nexus old answer made new → LoadUnloadWork H load nexus old answer made
+      new
   load_unload_where true nexus old answer made new h = loads_in_where old.bay nexus old answer made new h
   load_unload_where false nexus old answer made new h = unloads_where unloaded old.bay old answer made new h
 

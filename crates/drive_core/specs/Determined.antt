@@ -29,7 +29,8 @@ abbrev pub side_sight : Bool → MediumState → Option SideSight
 side_sight true medium = None
 side_sight false medium = Some (record { stored = medium.stored; torn = medium.torn })
 
--- a medium, but for how its volume is split into what is stored and what is pending while it is awake and works, and for
+-- a medium, but for how its volume is split into what is stored and what is pending while it is awake and works, and
+-- for
 -- the room of its side (own)
 pub record Sight : Type 0 where
   pub awake : Bool

@@ -58,7 +58,8 @@ module _ {M : Type 0} (state : M → MediumState) (below : Below M Change) where
         (error : MediumError) × WakesAs given (Err error) back.0 × (back.1 ≡ reply_of (wake_answer error))
         × (new ≡ old)
 
-    -- what is in this bay goes out of the drive, parked; or nothing is there; or the device failed, and the medium stays
+    -- what is in this bay goes out of the drive, parked; or nothing is there; or the device failed, and the medium
+    -- stays
     -- loaded (own)
     abbrev pub GoesOutOf : Bay M → DriveState M K → Result M Reply → DriveState M K → Type 0
     GoesOutOf Empty old (Ok out) new = ⊥

@@ -1,12 +1,10 @@
-//! REWIND, and LOAD of a loaded medium.
+//! REWIND.
 ghost use Rattle.std.specs.Prelude.{◌≡◌};
-ghost use Rattle.drive_core.specs.State.{IsPositioned, mounted, start};
+ghost use Rattle.drive_core.specs.State.{IsPositioned, mounted};
 ghost use Rattle.drive_core.specs.Rewind.{RewindWork};
-ghost use Rattle.drive_core.specs.StoredFirst.{GoesTo, StoredFirst};
 ghost use Rattle.drive_core.specs.Inner.Carries.{Carries, IsReady};
 
 use crate::faults::Fault;
-use crate::opening::start_of;
 use crate::storing::store_pending;
 use positioning::Pos;
 use scsi_sense::Reply;
@@ -24,22 +22,5 @@ pub fn rewind<M: Medium>(alloc: Global, medium: &mut M, position: &mut Pos) -> R
 {
     store_pending(medium)?;
     position.obj = 0;
-    Ok(Reply::good(Bytes::new(alloc)))
-}
-
-/// Stores what is pending, and goes to the start of the medium (SSC-4, LOAD UNLOAD).
-pub fn go_to_start<M: Medium>(
-    alloc: Global,
-    medium: &mut M,
-    position: &mut Pos,
-) -> Result<Reply, Fault>
-    requires { IsReady (mounted (M.state medium.old) position.old) }
-    ensures carries { Carries M.state M.below
-        (StoredFirst (GoesTo (λ m. start)))
-        medium.old position.old result medium.new position.new }
-    ensures on { IsPositioned (M.state medium.new) position.new }
-{
-    store_pending(medium)?;
-    *position = start_of(medium);
     Ok(Reply::good(Bytes::new(alloc)))
 }

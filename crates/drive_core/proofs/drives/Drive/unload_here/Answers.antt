@@ -37,7 +37,8 @@ returns-in-Ok g c =
     let nowhere = g.met.M.Medium.advances_nowhere in
     let keeps_nowhere = g.met.K.Keeper.advances_nowhere in
     rw (c.good-in-Ok.ensures ∙ ap good_with c.new-in-Ok.ensures)
-    (unload_parked state below kept keeps nowhere keeps_nowhere _ c.args.self.now c.self.view_is c.in-Loaded.medium c.in-Ok.parked _
+    (unload_parked state below kept keeps nowhere keeps_nowhere _ c.args.self.now c.self.view_is c.in-Loaded.medium
+    c.in-Ok.parked _
     (sym c.replace.ensures.value ∙ c.in-Loaded.is) c.fill-in-Ok.ensures (rw c.in-Ok.is at c.park.ensures))
 
 pub returns-in-Err : goal.returns-in-Err
@@ -48,5 +49,6 @@ returns-in-Err g c =
     let keeps = g.K.Keeper.below in
     let nowhere = g.met.M.Medium.advances_nowhere in
     let keeps_nowhere = g.met.K.Keeper.advances_nowhere in
-    unload_broken state below kept keeps nowhere keeps_nowhere _ c.args.self.now c.self.view_is c.in-Loaded.medium c.in-Err.broken _
+    unload_broken state below kept keeps nowhere keeps_nowhere _ c.args.self.now c.self.view_is c.in-Loaded.medium
+    c.in-Err.broken _
     (sym c.replace.ensures.value ∙ c.in-Loaded.is) c.fill-in-Err.ensures (rw c.in-Err.is at c.park.ensures)
