@@ -1,5 +1,6 @@
 //! Each public call once, over a medium whose side has an end and whose device fails.
 mod asking;
+mod loading;
 mod motions;
 mod reserving;
 mod saving;

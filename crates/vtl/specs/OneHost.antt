@@ -45,9 +45,9 @@ OneHostInOrder =
 
 -- a script of one host that was run to its end by the drive of this number: it was answered by a run of the drive's
 -- machine over the commands in the order of the lines, and the text of those answers was written, and nothing else;
--- over an honest medium of which it is sure what its side gives, and where no answer is a fault, want of
--- memory or a full side, no other run of the machine in
--- which none of these comes, wherever flusher's turns stand in it, has another text (own)
+-- over an honest medium of which it is sure what its side gives, and where no answer is a fault, want of memory or a
+-- full side, no other run of the machine in which none of these comes, wherever flusher's turns stand in it, has
+-- another text (own)
 pub record AnswersOneHost {M K : Type 0}
     (state : M → MediumState) (below : Below M Change) (kept : K → KeeperState) (number : ℕ)
     (old : DriveState M K) (left before : Option (List ℕ)) (new : DriveState M K) (now : Option (List ℕ)) : Type
