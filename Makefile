@@ -38,6 +38,7 @@ endings: vtl
 bench: need-rt
 	python3 bench/script.py
 	python3 bench/journal.py
+	python3 bench/cartridge.py
 
 gate: need-rt
 	python3 bench/gate.py

@@ -1,9 +1,11 @@
 #!/usr/bin/env python3
-"""Refuses each growth of the stored run, and of a run of the journal, in turn, on the toolchain's unproved run.
+"""Refuses each growth of the stored run, and of runs of the journal and of a cartridge, in turn, on the toolchain's
+unproved run.
 
 The stored run: its answers are the stored ones, or it ends with 'out of memory' and status 3, or one line is answered ABORTED
 COMMAND. In the last case the line is given twice: the second time it has its stored answer, and so have all lines behind it.
-The journal: its answers are the stored ones, or it ends with status 1 (its words) or 2 behind some of them."""
+The journal and the cartridge: their answers are the stored ones, or it ends with status 1 (its words) or 2 behind some
+of them."""
 import os
 import re
 import subprocess
@@ -11,8 +13,8 @@ import sys
 from concurrent.futures import ThreadPoolExecutor
 
 TOP = os.path.dirname(os.path.dirname(os.path.abspath(__file__)))
-# the run of the journal has 144 growths, by valgrind's count
-GROWTHS = 150
+# by valgrind's count the run of the journal has 144 growths
+GROWTHS = {"journal_bench": 150, "cartridge_bench": 240}
 ABORTED = "CHECK 70000b000000000a00000000550300000000"
 
 
@@ -58,18 +60,19 @@ def script():
     print(f"script: {ended} growths ended the run, {aborted} ended a command, no answer was wrong")
 
 
-def journal():
-    wanted = stored("journal_bench", "stdout")
+def work(crate):
+    wanted, growths = stored(crate, "stdout"), GROWTHS[crate]
     with ThreadPoolExecutor(2) as pool:
-        tried = pool.map(lambda growth: attempt("journal_bench", [], growth), range(1, GROWTHS + 1))
+        tried = pool.map(lambda growth: attempt(crate, [], growth), range(1, growths + 1))
         ended = 0
         for growth, (answers, status, told) in enumerate(tried, 1):
             if status in (1, 2) and answers == wanted[:len(answers)]:
                 ended += 1
             elif status or answers != wanted:
-                sys.exit(f"journal, growth {growth}: status {status}, answers {answers}\n{told}")
-    print(f"journal: of {GROWTHS} growths {ended} ended the run, and the others changed no answer")
+                sys.exit(f"{crate}, growth {growth}: status {status}, answers {answers}\n{told}")
+    print(f"{crate}: of {growths} growths {ended} ended the run, and the others changed no answer")
 
 
 script()
-journal()
+work("journal_bench")
+work("cartridge_bench")

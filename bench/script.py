@@ -1,6 +1,6 @@
 #!/usr/bin/env python3
 """Speed and memory of the built program on scripts, beside cat of the same text; the time of a motion over long and
-short tapes. Best of five runs.
+short tapes, and of commands with and without reservations. Best of five runs.
 
 Texts are rows of (piece, times), so that this process stays small: the memory of a child counts from its parent's."""
 import os
@@ -62,8 +62,13 @@ def measure(folder, name, script, answers):
           f"{moved / 1e6 / seconds:.0f} MB/s of text, {memory / MIB:.0f} MiB; cat {cat:.3f} s")
 
 
-def line(block, sent=""):
-    return f"1 1 {block} {sent}\n".encode()
+def line(block, sent="", host=1):
+    return f"{host} 1 {block} {sent}\n".encode()
+
+
+def order(host, action, kind, key, other=0):
+    """A line of PERSISTENT RESERVE OUT, with the two keys of its list."""
+    return line(f"5f{action:02x}{kind:02x}00000000001800", f"{key:016x}{other:016x}{0:016x}", host)
 
 
 READY, REWIND, ONE = line("000000000000"), line("010000000000"), line("0a0000000100", "78")
@@ -118,12 +123,12 @@ def filemarks(count):
     return [(READY, 1), (line(f"1000{count:06x}00"), 1), (REWIND + BREAK, 1)], [ATTENTION, (GOOD, 2)]
 
 
-def time_of(folder, name, tape, pair, times):
-    """Seconds of a command of this pair, each GOOD and given so often, less the time of making the tape alone."""
-    script, answers = tape
+def time_of(folder, name, before, pair, times, answer=GOOD):
+    """Seconds of a command of this pair, each answered so and given so often, less the time of what comes before."""
+    script, answers = before
     alone, _, _ = timed(folder, name, script, answers)
     pairs = ((pair[0] + pair[1]) * 10 + BREAK, times // 10)
-    whole, _, _ = timed(folder, name, [*script, pairs], [*answers, (GOOD, 2 * times)])
+    whole, _, _ = timed(folder, name, [*script, pairs], [*answers, (answer, 2 * times)])
     return (whole - alone) / (2 * times)
 
 
@@ -144,6 +149,36 @@ def motions(folder):
         sys.exit(f"{' and '.join(grown)} takes longer on a longer tape")
 
 
+def registered(count):
+    """So many hosts, each registered with its number as the key: script and answers."""
+    script = [(line("000000000000", host=host) + order(host, 0, 0, 0, host) + BREAK, 1) for host in range(1, count + 1)]
+    return script, [(ATTENTION[0] + GOOD, count)]
+
+
+def reservations(folder):
+    for count in (1, 64):
+        keys = "".join(f"{host:016x}" for host in range(1, count + 1))
+        read, reread = line("5e000000000000020800"), line("5e010000000000020800")
+        for name, pair, times, answer in (
+            ("READ KEYS", (read, read), 50_000, f"GOOD {count:08x}{8 * count:08x}{keys}\n".encode()),
+            ("READ RESERVATION", (reread, reread), 500_000, f"GOOD {count:08x}{0:08x}\n".encode()),
+            ("RESERVE and RELEASE, type 5", (order(1, 1, 5, 1), order(1, 2, 5, 1)), 200_000, GOOD),
+            ("REGISTER of the same key", (order(1, 0, 0, 1, 1), order(1, 0, 0, 1, 1)), 200_000, GOOD),
+        ):
+            seconds = time_of(folder, name, registered(count), pair, times, answer)
+            print(f"{name} with {count} registered: {1 / seconds / 1e6:.2f} million lines a second, "
+                  f"{seconds * 1e9:.0f} ns a command")
+    script, answers = registered(64)
+    fenced, seen = ([*script, (order(64, 1, 5, 64) + BREAK, 1)], [*answers, (GOOD, 1)]), []
+    for name, command, times in (("TEST UNIT READY", READY, 1_000_000), ("WRITE of one byte", ONE, 450_000)):
+        free, held = (time_of(folder, name, before, (command, command), times)
+                      for before in (([(READY, 1)], [ATTENTION]), fenced))
+        print(f"{name}: {free * 1e9:.0f} ns without a reservation, {held * 1e9:.0f} ns by a registered host under one")
+        seen += [name] if held > 1.5 * free else []
+    if seen:
+        sys.exit(f"{' and '.join(seen)} takes longer under a reservation")
+
+
 def main():
     if not os.path.exists(PROGRAM):
         sys.exit("build the program first: make vtl")
@@ -151,6 +186,7 @@ def main():
         commands(folder)
         transfers(folder)
         motions(folder)
+        reservations(folder)
 
 
 main()

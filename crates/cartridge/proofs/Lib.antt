@@ -1,3 +1,4 @@
+pub mod AnswerLemmas
 pub mod ContentsLemmas
 pub mod FetchLemmas
 pub mod GrowingLemmas

@@ -1,9 +1,10 @@
 -- What an opening comes to.
-use Rattle.std.proofs.Common.{◌≡◌, inl, inr, ℕ, ◌≤◌, List, ◌∷◌, ◌++◌, length, Bool, sym, ◌∙◌, ap, subst, arith, length-append}
+use Rattle.std.proofs.Common.{◌≡◌, inl, inr, ℕ, ◌≤◌, List, ◌∷◌, ◌++◌, length, Bool, refl, sym, ◌∙◌, ap, subst, arith, length-append}
 use Rattle.std.specs.List.{flat_map}
 use Rattle.tape_disk.specs.Disk.{DiskState, Each, IsDisk, Only}
 use Rattle.tape_disk.specs.Moments.{LeavesOnly, holds_now, in_sequence, weakened}
-use Rattle.gate_journal.specs.Side.{Heading, StandsFor, frame, spell_heading}
+use Rattle.gate_journal.specs.declared.header.SideKind.TheVariants as SideKinds
+use Rattle.gate_journal.specs.Side.{Heading, IsNotOf, StandsFor, frame, spell_heading}
 use Rattle.gate_journal.specs.Answers.{NoneFailed}
 use Rattle.gate_journal.specs.Crash.{Unwritten}
 use Rattle.gate_journal.specs.Inner.Headings.{length_heading}
@@ -11,7 +12,7 @@ use Rattle.record_index.specs.Places.{PlacedPart}
 use Rattle.cartridge.specs.declared.error.CartridgeError.{CartridgeError}
 use Rattle.cartridge.specs.declared.error.CartridgeError.TheVariants.{NotOurs, Damaged, BadRecord, SideFull, Device, Failed, NoMemory}
 use Rattle.cartridge.specs.Answers.{IsNotOpened}
-use Rattle.cartridge.specs.Contents.{GivesContents, bodies_of}
+use Rattle.cartridge.specs.Contents.{GivesContents, IsNoCartridge, bodies_of}
 use Rattle.cartridge.specs.Notes.{Notes, noted_contents}
 use Rattle.cartridge.specs.Inner.Open.{IsOpen, StoresContents}
 use Rattle.cartridge.specs.Inner.Reading.{NotRecovered}
@@ -58,14 +59,7 @@ pub not_opened : (old mid new : DiskState) (error : CartridgeError) (heading : H
     → (old.honest → StandsFor heading bodies old.seen × Only old.seen mid.may_leave)
     → (old.honest → Unwritten mid new)
     → NotRecovered error heading bodies mid new → IsNotOpened error old new
-not_opened old mid new NotOurs heading bodies honest none found unwritten why = (
-  why.0 ∙ none,
-  λ h. (
-    inr (heading, bodies, why.1, (found h).0),
-    λ image may. (found h).1 image ((unwritten
-        h).images image may),
-  ),
-)
+not_opened old mid new NotOurs heading bodies honest none found unwritten why = absurd why
 not_opened old mid new (BadRecord at) heading bodies honest none found unwritten why = (
   why.0 ∙ none,
   λ h. (
@@ -75,11 +69,22 @@ not_opened old mid new (BadRecord at) heading bodies honest none found unwritten
 )
 not_opened old mid new (Device fault) heading bodies honest none found unwritten why =
     record { cause = omega (arith, none, why.cause); told = why.told }
-not_opened old mid new NoMemory heading bodies honest none found unwritten why =
-    (why ∙ none, λ h. long_enough heading bodies old.seen (found h).0)
+not_opened old mid new NoMemory heading bodies honest none found unwritten why = (
+  why ∙ none,
+  λ h. (
+    long_enough heading bodies old.seen (found h).0,
+    λ image may. (found h).1 image ((unwritten h).images image may),
+  ),
+)
 not_opened old mid new (Damaged at) heading bodies honest none found unwritten why = absurd why
 not_opened old mid new SideFull heading bodies honest none found unwritten why = absurd why
 not_opened old mid new Failed heading bodies honest none found unwritten why = absurd why
+
+-- what begins with a header of another kind begins with a store's
+pub no_cartridge : (image : List ℕ) → IsNotOf SideKinds.Cartridge image → IsNoCartridge image
+no_cartridge image (inl never) = inl never
+no_cartridge image (inr (SideKinds.Store, other, begins)) = inr begins
+no_cartridge image (inr (SideKinds.Cartridge, other, begins)) = absurd (other refl)
 
 -- each moment's images are old ones, also of what comes behind
 pub old_images : (old mid new : DiskState) → IsDisk mid → LeavesOnly old mid old.may_leave → Unwritten mid new

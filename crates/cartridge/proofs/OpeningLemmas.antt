@@ -1,17 +1,21 @@
 -- A side is read frame by frame.
 use Rattle.std.proofs.Common.{◌≡◌, ℕ, ◌<◌, ◌+◌, List, [], ◌∷◌, ◌++◌, length, take, map, Option, Some, true, false, refl, sym, ◌∙◌, ap, subst, arith, length-append}
-use Rattle.std.specs.Prelude.{slice_index_or, unwrap_or}
-use Rattle.std.specs.List.{All}
+use Rattle.std.specs.Prelude.{IsTrue, slice_index_or, unwrap_or}
+use Rattle.std.specs.List.{All, list_all}
 use Rattle.std.proofs.Math.Numerals.{add-one}
 use Rattle.std.proofs.Math.Seq.{take-suc}
-use Rattle.std.proofs.lemmas.List.Elements.{All-nil}
+use Rattle.std.proofs.lemmas.Bool.{and_from}
+use Rattle.std.proofs.lemmas.List.Elements.{All-head, All-nil, All-tail}
 use Rattle.volume_core.specs.declared.changes.Change.{Change}
+use Rattle.std.proofs.lemmas.Grind.{common_steps}
+use Rattle.gate_journal.specs.declared.header.SideKind.{SideKind}
 use Rattle.gate_journal.specs.declared.header.SideKind.TheVariants.{Cartridge}
-use Rattle.volume_core.specs.Volume.{Part, AllApply}
+use Rattle.vtl_base.specs.Limits.{is_capacity}
+use Rattle.volume_core.specs.Volume.{Part, AllApply, are_capacities}
 use Rattle.tape_disk.specs.Disk.{DiskState, IsDisk}
 use Rattle.tape_disk.specs.Moments.{in_sequence, no_call, weakened}
 use Rattle.gate_journal.specs.Crash.{Unwritten}
-use Rattle.gate_journal.specs.Side.{Heading, spell}
+use Rattle.gate_journal.specs.Side.{Heading, IsCount, IsHeading, spell}
 use Rattle.record_index.specs.Records.{IsRecord}
 use Rattle.record_index.specs.ChangesOn.{changes_on, changes_on_is}
 use Rattle.record_index.specs.Places.{PlacedPart, empty_placed}
@@ -133,3 +137,20 @@ read_none heading extents index notes said is kind index_is notes_are =
       lies =
           indexes_empty (LiesOnSide (record { heading = said; frames = []; torn = [] }) extents) said.capacities;
     })
+
+all_capacities : (capacities : List ℕ) → All (λ bytes. IsTrue (is_capacity bytes)) capacities
+    → IsTrue (list_all is_capacity capacities)
+all_capacities [] all = refl
+all_capacities (c ∷ cs) all =
+    and_from (is_capacity c) (list_all is_capacity cs) (All-head (λ bytes. IsTrue (is_capacity bytes)) c cs all)
+    (all_capacities cs (All-tail (λ bytes. IsTrue (is_capacity bytes)) c cs all))
+
+-- the capacities of a cartridge's header are those of a volume
+pub capacities_fit : (heading : Heading) → IsHeading heading → heading.kind ≡ Cartridge
+    → IsTrue (are_capacities heading.capacities)
+capacities_fit heading is kind =
+    let count : IsCount Cartridge (length heading.capacities) =
+    subst (λ (k : SideKind). IsCount k (length heading.capacities)) kind is.count in
+    let each : IsTrue (list_all is_capacity heading.capacities) =
+    all_capacities heading.capacities is.capacities in
+    grind (arith, common_steps)

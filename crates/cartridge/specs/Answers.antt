@@ -4,7 +4,8 @@ use Rattle.vtl_base.specs.declared.faults.DevFault.{DevFault}
 use Rattle.volume_core.specs.declared.changes.Change.{Change}
 use Rattle.volume_core.specs.declared.changes.Change.TheVariants.{Put, Marks, Erase}
 use Rattle.tape_disk.specs.Disk.{DiskState, Only}
-use Rattle.gate_journal.specs.Side.{IsDamagedAt}
+use Rattle.gate_journal.specs.declared.header.SideKind.TheVariants.{Cartridge}
+use Rattle.gate_journal.specs.Side.{IsDamagedOf}
 use Rattle.gate_journal.specs.Answers.{IsFault, NoneFailed}
 use Rattle.cartridge.specs.declared.error.CartridgeError.{CartridgeError}
 use Rattle.cartridge.specs.declared.error.CartridgeError.TheVariants.{NotOurs, Damaged, BadRecord, SideFull, Device, Failed, NoMemory}
@@ -106,15 +107,16 @@ IsNotCreated (BadRecord at) memory device = ⊥
 IsNotCreated SideFull memory device = ⊥
 IsNotCreated Failed memory device = ⊥
 
--- Why a cartridge is not opened: what the old bytes are, which are then sure, and no call failed; or a fault; or memory
--- ran out, where there are the 27 bytes that each heading has, and no call failed (own).
+-- Why a cartridge is not opened: what the old bytes are, and no call failed; or a fault; or memory ran out, where there
+-- are the 27 bytes that each heading has, and no call failed. But for a fault what stands is then sure (own).
 abbrev pub IsNotOpened : CartridgeError → DiskState → DiskState → Type 0
 IsNotOpened NotOurs old new = NoneFailed old new × (old.honest → IsNoCartridge old.seen × Only old.seen new.may_leave)
 IsNotOpened (Damaged at) old new =
-    NoneFailed old new × (old.honest → IsDamagedAt old.seen at × Only old.seen new.may_leave)
+    NoneFailed old new × (old.honest → IsDamagedOf Cartridge old.seen at × Only old.seen new.may_leave)
 IsNotOpened (BadRecord at) old new =
     NoneFailed old new × (old.honest → IsBadFrameAt old.seen at × Only old.seen new.may_leave)
 IsNotOpened (Device fault) old new = IsFault fault old new
-IsNotOpened NoMemory old new = NoneFailed old new × (old.honest → 27 ≤ length old.seen)
+IsNotOpened NoMemory old new =
+    NoneFailed old new × (old.honest → (27 ≤ length old.seen) × Only old.seen new.may_leave)
 IsNotOpened SideFull old new = ⊥
 IsNotOpened Failed old new = ⊥

@@ -4,7 +4,7 @@ use Rattle.std.specs.List.{All, flat_map}
 use Rattle.volume_core.specs.declared.changes.Change.{Change}
 use Rattle.volume_core.specs.Volume.{Part, AllApply, after, empty_volume}
 use Rattle.gate_journal.specs.declared.header.SideKind.TheVariants.{Cartridge, Store}
-use Rattle.gate_journal.specs.Side.{Heading, IsNotOurs, StandsFor, padded, spell}
+use Rattle.gate_journal.specs.Side.{BeginsAs, Heading, IsDamagedOf, IsNotOurs, StandsFor, padded, spell}
 use Rattle.record_index.specs.Records.{IsRecord, spell_all}
 
 -- What the side of a cartridge holds (own).
@@ -59,11 +59,9 @@ GivesContents contents image = IsContents contents × StandsFor contents.heading
 abbrev pub ShowsContents : Contents → List (List Change) → List ℕ → Type 0
 ShowsContents contents torn image = GivesContents contents image ⊎ GivesContents (with_frames contents torn) image
 
--- the image is no side of a cartridge: no side at all, or a store's (own)
+-- the image begins with no header of a cartridge: with no header at all, or with a store's (own)
 abbrev pub IsNoCartridge : List ℕ → Type 0
-IsNoCartridge image =
-    IsNotOurs image
-    ⊎ ((heading : Heading) × (bodies : List (List ℕ)) × (heading.kind ≡ Store) × StandsFor heading bodies image)
+IsNoCartridge image = IsNotOurs image ⊎ BeginsAs Store image
 
 -- These bodies begin with frames that spell changes, each of which applies, and the body behind those spells no
 -- changes that apply to what they made; the gate of its frame has that place (own).
@@ -82,3 +80,10 @@ abbrev pub IsBadFrameAt : List ℕ → ℕ → Type 0
 IsBadFrameAt image at =
     (heading : Heading) × (bodies : List (List ℕ)) × (good : List (List Change))
     × StandsFor heading bodies image × IsBadFrame heading bodies good at
+
+-- the image gives contents, is no cartridge's, is a damaged cartridge's, or has a first bad frame (own)
+abbrev pub IsAnswered : List ℕ → Type 0
+IsAnswered image =
+    ((contents : Contents) × GivesContents contents image)
+    ⊎ (IsNoCartridge image
+    ⊎ (((at : ℕ) × IsDamagedOf Cartridge image at) ⊎ ((at : ℕ) × IsBadFrameAt image at)))

@@ -28,8 +28,7 @@ impl<D: Disk> Cartridge<D> {
         barcode: &Barcode,
         capacities: &[u64],
     ) -> Result<Shelved<D>, NotCreated<D>>
-        requires barcode { IsBarcode barcode.now }
-        requires capacities { IsTrue (are_capacities capacities.now) }
+        requires { IsTrue (are_capacities capacities.now) }
         ensures disk { Keeps (D.state disk) (D.state (disk_created result)) }
         ensures ok { IfOk result (λ shelved. (shelved.known ≡ true) × (shelved.torn ≡ [])
             × (shelved.contents ≡ contents_from (heading_with barcode.now capacities.now) [])
@@ -69,8 +68,9 @@ impl<D: Disk> Cartridge<D> {
 
 // The header of a cartridge with this barcode and these capacities.
 fn header_with(alloc: Global, barcode: &Barcode, capacities: &[u64]) -> Result<Header, AllocError>
-    requires { IsBarcode barcode.now }
-    ensures { IfOk result (λ header. heading_of header ≡ heading_with barcode.now capacities.now) }
+    ensures valid { IsBarcode barcode.now }
+    ensures heading { IfOk result (λ header.
+        heading_of header ≡ heading_with barcode.now capacities.now) }
 {
     let mut name = [b' '; NAME_BYTES];
     let text = barcode.as_bytes();

@@ -1,5 +1,5 @@
 //! A block is read.
-ghost use Rattle.std.specs.Prelude.{◌≡◌, ◌≤◌, Some, length, true, false, OnOk};
+ghost use Rattle.std.specs.Prelude.{◌≡◌, ◌<◌, ◌≤◌, Some, length, true, false, IfSome, OnOk, vec_capacity};
 ghost use Rattle.tape_disk.specs.Disk.{Keeps};
 ghost use Rattle.vtl_base.specs.declared.limits.TheConstants.{MAX_BLOCK};
 ghost use Rattle.volume_core.specs.declared.objects.Kind.TheVariants as Kinds;
@@ -18,8 +18,9 @@ use vtl_base::{ObjNo, PartNo};
 
 impl<D: Disk> Cartridge<D> {
     /// Gives the bytes of the block of an object number, in the place of what `into` held, by one
-    /// call of the disk. After an `Err` it may hold anything. After `Device` the cartridge has
-    /// failed.
+    /// call of the disk. It takes memory only where the capacity of `into` is less than the block
+    /// has bytes, 1,048,576 at most. After an `Err` it may hold anything. After `Device` the
+    /// cartridge has failed.
     pub fn fetch(
         &mut self,
         part: PartNo,
@@ -34,8 +35,12 @@ impl<D: Disk> Cartridge<D> {
         } }
         ensures answer { MatchCall result
             ((self.old.failed ≡ false) × (self.new.failed ≡ false)
-            × NoneFailed (D.state self.old.disk) (D.state self.new.disk))
-            ((self.old.failed ≡ false) × (self.new ≡ self.old)) ⊥
+            × NoneFailed (D.state self.old.disk) (D.state self.new.disk)
+            × IfSome (block_at (volume_made self.old.contents) part at)
+            (λ block. length into.new.items ≡ length block))
+            ((self.old.failed ≡ false) × (self.new ≡ self.old)
+            × IfSome (block_at (volume_made self.old.contents) part at)
+            (λ block. vec_capacity into.old < length block)) ⊥
             (λ fault. (self.old.failed ≡ false) × (self.new.failed ≡ true)
             × IsFault fault (D.state self.old.disk) (D.state self.new.disk))
             ((self.old.failed ≡ true) × (self.new ≡ self.old)) }

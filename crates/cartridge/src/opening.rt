@@ -21,8 +21,9 @@ use tape_disk::Disk;
 
 impl<D: Disk> Cartridge<D> {
     /// Opens a closed cartridge. It begins with a sync, and writes nothing: at every moment of it,
-    /// and after every error, the disk stands for what it stood for. After `NotOurs`, `Damaged` and
-    /// `BadRecord` that is sure too. The cartridge is handed back closed, as it was.
+    /// and after every error, the disk stands for what it stood for. After each but `Device` that
+    /// is sure too. A store's side is `NotOurs`, also where it is damaged: the header is read first.
+    /// The cartridge is handed back closed, as it was.
     pub fn open(alloc: Global, shelved: Shelved<D>) -> Result<Cartridge<D>, NotOpened<D>>
         ensures disk { Keeps (D.state shelved.disk) (D.state (disk_opened result)) }
         ensures ok { IfOk result (λ cartridge. (cartridge.failed ≡ false) × (cartridge.torn ≡ [])
@@ -39,7 +40,7 @@ impl<D: Disk> Cartridge<D> {
             (D.state shelved.disk).may_leave }
     {
         let Shelved { disk, known, noted } = shelved;
-        match Journal::open(alloc, disk) {
+        match Journal::open_as(alloc, disk, SideKind::Cartridge) {
             Ok(journal) => {
                 let mut journal = journal;
                 match recover(alloc, &mut journal) {
@@ -73,12 +74,13 @@ impl<D: Disk> Cartridge<D> {
     }
 }
 
-// Where the objects of a side lie that was just opened, and what its frames spell.
+// Where the objects of a cartridge's side lie that was just opened, and what its frames spell.
 fn recover<D: Disk>(
     alloc: Global,
     journal: &mut Journal<D>,
 ) -> Result<(Index, Noted), CartridgeError>
-    requires { journal.old.failed ≡ false }
+    requires fine { journal.old.failed ≡ false }
+    requires kind { journal.old.heading.kind ≡ SideKind.Cartridge }
     ensures disk { Keeps (D.state journal.old.disk) (D.state journal.new.disk) }
     ensures unwritten { (D.state journal.old.disk).honest →
         Unwritten (D.state journal.old.disk) (D.state journal.new.disk) }
@@ -92,9 +94,6 @@ fn recover<D: Disk>(
     ensures refused { IfErr result (λ error. NotRecovered error journal.old.heading
         journal.old.bodies (D.state journal.old.disk) (D.state journal.new.disk)) }
 {
-    if journal.header().kind != SideKind::Cartridge {
-        return Err(CartridgeError::NotOurs);
-    }
     let mut index = Index::new(alloc, &journal.header().capacities)?;
     let mut noted = Noted::new(journal.header());
     for frame in 0..journal.frames() {

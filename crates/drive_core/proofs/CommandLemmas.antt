@@ -1,8 +1,8 @@
 -- Where no fault comes, a command's work has one answer, command by command.
-use Rattle.std.proofs.Common.{◌≡◌, ℕ, ℤ, zero, suc, List, [], ◌∷◌, Option, None, Some, Ok, Bool, true, false, not, sym, ◌∙◌, ap, subst, slice_get}
+use Rattle.std.proofs.Common.{◌≡◌, ℕ, ℤ, zero, suc, List, [], ◌∷◌, Option, None, Some, Ok, Bool, true, false, not, ◌&&◌, sym, ◌∙◌, ap, subst, slice_get, refl}
 use Rattle.scsi_sense.specs.declared.replies.Reply.{Reply}
 use Rattle.scsi_wire.specs.declared.commands.Command.{Command}
-use Rattle.scsi_wire.specs.declared.commands.Command.TheVariants.{TestUnitReady, Rewind, RequestSense, ReadBlockLimits, Read, Write, WriteFilemarks, Space, Inquiry, Erase, Locate, ReadPosition, PersistentReserveIn, PersistentReserveOut}
+use Rattle.scsi_wire.specs.declared.commands.Command.TheVariants.{TestUnitReady, Rewind, RequestSense, ReadBlockLimits, Read, Write, WriteFilemarks, Space, Inquiry, Erase, Locate, ReadPosition, PersistentReserveIn, PersistentReserveOut, ModeSelect, ModeSense, LoadUnload}
 use Rattle.scsi_sense.specs.Replies.{good_with}
 use Rattle.vtl_base.specs.declared.space_codes.SpaceCode.{SpaceCode}
 use Rattle.volume_core.specs.declared.changes.Change.{Change}
@@ -29,12 +29,13 @@ use Rattle.drive_core.specs.Write.{WriteWork, put_at}
 use Rattle.drive_core.specs.Marks.{MarksWork, marks_at}
 use Rattle.drive_core.specs.Read.{ReadWork, ReadAnswer, GivesObject, object_at, next, block_reply}
 use Rattle.drive_core.specs.Work.{MediumWork}
-use Rattle.drive_core.specs.Determined.{Sight, sight_of, side_sight}
+use Rattle.drive_core.specs.Determined.{IsSureSight, Sight, sight_of, side_sight}
 
--- loaded media that are seen alike, at one position
+-- loaded media that are seen alike, and of which it is sure what their sides give, at one position
 pub record MountedAlike (m m' : Mounted) : Type 0 where
   pub sights : sight_of m.medium ≡ sight_of m'.medium
   pub positions : m.position ≡ m'.position
+  pub sure : IsSureSight (sight_of m.medium)
 
 -- one reply, one list of changes, and loaded media that are seen alike
 pub record Agrees (reply reply' : Reply) (made made' : List Change) (m m' : Mounted) : Type 0 where
@@ -42,7 +43,7 @@ pub record Agrees (reply reply' : Reply) (made made' : List Change) (m m' : Moun
   pub changes : made ≡ made'
   pub left : MountedAlike m m'
 
--- from loaded media that are seen alike, the work has one reply, and leaves media that are seen alike
+-- from such media, the work has one reply, and leaves media that are seen alike
 abbrev pub IsDetermined : MediumRelation → Type 0
 IsDetermined W =
     (old old' : Mounted) (reply reply' : Reply) (made made' : List Change) (m m' : Mounted)
@@ -60,8 +61,12 @@ works_sight volume medium h = λ i. record {
   awake = h.awake i;
   volume = h.volume_is i;
   failed = h.works i;
-  side = side_sight (h.awake i) medium;
+  side = side_sight (h.awake i && not (h.works i)) medium;
 }
+
+-- and it is sure what its side gives
+works_sure : (volume : List Part) (medium : MediumState) → Works volume medium → IsSureSight (sight_of medium)
+works_sure volume medium h = subst IsSureSight (sym (works_sight volume medium h)) refl
 
 works_alike : (v v' : List Part) (t u : MediumState) → v ≡ v' → Works v t → Works v' u → sight_of t ≡ sight_of u
 works_alike v v' t u e h k = works_sight v t h ∙ ap working_sight e ∙ sym (works_sight v' u k)
@@ -74,17 +79,18 @@ alike_by : (m m' a a' : Mounted) → m ≡ a → m' ≡ a' → MountedAlike a a'
 alike_by m m' a a' h k e = record {
   sights = ap (λ (x : Mounted). sight_of x.medium) h ∙ e.sights ∙ sym (ap (λ (x : Mounted). sight_of x.medium) k);
   positions = ap (λ (x : Mounted). x.position) h ∙ e.positions ∙ sym (ap (λ (x : Mounted). x.position) k);
+  sure = subst (λ (x : Mounted). IsSureSight (sight_of x.medium)) (sym h) e.sure;
 }
 
 -- GOOD and a position
-goes_to : (where_to : Mounted → Pos) → ((m m' : Mounted) → MountedAlike m m' → where_to m ≡ where_to m')
+pub goes_to : (where_to : Mounted → Pos) → ((m m' : Mounted) → MountedAlike m m' → where_to m ≡ where_to m')
     → IsDetermined (GoesTo where_to)
 goes_to where_to same old old' reply reply' made made' m m' e h k = record {
   replies = cc (h.0, k.0);
   changes = h.1 ∙ sym k.1;
   left =
       alike_by m m' (record old { position = where_to old }) (record old' { position = where_to old' }) h.2 k.2
-      (record { sights = e.sights; positions = same old old' e });
+      (record { sights = e.sights; positions = same old old' e; sure = e.sure });
 }
 
 -- nothing done
@@ -96,12 +102,12 @@ idles old old' reply reply' made made' m m' e h k = record {
 }
 
 -- what is pending is stored, and then the work is done
-stored_first : (W : MediumRelation) → IsDetermined W → IsDetermined (StoredFirst W)
+pub stored_first : (W : MediumRelation) → IsDetermined W → IsDetermined (StoredFirst W)
 stored_first W determined old old' reply reply' made made' m m' e h k =
     let sights : sight_of h.0 ≡ sight_of k.0 =
     works_alike (contents_of old) (contents_of old') h.0 k.0 (contents_alike old old' e) h.1.works k.1.works in
     determined (mounted h.0 old.position) (mounted k.0 old'.position) reply reply' made made' m m'
-    (record { sights = sights; positions = e.positions }) h.2 k.2
+    (record { sights = sights; positions = e.positions; sure = works_sure (contents_of old) h.0 h.1.works }) h.2 k.2
 
 module _ (old old' : Mounted) (reply reply' : Reply) (made made' : List Change) (m m' : Mounted)
     (e : MountedAlike old old') where
@@ -133,6 +139,7 @@ module _ (old old' : Mounted) (reply reply' : Reply) (made made' : List Change) 
               works_alike (changed (contents_of old) change) (changed (contents_of old') change') m.medium m'.medium
               volumes h.2.medium_is k.2.medium_is;
           positions = h.2.position_is ∙ (λ i. behind (c i) (e.positions i)) ∙ sym k.2.position_is;
+          sure = works_sure (changed (contents_of old) change) m.medium h.2.medium_is;
         };
       }
   answers (Some NoRoom) settles change change' c h k =
@@ -187,7 +194,11 @@ gives_object suppress asked old old' reply reply' made made' m m' e h k =
     record {
       replies = given.0;
       changes = h.0 ∙ sym k.0;
-      left = record { sights = ap sight_of h.1 ∙ e.sights ∙ sym (ap sight_of k.1); positions = given.1 };
+      left = record {
+        sights = ap sight_of h.1 ∙ e.sights ∙ sym (ap sight_of k.1);
+        positions = given.1;
+        sure = subst IsSureSight (sym (ap sight_of h.1)) e.sure;
+      };
     }
 
 -- READ
@@ -239,6 +250,7 @@ spaced once code count old old' reply reply' made made' m m' e h k =
         sights = ap sight_of a.medium ∙ e.sights ∙ sym (ap sight_of b.medium);
         positions =
             at_place m.position m'.position (a.part ∙ ap (λ (p : Pos). p.part) e.positions ∙ sym b.part) same.0;
+        sure = subst IsSureSight (sym (ap sight_of a.medium)) e.sure;
       };
     }
 
@@ -266,6 +278,7 @@ located once object part old old' reply reply' made made' m m' e h k =
       left = record {
         sights = ap sight_of a.medium ∙ e.sights ∙ sym (ap sight_of b.medium);
         positions = at_place m.position m'.position (a.part_is ∙ parts ∙ sym b.part_is) same.0;
+        sure = subst IsSureSight (sym (ap sight_of a.medium)) e.sure;
       };
     }
 
@@ -292,3 +305,6 @@ commands spaces locates ReadBlockLimits buffered sent = none_determined
 commands spaces locates (Inquiry room) buffered sent = none_determined
 commands spaces locates (PersistentReserveIn action room) buffered sent = none_determined
 commands spaces locates (PersistentReserveOut action bytes) buffered sent = none_determined
+commands spaces locates (ModeSelect length) buffered sent = none_determined
+commands spaces locates (ModeSense room bare) buffered sent = none_determined
+commands spaces locates (LoadUnload load) buffered sent = none_determined

@@ -1,5 +1,5 @@
 -- Where no fault comes, a step has one outcome, and so has a run, wherever flusher's turns stand in it.
-use Rattle.std.proofs.Common.{◌≡◌, Option, Ok, Err, true, sym, ◌∙◌, ap, refl}
+use Rattle.std.proofs.Common.{◌≡◌, Option, Ok, Err, true, not, ◌&&◌, subst, sym, ◌∙◌, ap, refl}
 use Rattle.volume_core.specs.declared.media.Turn.{Turn}
 use Rattle.volume_core.specs.declared.media.Turn.TheVariants.{Idle, Stored, Faulted}
 use Rattle.volume_core.specs.Medium.{MediumState, volume_of, Turns}
@@ -8,14 +8,16 @@ use Rattle.pr_core.specs.Keepers.{KeeperState}
 use Rattle.pr_core.specs.Laws.{NoOrderEndsTwice}
 use Rattle.drive_core.specs.declared.bays.Bay.{Bay}
 use Rattle.drive_core.specs.declared.bays.Bay.TheVariants.{Empty, Unloaded, Loaded}
-use Rattle.drive_core.specs.State.{Machine, bay_of}
+use Rattle.drive_core.specs.State.{DriveState, Machine, bay_of}
 use Rattle.drive_core.specs.Relations.{Made, made_nothing}
 use Rattle.drive_core.specs.Work.{Request}
 use Rattle.drive_core.specs.Turn.{TurnsIn, after_turn, turn_outcome}
-use Rattle.drive_core.specs.Step.{Execute, FlushTurn, Load, PowerOn, Output, Answered, Unanswered, Step}
-use Rattle.drive_core.specs.Determined.{sight_of, side_sight, seen_of, without_room, IsCalm, AreSureAlike, AreAllSureAlike, AreAlike, StepsAreDetermined}
+use Rattle.drive_core.specs.Step.{Execute, FlushTurn, Load, Unload, PowerOn, Output, Answered, Unanswered, Step}
+use Rattle.drive_core.specs.Determined.{IsSureDrive, Sight, sight_of, side_sight, seen_of, without_room, IsCalm, AreSureAlike, AreAllSureAlike, AreAlike, StepsAreDetermined}
 use Rattle.drive_core.proofs.CommandLemmas.{works_sight}
+use Rattle.drive_core.specs.LoadUnload.{emptied}
 use Rattle.drive_core.proofs.DeterminedLoads.{loads, powers_on}
+use Rattle.drive_core.proofs.DeterminedParks.{unloads_alike}
 use Rattle.drive_core.proofs.DeterminedChecks.{requests}
 
 -- a turn that meets no fault leaves the medium seen as it was
@@ -28,7 +30,7 @@ turns_unseen medium (Stored n) left awake calm h =
       awake = awake i;
       volume = volume_of medium;
       failed = h.0 i;
-      side = side_sight (awake i) medium;
+      side = side_sight (awake i && not (h.0 i)) medium;
     })
 turns_unseen medium Faulted left awake calm h = absurd calm
 
@@ -74,13 +76,14 @@ turn_unseen old (Answered answer) made new calm h = absurd h
 
 module _ (spaces : NoSpaceEndsTwice) (locates : NoLocateEndsTwice) (orders : NoOrderEndsTwice) (old beside : Machine)
     (made made' : Made) (new
-    new' : Machine) (e : seen_of old ≡ seen_of beside) where
+    new' : Machine) (e : seen_of old ≡ seen_of beside)
+    (sure : IsSureDrive (seen_of old)) where
   execute_determined : (request other : Request) (output output' : Output) → request ≡ other
       → IsCalm output → IsCalm output' → Step (Unit {0}) old (Execute request) output made new
       → Step (Unit {0}) beside (Execute other) output' made' new' → AreAlike output output' made made' new new'
   execute_determined request other (Answered (Ok reply)) (Answered (Ok reply')) asks calm calm' h k =
       let k' : Step (Unit {0}) beside (Execute request) (Answered (Ok reply')) made' new' = rw (sym asks) at k in
-      requests spaces locates orders old beside reply reply' made made' new new' e request h k'
+      requests spaces locates orders old beside reply reply' made made' new new' e sure request h k'
   execute_determined request other (Answered (Ok reply)) (Answered (Err fault)) asks calm calm' h k = absurd calm'
   execute_determined request other (Answered (Ok reply)) (Unanswered outcome) asks calm calm' h k = absurd k
   execute_determined request other (Answered (Err fault)) output' asks calm calm' h k = absurd calm
@@ -90,7 +93,7 @@ module _ (spaces : NoSpaceEndsTwice) (locates : NoLocateEndsTwice) (orders : NoO
       → IsCalm output → IsCalm output' → Step (Unit {0}) old (Load medium) output made new
       → Step (Unit {0}) beside (Load other) output' made' new' → AreAlike output output' made made' new new'
   load_determined medium other (Answered (Ok reply)) (Answered (Ok reply')) asks calm calm' h k =
-      loads made made' new new' old.bay beside.bay old beside medium other reply reply' e asks h k
+      loads made made' new new' old.bay beside.bay old beside medium other reply reply' e sure asks h k
   load_determined medium other (Answered (Ok reply)) (Answered (Err fault)) asks calm calm' h k = absurd calm'
   load_determined medium other (Answered (Ok reply)) (Unanswered outcome) asks calm calm' h k = absurd k
   load_determined medium other (Answered (Err fault)) output' asks calm calm' h k = absurd calm
@@ -106,6 +109,18 @@ module _ (spaces : NoSpaceEndsTwice) (locates : NoLocateEndsTwice) (orders : NoO
       absurd k
   power_on_determined medium other keeper keeper' (Answered answer) output' asks kept calm calm' h k = absurd h
 
+  unload_determined : (output output' : Output) → IsCalm output → IsCalm output'
+      → Step (Unit {0}) old Unload output made new → Step (Unit {0}) beside Unload output' made' new'
+      → AreAlike output output' made made' new new'
+  unload_determined (Answered (Ok reply)) (Answered (Ok reply')) calm calm' h k =
+      unloads_alike made made' new new' emptied old beside
+      (λ m m' same surely. ((λ i. record (e i) { bay = Empty }), tt)) reply reply' e sure old.bay beside.bay
+      (ap (λ (x : DriveState Sight KeeperState). x.bay) e) sure h k
+  unload_determined (Answered (Ok reply)) (Answered (Err fault)) calm calm' h k = absurd calm'
+  unload_determined (Answered (Ok reply)) (Unanswered outcome) calm calm' h k = absurd k
+  unload_determined (Answered (Err fault)) output' calm calm' h k = absurd calm
+  unload_determined (Unanswered outcome) output' calm calm' h k = absurd h
+
   turn_determined : (output output' : Output) → IsCalm output → IsCalm output'
       → Step (Unit {0}) old FlushTurn output made new → Step (Unit {0}) beside FlushTurn output' made' new'
       → AreAlike output output' made made' new new'
@@ -116,56 +131,93 @@ module _ (spaces : NoSpaceEndsTwice) (locates : NoLocateEndsTwice) (orders : NoO
         outputs = one.output_is ∙ sym two.output_is;
         changes = one.made_is ∙ sym two.made_is;
         drives = one.drive_is ∙ e ∙ sym two.drive_is;
+        sure = subst IsSureDrive (sym one.drive_is) sure;
       }
 
 pub steps_determined : NoSpaceEndsTwice → NoLocateEndsTwice → NoOrderEndsTwice → StepsAreDetermined
-steps_determined spaces locates orders old beside (Execute request) (Execute other) output output' made made' new new' e
+steps_determined spaces locates orders old beside (Execute request) (Execute other) output output' made made' new new'
+    e sure
     asks calm calm' h k =
-    execute_determined spaces locates orders old beside made made' new new' e request other output output' asks calm
+    execute_determined spaces locates orders old beside made made' new new' e sure request other output output' asks
+    calm
     calm' h k
-steps_determined spaces locates orders old beside (Load medium) (Load other) output output' made made' new new' e asks
+steps_determined spaces locates orders old beside (Load medium) (Load other) output output' made made' new new' e sure
+    asks
     calm
     calm' h k =
-    load_determined spaces locates orders old beside made made' new new' e medium other output output' asks calm calm'
+    load_determined spaces locates orders old beside made made' new new' e sure medium other output output' asks calm
+    calm'
     h k
 steps_determined spaces locates orders old beside (PowerOn medium keeper) (PowerOn other keeper') output output' made
-    made' new new' e asks calm calm' h k =
-    power_on_determined spaces locates orders old beside made made' new new' e medium other keeper keeper' output
+    made' new new' e sure asks calm calm' h k =
+    power_on_determined spaces locates orders old beside made made' new new' e sure medium other keeper keeper' output
     output'
     asks.0 asks.1 calm calm' h k
-steps_determined spaces locates orders old beside FlushTurn FlushTurn output output' made made' new new' e asks calm
+steps_determined spaces locates orders old beside FlushTurn FlushTurn output output' made made' new new' e sure asks
+    calm
     calm' h
     k =
-    turn_determined spaces locates orders old beside made made' new new' e output output' calm calm' h k
-steps_determined spaces locates orders old beside (Execute request) (Load other) o o' made made' new new' e asks c c'
+    turn_determined spaces locates orders old beside made made' new new' e sure output output' calm calm' h k
+steps_determined spaces locates orders old beside (Execute request) (Load other) o o' made made' new new' e sure asks
+    c c'
     h k =
     absurd asks
-steps_determined spaces locates orders old beside (Execute request) (PowerOn other kept) o o' made made' new new' e
+steps_determined spaces locates orders old beside (Execute request) (PowerOn other kept) o o' made made' new new' e sure
     asks c c' h k =
     absurd asks
-steps_determined spaces locates orders old beside (Execute request) FlushTurn o o' made made' new new' e asks c c' h k =
+steps_determined spaces locates orders old beside (Execute request) FlushTurn o o' made made' new new' e sure asks c
+    c' h k =
     absurd asks
-steps_determined spaces locates orders old beside (Load medium) (Execute other) o o' made made' new new' e asks c c' h
+steps_determined spaces locates orders old beside (Load medium) (Execute other) o o' made made' new new' e sure asks c
+    c' h
     k =
     absurd asks
-steps_determined spaces locates orders old beside (Load medium) (PowerOn other kept) o o' made made' new new' e asks c
+steps_determined spaces locates orders old beside (Load medium) (PowerOn other kept) o o' made made' new new' e sure
+    asks c
     c' h k =
     absurd asks
-steps_determined spaces locates orders old beside (Load medium) FlushTurn o o' made made' new new' e asks c c' h k =
+steps_determined spaces locates orders old beside (Load medium) FlushTurn o o' made made' new new' e sure asks c c' h
+    k =
     absurd asks
-steps_determined spaces locates orders old beside (PowerOn medium kept) (Execute other) o o' made made' new new' e
+steps_determined spaces locates orders old beside (PowerOn medium kept) (Execute other) o o' made made' new new' e sure
     asks c c' h k =
     absurd asks
-steps_determined spaces locates orders old beside (PowerOn medium kept) (Load other) o o' made made' new new' e asks c
+steps_determined spaces locates orders old beside (PowerOn medium kept) (Load other) o o' made made' new new' e sure
+    asks c
     c' h k =
     absurd asks
-steps_determined spaces locates orders old beside (PowerOn medium kept) FlushTurn o o' made made' new new' e asks c c'
+steps_determined spaces locates orders old beside (PowerOn medium kept) FlushTurn o o' made made' new new' e sure asks
+    c c'
     h k =
     absurd asks
-steps_determined spaces locates orders old beside FlushTurn (Execute other) o o' made made' new new' e asks c c' h k =
-    absurd asks
-steps_determined spaces locates orders old beside FlushTurn (Load other) o o' made made' new new' e asks c c' h k =
-    absurd asks
-steps_determined spaces locates orders old beside FlushTurn (PowerOn other kept) o o' made made' new new' e asks c c'
+steps_determined spaces locates orders old beside FlushTurn (Execute other) o o' made made' new new' e sure asks c c'
     h k =
+    absurd asks
+steps_determined spaces locates orders old beside FlushTurn (Load other) o o' made made' new new' e sure asks c c' h k =
+    absurd asks
+steps_determined spaces locates orders old beside FlushTurn (PowerOn other kept) o o' made made' new new' e sure asks
+    c c'
+    h k =
+    absurd asks
+steps_determined spaces locates orders old beside Unload Unload output output' made made' new new' e sure asks calm
+    calm' h k =
+    unload_determined spaces locates orders old beside made made' new new' e sure output output' calm calm' h k
+steps_determined spaces locates orders old beside (Execute request) Unload o o' made made' new new' e sure asks c c' h
+    k =
+    absurd asks
+steps_determined spaces locates orders old beside (Load medium) Unload o o' made made' new new' e sure asks c c' h k =
+    absurd asks
+steps_determined spaces locates orders old beside (PowerOn medium kept) Unload o o' made made' new new' e sure asks c
+    c' h k =
+    absurd asks
+steps_determined spaces locates orders old beside FlushTurn Unload o o' made made' new new' e sure asks c c' h k =
+    absurd asks
+steps_determined spaces locates orders old beside Unload (Execute other) o o' made made' new new' e sure asks c c' h k =
+    absurd asks
+steps_determined spaces locates orders old beside Unload (Load other) o o' made made' new new' e sure asks c c' h k =
+    absurd asks
+steps_determined spaces locates orders old beside Unload (PowerOn other kept) o o' made made' new new' e sure asks c
+    c' h k =
+    absurd asks
+steps_determined spaces locates orders old beside Unload FlushTurn o o' made made' new new' e sure asks c c' h k =
     absurd asks

@@ -1,9 +1,8 @@
 -- Where no fault comes, a medium that it is sure of opens in one way, and so a loading and a power on have one outcome.
 use Rattle.std.proofs.Common.{◌≡◌, List, [], Option, None, Some, Result, Ok, Err, Bool, true, false, sym, ◌∙◌, ap, subst, refl, inl, inr}
-use Rattle.std.specs.Prelude.{option_map}
+use Rattle.std.specs.Prelude.{option_map, IfSome, ◌&&◌, not}
 use Rattle.scsi_sense.specs.declared.replies.Reply.{Reply}
 use Rattle.pr_core.specs.Keepers.{KeeperState}
-use Rattle.volume_core.specs.declared.changes.Change.{Change}
 use Rattle.volume_core.specs.declared.media.MediumError.{MediumError}
 use Rattle.volume_core.specs.declared.media.MediumError.TheVariants as Errors
 use Rattle.volume_core.specs.Volume.{Part, after}
@@ -11,15 +10,15 @@ use Rattle.volume_core.specs.Medium.{MediumState, GivenBy, Wakes, WakesFrom, vol
 use Rattle.drive_core.specs.declared.bays.Bay.{Bay}
 use Rattle.drive_core.specs.declared.bays.Bay.TheVariants.{Empty, Unloaded, Loaded}
 use Rattle.drive_core.specs.declared.faults.Fault.{Fault}
-use Rattle.drive_core.specs.State.{Machine, bay_of, left_of, loaded, powered_on}
+use Rattle.drive_core.specs.State.{Machine, bay_of, left_of, loaded, medium_in, powered_on}
 use Rattle.drive_core.specs.Relations.{Made}
 use Rattle.drive_core.specs.Load.{LoadsAs, LoadsInto, PowersOn, bay_when_on, power_on_outcome}
 use Rattle.drive_core.specs.Step.{Answered, Unanswered}
-use Rattle.drive_core.specs.Determined.{Sight, SideSight, sight_of, side_sight, seen_of, without_room, AreSureAlike, AreAllSureAlike, IsCalm, AreAlike}
+use Rattle.drive_core.specs.Determined.{IsSure, IsSureDrive, IsSureSight, Sight, SideSight, torn_seen, sight_of, side_sight, seen_of, without_room, AreSureAlike, AreAllSureAlike, IsCalm, AreAlike}
 use Rattle.drive_core.proofs.CommandLemmas.{working_sight}
 
 -- neither memory ran out nor the device failed
-abbrev IsQuiet : Result Unit MediumError → Type 0
+abbrev pub IsQuiet : Result Unit MediumError → Type 0
 IsQuiet (Err Errors.NoMemory) = ⊥
 IsQuiet (Err Errors.Device) = ⊥
 IsQuiet _ = Unit {0}
@@ -44,20 +43,23 @@ opened_sight (Some volume) = working_sight volume
 record WokeAs (woke answer : Result Unit MediumError) (opened : MediumState) (sight : Sight) : Type 0 where
   pub answer_is : woke ≡ answer
   pub sight_is : sight_of opened ≡ sight
+  pub sure : IsSureSight sight
 
 -- a medium that is awake answers by whether it has failed, and stays
 wakes_awake : (failed : Bool) (medium : MediumState) (woke : Result Unit MediumError) (opened : MediumState)
-    → medium.failed ≡ failed → WakesFrom (Unit {0}) true medium woke opened
+    → medium.failed ≡ failed → IsSure medium → WakesFrom (Unit {0}) true medium woke opened
     → WokeAs woke (awake_answer failed) opened (sight_of medium)
-wakes_awake false medium (Ok done) opened f h = record { answer_is = refl; sight_is = ap sight_of h.1 }
-wakes_awake true medium (Ok done) opened f h = cc
-wakes_awake true medium (Err Errors.Failed) opened f h = record { answer_is = refl; sight_is = ap sight_of h.1 }
-wakes_awake false medium (Err Errors.Failed) opened f h = cc
-wakes_awake failed medium (Err (Errors.Refused cause)) opened f h = absurd h
-wakes_awake failed medium (Err Errors.NoMemory) opened f h = absurd h
-wakes_awake failed medium (Err Errors.SideFull) opened f h = absurd h
-wakes_awake failed medium (Err Errors.Device) opened f h = absurd h
-wakes_awake failed medium (Err Errors.Unreadable) opened f h = absurd h
+wakes_awake false medium (Ok done) opened f sure h =
+    record { answer_is = refl; sight_is = ap sight_of h.1; sure = sure }
+wakes_awake true medium (Ok done) opened f sure h = cc (f, h.0)
+wakes_awake true medium (Err Errors.Failed) opened f sure h =
+    record { answer_is = refl; sight_is = ap sight_of h.1; sure = sure }
+wakes_awake false medium (Err Errors.Failed) opened f sure h = cc (f, h.0)
+wakes_awake failed medium (Err (Errors.Refused cause)) opened f sure h = absurd h
+wakes_awake failed medium (Err Errors.NoMemory) opened f sure h = absurd h
+wakes_awake failed medium (Err Errors.SideFull) opened f sure h = absurd h
+wakes_awake failed medium (Err Errors.Device) opened f sure h = absurd h
+wakes_awake failed medium (Err Errors.Unreadable) opened f sure h = absurd h
 
 -- a side of which it is sure what it gives gives just that
 given_sure : (volume : List Part) (medium : MediumState) (given : Option (List Part))
@@ -79,8 +81,9 @@ wakes_parked (Some volume) medium (Ok done) opened s t quiet h =
         awake = h.0.awake i;
         volume = after (volume_or_empty (stored i)) (h.0.nothing_pending i);
         failed = h.0.works i;
-        side = side_sight (h.0.awake i) opened;
+        side = side_sight (h.0.awake i && not (h.0.works i)) opened;
       };
+      sure = refl;
     }
 wakes_parked None medium (Err Errors.Unreadable) opened s t quiet h =
     let stored : opened.stored ≡ None = (h.0.gives tt).0 ∙ s in
@@ -92,7 +95,7 @@ wakes_parked None medium (Err Errors.Unreadable) opened s t quiet h =
             awake = h.0.parked i;
             volume = after (volume_or_empty (stored i)) (h.0.nothing_pending i);
             failed = h.0.works i;
-            side = side_sight (h.0.parked i) opened;
+            side = side_sight (h.0.parked i && not (h.0.works i)) opened;
           })
           ∙ (λ i. record {
             awake = false;
@@ -100,6 +103,7 @@ wakes_parked None medium (Err Errors.Unreadable) opened s t quiet h =
             failed = false;
             side = Some (record { stored = stored i; torn = torn i });
           });
+      sure = refl;
     }
 wakes_parked (Some volume) medium (Err Errors.Unreadable) opened s t quiet h =
     let none : Some volume ≡ None = sym s ∙ h.1 tt in
@@ -114,20 +118,21 @@ abbrev stored_in : Option SideSight → Option (List Part)
 stored_in None = None
 stored_in (Some side) = side.stored
 
-abbrev torn_in : Option SideSight → List Change
-torn_in None = []
-torn_in (Some side) = side.torn
-
 -- two media answered alike, and are seen alike
-record WokeAlike (woke woke' : Result Unit MediumError) (opened opened' : MediumState) : Type 0 where
+pub record WokeAlike (woke woke' : Result Unit MediumError) (opened opened' : MediumState) : Type 0 where
   pub answers : woke ≡ woke'
   pub sights : sight_of opened ≡ sight_of opened'
+  pub sure : IsSureSight (sight_of opened)
 
 -- what answers alike, and is seen alike, answered alike
 woke_alike : (woke woke' answer : Result Unit MediumError) (opened opened' : MediumState) (sight : Sight)
     → WokeAs woke answer opened sight → WokeAs woke' answer opened' sight → WokeAlike woke woke' opened opened'
 woke_alike woke woke' answer opened opened' sight h k =
-    record { answers = h.answer_is ∙ sym k.answer_is; sights = h.sight_is ∙ sym k.sight_is }
+    record {
+      answers = h.answer_is ∙ sym k.answer_is;
+      sights = h.sight_is ∙ sym k.sight_is;
+      sure = subst IsSureSight (sym h.sight_is) h.sure;
+    }
 
 module _ (medium other : MediumState) (alike : AreSureAlike medium other) where
   -- two media that are seen alike are awake alike, or their sides give the same for sure
@@ -137,21 +142,23 @@ module _ (medium other : MediumState) (alike : AreSureAlike medium other) where
       → WokeAlike woke woke' opened opened'
   wakes_where true a woke woke' opened opened' quiet quiet' h k =
       let failed : other.failed ≡ medium.failed = ap (λ (x : Sight). x.failed) (sym alike.1) in
-      let second = wakes_awake medium.failed other woke' opened' failed k in
+      let sure : IsSure other = subst IsSureSight alike.1 alike.0 in
+      let second = wakes_awake medium.failed other woke' opened' failed sure k in
       woke_alike woke woke' (awake_answer medium.failed) opened opened' (sight_of medium)
-      (wakes_awake medium.failed medium woke opened refl h)
-      (record { answer_is = second.answer_is; sight_is = second.sight_is ∙ sym alike.1 })
+      (wakes_awake medium.failed medium woke opened refl alike.0 h)
+      (record { answer_is = second.answer_is; sight_is = second.sight_is ∙ sym alike.1; sure = alike.0 })
   wakes_where false a woke woke' opened opened' quiet quiet' h k =
       let a' : other.awake ≡ false = ap (λ (x : Sight). x.awake) (sym alike.1) ∙ a in
       let side : side_sight false other ≡ side_sight false medium =
-      ap (λ (b : Bool). side_sight b other) (sym a') ∙ ap (λ (x : Sight). x.side) (sym alike.1)
-      ∙ ap (λ (b : Bool). side_sight b medium) a in
-      let torn : medium.torn ≡ [] = elim alike.0 [ inl awake ↦ cc | inr torn ↦ torn ] in
+      ap (λ (b : Bool). side_sight (b && not other.failed) other) (sym a') ∙ ap (λ (x : Sight). x.side) (sym alike.1)
+      ∙ ap (λ (b : Bool). side_sight (b && not medium.failed) medium) a in
+      let torn : medium.torn ≡ [] =
+      sym (ap (λ (b : Bool). torn_seen (side_sight (b && not medium.failed) medium)) a) ∙ alike.0 in
       woke_alike woke woke' (parked_answer medium.stored) opened opened' (opened_sight medium.stored)
       (wakes_parked medium.stored medium woke opened refl torn quiet h)
-      (wakes_parked medium.stored other woke' opened' (ap stored_in side) (ap torn_in side ∙ torn) quiet' k)
+      (wakes_parked medium.stored other woke' opened' (ap stored_in side) (ap torn_seen side ∙ torn) quiet' k)
 
-  wakes_alike : (woke woke' : Result Unit MediumError) (opened opened' : MediumState) → IsQuiet woke → IsQuiet woke'
+  pub wakes_alike : (woke woke' : Result Unit MediumError) (opened opened' : MediumState) → IsQuiet woke → IsQuiet woke'
       → Wakes (Unit {0}) medium woke opened → Wakes (Unit {0}) other woke' opened'
       → WokeAlike woke woke' opened opened'
   wakes_alike woke woke' opened opened' quiet quiet' h k =
@@ -198,40 +205,59 @@ switched_alike : (bay bay' : Bay MediumState) (keeper keeper' : KeeperState)
     ≡ seen_of (powered_on bay' (left_of keeper'.saved) keeper')
 switched_alike bay bay' keeper keeper' bays kept = λ i. powered_on (bays i) (left_of (kept i).saved) (kept i)
 
+bay_is : (stands bay : Bay MediumState) → stands ≡ bay → IfSome (medium_in (bay_of sight_of stands)) IsSureSight
+    → IfSome (medium_in (bay_of sight_of bay)) IsSureSight
+bay_is stands bay e h = subst (λ (b : Bay MediumState). IfSome (medium_in (bay_of sight_of b)) IsSureSight) e h
+
+-- of a medium that stands in a bay once the power is on it is as sure what its side gives as it was
+bay_sure : (woke : Result Unit MediumError) (opened : MediumState) (bay : Bay MediumState)
+    → bay_when_on woke opened ≡ Some bay → IsSureSight (sight_of opened)
+    → IfSome (medium_in (bay_of sight_of bay)) IsSureSight
+bay_sure (Ok done) opened bay e sure = bay_is (Loaded opened) bay (cc e) sure
+bay_sure (Err Errors.Failed) opened bay e sure = bay_is (Loaded opened) bay (cc e) sure
+bay_sure (Err Errors.Unreadable) opened bay e sure = bay_is (Unloaded opened) bay (cc e) sure
+bay_sure (Err Errors.Device) opened bay e sure = bay_is (Unloaded opened) bay (cc e) sure
+bay_sure (Err Errors.NoMemory) opened bay e sure = cc e
+bay_sure (Err (Errors.Refused cause)) opened bay e sure = cc e
+bay_sure (Err Errors.SideFull) opened bay e sure = cc e
+
 module _ (made made' : Made) (new new' : Machine) where
   -- a medium is loaded, or comes back, alike
   loads_as : (old beside : Machine) (woke : Result Unit MediumError) (opened opened' : MediumState)
-      (reply reply' : Reply) → seen_of old ≡ seen_of beside → sight_of opened ≡ sight_of opened' → made ≡ made'
+      (reply reply' : Reply) → seen_of old ≡ seen_of beside → IsSureDrive (seen_of old)
+      → sight_of opened ≡ sight_of opened' → IsSureSight (sight_of opened) → made ≡ made'
       → LoadsAs woke opened old (Ok reply) new → LoadsAs woke opened' beside (Ok reply') new'
       → AreAlike (Answered (Ok reply)) (Answered (Ok reply')) made made' new new'
-  loads_as old beside (Ok done) opened opened' reply reply' e s m h k = record {
+  loads_as old beside (Ok done) opened opened' reply reply' e sure s surely m h k = record {
     outputs = ap Answered (h.0 ∙ sym k.0);
     changes = m;
     drives = ap seen_of h.1 ∙ (λ i. loaded (e i) (s i)) ∙ sym (ap seen_of k.1);
+    sure = subst IsSureDrive (sym (ap seen_of h.1)) surely;
   }
-  loads_as old beside (Err error) opened opened' reply reply' e s m h k = record {
+  loads_as old beside (Err error) opened opened' reply reply' e sure s surely m h k = record {
     outputs = ap Answered (h.0 ∙ sym k.0);
     changes = m;
     drives = ap seen_of h.1 ∙ e ∙ sym (ap seen_of k.1);
+    sure = subst IsSureDrive (sym (ap seen_of h.1)) sure;
   }
 
   -- a loading has one answer
   pub loads : (bay bay' : Bay MediumState) (old beside : Machine) (medium other : MediumState) (reply reply' : Reply)
-      → seen_of old ≡ seen_of beside → AreSureAlike medium other
+      → seen_of old ≡ seen_of beside → IsSureDrive (seen_of old) → AreSureAlike medium other
       → LoadsInto (Unit {0}) bay medium old (Ok reply) made new
       → LoadsInto (Unit {0}) bay' other beside (Ok reply') made' new'
       → AreAlike (Answered (Ok reply)) (Answered (Ok reply')) made made' new new'
-  loads Empty Empty old beside medium other reply reply' e alike h k =
+  loads Empty Empty old beside medium other reply reply' e sure alike h k =
       let woke =
       wakes_alike medium other alike h.0 k.0 h.1 k.1 (loads_quiet h.0 h.1 old reply new h.3)
       (loads_quiet k.0 k.1 beside reply' new' k.3) h.2 k.2 in
       let k' : LoadsAs h.0 k.1 beside (Ok reply') new' =
       subst (λ (w : Result Unit MediumError). LoadsAs w k.1 beside (Ok reply') new') (sym woke.answers) k.3 in
-      loads_as old beside h.0 h.1 k.1 reply reply' e woke.sights (h.4 ∙ sym k.4) h.3 k'
-  loads Empty (Unloaded m) old beside medium other reply reply' e alike h k = absurd k
-  loads Empty (Loaded m) old beside medium other reply reply' e alike h k = absurd k
-  loads (Unloaded m) bay' old beside medium other reply reply' e alike h k = absurd h
-  loads (Loaded m) bay' old beside medium other reply reply' e alike h k = absurd h
+      loads_as old beside h.0 h.1 k.1 reply reply' e sure woke.sights woke.sure (h.4 ∙ sym k.4) h.3 k'
+  loads Empty (Unloaded m) old beside medium other reply reply' e sure alike h k = absurd k
+  loads Empty (Loaded m) old beside medium other reply reply' e sure alike h k = absurd k
+  loads (Unloaded m) bay' old beside medium other reply reply' e sure alike h k = absurd h
+  loads (Loaded m) bay' old beside medium other reply reply' e sure alike h k = absurd h
 
   -- a power on leaves one drive
   pub powers_on : (medium other : Option MediumState) (keeper keeper' : KeeperState)
@@ -244,6 +270,7 @@ module _ (made made' : Made) (new new' : Machine) where
     outputs = ap Unanswered (h.0 ∙ sym k.0);
     changes = h.1 ∙ sym k.1;
     drives = ap seen_of h.2 ∙ switched_alike Empty Empty keeper keeper' refl kept ∙ sym (ap seen_of k.2);
+    sure = subst IsSureDrive (sym (ap seen_of h.2)) tt;
   }
   powers_on (Some medium) (Some other) keeper keeper' outcome outcome' alike kept calm calm' h k =
       let calm_h = subst (λ (o : Result Unit Fault). IsCalm (Unanswered o)) h.5 calm in
@@ -260,6 +287,9 @@ module _ (made made' : Made) (new new' : Machine) where
         outputs = ap Unanswered (h.5 ∙ ap power_on_outcome woke.answers ∙ sym k.5);
         changes = h.6 ∙ sym k.6;
         drives = ap seen_of h.7 ∙ switched_alike h.2 k.2 keeper keeper' bays kept ∙ sym (ap seen_of k.7);
+        sure =
+            subst IsSureDrive (sym (ap seen_of h.7))
+            (bay_sure h.0 h.1 h.2 h.4 woke.sure);
       }
   powers_on None (Some other) keeper keeper' outcome outcome' alike kept calm calm' h k = absurd alike
   powers_on (Some medium) None keeper keeper' outcome outcome' alike kept calm calm' h k = absurd alike

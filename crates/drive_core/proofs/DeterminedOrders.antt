@@ -18,7 +18,7 @@ use Rattle.drive_core.specs.State.{Machine, DriveState}
 use Rattle.drive_core.specs.Relations.{Made, made_nothing}
 use Rattle.drive_core.specs.ReserveOut.{OrderOf, OrderUnlessFailed, OrderWork, StandsBy, order_reply, ordered}
 use Rattle.drive_core.specs.Step.{Answered}
-use Rattle.drive_core.specs.Determined.{Sight, seen_of, without_room, AreAlike}
+use Rattle.drive_core.specs.Determined.{IsSureDrive, Sight, seen_of, without_room, AreAlike}
 
 -- a drive as it is seen
 abbrev pub Seen : Type 0
@@ -36,19 +36,21 @@ saved_alike old other state new new' e h k =
     λ i. record { saved = saved i; torn = torn i; failed = failed i; room = None }
 
 module _ (orders : NoOrderEndsTwice) (old beside : Machine) (reply reply' : Reply) (made made' : Made) (new new'
-    : Machine) (e : seen_of old ≡ seen_of beside) where
+    : Machine) (e : seen_of old ≡ seen_of beside) (sure : IsSureDrive (seen_of old)) where
   -- both were answered, and came out alike
   abbrev pub Alike : Type 0
   Alike = AreAlike (Answered (Ok reply)) (Answered (Ok reply')) made made' new new'
 
   -- what makes nothing leaves drives that are seen alike
   pub ends : (answer : Result Reply Fault) (left left' : Machine) → seen_of left ≡ seen_of left'
+      → IsSureDrive (seen_of left)
       → (Ok reply ≡ answer) × (made ≡ made_nothing) × (new ≡ left)
       → (Ok reply' ≡ answer) × (made' ≡ made_nothing) × (new' ≡ left') → Alike
-  ends answer left left' same h k = record {
+  ends answer left left' same left_sure h k = record {
     outputs = ap Answered (h.0 ∙ sym k.0);
     changes = h.1 ∙ sym k.1;
     drives = ap seen_of h.2 ∙ same ∙ sym (ap seen_of k.2);
+    sure = subst IsSureDrive (sym (ap seen_of h.2)) left_sure;
   }
 
   -- the same order stands in both
@@ -76,6 +78,7 @@ module _ (orders : NoOrderEndsTwice) (old beside : Machine) (reply reply' : Repl
             ∙ ordered_same keeper keeper' state told
             (saved_alike old.keeper beside.keeper state keeper keeper' (ap (λ (x : Seen). x.keeper) e) saves.1 saves'.1)
             ∙ sym (ap seen_of stands'.1);
+        sure = subst IsSureDrive (sym (ap seen_of stands.1)) sure;
       }
   saved_stand brought state told (Err error, keeper, saves, stands, made_is) k = cc stands.0
   saved_stand brought state told (Ok done, keeper, saves, stands, made_is) (Err error, keeper', saves', stands', is') =
@@ -86,7 +89,7 @@ module _ (orders : NoOrderEndsTwice) (old beside : Machine) (reply reply' : Repl
       → StandsBy due brought state told beside (Ok reply') made' new' → Alike
   stand_by false brought state told h k =
       ends (Ok (order_reply brought)) (ordered old state told) (ordered beside state told)
-      (ordered_same old.keeper beside.keeper state told (ap (λ (x : Seen). x.keeper) e)) h k
+      (ordered_same old.keeper beside.keeper state told (ap (λ (x : Seen). x.keeper) e)) sure h k
   stand_by true brought state told h k = saved_stand brought state told h k
 
   -- the same order has one answer
@@ -111,13 +114,13 @@ module _ (orders : NoOrderEndsTwice) (old beside : Machine) (reply reply' : Repl
   unless_failed : (failed : Bool) (order : PrOut) (nexus : ℕ)
       → OrderUnlessFailed failed order nexus old (Ok reply) made new
       → OrderUnlessFailed failed order nexus beside (Ok reply') made' new' → Alike
-  unless_failed true order nexus h k = ends (Ok (check_with keeper_failed [])) old beside e h k
+  unless_failed true order nexus h k = ends (Ok (check_with keeper_failed [])) old beside e sure h k
   unless_failed false order nexus h k = order_alike order nexus h k
 
   -- a parameter list has one answer
   pub lists_alike : (list : Result PrOut Sense) (nexus : ℕ) → OrderOf list nexus old (Ok reply) made new
       → OrderOf list nexus beside (Ok reply') made' new' → Alike
-  lists_alike (Err sense) nexus h k = ends (Ok (check_with sense [])) old beside e h k
+  lists_alike (Err sense) nexus h k = ends (Ok (check_with sense [])) old beside e sure h k
   lists_alike (Ok order) nexus h k =
       unless_failed old.keeper.failed order nexus h
       (subst (λ (failed : Bool). OrderUnlessFailed failed order nexus beside (Ok reply') made' new')

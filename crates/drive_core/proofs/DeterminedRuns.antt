@@ -6,9 +6,9 @@ use Rattle.std.proofs.lemmas.List.Elements.{All-head, All-tail}
 use Rattle.scsi_sense.specs.declared.replies.Reply.{Reply}
 use Rattle.drive_core.specs.State.{Machine}
 use Rattle.drive_core.specs.Relations.{Made, made_nothing, made_after}
-use Rattle.drive_core.specs.Step.{Input, Execute, FlushTurn, Load, PowerOn, Output, Step, reply_in, replies_of}
+use Rattle.drive_core.specs.Step.{Input, Execute, FlushTurn, Load, Unload, PowerOn, Output, Step, reply_in, replies_of}
 use Rattle.drive_core.specs.Run.{Run}
-use Rattle.drive_core.specs.Determined.{seen_of, AllAskAlike, without_turns, IsCalm, AreAlike, RunsAreDetermined, StepsAreDetermined}
+use Rattle.drive_core.specs.Determined.{IsSureDrive, seen_of, AllAskAlike, without_turns, IsCalm, AreAlike, RunsAreDetermined, StepsAreDetermined}
 use Rattle.drive_core.proofs.DeterminedLemmas.{turn_unseen}
 
 -- a run without a fault, in which each step may start from any drive that is seen as the one before it left it
@@ -33,26 +33,34 @@ seen_run_from old beside (input ∷ inputs) [] made new e h = absurd h
 -- what such runs make, leave and answer is one
 seen_runs_alike : StepsAreDetermined → (old beside : Machine) (inputs others : List Input) (outputs outputs' : List
     Output)
-    (made made' : Made) (new new' : Machine) → seen_of old ≡ seen_of beside → AllAskAlike inputs others
+    (made made' : Made) (new new' : Machine) → seen_of old ≡ seen_of beside → IsSureDrive (seen_of old)
+    → AllAskAlike inputs others
     → SeenRun old inputs outputs made new → SeenRun beside others outputs' made' new'
     → AreAlike outputs outputs' made made' new new'
-seen_runs_alike steps old beside [] [] [] [] made made' new new' e asks h k =
-    record { outputs = refl; changes = h.0 ∙ sym k.0; drives = h.1 ∙ e ∙ sym k.1 }
-seen_runs_alike steps old beside (i ∷ is) (j ∷ js) (o ∷ os) (o' ∷ os') made made' new new' e asks h k =
+seen_runs_alike steps old beside [] [] [] [] made made' new new' e sure asks h k =
+    record {
+      outputs = refl;
+      changes = h.0 ∙ sym k.0;
+      drives = h.1 ∙ e ∙ sym k.1;
+      sure = subst IsSureDrive (sym h.1) sure;
+    }
+seen_runs_alike steps old beside (i ∷ is) (j ∷ js) (o ∷ os) (o' ∷ os') made made' new new' e sure asks h k =
     let step =
-    steps h.0 k.0 i j o o' h.2 k.2 h.1 k.1 (h.4 ∙ e ∙ sym k.4) asks.0 h.5 k.5 h.6 k.6 in
-    let rest = seen_runs_alike steps h.1 k.1 is js os os' h.3 k.3 new new' step.drives asks.1 h.7 k.7 in
+    steps h.0 k.0 i j o o' h.2 k.2 h.1 k.1 (h.4 ∙ e ∙ sym k.4) (subst IsSureDrive (sym h.4) sure) asks.0 h.5 k.5 h.6
+    k.6 in
+    let rest = seen_runs_alike steps h.1 k.1 is js os os' h.3 k.3 new new' step.drives step.sure asks.1 h.7 k.7 in
     record {
       outputs = λ n. step.outputs n ∷ rest.outputs n;
       changes = h.8 ∙ (λ n. made_after (step.changes n) (rest.changes n)) ∙ sym k.8;
       drives = rest.drives;
+      sure = rest.sure;
     }
-seen_runs_alike steps old beside [] (j ∷ js) outputs outputs' made made' new new' e asks h k = absurd asks
-seen_runs_alike steps old beside (i ∷ is) [] outputs outputs' made made' new new' e asks h k = absurd asks
-seen_runs_alike steps old beside [] [] (o ∷ os) outputs' made made' new new' e asks h k = absurd h
-seen_runs_alike steps old beside [] [] [] (o ∷ os) made made' new new' e asks h k = absurd k
-seen_runs_alike steps old beside (i ∷ is) (j ∷ js) [] outputs' made made' new new' e asks h k = absurd h
-seen_runs_alike steps old beside (i ∷ is) (j ∷ js) (o ∷ os) [] made made' new new' e asks h k = absurd k
+seen_runs_alike steps old beside [] (j ∷ js) outputs outputs' made made' new new' e sure asks h k = absurd asks
+seen_runs_alike steps old beside (i ∷ is) [] outputs outputs' made made' new new' e sure asks h k = absurd asks
+seen_runs_alike steps old beside [] [] (o ∷ os) outputs' made made' new new' e sure asks h k = absurd h
+seen_runs_alike steps old beside [] [] [] (o ∷ os) made made' new new' e sure asks h k = absurd k
+seen_runs_alike steps old beside (i ∷ is) (j ∷ js) [] outputs' made made' new new' e sure asks h k = absurd h
+seen_runs_alike steps old beside (i ∷ is) (j ∷ js) (o ∷ os) [] made made' new new' e sure asks h k = absurd k
 
 -- such a run of inputs without turns, with these replies
 record Untimed (old : Machine) (inputs : List Input) (replies : List Reply) (made : Made) (new : Machine) : Type 0 where
@@ -103,6 +111,9 @@ untimed old (Execute request ∷ is) (o ∷ os) made new calm h =
 untimed old (Load medium ∷ is) (o ∷ os) made new calm h =
     untimed_step old h.0 new (Load medium) (without_turns is) o os made h.1 h.2 (All-head IsCalm o os calm) h.3 h.5
     (untimed h.0 is os h.2 new (All-tail IsCalm o os calm) h.4)
+untimed old (Unload ∷ is) (o ∷ os) made new calm h =
+    untimed_step old h.0 new Unload (without_turns is) o os made h.1 h.2 (All-head IsCalm o os calm) h.3 h.5
+    (untimed h.0 is os h.2 new (All-tail IsCalm o os calm) h.4)
 untimed old (PowerOn medium keeper ∷ is) (o ∷ os) made new calm h =
     untimed_step old h.0 new (PowerOn medium keeper) (without_turns is) o os made h.1 h.2 (All-head IsCalm o os calm)
     h.3 h.5
@@ -111,15 +122,16 @@ untimed old [] (o ∷ os) made new calm h = absurd h
 untimed old (i ∷ is) [] made new calm h = absurd h
 
 pub runs_determined : StepsAreDetermined → RunsAreDetermined
-runs_determined steps old beside inputs others outputs outputs' made made' new new' e asks calm calm' h k =
+runs_determined steps old beside inputs others outputs outputs' made made' new new' e sure asks calm calm' h k =
     let one = untimed old inputs outputs made new calm h in
     let two = untimed beside others outputs' made' new' calm' k in
     let alike =
     seen_runs_alike steps old beside (without_turns inputs) (without_turns others) one.outputs two.outputs made made'
     new new'
-    e asks one.run two.run in
+    e sure asks one.run two.run in
     record {
       outputs = one.replies_are ∙ ap replies_of alike.outputs ∙ sym two.replies_are;
       changes = alike.changes;
       drives = alike.drives;
+      sure = alike.sure;
     }

@@ -2,11 +2,12 @@
 use Rattle.std.proofs.Common.{◌≡◌, ℕ, zero, suc, List, [], ◌∷◌, Result, Ok, Err, Bool, true, false, refl}
 use Rattle.scsi_sense.specs.declared.replies.Reply.{Reply}
 use Rattle.scsi_wire.specs.declared.commands.Command.{Command}
-use Rattle.scsi_wire.specs.declared.commands.Command.TheVariants.{TestUnitReady, Rewind, RequestSense, ReadBlockLimits, Read, Write, WriteFilemarks, Space, Inquiry, Erase, Locate, ReadPosition, PersistentReserveIn, PersistentReserveOut}
+use Rattle.scsi_wire.specs.declared.commands.Command.TheVariants.{TestUnitReady, Rewind, RequestSense, ReadBlockLimits, Read, Write, WriteFilemarks, Space, Inquiry, Erase, Locate, ReadPosition, PersistentReserveIn, PersistentReserveOut, ModeSelect, ModeSense, LoadUnload}
 use Rattle.volume_core.specs.declared.changes.Change.{Change}
 use Rattle.drive_core.specs.declared.faults.Fault.{Fault}
 use Rattle.drive_core.specs.declared.faults.Fault.TheVariants.{NoMemory, Writing, Reading, SideFull, Saving, StoreFull}
-use Rattle.drive_core.specs.State.{Mounted}
+use Rattle.drive_core.specs.State.{Mounted, start}
+use Rattle.drive_core.specs.StoredFirst.{GoesTo, StoredFirst}
 use Rattle.drive_core.specs.Space.{SpaceWhen, is_over_nothing}
 use Rattle.drive_core.specs.Work.{MediumWork}
 use Rattle.drive_core.specs.Write.{WriteWork}
@@ -45,6 +46,9 @@ module _ (H : Type 0) (sent : List ℕ) (old : Mounted) (made : List Change) (ne
   saves_nothing (Inquiry room) buffered h = h
   saves_nothing (PersistentReserveIn action room) buffered h = h
   saves_nothing (PersistentReserveOut action bytes) buffered h = h
+  saves_nothing (ModeSelect length) buffered h = h
+  saves_nothing (ModeSense room bare) buffered h = h
+  saves_nothing (LoadUnload load) buffered h = h
 
 pub faultless_keeper : (H : Type 0) (command : Command) (buffered : Bool) (sent : List ℕ) (old : Mounted)
     (answer : Result Reply Fault) (made : List Change) (new : Mounted)
@@ -57,3 +61,14 @@ faultless_keeper H command buffered sent old (Err (SideFull residue)) made new h
 faultless_keeper H command buffered sent old (Err StoreFull) made new h = refl
 faultless_keeper H command buffered sent old (Err Saving) made new h =
     absurd (saves_nothing H sent old made new command buffered h)
+
+-- nor does going to the start
+pub faultless_start : (old : Mounted) (answer : Result Reply Fault) (made : List Change) (new : Mounted)
+    → StoredFirst (GoesTo (λ m. start)) old answer made new → is_keeper_fault answer ≡ false
+faultless_start old (Ok reply) made new h = refl
+faultless_start old (Err NoMemory) made new h = refl
+faultless_start old (Err Writing) made new h = refl
+faultless_start old (Err Reading) made new h = refl
+faultless_start old (Err (SideFull residue)) made new h = refl
+faultless_start old (Err StoreFull) made new h = refl
+faultless_start old (Err Saving) made new h = cc h.2.0

@@ -3,7 +3,8 @@ use Rattle.std.proofs.Common.{◌≡◌, ◌∙◌, [], Option, None, Some, opti
 use Rattle.vtl_base.specs.Below.{Below}
 use Rattle.vtl_base.specs.declared.faults.NoMemory.{NoMemory}
 use Rattle.scsi_sense.specs.declared.replies.Reply.{Reply}
-use Rattle.scsi_sense.specs.Replies.{good_with}
+use Rattle.scsi_sense.specs.Replies.{check_with, good_with}
+use Rattle.scsi_sense.specs.Senses.{medium_not_present}
 use Rattle.pr_core.specs.declared.states.PrState.{PrState}
 use Rattle.pr_core.specs.Keepers.{KeeperState}
 use Rattle.volume_core.specs.declared.changes.Change.{Change}
@@ -11,12 +12,15 @@ use Rattle.volume_core.specs.declared.media.MediumError.{MediumError}
 use Rattle.volume_core.specs.declared.media.MediumError.TheVariants as Errors
 use Rattle.volume_core.specs.Medium.{MediumState}
 use Rattle.drive_core.specs.declared.bays.Bay.{Bay}
-use Rattle.drive_core.specs.declared.bays.Bay.TheVariants.{Empty}
+use Rattle.drive_core.specs.declared.bays.Bay.TheVariants.{Empty, Unloaded, Loaded}
 use Rattle.drive_core.specs.declared.faults.Fault.{Fault}
-use Rattle.drive_core.specs.State.{DriveState, machine_of, bay_of, left_of, powered_on}
+use Rattle.drive_core.specs.declared.faults.Fault.TheVariants.{Writing}
+use Rattle.drive_core.specs.State.{DriveState, machine_of, bay_of, left_of, medium_in, powered_on}
 use Rattle.drive_core.specs.Relations.{made_nothing}
+use Rattle.drive_core.specs.LoadUnload.{TakesOut, UnloadsInto, emptied}
+use Rattle.drive_core.specs.Execute.{HonestIn}
 use Rattle.drive_core.specs.Load.{Loads, LoadsInto, LoadsAs, wake_answer, bay_when_on, power_on_outcome}
-use Rattle.drive_core.specs.Media.{TakesIn, LoadSteps, SwitchesOn, PowerOnSteps, WakesAs}
+use Rattle.drive_core.specs.Media.{TakesIn, LoadSteps, GoesOut, GoesOutOf, UnloadSteps, SwitchesOn, PowerOnSteps, WakesAs}
 
 module _ {M K : Type 0} (state : M → MediumState) (below : Below M Change) (kept : K → KeeperState) where
   -- an empty drive loads as its machine does
@@ -52,6 +56,57 @@ module _ {M K : Type 0} (state : M → MediumState) (below : Below M Change) (ke
             loads_at old new given back.0 (Err h.0) (wake_answer h.0) empty h.1
             (refl, ap (machine_of state kept) h.3);
       }
+
+  -- what is in a drive goes out of it as of its machine
+  goes_out_at : (bay : Bay M) (old new : DriveState M K) (answer : Result Reply Fault) → old.bay ≡ bay
+      → UnloadsInto emptied (HonestIn below (medium_in bay)) (bay_of state bay) (machine_of state kept old) answer
+      made_nothing (machine_of state kept new)
+      → TakesOut (HonestIn below (medium_in old.bay)) (machine_of state kept old) answer made_nothing
+      (machine_of state kept new)
+  goes_out_at bay old new answer is h =
+      subst
+      (λ (b : Bay M).
+      UnloadsInto emptied (HonestIn below (medium_in b)) (bay_of state b) (machine_of state kept old) answer
+      made_nothing (machine_of state kept new))
+      (sym is) h
+
+  -- what an unloading does is a step of the machine
+  unload_steps_of : (bay : Bay M) (old : DriveState M K) (result : Result M Reply) (new : DriveState M K)
+      → old.bay ≡ bay → GoesOutOf state below bay old result new → UnloadSteps state below kept old result new
+  unload_steps_of Empty old (Ok out) new is h = absurd h
+  unload_steps_of Empty old (Err reply) new is h =
+      record {
+        answer = Ok (check_with medium_not_present []);
+        replied = h.0;
+        step = goes_out_at Empty old new _ is (refl, refl, ap (machine_of state kept) h.1);
+      }
+  unload_steps_of (Unloaded given) old (Ok out) new is h =
+      record {
+        answer = Ok (good_with []);
+        replied = refl;
+        step = goes_out_at (Unloaded given) old new _ is (refl, refl, ap (machine_of state kept) h.1);
+      }
+  unload_steps_of (Unloaded given) old (Err reply) new is h = absurd h
+  unload_steps_of (Loaded given) old (Ok out) new is h =
+      record {
+        answer = Ok (good_with []);
+        replied = refl;
+        step =
+            goes_out_at (Loaded given) old new _ is
+            (Ok tt, state out, h.0.0, (refl, ap (machine_of state kept) h.1), refl);
+      }
+  unload_steps_of (Loaded given) old (Err reply) new is h =
+      record {
+        answer = Err Writing;
+        replied = h.2;
+        step =
+            goes_out_at (Loaded given) old new _ is
+            (Err Errors.Device, state h.0, h.1.0, (refl, ap (machine_of state kept) h.3), refl);
+      }
+
+  pub unload_steps : (old : DriveState M K) (result : Result M Reply) (new : DriveState M K)
+      → GoesOut state below old result new → UnloadSteps state below kept old result new
+  unload_steps old result new h = unload_steps_of old.bay old result new refl h
 
   -- where a medium stands once the power is on, its state stands in the machine
   bay_when_mapped : (woke : Result Unit MediumError) (opened : M)

@@ -1,7 +1,7 @@
 -- What a command that passes all checks finds.
 use Rattle.std.proofs.Common.{◌≡◌, ℕ, List, Option, None, Some, Result, Ok, Err, Bool, true, false, refl, IfOk, if◌then◌else◌}
 use Rattle.scsi_wire.specs.declared.opcodes.Opcode.{Opcode}
-use Rattle.scsi_wire.specs.declared.opcodes.Opcode.TheVariants.{TestUnitReady, Rewind, RequestSense, ReadBlockLimits, Read, Write, WriteFilemarks, Space, Inquiry, Erase, Locate, ReadPosition, PersistentReserveIn, PersistentReserveOut}
+use Rattle.scsi_wire.specs.declared.opcodes.Opcode.TheVariants.{TestUnitReady, Rewind, RequestSense, ReadBlockLimits, Read, Write, WriteFilemarks, Space, Inquiry, Erase, Locate, ReadPosition, PersistentReserveIn, PersistentReserveOut, ModeSelect, ModeSense, LoadUnload}
 use Rattle.scsi_wire.specs.declared.commands.Command.{Command}
 use Rattle.scsi_wire.specs.Opcodes.{is_exempt, needs_medium}
 use Rattle.volume_core.specs.Medium.{MediumState}
@@ -30,6 +30,9 @@ needs_no_exempt Locate e = refl
 needs_no_exempt ReadPosition e = refl
 needs_no_exempt PersistentReserveIn e = cc
 needs_no_exempt PersistentReserveOut e = cc
+needs_no_exempt ModeSelect e = cc
+needs_no_exempt ModeSense e = cc
+needs_no_exempt LoadUnload e = cc
 
 last_none : (one other : Option Denial) → first_some one other ≡ None → other ≡ None
 last_none None other e = e

@@ -1,5 +1,5 @@
 -- A synchronizing command that is acknowledged leaves nothing pending, check by check.
-use Rattle.std.proofs.Common.{◌≡◌, ◌≢◌, ℕ, ℤ, zero, suc, List, [], ◌∷◌, Option, None, Some, Result, Ok, Err, Bool, true, false, length, ◌==◌, refl, subst, sym, ap, inl, inr, nat_lt, not, ◌&&◌, if◌then◌else◌}
+use Rattle.std.proofs.Common.{◌≡◌, ◌≢◌, ℕ, ℤ, zero, suc, List, [], ◌∷◌, Option, None, Some, Result, Ok, Err, Bool, true, false, length, ◌==◌, refl, subst, ap, inl, inr, nat_lt, not, ◌&&◌, if◌then◌else◌}
 use Rattle.std.proofs.lemmas.Bool.{eqb-true}
 use Rattle.vtl_base.specs.declared.space_codes.SpaceCode.{SpaceCode}
 use Rattle.scsi_sense.specs.declared.replies.Reply.{Reply}
@@ -9,7 +9,7 @@ use Rattle.scsi_attention.specs.declared.attention_sets.Attention.{Attention}
 use Rattle.scsi_attention.specs.declared.attention_sets.Attention.TheVariants.{PowerOn, MediumChanged, ReservationsPreempted, RegistrationsPreempted, ReservationsReleased, ModeChanged}
 use Rattle.scsi_wire.specs.declared.opcodes.Opcode.{Opcode}
 use Rattle.scsi_wire.specs.declared.commands.Command.{Command}
-use Rattle.scsi_wire.specs.declared.commands.Command.TheVariants.{TestUnitReady, Rewind, RequestSense, ReadBlockLimits, Read, Write, WriteFilemarks, Space, Inquiry, Erase, Locate, ReadPosition, PersistentReserveIn, PersistentReserveOut}
+use Rattle.scsi_wire.specs.declared.commands.Command.TheVariants.{TestUnitReady, Rewind, RequestSense, ReadBlockLimits, Read, Write, WriteFilemarks, Space, Inquiry, Erase, Locate, ReadPosition, PersistentReserveIn, PersistentReserveOut, ModeSelect, ModeSense, LoadUnload}
 use Rattle.scsi_wire.specs.Opcodes.{opcode_of, is_exempt, needs_medium, is_stopped_by_reservation}
 use Rattle.scsi_wire.specs.Commands.{command_of, sent_length, checked, decoded, decoded_as}
 use Rattle.scsi_sense.specs.Senses.{invalid_field, invalid_operation_code, medium_not_present, medium_failed, deferred_write_error, attention_sense, volume_overflow}
@@ -28,17 +28,18 @@ use Rattle.drive_core.specs.declared.conditions.Denial.{Denial}
 use Rattle.drive_core.specs.declared.conditions.Denial.TheVariants.{Refused, Conflict}
 use Rattle.drive_core.specs.State.{Machine, Mounted, mounted, contents_of}
 use Rattle.drive_core.specs.Relations.{Made}
-use Rattle.drive_core.specs.StoredFirst.{IsStored}
 use Rattle.drive_core.specs.Append.{AppendAnswer, LacksRoom, amount_of}
 use Rattle.drive_core.specs.Space.{SpaceWhen, is_over_nothing}
 use Rattle.drive_core.specs.Erase.{EraseWork, erase_at}
 use Rattle.drive_core.specs.Write.{WriteWork, put_at}
 use Rattle.drive_core.specs.Marks.{MarksWork, marks_at}
 use Rattle.drive_core.specs.Read.{ReadWork}
-use Rattle.drive_core.specs.Work.{Request, MediumWork, OnMediumIn, Work}
+use Rattle.drive_core.specs.Work.{Request, MediumWork, Work}
+use Rattle.drive_core.specs.OnMedium.{OnMediumIn}
 use Rattle.drive_core.specs.Conditions.{condition_due, denial_reply, first_some}
 use Rattle.drive_core.specs.Checks.{Executes, ExecutesAs, condition_denial, fields_verdict, medium_denial, need_denial, reservation_denial, state_denial, suits, unless_denied, verdict, verdict_at}
 use Rattle.drive_core.specs.Synchronize.{synchronizes, IsSynchronizing, Acknowledges, NothingPending}
+use Rattle.drive_core.proofs.CleanLemmas.{IsClean, load_unload_settled, stored_clean}
 
 attention_key : (attention : Attention) → (attention_sense attention).key ≢ NoSense
 attention_key PowerOn = λ e. cc
@@ -57,15 +58,6 @@ unacknowledged sense bytes other (inr warning) = other warning.1.0
 conflict_unacknowledged : Acknowledges conflict → ⊥
 conflict_unacknowledged (inl good) = cc
 conflict_unacknowledged (inr warning) = cc warning.0
-
--- a medium that has not failed, and has nothing pending
-abbrev IsClean : MediumState → Type 0
-IsClean medium = (medium.failed ≡ false) × (medium.pending ≡ [])
-
--- a medium on which all is stored is clean, and so is what is equal to it
-stored_clean : (old between medium : MediumState) → IsStored old between → medium ≡ between → IsClean medium
-stored_clean old between medium h e =
-    subst (λ (m : MediumState). IsClean m) (sym e) (h.works.works, h.nothing_pending)
 
 -- want of room acknowledges nothing
 lacks_unacknowledged : (amount : Option ℕ) (old : Mounted) (reply : Reply) (made : List Change) (new : Mounted)
@@ -153,6 +145,9 @@ module _ (H : Type 0) where
   work_settled (Inquiry room) machine sent old reply made new sure counted h acknowledged = cc
   work_settled (PersistentReserveIn action room) machine sent old reply made new sure counted h acknowledged = cc
   work_settled (PersistentReserveOut action bytes) machine sent old reply made new sure counted h acknowledged = cc
+  work_settled (ModeSelect length) machine sent old reply made new sure counted h acknowledged = cc
+  work_settled (ModeSense room bare) machine sent old reply made new sure counted h acknowledged = cc
+  work_settled (LoadUnload load) machine sent old reply made new sure counted h acknowledged = absurd h
 
   module _ (old : Machine) (nexus : ℕ) (sent : List ℕ) (reply : Reply) (made : Made) (new : Machine)
       (acknowledged : Acknowledges reply) where
@@ -185,6 +180,9 @@ module _ (H : Type 0) where
     command_settled (Inquiry room) sure counted h = cc
     command_settled (PersistentReserveIn action room) sure counted h = cc
     command_settled (PersistentReserveOut action bytes) sure counted h = cc
+    command_settled (ModeSelect length) sure counted h = cc
+    command_settled (ModeSense room bare) sure counted h = cc
+    command_settled (LoadUnload load) sure counted h = load_unload_settled H old reply made new load nexus sure h
 
 -- a command that is denied is not acknowledged, one that is carried out is the block's and came with its bytes
 abbrev Judged : Request → Result Command Denial → Type 0

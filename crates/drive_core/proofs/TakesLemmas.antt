@@ -1,5 +1,5 @@
 -- A drive takes a step in which its medium and its keeper do nothing, or its medium alone works.
-use Rattle.std.proofs.Common.{◌≡◌, ◌∙◌, ℕ, List, [], Option, None, Some, Result, Ok, Err, Bool, false, refl, ap}
+use Rattle.std.proofs.Common.{◌≡◌, ◌∙◌, ℕ, List, [], Option, None, Some, Result, Ok, Err, Bool, true, false, refl, ap}
 use Rattle.vtl_base.specs.Below.{Below, Advances}
 use Rattle.scsi_sense.specs.declared.replies.Reply.{Reply}
 use Rattle.scsi_sense.specs.SenseData.{sense_bytes}
@@ -24,9 +24,11 @@ use Rattle.drive_core.specs.declared.faults.Fault.TheVariants.{NoMemory, Writing
 use Rattle.drive_core.specs.State.{Machine, DriveState, machine_of, medium_in, mounted}
 use Rattle.drive_core.specs.Conditions.{condition_due, denial_reply, denied, without_condition}
 use Rattle.drive_core.specs.Relations.{Made, MediumRelation, made_nothing, made_on_medium}
+use Rattle.drive_core.specs.Mode.{in_asked_mode, in_mode}
 use Rattle.drive_core.specs.RequestSense.{RequestSenseWork, after_report, once_reported, sense_due}
 use Rattle.drive_core.specs.Tell.{Gives, Tells}
-use Rattle.drive_core.specs.Work.{Request, OnMediumIn, Work, WorkBy}
+use Rattle.drive_core.specs.Work.{Request, Work, WorkBy}
+use Rattle.drive_core.specs.OnMedium.{OnMediumIn}
 use Rattle.drive_core.specs.Checks.{Executes, verdict}
 use Rattle.drive_core.specs.Inner.Carries.{Carries}
 use Rattle.drive_core.specs.Execute.{Takes, AdvancesIn, StoresIn, HonestIn, is_device_fault, is_keeper_fault}
@@ -202,3 +204,30 @@ module _ {M K : Type 0}
         stores = rw in_bay carries.stores;
         saves = rw sound (keeps_nowhere old.keeper);
       }
+
+-- another mode changes neither bay nor keeper, and the machine's is the drive's
+module _ {M K : Type 0} (state : M → MediumState) (kept : K → KeeperState) where
+  mode_untouched : (was asked : Bool) (nexus : ℕ) (drive : DriveState M K)
+      → IsUntouched drive (in_mode was asked nexus drive)
+  mode_untouched true true nexus drive = record { bay = refl; keeper = refl }
+  mode_untouched false false nexus drive = record { bay = refl; keeper = refl }
+  mode_untouched true false nexus drive = record { bay = refl; keeper = refl }
+  mode_untouched false true nexus drive = record { bay = refl; keeper = refl }
+
+  pub asked_untouched : (asked : Option Bool) (nexus : ℕ) (drive : DriveState M K)
+      → IsUntouched drive (in_asked_mode asked nexus drive)
+  asked_untouched None nexus drive = record { bay = refl; keeper = refl }
+  asked_untouched (Some buffered) nexus drive = mode_untouched drive.buffered buffered nexus drive
+
+  mode_in_machine : (was asked : Bool) (nexus : ℕ) (drive : DriveState M K)
+      → machine_of state kept (in_mode was asked nexus drive) ≡ in_mode was asked nexus (machine_of state kept drive)
+  mode_in_machine true true nexus drive = refl
+  mode_in_machine false false nexus drive = refl
+  mode_in_machine true false nexus drive = refl
+  mode_in_machine false true nexus drive = refl
+
+  pub asked_in_machine : (asked : Option Bool) (nexus : ℕ) (drive : DriveState M K)
+      → machine_of state kept (in_asked_mode asked nexus drive)
+      ≡ in_asked_mode asked nexus (machine_of state kept drive)
+  asked_in_machine None nexus drive = refl
+  asked_in_machine (Some buffered) nexus drive = mode_in_machine drive.buffered buffered nexus drive

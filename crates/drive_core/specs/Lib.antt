@@ -13,6 +13,9 @@ pub mod Marks
 pub mod Erase
 pub mod Read
 pub mod RequestSense
+pub mod OnMedium
+pub mod Mode
+pub mod LoadUnload
 pub mod ReserveIn
 pub mod ReserveOut
 pub mod Work

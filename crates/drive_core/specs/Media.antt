@@ -1,24 +1,28 @@
 -- What the calls that take a medium in, or give the drive a turn, do to a drive over any medium.
-use Rattle.std.specs.Prelude.{◌≡◌, [], Option, None, Some, option_map, Result, Ok, Err}
+use Rattle.std.specs.Prelude.{◌≡◌, [], true, false, Option, None, Some, option_map, Result, Ok, Err}
 use Rattle.vtl_base.specs.Below.{Below, Advances}
 use Rattle.vtl_base.specs.declared.faults.NoMemory.{NoMemory}
 use Rattle.scsi_sense.specs.declared.replies.Reply.{Reply}
-use Rattle.scsi_sense.specs.Replies.{good_with}
+use Rattle.scsi_sense.specs.Replies.{good_with, check_with}
+use Rattle.scsi_sense.specs.Senses.{medium_not_present}
 use Rattle.pr_core.specs.declared.states.PrState.{PrState}
 use Rattle.pr_core.specs.Keepers.{KeeperState}
 use Rattle.volume_core.specs.declared.changes.Change.{Change}
 use Rattle.volume_core.specs.declared.media.MediumError.{MediumError}
 use Rattle.volume_core.specs.declared.media.MediumError.TheVariants as Errors
 use Rattle.volume_core.specs.declared.media.Turn.{Turn}
-use Rattle.volume_core.specs.Medium.{MediumState, Wakes, met_fault, turn_met_fault}
+use Rattle.volume_core.specs.Medium.{MediumState, Parks, Wakes, met_fault, turn_met_fault}
 use Rattle.drive_core.specs.declared.bays.Bay.{Bay}
-use Rattle.drive_core.specs.declared.bays.Bay.TheVariants.{Empty}
+use Rattle.drive_core.specs.declared.bays.Bay.TheVariants.{Empty, Unloaded, Loaded}
 use Rattle.drive_core.specs.declared.faults.Fault.{Fault}
+use Rattle.drive_core.specs.declared.faults.Fault.TheVariants.{Writing}
+use Rattle.volume_core.specs.Stores.{Stores}
+use Rattle.drive_core.specs.LoadUnload.{emptied}
 use Rattle.drive_core.specs.State.{Machine, DriveState, machine_of, medium_in, loaded, powered_on}
-use Rattle.drive_core.specs.Faults.{reply_of}
+use Rattle.drive_core.specs.Faults.{fault_reply, reply_of}
 use Rattle.drive_core.specs.Relations.{made_nothing}
 use Rattle.drive_core.specs.Load.{wake_answer, bay_when_on}
-use Rattle.drive_core.specs.Step.{FlushTurn, Load, PowerOn, Answered, Unanswered, Step}
+use Rattle.drive_core.specs.Step.{FlushTurn, Load, Unload, PowerOn, Answered, Unanswered, Step}
 use Rattle.drive_core.specs.Turn.{turn_outcome}
 use Rattle.drive_core.specs.Execute.{AdvancesIn, StoresIn, HonestIn}
 
@@ -27,11 +31,24 @@ abbrev pub load_reply : {M : Type 0} → Result Unit (M × Reply) → Reply
 load_reply (Ok done) = good_with []
 load_reply (Err back) = back.1
 
+-- what an unloading is answered: GOOD where the medium goes out, or the reply (own)
+abbrev pub unload_reply : {M : Type 0} → Result M Reply → Reply
+unload_reply (Ok out) = good_with []
+unload_reply (Err reply) = reply
+
 module _ {M : Type 0} (state : M → MediumState) (below : Below M Change) where
   -- a medium was asked to open, and answered so (own)
   pub record WakesAs (old : M) (woke : Result Unit MediumError) (new : M) : Type 0 where
     pub answer : Wakes (below.honest old) (state old) woke (state new)
     pub advances : Advances below old [] (met_fault woke) new
+
+  -- a medium was parked; or comes back, since the device failed (own)
+  abbrev pub ParksFrom : M → Result M M → Type 0
+  ParksFrom given (Ok parked) =
+      Parks (below.honest given) (state given) (Ok tt) (state parked) × Advances below given [] false parked
+  ParksFrom given (Err broken) =
+      Parks (below.honest given) (state given) (Err Errors.Device) (state broken)
+      × Stores (state given) [] (state broken) × Advances below given [] true broken
 
   module _ {K : Type 0} where
     -- a medium is opened and loaded, or comes back with a reply, and the drive is as it was (own)
@@ -40,6 +57,23 @@ module _ {M : Type 0} (state : M → MediumState) (below : Below M Change) where
     TakesIn old given (Err back) new =
         (error : MediumError) × WakesAs given (Err error) back.0 × (back.1 ≡ reply_of (wake_answer error))
         × (new ≡ old)
+
+    -- what is in this bay goes out of the drive, parked; or nothing is there; or the device failed, and the medium
+    -- stays
+    -- loaded (own)
+    abbrev pub GoesOutOf : Bay M → DriveState M K → Result M Reply → DriveState M K → Type 0
+    GoesOutOf Empty old (Ok out) new = ⊥
+    GoesOutOf Empty old (Err reply) new = (reply ≡ check_with medium_not_present []) × (new ≡ old)
+    GoesOutOf (Unloaded given) old (Ok out) new = (out ≡ given) × (new ≡ emptied old given)
+    GoesOutOf (Unloaded given) old (Err reply) new = ⊥
+    GoesOutOf (Loaded given) old (Ok out) new = ParksFrom given (Ok out) × (new ≡ emptied old given)
+    GoesOutOf (Loaded given) old (Err reply) new =
+        (broken : M) × ParksFrom given (Err broken) × (reply ≡ fault_reply Writing)
+        × (new ≡ record old { bay = Loaded broken })
+
+    -- what is in the drive goes out of it (own)
+    abbrev pub GoesOut : DriveState M K → Result M Reply → DriveState M K → Type 0
+    GoesOut old result new = GoesOutOf old.bay old result new
 
     -- a drive is switched on with the medium as it opened, if any, these reservations and this keeper; where memory
     -- runs
@@ -73,6 +107,14 @@ module _ {M : Type 0} (state : M → MediumState) (below : Below M Change) where
         pub step :
             Step (below.honest given) (machine_of state kept old)
             (Load (state given)) (Answered answer) made_nothing (machine_of state kept new)
+
+      -- what an unloading does is a step of the machine (own)
+      pub record UnloadSteps (old : DriveState M K) (result : Result M Reply) (new : DriveState M K) : Type 0 where
+        pub answer : Result Reply Fault
+        pub replied : unload_reply result ≡ reply_of answer
+        pub step :
+            Step (HonestIn below (medium_in old.bay)) (machine_of state kept old)
+            Unload (Answered answer) made_nothing (machine_of state kept new)
 
       -- what a power on does is a step of the machine, whatever it was before (own)
       pub record PowerOnSteps (given : Option M) (keeper : K) (new : DriveState M K) : Type 0 where

@@ -1,18 +1,27 @@
 -- Commands that store all that is pending before they are answered, and answers that acknowledge.
 use Rattle.std.specs.Prelude.{◌≡◌, ◌⊎◌, ℕ, List, [], Bool, true, false, not, ◌&&◌, nat_lt, IsOkAnd, IsSomeAnd, IfSome}
 use Rattle.scsi_wire.specs.declared.commands.Command.{Command}
-use Rattle.scsi_wire.specs.declared.commands.Command.TheVariants.{Rewind, Read, Write, WriteFilemarks, Space, Erase, Locate, ReadPosition}
+use Rattle.scsi_wire.specs.declared.commands.Command.TheVariants.{Rewind, Read, Write, WriteFilemarks, Space, Erase, Locate, ReadPosition, LoadUnload}
 use Rattle.scsi_sense.specs.declared.replies.Reply.{Reply}
 use Rattle.scsi_sense.specs.declared.replies.Status.TheVariants.{Good, Check}
 use Rattle.scsi_sense.specs.declared.sense_data.Sense.{Sense}
 use Rattle.scsi_sense.specs.declared.sense_data.SenseKey.TheVariants.{NoSense}
 use Rattle.scsi_wire.specs.Commands.{decoded}
+use Rattle.volume_core.specs.Medium.{MediumState}
+use Rattle.drive_core.specs.declared.bays.Bay.{Bay}
+use Rattle.drive_core.specs.declared.bays.Bay.TheVariants.{Loaded}
 use Rattle.drive_core.specs.Space.{is_over_nothing}
 use Rattle.drive_core.specs.State.{Machine, medium_in}
 
+-- whether a medium is loaded that has not failed (own)
+abbrev pub is_working : Bay MediumState → Bool
+is_working (Loaded medium) = not medium.failed
+is_working _ = false
+
 -- whether a command synchronizes at a drive: REWIND, LOCATE, READ POSITION; a SPACE that is not over nothing; WRITE
 -- FILEMARKS without IMMED, of none too; a READ of some bytes; in unbuffered mode a WRITE of some, and an ERASE
--- (SSC-4, buffered mode; READ, REWIND, READ POSITION and motions own)
+-- LOAD UNLOAD
+-- of a loaded medium that works (SSC-4, buffered mode; READ, REWIND, READ POSITION and motions own)
 abbrev pub synchronizes : Machine → Command → Bool
 synchronizes machine Rewind = true
 synchronizes machine (Locate object part) = true
@@ -22,6 +31,7 @@ synchronizes machine (WriteFilemarks count immediate) = not immediate
 synchronizes machine (Read length suppress) = nat_lt 0 length
 synchronizes machine (Write length) = not machine.buffered && nat_lt 0 length
 synchronizes machine Erase = not machine.buffered
+synchronizes machine (LoadUnload load) = is_working machine.bay
 synchronizes machine _ = false
 
 -- a command block of a command that synchronizes at this drive (own)

@@ -1,18 +1,17 @@
 -- The work of each command, once it has passed all checks.
-use Rattle.std.specs.Prelude.{◌≡◌, ℕ, List, [], Bool, true, false}
+use Rattle.std.specs.Prelude.{ℕ, List, Bool, true, false}
 use Rattle.scsi_wire.specs.declared.commands.Command.{Command}
-use Rattle.scsi_wire.specs.declared.commands.Command.TheVariants.{TestUnitReady, Rewind, RequestSense, ReadBlockLimits, Read, Write, WriteFilemarks, Space, Inquiry, Erase, Locate, ReadPosition, PersistentReserveIn, PersistentReserveOut}
+use Rattle.scsi_wire.specs.declared.commands.Command.TheVariants.{TestUnitReady, Rewind, RequestSense, ReadBlockLimits, Read, Write, WriteFilemarks, Space, Inquiry, Erase, Locate, ReadPosition, PersistentReserveIn, PersistentReserveOut, ModeSelect, ModeSense, LoadUnload}
 use Rattle.scsi_wire.specs.Answers.{block_limits, cut_to, inquiry_data}
 use Rattle.scsi_wire.specs.Commands.{code_of}
 use Rattle.scsi_wire.specs.Opcodes.{needs_medium}
-use Rattle.volume_core.specs.Medium.{MediumState}
-use Rattle.drive_core.specs.declared.bays.Bay.{Bay}
-use Rattle.drive_core.specs.declared.bays.Bay.TheVariants.{Loaded}
-use Rattle.drive_core.specs.State.{Mounted, mounted, with_mounted}
 use Rattle.drive_core.specs.Relations.{MediumRelation, MachineRelation, Idles}
 use Rattle.drive_core.specs.Erase.{EraseWork}
 use Rattle.drive_core.specs.Locate.{LocateWork}
 use Rattle.drive_core.specs.Marks.{MarksWork}
+use Rattle.drive_core.specs.LoadUnload.{LoadUnloadWork}
+use Rattle.drive_core.specs.Mode.{ModeSelectWork, ModeSenseWork}
+use Rattle.drive_core.specs.OnMedium.{OnMedium}
 use Rattle.drive_core.specs.Read.{ReadWork}
 use Rattle.drive_core.specs.RequestSense.{RequestSenseWork}
 use Rattle.drive_core.specs.ReserveIn.{ReserveInWork}
@@ -48,37 +47,33 @@ MediumWork honest ReadBlockLimits buffered sent old answer made new = ⊥
 MediumWork honest (Inquiry room) buffered sent old answer made new = ⊥
 MediumWork honest (PersistentReserveIn action room) buffered sent old answer made new = ⊥
 MediumWork honest (PersistentReserveOut action bytes) buffered sent old answer made new = ⊥
+MediumWork honest (ModeSelect length) buffered sent old answer made new = ⊥
+MediumWork honest (ModeSense room bare) buffered sent old answer made new = ⊥
+MediumWork honest (LoadUnload load) buffered sent old answer made new = ⊥
 
--- work on the medium of this bay, which saves nothing; where none is loaded there is no such work (own)
-abbrev pub OnMediumIn : Bay MediumState → MediumRelation → MachineRelation
-OnMediumIn (Loaded medium) W old answer made new =
-    (m : Mounted) × W (mounted medium old.position) answer made.changes m × (new ≡ with_mounted old m)
-    × (made.saved ≡ [])
-OnMediumIn _ W old answer made new = ⊥
-
--- work on the loaded medium, at the position; all else of the drive stays (own)
-abbrev pub OnMedium : MediumRelation → MachineRelation
-OnMedium W old answer made new = OnMediumIn old.bay W old answer made new
-
--- the work of a command that needs no medium, for a nexus that sent these bytes (SPC-4, SSC-4)
-abbrev pub DriveWork : Command → ℕ → List ℕ → MachineRelation
-DriveWork (RequestSense room) nexus sent old answer made new = RequestSenseWork room nexus old answer made new
-DriveWork ReadBlockLimits nexus sent old answer made new = Tells block_limits old answer made new
-DriveWork (Inquiry room) nexus sent old answer made new = Tells (cut_to room inquiry_data) old answer made new
-DriveWork (PersistentReserveIn action room) nexus sent old answer made new =
+-- the work of a command that needs no medium, for a nexus that sent these bytes (SPC-4, SSC-4; honesty own)
+abbrev pub DriveWork : Type 0 → Command → ℕ → List ℕ → MachineRelation
+DriveWork honest (RequestSense room) nexus sent old answer made new = RequestSenseWork room nexus old answer made new
+DriveWork honest ReadBlockLimits nexus sent old answer made new = Tells block_limits old answer made new
+DriveWork honest (Inquiry room) nexus sent old answer made new = Tells (cut_to room inquiry_data) old answer made new
+DriveWork honest (PersistentReserveIn action room) nexus sent old answer made new =
     ReserveInWork action room old answer made new
-DriveWork (PersistentReserveOut action bytes) nexus sent old answer made new =
+DriveWork honest (PersistentReserveOut action bytes) nexus sent old answer made new =
     ReserveOutWork action nexus sent old answer made new
-DriveWork _ nexus sent old answer made new = ⊥
+DriveWork honest (ModeSelect length) nexus sent old answer made new = ModeSelectWork nexus sent old answer made new
+DriveWork honest (ModeSense room bare) nexus sent old answer made new = ModeSenseWork bare room old answer made new
+DriveWork honest (LoadUnload load) nexus sent old answer made new =
+    LoadUnloadWork honest load nexus old answer made new
+DriveWork honest _ nexus sent old answer made new = ⊥
 
 -- the work of a command, by whether it needs a medium (own)
 abbrev pub WorkBy : Bool → Type 0 → Command → ℕ → List ℕ → MachineRelation
 WorkBy true honest command nexus sent old answer made new =
     OnMedium (MediumWork honest command old.buffered sent) old answer made new
-WorkBy false honest command nexus sent old answer made new = DriveWork command nexus sent old answer made new
+WorkBy false honest command nexus sent old answer made new = DriveWork honest command nexus sent old answer made new
 
 -- the work of a command of a nexus that sent these bytes; where it is not known whether the medium is honest, the bytes
--- of a block are open, and nothing else (SPC-4, SSC-4)
+-- of a block and the volume of a side are open, and nothing else (SPC-4, SSC-4)
 abbrev pub Work : Type 0 → Command → ℕ → List ℕ → MachineRelation
 Work honest command nexus sent old answer made new =
     WorkBy (needs_medium (code_of command)) honest command nexus sent old answer made new

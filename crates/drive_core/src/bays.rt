@@ -1,4 +1,8 @@
 //! What is in a drive.
+ghost use Rattle.std.specs.Prelude.{◌≡◌};
+ghost use Rattle.drive_core.specs.declared.bays.Bay.TheVariants as Bays;
+
+use std::mem;
 
 /// What is in a drive (SSC-4).
 #[derive(Drop)]
@@ -7,4 +11,15 @@ pub enum Bay<M> {
     /// A cartridge that is there, but not loaded.
     Unloaded(M),
     Loaded(M),
+}
+
+/// Puts this into an empty drive.
+pub(crate) fn fill<M>(slot: &mut Bay<M>, bay: Bay<M>)
+    requires { slot.old ≡ Bays.Empty }
+    ensures { slot.new ≡ bay }
+{
+    match mem::replace(slot, bay) {
+        Bay::Empty => {}
+        Bay::Unloaded(_other) | Bay::Loaded(_other) => unreachable!(),
+    }
 }

@@ -62,6 +62,9 @@ pub fn carry_out<M: Medium>(
         | Command::ReadBlockLimits
         | Command::Inquiry { .. }
         | Command::PersistentReserveIn { .. }
-        | Command::PersistentReserveOut { .. } => unreachable!(),
+        | Command::PersistentReserveOut { .. }
+        | Command::ModeSelect { .. }
+        | Command::ModeSense { .. }
+        | Command::LoadUnload { .. } => unreachable!(),
     }
 }

@@ -6,20 +6,23 @@ ghost use Rattle.drive_core.specs.Conditions.{denial_reply, denied, without_cond
 ghost use Rattle.drive_core.specs.Checks.{Executes};
 ghost use Rattle.drive_core.specs.Synchronize.{IsSynchronizing, Acknowledges, NothingPending};
 ghost use Rattle.drive_core.specs.Execute.{Answers, Takes, HonestIn, asked};
-ghost use Rattle.drive_core.specs.Media.{TakesTurn, TakesIn, LoadSteps, SwitchesOn, PowerOnSteps};
+ghost use Rattle.drive_core.specs.Media.{TakesTurn, TakesIn, LoadSteps, GoesOut, UnloadSteps, SwitchesOn, PowerOnSteps};
 
+mod loading;
+mod modes;
 mod performing;
 mod reserving;
 mod verdicts;
 
-use crate::bays::Bay;
+use crate::bays::{Bay, fill};
 use crate::conditions::{Condition, Denial};
 use crate::faults::Fault;
-use crate::opening::{START, open, start_of, wake_reply};
+use crate::opening::{START, check, open, start_of, wake_reply};
+use loading::park;
 use positioning::Pos;
 use pr_core::{Keeper, Reservations};
 use scsi_attention::{Attention, Attentions, AttnSet};
-use scsi_sense::Reply;
+use scsi_sense::{Reply, Sense};
 use std::alloc::Global;
 use std::marker::Model;
 use std::mem;
@@ -112,6 +115,16 @@ impl<M: Medium, K: Keeper> Drive<M, K> {
         self.take_in(medium)
     }
 
+    /// Unloads what is in the drive, as UNLOAD does, and gives it out, parked. Where there is nothing
+    /// (2, 3A/00), or the device fails (3, 0C/00), nothing comes out, and the reply says so; in the
+    /// second case the medium stays loaded, and has failed.
+    pub fn unload(&mut self) -> Result<M, Reply>
+        ensures out { GoesOut M.state M.below self.old result self.new }
+        ensures step { UnloadSteps M.state M.below K.kept self.old result self.new }
+    {
+        self.give_out()
+    }
+
     /// A flusher's turn: stores what is pending. A fault establishes a deferred error, which the
     /// next command that is not exempt reports, or REQUEST SENSE gives as data. It takes no memory.
     pub fn turn(&mut self) -> Turn
@@ -157,12 +170,26 @@ impl<M: Medium, K: Keeper> Drive<M, K> {
             return Err((medium, wake_reply(self.alloc, error)));
         }
         self.position = start_of(&medium);
-        match mem::replace(&mut self.bay, Bay::Loaded(medium)) {
-            Bay::Empty => {}
-            Bay::Unloaded(_other) | Bay::Loaded(_other) => unreachable!(),
-        }
+        fill(&mut self.bay, Bay::Loaded(medium));
         self.attentions.establish_for_all(Attention::MediumChanged);
         Ok(())
+    }
+
+    // Parks what is loaded, and gives out what is in the drive.
+    fn give_out(&mut self) -> Result<M, Reply>
+        ensures { GoesOut M.state M.below self.old result self.new }
+    {
+        match mem::replace(&mut self.bay, Bay::Empty) {
+            Bay::Empty => Err(check(self.alloc, Sense::medium_not_present())),
+            Bay::Unloaded(medium) => Ok(medium),
+            Bay::Loaded(medium) => match park(medium) {
+                Ok(parked) => Ok(parked),
+                Err(broken) => {
+                    fill(&mut self.bay, Bay::Loaded(broken));
+                    Err(Fault::Writing.reply(self.alloc))
+                }
+            },
+        }
     }
 
     // Checks a command, and carries it out where it passes all checks.

@@ -9,6 +9,7 @@ pub mod drives;
 mod erases;
 pub mod faults;
 pub mod laws;
+mod loads;
 mod locates;
 mod marks;
 mod opening;

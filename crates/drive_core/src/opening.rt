@@ -57,17 +57,27 @@ pub fn start_of<M: Catalog>(medium: &M) -> Pos
     START
 }
 
+/// How a command is answered whose medium could not be opened. It takes no memory.
+pub fn wake_answer(alloc: Global, error: MediumError) -> Result<Reply, Fault>
+    ensures { result ≡ wake_answer error }
+{
+    match error {
+        MediumError::NoMemory => Err(Fault::NoMemory),
+        MediumError::Device => Err(Fault::Reading),
+        MediumError::Unreadable => Ok(check(alloc, Sense::read_error())),
+        MediumError::Failed => Ok(check(alloc, Sense::medium_failed())),
+        MediumError::SideFull => Ok(check(alloc, Sense::medium_failed())),
+        MediumError::Refused(_) => Ok(check(alloc, Sense::medium_failed())),
+    }
+}
+
 /// What a host is told of a medium that could not be opened. It takes no memory.
 pub fn wake_reply(alloc: Global, error: MediumError) -> Reply
     ensures { result ≡ reply_of (wake_answer error) }
 {
-    match error {
-        MediumError::NoMemory => Fault::NoMemory.reply(alloc),
-        MediumError::Device => Fault::Reading.reply(alloc),
-        MediumError::Unreadable => check(alloc, Sense::read_error()),
-        MediumError::Failed => check(alloc, Sense::medium_failed()),
-        MediumError::SideFull => check(alloc, Sense::medium_failed()),
-        MediumError::Refused(_) => check(alloc, Sense::medium_failed()),
+    match wake_answer(alloc, error) {
+        Ok(reply) => reply,
+        Err(fault) => fault.reply(alloc),
     }
 }
 

@@ -1,5 +1,9 @@
 //! Each public call once, over a medium whose side has an end and whose device fails.
+mod asking;
+mod loading;
 mod motions;
+mod reserving;
+mod saving;
 mod tables;
 
 use crate::laws::{answers_are_determined, honest_steps, runs_append, served_hosts_run};

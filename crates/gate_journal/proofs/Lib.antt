@@ -1,3 +1,4 @@
+pub mod AskedLemmas
 pub mod Bodies
 pub mod Extents
 pub mod Marks

@@ -9,7 +9,7 @@ use Rattle.tape_disk.specs.Disk.{DiskState, IsDisk, Only, Same, Elapses}
 use Rattle.tape_disk.specs.Moments.{no_call, one_more_call, in_sequence, weakened}
 use Rattle.gate_journal.specs.declared.error.JournalError.{JournalError}
 use Rattle.gate_journal.specs.declared.error.JournalError.TheVariants.{NotOurs, Damaged, SideFull, Device, Failed, NoMemory}
-use Rattle.gate_journal.specs.Answers.{IsFault, NoneFailed, NotOpened}
+use Rattle.gate_journal.specs.Answers.{IsFault, NoneFailed, NotOpenedBy}
 use Rattle.gate_journal.specs.Crash.{Unwritten}
 use Rattle.gate_journal.specs.Inner.Found.{NotRead, Walked}
 use Rattle.gate_journal.specs.Side.{OPEN, Heading, IsHeading, IsBody, IsSide, IsBroken, BeginsWithFrame, IsNotOurs, IsDamagedAt, StandsFor, frame, spell_heading, spell}
@@ -43,16 +43,18 @@ module _ (d0 d1 d2 : DiskState) where
     not_read_since SideFull P Q M N means memory is = is
     not_read_since Failed P Q M N means memory is = is
 
-    pub not_opened_since : (e : JournalError) (O : Type 0) (P : ℕ → Type 0) (M : Type 0) →
-        (O → d0.honest → IsNotOurs d0.seen × Only d0.seen d2.may_leave) →
-        ((at : ℕ) → P at → d0.honest → IsDamagedAt d0.seen at × Only d0.seen d2.may_leave) →
-        (M → d0.honest → 27 ≤ length d0.seen) → NotRead e O P M d1 d2 → NotOpened e d0 d2
-    not_opened_since NotOurs O P M ours means memory is = (is.0 ∙ none, ours is.1)
-    not_opened_since (Damaged at) O P M ours means memory is = (is.0 ∙ none, means at is.1)
-    not_opened_since (Device fault) O P M ours means memory is = fault_since fault none is
-    not_opened_since NoMemory O P M ours means memory is = (is.0 ∙ none, memory is.1)
-    not_opened_since SideFull O P M ours means memory is = is
-    not_opened_since Failed O P M ours means memory is = is
+    pub not_opened_since : (N : List ℕ → Type 0) (B : List ℕ → ℕ → Type 0) (e : JournalError) (O : Type 0)
+        (P : ℕ → Type 0) (M : Type 0) →
+        (O → d0.honest → N d0.seen × Only d0.seen d2.may_leave) →
+        ((at : ℕ) → P at → d0.honest → B d0.seen at × Only d0.seen d2.may_leave) →
+        (M → d0.honest → (27 ≤ length d0.seen) × Only d0.seen d2.may_leave) →
+        NotRead e O P M d1 d2 → NotOpenedBy N B e d0 d2
+    not_opened_since N B NotOurs O P M ours means memory is = (is.0 ∙ none, ours is.1)
+    not_opened_since N B (Damaged at) O P M ours means memory is = (is.0 ∙ none, means at is.1)
+    not_opened_since N B (Device fault) O P M ours means memory is = fault_since fault none is
+    not_opened_since N B NoMemory O P M ours means memory is = (is.0 ∙ none, memory is.1)
+    not_opened_since N B SideFull O P M ours means memory is = is
+    not_opened_since N B Failed O P M ours means memory is = is
 
 -- a call that writes nothing
 pub one_call : (d0 d1 : DiskState) → IsDisk d0 → Same d0 d1 → Elapses d0 d1 → Unwritten d0 d1

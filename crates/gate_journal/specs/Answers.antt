@@ -1,12 +1,13 @@
 -- What holds after each answer of a call.
-use Rattle.std.specs.Prelude.{◌≡◌, ◌<◌, ◌≤◌, ◌^◌, ◌+◌, ◌-◌, [], ◌∷◌, ◌++◌, ℕ, length, true, false, min, Result, Ok, Err}
+use Rattle.std.specs.Prelude.{◌≡◌, ◌<◌, ◌≤◌, ◌^◌, ◌+◌, ◌-◌, List, [], ◌∷◌, ◌++◌, ℕ, length, true, false, min, Result, Ok, Err}
 use Rattle.vtl_base.specs.declared.faults.DevFault.{DevFault}
 use Rattle.tape_disk.specs.Disk.{DiskState, Only}
+use Rattle.gate_journal.specs.declared.header.SideKind.{SideKind}
 use Rattle.gate_journal.specs.declared.error.JournalError.{JournalError}
 use Rattle.gate_journal.specs.declared.error.JournalError.TheVariants.{NotOurs, Damaged, SideFull, Device, Failed, NoMemory}
 use Rattle.gate_journal.specs.declared.error.Refused.{Refused}
 use Rattle.gate_journal.specs.State.{OpenSide, room_behind}
-use Rattle.gate_journal.specs.Side.{IsNotOurs, IsDamagedAt}
+use Rattle.gate_journal.specs.Side.{IsNotOurs, IsNotOf, IsDamagedAt, IsDamagedOf}
 
 -- no call of the disk failed since the old moment (own)
 abbrev pub NoneFailed : DiskState → DiskState → Type 0
@@ -51,16 +52,27 @@ abbrev pub disk_after : {D : Type 0} → Result (OpenSide D) (Refused D) → D
 disk_after (Ok side) = side.disk
 disk_after (Err refused) = refused.disk
 
--- Why a side is not opened: what the old bytes are, which are then sure, and no call failed; or a fault; or memory ran
--- out, where there are the 27 bytes that each heading has, and no call failed (own).
+-- Why a side is not opened, where these two facts say what bytes are not ours and what bytes are damaged: what the old
+-- bytes are, and no call failed; or a fault; or memory ran out, where there are the 27 bytes that each heading has, and
+-- no call failed. But for a fault what stands is then sure (own).
+abbrev pub NotOpenedBy : (List ℕ → Type 0) → (List ℕ → ℕ → Type 0) → JournalError → DiskState → DiskState → Type 0
+NotOpenedBy not_ours damaged NotOurs old new =
+    NoneFailed old new × (old.honest → not_ours old.seen × Only old.seen new.may_leave)
+NotOpenedBy not_ours damaged (Damaged at) old new =
+    NoneFailed old new × (old.honest → damaged old.seen at × Only old.seen new.may_leave)
+NotOpenedBy not_ours damaged (Device fault) old new = IsFault fault old new
+NotOpenedBy not_ours damaged NoMemory old new =
+    NoneFailed old new × (old.honest → (27 ≤ length old.seen) × Only old.seen new.may_leave)
+NotOpenedBy not_ours damaged SideFull old new = ⊥
+NotOpenedBy not_ours damaged Failed old new = ⊥
+
+-- why a side of any kind is not opened (own)
 abbrev pub NotOpened : JournalError → DiskState → DiskState → Type 0
-NotOpened NotOurs old new = NoneFailed old new × (old.honest → IsNotOurs old.seen × Only old.seen new.may_leave)
-NotOpened (Damaged at) old new =
-    NoneFailed old new × (old.honest → IsDamagedAt old.seen at × Only old.seen new.may_leave)
-NotOpened (Device fault) old new = IsFault fault old new
-NotOpened NoMemory old new = NoneFailed old new × (old.honest → 27 ≤ length old.seen)
-NotOpened SideFull old new = ⊥
-NotOpened Failed old new = ⊥
+NotOpened = NotOpenedBy IsNotOurs IsDamagedAt
+
+-- why a side of this kind is not opened (own)
+abbrev pub NotOpenedAs : SideKind → JournalError → DiskState → DiskState → Type 0
+NotOpenedAs kind = NotOpenedBy (IsNotOf kind) (IsDamagedOf kind)
 
 -- why a side is not made: memory ran out, and the disk was not touched; or a fault (own)
 abbrev pub NotMade : JournalError → Type 0 → (DevFault → Type 0) → Type 0

@@ -95,6 +95,16 @@ StandsFor heading bodies image =
 abbrev pub IsNotOurs : List ℕ → Type 0
 IsNotOurs image = (heading : Heading) (rest : List ℕ) → IsHeading heading → image ≡ spell heading [] ++ rest → ⊥
 
+-- the image begins with the spelling of a heading of this kind (own)
+abbrev pub BeginsAs : SideKind → List ℕ → Type 0
+BeginsAs kind image =
+    (heading : Heading) × (rest : List ℕ) × IsHeading heading × (heading.kind ≡ kind)
+    × (image ≡ spell heading [] ++ rest)
+
+-- the image is no side of this kind: it begins with no heading's spelling, or with that of another kind (own)
+abbrev pub IsNotOf : SideKind → List ℕ → Type 0
+IsNotOf kind image = IsNotOurs image ⊎ ((other : SideKind) × (other ≢ kind) × BeginsAs other image)
+
 -- a whole frame, and a further byte (own)
 abbrev pub BeginsWithFrame : List ℕ → Type 0
 BeginsWithFrame bytes =
@@ -111,6 +121,10 @@ abbrev pub IsDamagedAt : List ℕ → ℕ → Type 0
 IsDamagedAt image at =
     (heading : Heading) × (bodies : List (List ℕ)) × (rest : List ℕ) × IsSide heading bodies
     × (image ≡ spell heading bodies ++ rest) × (length (spell heading bodies) ≡ at) × IsBroken bodies rest
+
+-- the image begins with a heading of this kind, and is damaged at that place (own)
+abbrev pub IsDamagedOf : SideKind → List ℕ → ℕ → Type 0
+IsDamagedOf kind image at = BeginsAs kind image × IsDamagedAt image at
 
 -- the image stands for a side, is not ours, or is damaged at a place (own)
 abbrev pub IsDecided : List ℕ → Type 0

@@ -3,12 +3,11 @@ ghost use Rattle.std.specs.Prelude.{◌≡◌, ◌⊎◌, ◌+◌, ◌*◌, ◌<
 ghost use Rattle.tape_disk.specs.Disk.{Each, Keeps, Only};
 ghost use Rattle.tape_disk.specs.Moments.{LeavesOnly};
 ghost use Rattle.gate_journal.specs.Side.{CLOSED, IsBody, IsHeading, StandsFor, heading_of, spell};
-ghost use Rattle.gate_journal.specs.Answers.{Appended, Broke, IsFault, MatchWrite, NoneFailed, NotMade, NotOpened, disk_after};
+ghost use Rattle.gate_journal.specs.Answers.{Appended, Broke, IsFault, MatchWrite, NoneFailed, NotMade, disk_after};
 ghost use Rattle.gate_journal.specs.Crash.{Unwritten, WithOrWithout};
 ghost use Rattle.gate_journal.specs.State.{room_behind, IsBodyAt, IsBodyPart, IsExtent, LiesInBody};
 
 use crate::device::{write_frame, write_new};
-use crate::reading::{Frames, read_side};
 use crate::room::make_room;
 use crate::spelling::{START_BYTES, fill_frame, spell_closed};
 use crate::{Header, JournalError, Refused};
@@ -20,12 +19,12 @@ use vtl_base::limits::MAX_SIDE;
 /// An open side on a disk. After a device fault it has failed until it is opened again.
 #[derive(Drop)]
 pub struct Journal<D: Disk> {
-    disk: D,
-    header: Header,
-    extents: Vec<(u64, u32)>,
-    buffer: Vec<u8>,
-    end: u64,
-    failed: bool,
+    pub(crate) disk: D,
+    pub(crate) header: Header,
+    pub(crate) extents: Vec<(u64, u32)>,
+    pub(crate) buffer: Vec<u8>,
+    pub(crate) end: u64,
+    pub(crate) failed: bool,
 }
 
 impl<D: Disk> Model for Journal<D> {
@@ -94,37 +93,6 @@ impl<D: Disk> Journal<D> {
                 error: JournalError::Device(fault),
                 disk,
             }),
-        }
-    }
-
-    /// Opens the side that the disk holds. It begins with a sync, and writes nothing: at every
-    /// moment of it, and after every error, the disk stands for what it stood for. After `NotOurs`
-    /// and `Damaged` that is sure too.
-    pub fn open(alloc: Global, disk: D) -> Result<Journal<D>, Refused<D>>
-        ensures disk { Keeps (D.state disk) (D.state (disk_after result)) }
-        ensures ok { IfOk result (λ journal. (journal.failed ≡ false)
-            × NoneFailed (D.state disk) (D.state journal.disk)
-            × ((D.state disk).honest → StandsFor journal.heading journal.bodies (D.state disk).seen
-            × Only (D.state disk).seen (D.state journal.disk).may_leave)) }
-        ensures refused { IfErr result (λ refused.
-            NotOpened refused.error (D.state disk) (D.state refused.disk)) }
-        ensures any_moment { (D.state disk).honest →
-            LeavesOnly (D.state disk) (D.state (disk_after result)) (D.state disk).may_leave }
-    {
-        let mut disk = disk;
-        match read_side(alloc, &mut disk) {
-            Ok((header, frames)) => {
-                let Frames { extents, end } = frames;
-                Ok(Journal {
-                    disk,
-                    header,
-                    extents,
-                    buffer: Vec::new(alloc),
-                    end,
-                    failed: false,
-                })
-            }
-            Err(error) => Err(Refused { error, disk }),
         }
     }
 

@@ -6,6 +6,7 @@ pub mod error;
 pub mod header;
 pub mod journal;
 pub mod laws;
+mod opening;
 mod reading;
 mod room;
 mod spelling;

@@ -5,7 +5,7 @@ ghost use Rattle.gate_journal.specs.Side.{Heading, IsHeading, OPEN, heading_of, 
 ghost use Rattle.gate_journal.specs.Inner.Reading.{numbers_of, heading_within, kind_by_letter};
 ghost use Rattle.std.specs.Int.{to_be_bytes, w32};
 ghost use Rattle.gate_journal.specs.Crash.{Unwritten};
-ghost use Rattle.gate_journal.specs.Inner.Found.{FindsRow, FindsHeader, FindsMark, FindsFrames, FindsSide};
+ghost use Rattle.gate_journal.specs.Inner.Found.{FindsRow, FindsHeader, FindsAsked, FindsMark, FindsFrames, FindsSide};
 ghost use Rattle.tape_disk.specs.Moments.{LeavesOnly};
 
 use crate::error::JournalError;
@@ -24,18 +24,20 @@ pub(crate) struct Frames {
     pub end: u64,
 }
 
-// The side that the disk holds. It begins with a sync, so that what is read is sure.
+// The side that the disk holds, where it is of the kind that is asked for. It begins with a sync,
+// so that what is read is sure.
 pub(crate) fn read_side<D: Disk>(
     alloc: Global,
     disk: &mut D,
+    asked: Option<SideKind>,
 ) -> Result<(Header, Frames), JournalError>
     ensures disk { Keeps (D.state disk.old) (D.state disk.new) }
     ensures any_moment { (D.state disk.old).honest →
         LeavesOnly (D.state disk.old) (D.state disk.new) (D.state disk.old).may_leave }
-    ensures answer { FindsSide result (D.state disk.old) (D.state disk.new) }
+    ensures answer { FindsSide asked result (D.state disk.old) (D.state disk.new) }
 {
     make_sure(disk)?;
-    let header = read_header(alloc, disk)?;
+    let header = read_asked(alloc, disk, asked)?;
     let start = START_BYTES as u64 + 8 * header.capacities.len() as u64;
     let frames = read_frames(alloc, disk, start)?;
     Ok((header, frames))
@@ -48,6 +50,24 @@ fn make_sure<D: Disk>(disk: &mut D) -> Result<(), DevFault>
     ensures syncs { (D.state disk.old).honest → Syncs result (D.state disk.old) (D.state disk.new) }
 {
     disk.sync()
+}
+
+// The header that the disk begins with, where it is of the kind that is asked for.
+fn read_asked<D: Disk>(
+    alloc: Global,
+    disk: &mut D,
+    asked: Option<SideKind>,
+) -> Result<Header, JournalError>
+    ensures disk { Keeps (D.state disk.old) (D.state disk.new) }
+    ensures unwritten { (D.state disk.old).honest →
+        Unwritten (D.state disk.old) (D.state disk.new) }
+    ensures answer { FindsAsked asked result (D.state disk.old) (D.state disk.new) }
+{
+    let header = read_header(alloc, disk)?;
+    match asked {
+        Some(kind) if kind != header.kind => Err(JournalError::NotOurs),
+        _ => Ok(header),
+    }
 }
 
 // The header that the disk begins with.

@@ -125,3 +125,23 @@ fn every_gate(rt: HostRuntime) -> Result<(), Fail> {
     }
     Ok(())
 }
+
+#[test]
+fn a_side_is_opened_as_its_kind(rt: HostRuntime) -> Result<(), Fail> {
+    let alloc = rt.alloc();
+    // Whole, and cut behind its header.
+    for (size, told) in [(71, Ok(2)), (35, Err(JournalError::Damaged { at: 35 }))] {
+        for (kind, told) in [
+            (SideKind::Cartridge, told),
+            (SideKind::Store, Err(JournalError::NotOurs)),
+        ] {
+            let disk = MemDisk::from_bytes(alloc, &SIDE[..size])?;
+            let found = match Journal::open_as(alloc, disk, kind) {
+                Ok(journal) => Ok(journal.frames()),
+                Err(refused) => Err(refused.error),
+            };
+            assert_eq!(rt; found, told, "{size} bytes as {kind:?}");
+        }
+    }
+    Ok(())
+}

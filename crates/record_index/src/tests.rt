@@ -1,5 +1,6 @@
 //! Records by their bytes, and an index against a plain list.
 mod lists;
+mod runs;
 
 use crate::{Record, RecordError, decode_changes, encode_change};
 use std::alloc::Global;

@@ -25,6 +25,16 @@ cleared sets nexus attention = cleared_in (slice_get sets (nexus - 1)) sets nexu
 abbrev pub established_for_all : List AttentionSet → Attention → List AttentionSet
 established_for_all sets attention = map (with_attention attention) sets
 
+-- all sets, of which that of a nexus is this one again, if there is one (own)
+abbrev pub put_back : Option AttentionSet → List AttentionSet → ℕ → List AttentionSet
+put_back None sets nexus = sets
+put_back (Some set) sets nexus = slice_set sets (nexus - 1) set
+
+-- all sets once a condition is established for every nexus but one (SAM-5, unit attention condition)
+abbrev pub established_for_others : List AttentionSet → ℕ → Attention → List AttentionSet
+established_for_others sets nexus attention =
+    put_back (slice_get sets (nexus - 1)) (established_for_all sets attention) nexus
+
 -- all sets once what each nexus is told is established for it, by rising nexus; a nexus that is told nothing keeps its
 -- set (SAM-5, unit attention condition)
 abbrev pub established_by : List AttentionSet → List AttentionSet → List AttentionSet

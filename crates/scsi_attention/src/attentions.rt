@@ -1,6 +1,6 @@
 //! The unit attention conditions of every nexus of a drive.
 ghost use Rattle.std.specs.Prelude.{◌≡◌, replicate};
-ghost use Rattle.scsi_attention.specs.Attentions.{attention_of, cleared, established_by, established_for_all};
+ghost use Rattle.scsi_attention.specs.Attentions.{attention_of, cleared, established_by, established_for_all, established_for_others};
 ghost use Rattle.vtl_base.specs.declared.limits.TheConstants.{NEXUSES};
 
 use crate::attention_sets::{Attention, AttnSet};
@@ -51,6 +51,15 @@ impl Attentions {
         ensures { self.new ≡ established_for_all self.old attention }
     {
         insert_in_each(&mut self.sets, attention);
+    }
+
+    /// Establishes a condition for every nexus but one.
+    pub fn establish_for_others(&mut self, nexus: Nexus, attention: Attention)
+        ensures { self.new ≡ established_for_others self.old nexus attention }
+    {
+        let own = self.sets[nexus.place()];
+        self.establish_for_all(attention);
+        self.sets[nexus.place()] = own;
     }
 
     /// Establishes what each nexus is told: a set for each, by rising nexus. A nexus that is told nothing

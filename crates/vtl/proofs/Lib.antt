@@ -8,6 +8,7 @@ pub mod PhaseLemmas
 pub mod ReadingLemmas
 pub mod RefusedLemmas
 pub mod ScriptLemmas
+pub mod SideTextLemmas
 pub mod SplitLemmas
 pub mod TextLemmas
 pub mod TurnLemmas

@@ -184,7 +184,7 @@ one_host_is_answered state below kept keeps steps determined runs number old lef
       made = served.made;
       run = λ host of. rw (lines_are host of) at served.run;
       written = rw served.replied at written;
-      sole = λ host of is_honest silent ended inputs outputs others end asked calm run.
+      sole = λ host of is_honest sure silent ended inputs outputs others end asked calm run.
           let ran = rw (lines_are host of, ended) at served.run in
           let own = map request_of (commands_in parsed_list) in
           let alike : AllAskAlike (without_turns (asked_in parsed_list)) (without_turns inputs) =
@@ -192,7 +192,7 @@ one_host_is_answered state below kept keeps steps determined runs number old lef
           (subst (λ (xs : List Input). AllAskAlike xs (asked_in parsed_list)) (sym (no_turns own)) (ask_alike own)) in
           let same =
           determined (machine_of state kept old) (machine_of state kept old)
-          (asked_in parsed_list) inputs (map Answered (map Ok silent)) outputs _ others _ end refl alike
+          (asked_in parsed_list) inputs (map Answered (map Ok silent)) outputs _ others _ end refl sure alike
           (all_calm silent) calm
           (run_in below steps (medium_in old.bay) is_honest (machine_of state kept old) (asked_in parsed_list)
           (map Answered (map Ok silent)) _ _ ran)

@@ -8,4 +8,5 @@ pub mod OneHost
 pub mod Parsed
 pub mod Program
 pub mod Runs
+pub mod SideText
 pub mod Text

@@ -15,7 +15,7 @@ use Rattle.drive_core.specs.Execute.{HonestIn}
 use Rattle.drive_core.specs.Relations.{Made}
 use Rattle.drive_core.specs.Step.{Input, Execute, Output, Answered, replies_of}
 use Rattle.drive_core.specs.Run.{Run}
-use Rattle.drive_core.specs.Determined.{IsCalm, without_turns}
+use Rattle.drive_core.specs.Determined.{IsCalm, IsSureDrive, seen_of, without_turns}
 use Rattle.vtl.specs.declared.lines.Line.{Line}
 use Rattle.vtl.specs.declared.lines.ParsedLine.{ParsedLine}
 use Rattle.vtl.specs.Parsed.{parsed_lines, is_refused, line_in}
@@ -45,8 +45,9 @@ OneHostInOrder =
 
 -- a script of one host that was run to its end by the drive of this number: it was answered by a run of the drive's
 -- machine over the commands in the order of the lines, and the text of those answers was written, and nothing else;
--- over an honest medium, and where no answer is a fault, want of memory or a full side, no other run of the machine in
--- which none of these comes, wherever flusher's turns stand in it, has another text (own)
+-- over an honest medium of which it is sure what its side gives, and where no answer is a fault, want of memory or a
+-- full side, no other run of the machine in which none of these comes, wherever flusher's turns stand in it, has
+-- another text (own)
 pub record AnswersOneHost {M K : Type 0}
     (state : M → MediumState) (below : Below M Change) (kept : K → KeeperState) (number : ℕ)
     (old : DriveState M K) (left before : Option (List ℕ)) (new : DriveState M K) (now : Option (List ℕ)) : Type
@@ -63,7 +64,8 @@ pub record AnswersOneHost {M K : Type 0}
   pub written : Appends before now (text_of (map reply_of answers))
   pub sole :
       (host : ℕ) → IsOfHost host (commands_in (parsed_lines (λ drive. drive == number) text))
-      → HonestIn below (medium_in old.bay) → (silent : List Reply) → answers ≡ map Ok silent
+      → HonestIn below (medium_in old.bay) → IsSureDrive (seen_of (machine_of state kept old)) → (silent : List Reply)
+      → answers ≡ map Ok silent
       → (inputs : List Input) (outputs : List Output) (others : Made) (end : Machine)
       → without_turns inputs ≡ asked_in (parsed_lines (λ drive. drive == number) text) → All IsCalm outputs
       → Run (Unit {0}) (machine_of state kept old) inputs outputs others end

@@ -1,6 +1,7 @@
 //! A virtual tape library: runs a script against a drive in memory.
 #![tactic(auto)]
 
+pub mod checking;
 mod drives;
 mod faults;
 mod hosts;

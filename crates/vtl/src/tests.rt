@@ -2,7 +2,9 @@
 mod borders;
 mod failing;
 mod motions;
+mod plain_sides;
 mod programs;
+mod sides;
 mod wires;
 
 use crate::drives::HeldDrive;

@@ -71,7 +71,8 @@ impl Barcode {
 
     /// Its bytes.
     pub fn as_bytes(&self) -> &[u8]
-        ensures { result.now ≡ self.now }
+        ensures bytes { result.now ≡ self.now }
+        ensures valid { IsBarcode self.now }
     {
         &self.symbols[..self.count]
     }

@@ -47,7 +47,8 @@ impl Nexus {
 
     /// Its number, from 1 to 64.
     pub fn number(self) -> u8
-        ensures { result ≡ self }
+        ensures value { result ≡ self }
+        ensures range { (1 ≤ result) × (result ≤ NEXUSES) }
     {
         self.number
     }
@@ -96,7 +97,8 @@ impl DriveNo {
 
     /// Its number, from 1 to 16.
     pub fn number(self) -> u8
-        ensures { result ≡ self }
+        ensures value { result ≡ self }
+        ensures range { (1 ≤ result) × (result ≤ DRIVES) }
     {
         self.number
     }
@@ -145,7 +147,8 @@ impl SlotNo {
 
     /// Its element address, from 1001 to 1256.
     pub fn address(self) -> u16
-        ensures { result ≡ self }
+        ensures value { result ≡ self }
+        ensures range { (FIRST_SLOT ≤ result) × (result - FIRST_SLOT < SLOTS) }
     {
         self.address
     }

@@ -4,7 +4,6 @@ use Rattle.std.specs.List.{All}
 use Rattle.volume_core.specs.declared.changes.Change.{Change}
 use Rattle.volume_core.specs.Volume.{Part, AllApply, after}
 use Rattle.tape_disk.specs.Disk.{DiskState}
-use Rattle.gate_journal.specs.declared.header.SideKind.TheVariants.{Store}
 use Rattle.gate_journal.specs.Side.{Heading}
 use Rattle.gate_journal.specs.Answers.{IsFault, NoneFailed}
 use Rattle.record_index.specs.Records.{IsRecord, SpellsAll, spell_all}
@@ -26,13 +25,13 @@ IsNotRead (BadRecord at) old new = ⊥
 IsNotRead SideFull old new = ⊥
 IsNotRead Failed old new = ⊥
 
--- why a side gives no contents: it is a store's, a frame is bad, a fault, or memory ran out (own)
+-- why a side gives no contents: a frame is bad, a fault, or memory ran out (own)
 abbrev pub NotRecovered : CartridgeError → Heading → List (List ℕ) → DiskState → DiskState → Type 0
-NotRecovered NotOurs heading bodies old new = NoneFailed old new × (heading.kind ≡ Store)
 NotRecovered (BadRecord at) heading bodies old new =
     NoneFailed old new × (old.honest → (good : List (List Change)) × IsBadFrame heading bodies good at)
 NotRecovered (Device fault) heading bodies old new = IsFault fault old new
 NotRecovered NoMemory heading bodies old new = NoneFailed old new
+NotRecovered NotOurs heading bodies old new = ⊥
 NotRecovered (Damaged at) heading bodies old new = ⊥
 NotRecovered SideFull heading bodies old new = ⊥
 NotRecovered Failed heading bodies old new = ⊥

@@ -3,7 +3,8 @@ ghost use Rattle.std.specs.Prelude.{◌≡◌, true, false};
 ghost use Rattle.scsi_wire.specs.Commands.{code_of};
 ghost use Rattle.scsi_wire.specs.Opcodes.{needs_medium};
 ghost use Rattle.drive_core.specs.State.{machine_of, medium_in};
-ghost use Rattle.drive_core.specs.Work.{MediumWork, OnMedium, DriveWork, Work};
+ghost use Rattle.drive_core.specs.OnMedium.{OnMedium};
+ghost use Rattle.drive_core.specs.Work.{MediumWork, DriveWork, Work};
 ghost use Rattle.drive_core.specs.RequestSense.{RequestSenseWork, once_reported, sense_due};
 ghost use Rattle.drive_core.specs.Execute.{Takes, HonestIn};
 ghost use Rattle.drive_core.specs.Inner.Passing.{IsPassed};
@@ -67,12 +68,19 @@ impl<M: Medium, K: Keeper> Drive<M, K> {
     fn on_drive(&mut self, nexus: Nexus, command: Command, sent: &[u8]) -> Result<Reply, Fault>
         requires { needs_medium (code_of command) ≡ false }
         ensures { Takes M.state M.below K.kept K.below
-            (DriveWork command nexus sent.now (machine_of M.state K.kept self.old))
+            (DriveWork (HonestIn M.below (medium_in self.old.bay)) command nexus sent.now
+            (machine_of M.state K.kept self.old))
             self.old result self.new }
     {
         match command {
             Command::RequestSense { length } => self.request_sense(nexus, length),
             Command::ReadBlockLimits => give(self.alloc, &block_limits()),
+            Command::ModeSelect { .. } => self.mode_select(nexus, sent),
+            Command::ModeSense {
+                disable_descriptors,
+                length,
+            } => self.mode_sense(disable_descriptors, length),
+            Command::LoadUnload { load } => self.load_unload(nexus, load),
             Command::PersistentReserveIn { action, length } => self.reserve_in(action, length),
             Command::PersistentReserveOut { action, .. } => self.reserve_out(nexus, action, sent),
             Command::Inquiry { length } => give(

@@ -5,11 +5,13 @@ use Rattle.std.specs.List.{All, flat_map}
 use Rattle.vtl_base.specs.declared.limits.TheConstants.{MAX_BODY}
 use Rattle.tape_disk.specs.Disk.{DiskState, Only}
 use Rattle.gate_journal.specs.declared.header.Header.{Header}
+use Rattle.gate_journal.specs.declared.header.SideKind.{SideKind}
 use Rattle.gate_journal.specs.declared.reading.Frames.{Frames}
 use Rattle.gate_journal.specs.declared.error.JournalError.{JournalError}
 use Rattle.gate_journal.specs.declared.error.JournalError.TheVariants.{NotOurs, Damaged, SideFull, Device, Failed, NoMemory}
 use Rattle.gate_journal.specs.Side.{OPEN, IsBody, IsHeading, StandsFor, IsNotOurs, IsBroken, BeginsWithFrame, frame, heading_of, spell_heading}
-use Rattle.gate_journal.specs.Answers.{IsFault, NoneFailed, NotOpened}
+use Rattle.gate_journal.specs.Answers.{IsFault, NoneFailed}
+use Rattle.gate_journal.specs.Inner.Asked.{IsAsked, IsNotAsked, NotOpenedAsked}
 use Rattle.gate_journal.specs.State.{StoresSide, IsExtent, bodies_at, extents_from}
 
 -- why a reader is refused: a cause of its own, or memory, and no call failed; or a fault (own)
@@ -35,6 +37,12 @@ FindsHeader (Ok header) old new =
     × (old.honest → (rest : List ℕ) × (old.seen ≡ spell_heading (heading_of header) ++ rest))
 FindsHeader (Err error) old new =
     NotRead error (old.honest → IsNotOurs old.seen) (λ at. ⊥) (old.honest → 27 ≤ length old.seen) old new
+
+-- the header that the disk begins with, of the kind that is asked for, or none (own)
+abbrev pub FindsAsked : Option SideKind → Result Header JournalError → DiskState → DiskState → Type 0
+FindsAsked asked (Ok header) old new = FindsHeader (Ok header) old new × IsAsked asked header.kind
+FindsAsked asked (Err error) old new =
+    NotRead error (old.honest → IsNotAsked asked old.seen) (λ at. ⊥) (old.honest → 27 ≤ length old.seen) old new
 
 -- a closed gate at that place; a whole frame and a further byte, with the length of its body; or an open gate and no
 -- such frame (own)
@@ -73,12 +81,12 @@ FindsFrames (Err error) start old new =
     × Walked old.seen start bodies extents at × IsBroken bodies (drop at old.seen))
     (Unit {0}) old new
 
--- an open side and why it is one, or why it is none (own)
-abbrev pub FindsSide : Result (Header × Frames) JournalError → DiskState → DiskState → Type 0
-FindsSide (Ok side) old new =
-    NoneFailed old new × IsHeading (heading_of side.0) × (side.1.end + 1 < 2 ^ 64)
+-- an open side of the kind that is asked for and why it is one, or why it is none (own)
+abbrev pub FindsSide : Option SideKind → Result (Header × Frames) JournalError → DiskState → DiskState → Type 0
+FindsSide asked (Ok side) old new =
+    NoneFailed old new × IsAsked asked side.0.kind × IsHeading (heading_of side.0) × (side.1.end + 1 < 2 ^ 64)
     × All (IsExtent side.1.end) side.1.extents.items
     × (old.honest
     → StoresSide new (heading_of side.0) (bodies_at new.seen side.1.extents.items) side.1.extents.items side.1.end false
     × StandsFor (heading_of side.0) (bodies_at new.seen side.1.extents.items) old.seen × Only old.seen new.may_leave)
-FindsSide (Err error) old new = NotOpened error old new
+FindsSide asked (Err error) old new = NotOpenedAsked asked error old new

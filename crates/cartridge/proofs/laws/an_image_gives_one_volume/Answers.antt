@@ -1,8 +1,11 @@
-use Rattle.cartridge.proofs.UniqueLemmas.{gives_one, gives_ours}
+use Rattle.cartridge.proofs.UniqueLemmas.{bad_once, gives_good, gives_one, gives_ours, gives_whole}
 use Rattle.cartridge.proofs.laws.an_image_gives_one_volume.Goals as goal
 
 pub returns : goal.returns
 returns c = record {
   contents = gives_one;
   ours = gives_ours;
+  whole = gives_whole;
+  bad = gives_good;
+  one_place = bad_once;
 }

@@ -1,6 +1,5 @@
-use Rattle.std.proofs.Common.{◌≡◌, ℕ, List, [], ◌∷◌, ◌++◌, map, Bool, true, refl, ap, sym, subst, ◌∙◌, arith, rules}
+use Rattle.std.proofs.Common.{◌≡◌, ℕ, List, [], ◌∷◌, ◌++◌, map, Bool, true, refl, ap, sym, subst, ◌∙◌, arith}
 use Rattle.std.specs.Prelude.{slice_index_or, unwrap_or}
-use Rattle.gate_journal.specs.declared.header.SideKind.TheVariants.{Cartridge}
 use Rattle.gate_journal.specs.Side.{Heading, heading_of}
 use Rattle.record_index.specs.ChangesOn.{changes_on}
 use Rattle.record_index.specs.Indexes.{Indexes}
@@ -9,27 +8,26 @@ use Rattle.cartridge.specs.Contents.{bodies_of, volume_made}
 use Rattle.cartridge.specs.Inner.Reading.{WalksTo}
 use Rattle.cartridge.specs.Lying.{LiesIn}
 use Rattle.cartridge.specs.Notes.{Notes, noted_contents, with_frame}
-use Rattle.cartridge.proofs.OpeningLemmas.{before_walking, read_next, read_none, spelled_next, unwritten_none, unwritten_then}
+use Rattle.cartridge.proofs.OpeningLemmas.{before_walking, capacities_fit, read_next, read_none, spelled_next, unwritten_none, unwritten_then}
 use Rattle.cartridge.proofs.opening.recover.Goals as goal
 
 pub loop-frame-init : goal.loop-frame-init
 loop-frame-init g c =
     let start = c.args.journal.now in
-    let said = heading_of c.header-3.result.now in
-    let kind : c.header.result.now.kind ≡ Cartridge = search rules in
+    let said = heading_of c.header-2.result.now in
     record {
-      fine = c.requires;
+      fine = c.requires.fine;
       heading = refl;
       extents = refl;
       keeps = record { stays_honest = λ h. h; was_honest = λ h. h; counted = omega arith };
       none_failed = refl;
       read =
           read_none start.heading start.extents c.in_ok-index.index c.new-noted.result.notes said
-          (sym c.header-3.ensures.value)
-          (ap (λ (h : Heading). h.kind) (c.header-3.ensures.value ∙ sym c.header.ensures.value) ∙ kind)
+          (sym c.header-2.ensures.value)
+          (ap (λ (h : Heading). h.kind) c.header-2.ensures.value ∙ c.requires.kind)
           (c.in_ok-index.ensures
           ∙ ap (map empty_placed) (c.deref.ensures.value
-          ∙ ap (λ (h : Heading). h.capacities) (c.header-2.ensures.value ∙ sym c.header-3.ensures.value)))
+          ∙ ap (λ (h : Heading). h.capacities) (c.header.ensures.value ∙ sym c.header-2.ensures.value)))
           c.new-noted.ensures;
       unwritten = λ h. unwritten_none (g.D.Disk.state start.disk) (g.met.D.Disk.is_disk start.disk h);
       bodies = λ h. refl;
@@ -96,3 +94,8 @@ loop-frame-preserved g c =
           ∙ c.in_ok-body.ensures.body (inv.keeps.stays_honest h)
           ∙ ap (λ (b : List (List ℕ)). slice_index_or b frame []) (inv.bodies h));
     }
+
+pub new-requires : goal.new-requires
+new-requires g c =
+    rw (c.deref.ensures.value, ap (λ (h : Heading). h.capacities) c.header.ensures.value)
+    (capacities_fit c.args.journal.now.heading c.header.ensures.valid c.requires.kind)

@@ -2,9 +2,11 @@ use Rattle.std.proofs.Common.{◌≡◌, ℕ, List, length, ◌+◌, ◌*◌, ar
 use Rattle.std.proofs.lemmas.Result.{err_from_is_err_and}
 use Rattle.tape_disk.specs.Sequences.{keeps_of_passes}
 use Rattle.gate_journal.specs.Side.{heading_of}
-use Rattle.gate_journal.specs.Side.{IsDamagedAt, spell_heading, StandsFor}
+use Rattle.gate_journal.specs.Side.{spell_heading, StandsFor}
 use Rattle.gate_journal.specs.State.{bodies_at}
+use Rattle.gate_journal.specs.Inner.Asked.{IsNotAsked, IsDamagedAsked}
 use Rattle.gate_journal.specs.Inner.Headings.{length_heading}
+use Rattle.gate_journal.proofs.AskedLemmas.{damaged_asked}
 use Rattle.gate_journal.proofs.Walks.{not_opened_since, damaged_there, stands_for, on_disk, seen_2, only_3}
 use Rattle.gate_journal.proofs.reading.read_side.Goals as goal
 
@@ -12,64 +14,73 @@ pub returns-in_err-frames-clause-answer : goal.returns-in_err-frames-clause-answ
 returns-in_err-frames-clause-answer g c =
     let d0 = g.D.Disk.state c.args.disk.now in
     let d1 = g.D.Disk.state c.make_sure.new.disk in
-    let d2 = g.D.Disk.state c.read_header.new.disk in
+    let d2 = g.D.Disk.state c.read_asked.new.disk in
     let d3 = g.D.Disk.state c.read_frames.new.disk in
     let h = heading_of c.in_ok-header.header in
     let kept1 = keeps_of_passes d0 d1 c.make_sure.result c.make_sure.ensures.passes in
     let none1 = c.in_ok-make_sure.ensures.passes.none_failed in
-    let found = c.in_ok-header.ensures.answer in
+    let asked = c.in_ok-header.ensures.answer.1 in
+    let found = c.in_ok-header.ensures.answer.0 in
     let count : c.len.result ≡ length c.in_ok-header.header.capacities.items = search rules in
     let here : 27 + 8 * c.len.result ≡ length (spell_heading h) = omega (arith, count, length_heading h found.1) in
     let p = err_from_is_err_and c.from_residual-in_err-frames.result c.from_residual-in_err-frames.ensures.1 in
     rw (p.1, p.2)
-    (not_opened_since d0 d2 d3 (found.0 ∙ none1) c.in_err-frames.field-0.0 _ _ _ (λ bad. absurd bad)
+    (not_opened_since d0 d2 d3 (found.0 ∙ none1) (IsNotAsked c.args.asked) (IsDamagedAsked c.args.asked)
+    c.in_err-frames.field-0.0 _ _ _ (λ bad. absurd bad)
     (λ at broken honest.
     let honest1 = kept1.stays_honest honest in
-    let honest2 = c.read_header.ensures.disk.stays_honest honest1 in
+    let honest2 = c.read_asked.ensures.disk.stays_honest honest1 in
     let sure = (c.in_ok-make_sure.ensures.syncs honest).durable in
     let disk1 = g.met.D.Disk.is_disk c.make_sure.new.disk honest1 in
-    let first = c.read_header.ensures.unwritten honest1 in
+    let first = c.read_asked.ensures.unwritten honest1 in
     let second = c.read_frames.ensures.unwritten honest2 in
     let rest = found.2 honest1 in
     let b = broken honest2 in (
-      subst (λ (l : List ℕ). IsDamagedAt l at) (seen_2 d0 d1 d2 d3 sure disk1 first second)
+      subst (λ (l : List ℕ). IsDamagedAsked c.args.asked l at) (seen_2 d0 d1 d2 d3 sure disk1 first second)
+          (damaged_asked c.args.asked h rest.0 d2.seen at found.1 asked (first.seen ∙ rest.1)
           (damaged_there d2.seen (27 + 8 * c.len.result) b.0 b.1 at b.2 h found.1 rest.0 (first.seen ∙ rest.1)
-          here b.3),
+          here b.3)),
       only_3 d0 d1 d2 d3 sure disk1 first second,
     ))
     (λ _ honest.
     let honest1 = kept1.stays_honest honest in
+    let honest2 = c.read_asked.ensures.disk.stays_honest honest1 in
+    let sure = (c.in_ok-make_sure.ensures.syncs honest).durable in
+    let disk1 = g.met.D.Disk.is_disk c.make_sure.new.disk honest1 in
     let rest = found.2 honest1 in
-    let same = (c.in_ok-make_sure.ensures.syncs honest).durable (g.D.Disk.state c.make_sure.new.disk).seen
-    (g.met.D.Disk.is_disk c.make_sure.new.disk honest1).reads in
-    omega (arith, ap length same, ap length rest.1, length-append (spell_heading h) rest.0, here))
+    let same = sure d1.seen disk1.reads in (
+      omega (arith, ap length same, ap length rest.1, length-append (spell_heading h) rest.0, here),
+      only_3 d0 d1 d2 d3 sure disk1 (c.read_asked.ensures.unwritten honest1) (c.read_frames.ensures.unwritten honest2),
+    ))
     c.in_err-frames.ensures.answer)
 
 pub returns-clause-answer : goal.returns-clause-answer
 returns-clause-answer g c =
     let d0 = g.D.Disk.state c.args.disk.now in
     let d1 = g.D.Disk.state c.make_sure.new.disk in
-    let d2 = g.D.Disk.state c.read_header.new.disk in
+    let d2 = g.D.Disk.state c.read_asked.new.disk in
     let d3 = g.D.Disk.state c.read_frames.new.disk in
     let h = heading_of c.in_ok-header.header in
     let kept1 = keeps_of_passes d0 d1 c.make_sure.result c.make_sure.ensures.passes in
     let none1 = c.in_ok-make_sure.ensures.passes.none_failed in
-    let found = c.in_ok-header.ensures.answer in
+    let asked = c.in_ok-header.ensures.answer.1 in
+    let found = c.in_ok-header.ensures.answer.0 in
     let count : c.len.result ≡ length c.in_ok-header.header.capacities.items = search rules in
     let here : 27 + 8 * c.len.result ≡ length (spell_heading h) = omega (arith, count, length_heading h found.1) in
     let frames = c.in_ok-frames.ensures.answer in
     let extents = c.in_ok-frames.frames.extents.items in
     let end = c.in_ok-frames.frames.end in (
       frames.0 ∙ found.0 ∙ none1,
+      asked,
       found.1,
       frames.1,
       frames.3,
       λ honest.
           let honest1 = kept1.stays_honest honest in
-          let honest2 = c.read_header.ensures.disk.stays_honest honest1 in
+          let honest2 = c.read_asked.ensures.disk.stays_honest honest1 in
           let sure = (c.in_ok-make_sure.ensures.syncs honest).durable in
           let disk1 = g.met.D.Disk.is_disk c.make_sure.new.disk honest1 in
-          let first = c.read_header.ensures.unwritten honest1 in
+          let first = c.read_asked.ensures.unwritten honest1 in
           let second = c.read_frames.ensures.unwritten honest2 in
           let rest = found.2 honest1 in
           let walk = frames.4 honest2 in

@@ -1,4 +1,6 @@
-use Rattle.std.proofs.Common.{◌≡◌, ◌++◌, ℕ, List, length, take, drop, Some, ap, sym, ◌∙◌, arith}
+use Rattle.std.proofs.Common.{◌≡◌, ◌++◌, ◌<◌, ℕ, List, length, take, drop, Option, Some, false, refl, ap, subst, sym, ◌∙◌, arith, rules}
+use Rattle.std.specs.Prelude.{IfSome, vec_capacity}
+use Rattle.std.proofs.lemmas.Result.{err_from_is_err_and}
 use Rattle.record_index.specs.Indexes.{indexes_block}
 use Rattle.cartridge.specs.Contents.{bodies_of, volume_made}
 use Rattle.cartridge.specs.Lying.{LiesOnSide}
@@ -40,6 +42,62 @@ read_body-read-requires g c =
     ) in
     can_be_read (bodies_of i.noted.notes.frames) i.journal.extents found.0 c.in-Some-Block.place
     (length c.deref_mut.result.now) found.3 (count ∙ found.2)
+
+pub returns-in_err-resize-clause-answer : goal.returns-in_err-resize-clause-answer
+returns-in_err-resize-clause-answer g c =
+    let i = c.self.inside in
+    let found = indexes_block (LiesOnSide i.noted.notes i.journal.extents) (volume_made (noted_contents i.noted.notes))
+    i.index c.args.part c.args.at c.in-Some-Block.place c.in-Some-Block.length c.self.invariant.0.lies
+    (sym c.place.ensures ∙ c.in-Some-Block.is ∙ ap Some c.in-Some-Block.field-0-is) in
+    let short : vec_capacity c.args.into.now < length found.0 =
+    omega (arith, c.in_err-resize.ensures.full, c.clear.ensures.capacity, found.2) in
+    let fine : c.args.self.now.failed ≡ false = search rules in
+    let p = err_from_is_err_and c.from_residual.result c.from_residual.ensures.1 in
+    rw (p.1, p.2) (
+      fine,
+      refl,
+      rw (← c.self.view_is) (subst
+          (λ (o : Option (List ℕ)). IfSome o (λ block. vec_capacity c.args.into.now < length block)) (sym found.1)
+          short),
+    )
+
+pub returns-clause-answer : goal.returns-clause-answer
+returns-clause-answer g c = rw (← c.self.view_is) (elim c.match-read.branch [
+  | in-Ok w ↦ rw w.result-is (
+    search rules,
+    search rules,
+    search rules,
+    (let i = c.self.inside in
+        let found = indexes_block (LiesOnSide i.noted.notes i.journal.extents) (volume_made (noted_contents
+        i.noted.notes))
+        i.index c.args.part c.args.at c.in-Some-Block.place c.in-Some-Block.length c.self.invariant.0.lies
+        (sym c.place.ensures ∙ c.in-Some-Block.is ∙ ap Some c.in-Some-Block.field-0-is) in
+        let count : length c.deref_mut.result.now ≡ c.in-Some-Block.length =
+        omega (
+          arith,
+          c.deref_mut.ensures.len,
+          ap (λ (l : List ℕ). length l) c.deref_mut.ensures.value,
+          c.in_ok-resize.ensures.len,
+        ) in
+        let bytes = c.read_body-read.new.buffer in
+        let items = c.resize.new.self.items in
+        let long : length bytes ≡ c.in-Some-Block.length = omega (arith, count, c.read_body-read.auto.buffer) in
+        let same : length items ≡ c.in-Some-Block.length = omega (
+          arith,
+          c.in_ok-resize.ensures.len,
+          c.resize.new.self.ok.0,
+        ) in
+        let whole : take c.resize.new.self.len (bytes ++ drop (length bytes) items) ≡ bytes =
+        filled_whole c.resize.new.self.len bytes items (omega (arith, long, c.in_ok-resize.ensures.len))
+        (omega (arith, same, c.in_ok-resize.ensures.len)) in
+        subst
+        (λ (o : Option (List ℕ)).
+        IfSome o (λ block.
+        length (take c.resize.new.self.len (bytes ++ drop (length bytes) items)) ≡ length block)) (sym found.1)
+        (ap length whole ∙ long ∙ found.2)),
+  )
+  | in-Err-Device w ↦ rw w.result-is (search rules)
+])
 
 pub returns-clause-bytes : goal.returns-clause-bytes
 returns-clause-bytes g c = rw (← c.self.view_is) (λ h. elim c.match-read.branch [

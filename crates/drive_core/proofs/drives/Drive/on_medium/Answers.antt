@@ -2,7 +2,8 @@ use Rattle.std.proofs.Common.{◌≡◌, ◌∙◌, ap, sym, subst, refl}
 use Rattle.drive_core.specs.declared.bays.Bay.{Bay}
 use Rattle.drive_core.specs.declared.bays.Bay.TheVariants.{Loaded}
 use Rattle.drive_core.specs.State.{DriveState, machine_of, medium_in, mounted}
-use Rattle.drive_core.specs.Work.{MediumWork, OnMedium}
+use Rattle.drive_core.specs.Work.{MediumWork}
+use Rattle.drive_core.specs.OnMedium.{OnMedium}
 use Rattle.drive_core.specs.Execute.{HonestIn, Takes}
 use Rattle.drive_core.proofs.FaultLemmas.{faultless_keeper}
 use Rattle.drive_core.proofs.TakesLemmas.{carried_takes}

@@ -1,0 +1,5 @@
+use Rattle.cartridge.proofs.AnswerLemmas.{answered}
+use Rattle.cartridge.proofs.laws.each_image_is_answered.Goals as goal
+
+pub returns : goal.returns
+returns c = answered

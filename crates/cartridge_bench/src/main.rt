@@ -1,0 +1,63 @@
+//! Work for a clock: a cartridge stores, fetches and is opened, and as many bytes are copied. The
+//! tests of cartridge stand here too.
+#![tactic(auto)]
+
+mod beside;
+#[cfg(test)]
+mod liar;
+#[cfg(test)]
+mod liar_tests;
+#[cfg(test)]
+mod samples;
+#[cfg(test)]
+mod side_tests;
+#[cfg(test)]
+mod stop_tests;
+mod work;
+
+use std::env;
+use std::process::ExitCode;
+use work::{Timed, copied, fetched, made, opened, stored, stored_together};
+
+// The nanoseconds that the work of a word took, done so often, and what came of it.
+fn timed(rt: &HostRuntime, word: &str, count: u32) -> Option<Timed> {
+    match word {
+        "store" => stored(rt, count),
+        "frame" => stored_together(rt, count),
+        "copy" => copied(rt, count),
+        "fetch" => fetched(rt, count),
+        "side" => made(rt, count),
+        "open" => opened(rt, count),
+        _ => None,
+    }
+}
+
+/// With `store N`, `frame N`, `copy N`, `fetch N`, `side N` or `open N` it tells the nanoseconds and
+/// what came of it; with no words it does a little of each and tells that alone.
+fn main(rt: HostRuntime) -> ExitCode {
+    let Ok(words) = env::args(&rt) else {
+        return ExitCode::from(1);
+    };
+    let mut words = words.skip(1);
+    let (Some(word), Some(count)) = (words.next(), words.next()) else {
+        for word in ["store", "frame", "copy", "fetch", "side", "open"] {
+            match timed(&rt, word, 1) {
+                Some((_, count)) => {
+                    let _ = println!(rt; "{word} {count}");
+                }
+                None => return ExitCode::from(2),
+            }
+        }
+        return ExitCode::from(0);
+    };
+    let Ok(count) = count.parse::<u32>() else {
+        return ExitCode::from(1);
+    };
+    match timed(&rt, word.as_str(), count) {
+        Some((time, count)) => {
+            let _ = println!(rt; "{time} {count}");
+            ExitCode::from(0)
+        }
+        None => ExitCode::from(2),
+    }
+}

@@ -1,0 +1,127 @@
+//! What is timed.
+use crate::beside::Known;
+use cartridge::{Cartridge, Shelved};
+use std::alloc::Global;
+use std::time::Instant;
+use tape_disk::MemDisk;
+use volume_core::{Change, Kind};
+use vtl_base::Bytes;
+
+const BLOCK: usize = 262_144;
+
+const SMALL: usize = 1_024;
+
+const TEBIBYTE: u64 = 1_099_511_627_776;
+
+// The first bytes of a side with one partition of 1,099,511,627,776 bytes, up to its first gate.
+const HEADER: [u8; 35] = *b"\xa5VTLCART1\0\x01T00001L6        \0\0\x01\0\0\0\0\0";
+
+/// Nanoseconds, and what came of the work.
+pub type Timed = (u128, usize);
+
+// A cartridge in memory with no objects.
+fn new_cartridge(alloc: Global) -> Option<Known<MemDisk>> {
+    Known::made(alloc, MemDisk::new(alloc), &[TEBIBYTE]).ok()
+}
+
+// That many blocks of so many bytes, from an object number on.
+fn blocks(alloc: Global, from: u32, count: u32, size: usize) -> Option<Vec<Change>> {
+    let mut changes = Vec::new(alloc);
+    for i in 0..count {
+        let block = Bytes::from_vec(vec![in alloc; 90u8; size].ok()?);
+        let at = from.checked_add(i)?;
+        changes.push(Change::Put { part: 0, at, block }).ok()?;
+    }
+    Some(changes)
+}
+
+// A cartridge after that many frames of so many blocks of a size, and the time of the stores alone.
+fn filled(
+    rt: &HostRuntime,
+    frames: u32,
+    count: u32,
+    size: usize,
+) -> Option<(Known<MemDisk>, u128)> {
+    let mut known = new_cartridge(rt.alloc())?;
+    let mut time = 0u128;
+    for frame in 0..frames {
+        let changes = blocks(rt.alloc(), frame.checked_mul(count)?, count, size)?;
+        time = time.checked_add(known.store_by_the_clock(rt, &changes)?.as_nanos())?;
+    }
+    Some((known, time))
+}
+
+/// Stores frames of one block of 262,144 bytes: how many there are.
+pub fn stored(rt: &HostRuntime, count: u32) -> Option<Timed> {
+    let (known, time) = filled(rt, count, 1, BLOCK)?;
+    Some((time, known.cartridge().frames()))
+}
+
+/// Stores frames of 64 blocks of 1,024 bytes each: how many there are.
+pub fn stored_together(rt: &HostRuntime, count: u32) -> Option<Timed> {
+    let (known, time) = filled(rt, count, 64, SMALL)?;
+    Some((time, known.cartridge().frames()))
+}
+
+/// Copies as many blocks of 262,144 bytes into one row: how many bytes it has.
+pub fn copied(rt: &HostRuntime, count: u32) -> Option<Timed> {
+    let block = vec![in rt.alloc(); 90u8; BLOCK].ok()?;
+    let mut row = Vec::new(rt.alloc());
+    let start = Instant::now(rt).ok()?;
+    for _ in 0..count {
+        row.extend_from_slice(&block).ok()?;
+    }
+    Some((start.elapsed(rt).ok()?.as_nanos(), row.len()))
+}
+
+/// Fetches each of that many blocks of 262,144 bytes: how many bytes the last one has.
+pub fn fetched(rt: &HostRuntime, count: u32) -> Option<Timed> {
+    let mut cartridge = filled(rt, count, 1, BLOCK)?.0.into_cartridge();
+    let mut into = vec![in rt.alloc(); 0u8; BLOCK].ok()?;
+    let start = Instant::now(rt).ok()?;
+    for at in 0..count {
+        if cartridge.kind_at(0, at) != Some(Kind::Block) {
+            return None;
+        }
+        cartridge.fetch(0, at, &mut into).ok()?;
+    }
+    Some((start.elapsed(rt).ok()?.as_nanos(), into.len()))
+}
+
+// The bytes of a side of that many frames, each of one block of 1,024 bytes.
+fn side_of(alloc: Global, count: u32) -> Option<Vec<u8>> {
+    let block = vec![in alloc; 90u8; SMALL].ok()?;
+    let mut bytes = Vec::from_slice(alloc, &HEADER).ok()?;
+    for at in 0..count {
+        // An open gate, the length of the body, and the head of a record.
+        bytes.extend_from_slice(b"\xa5\0\0\x04\x0a\x01\0").ok()?;
+        bytes.extend_from_slice(&at.to_be_bytes()).ok()?;
+        bytes.extend_from_slice(b"\0\0\x04\0").ok()?;
+        bytes.extend_from_slice(&block).ok()?;
+    }
+    bytes.push(0).ok()?;
+    Some(bytes)
+}
+
+/// Puts a side of that many frames of one block of 1,024 bytes on a disk: how many bytes it has.
+pub fn made(rt: &HostRuntime, count: u32) -> Option<Timed> {
+    let start = Instant::now(rt).ok()?;
+    let bytes = side_of(rt.alloc(), count)?;
+    let disk = MemDisk::from_bytes(rt.alloc(), &bytes).ok()?;
+    Some((start.elapsed(rt).ok()?.as_nanos(), disk.bytes().len()))
+}
+
+/// Opens such a side: how many objects it has. Its bytes stay, so that the memory above that of
+/// `made` is the open cartridge's.
+pub fn opened(rt: &HostRuntime, count: u32) -> Option<Timed> {
+    let bytes = side_of(rt.alloc(), count)?;
+    let shelved = Shelved::of(MemDisk::from_bytes(rt.alloc(), &bytes).ok()?);
+    let start = Instant::now(rt).ok()?;
+    let cartridge = Cartridge::open(rt.alloc(), shelved).ok()?;
+    let time = start.elapsed(rt).ok()?.as_nanos();
+    // The last byte of the side is its end gate, which is closed.
+    match bytes.last() {
+        Some(0) => Some((time, cartridge.count(0) as usize)),
+        _ => None,
+    }
+}

@@ -1,0 +1,119 @@
+//! LOAD UNLOAD, and a cartridge that goes out of the drive.
+ghost use Rattle.std.specs.Prelude.{◌≡◌, true, false};
+ghost use Rattle.drive_core.specs.State.{machine_of, medium_in};
+ghost use Rattle.drive_core.specs.LoadUnload.{LoadsIn, LoadUnloadWork, UnloadsInto, unloaded};
+ghost use Rattle.drive_core.specs.Execute.{Takes, HonestIn};
+ghost use Rattle.drive_core.specs.Media.{ParksFrom};
+ghost use Rattle.drive_core.specs.Inner.Opening.{WakesTo};
+
+use super::Drive;
+use crate::bays::{Bay, fill};
+use crate::faults::Fault;
+use crate::loads::go_to_start;
+use crate::opening::{check, start_of, wake_answer};
+use pr_core::Keeper;
+use scsi_attention::Attention;
+use scsi_sense::{Reply, Sense};
+use std::alloc::Global;
+use std::mem;
+use volume_core::{Medium, MediumError};
+use vtl_base::{Bytes, Nexus};
+
+impl<M: Medium, K: Keeper> Drive<M, K> {
+    /// Loads or unloads what is in the drive (SSC-4, LOAD UNLOAD).
+    pub(super) fn load_unload(&mut self, nexus: Nexus, load: bool) -> Result<Reply, Fault>
+        ensures { Takes M.state M.below K.kept K.below
+            (LoadUnloadWork (HonestIn M.below (medium_in self.old.bay)) load nexus
+            (machine_of M.state K.kept self.old))
+            self.old result self.new }
+    {
+        if load {
+            self.load_here(nexus)
+        } else {
+            self.unload_here()
+        }
+    }
+
+    // UNLOAD: what is pending is stored, and the medium is parked.
+    fn unload_here(&mut self) -> Result<Reply, Fault>
+        ensures { Takes M.state M.below K.kept K.below
+            (UnloadsInto unloaded (HonestIn M.below (medium_in self.old.bay))
+            (machine_of M.state K.kept self.old).bay (machine_of M.state K.kept self.old))
+            self.old result self.new }
+    {
+        match mem::replace(&mut self.bay, Bay::Empty) {
+            Bay::Empty => Ok(check(self.alloc, Sense::medium_not_present())),
+            Bay::Unloaded(medium) => {
+                fill(&mut self.bay, Bay::Unloaded(medium));
+                Ok(Reply::good(Bytes::new(self.alloc)))
+            }
+            Bay::Loaded(medium) => match park(medium) {
+                Ok(parked) => {
+                    fill(&mut self.bay, Bay::Unloaded(parked));
+                    Ok(Reply::good(Bytes::new(self.alloc)))
+                }
+                Err(broken) => {
+                    fill(&mut self.bay, Bay::Loaded(broken));
+                    Err(Fault::Writing)
+                }
+            },
+        }
+    }
+
+    // LOAD: a loaded medium goes to its start; one that is not loaded is opened.
+    fn load_here(&mut self, nexus: Nexus) -> Result<Reply, Fault>
+        ensures { Takes M.state M.below K.kept K.below
+            (LoadsIn (HonestIn M.below (medium_in self.old.bay))
+            (machine_of M.state K.kept self.old).bay nexus (machine_of M.state K.kept self.old))
+            self.old result self.new }
+    {
+        if let Bay::Loaded(medium) = &mut self.bay {
+            if medium.has_failed() {
+                return Ok(check(self.alloc, Sense::medium_failed()));
+            }
+            return go_to_start(self.alloc, medium, &mut self.position);
+        }
+        match mem::replace(&mut self.bay, Bay::Empty) {
+            Bay::Empty => Ok(check(self.alloc, Sense::medium_not_present())),
+            Bay::Unloaded(medium) => match wake(medium) {
+                Ok(opened) => {
+                    self.position = start_of(&opened);
+                    fill(&mut self.bay, Bay::Loaded(opened));
+                    self.attentions
+                        .establish_for_others(nexus, Attention::MediumChanged);
+                    Ok(Reply::good(Bytes::new(self.alloc)))
+                }
+                Err((parked, error)) => {
+                    fill(&mut self.bay, Bay::Unloaded(parked));
+                    wake_answer(self.alloc, error)
+                }
+            },
+            Bay::Loaded(_other) => unreachable!(),
+        }
+    }
+}
+
+/// A loaded medium is parked, once what is pending is stored, or comes back with a fault.
+pub(super) fn park<M: Medium>(medium: M) -> Result<M, M>
+    requires { (M.state medium).awake ≡ true }
+    ensures { ParksFrom M.state M.below medium result }
+{
+    let mut medium = medium;
+    match medium.park() {
+        Ok(()) => Ok(medium),
+        Err(MediumError::Device) => Err(medium),
+        Err(_) => unreachable!(),
+    }
+}
+
+// A parked medium is opened, or stays parked.
+fn wake<M: Medium>(medium: M) -> Result<M, (M, MediumError)>
+    requires { (M.state medium).awake ≡ false }
+    ensures { WakesTo M.state M.below medium result }
+{
+    let mut medium = medium;
+    match medium.wake() {
+        Ok(()) => Ok(medium),
+        Err(error) => Err((medium, error)),
+    }
+}

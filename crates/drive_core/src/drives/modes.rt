@@ -1,0 +1,74 @@
+//! MODE SELECT and MODE SENSE.
+ghost use Rattle.std.specs.Prelude.{◌≡◌};
+ghost use Rattle.scsi_lists.specs.ModeLists.{mode_data};
+ghost use Rattle.scsi_wire.specs.Answers.{cut_to};
+ghost use Rattle.drive_core.specs.State.{machine_of};
+ghost use Rattle.drive_core.specs.Mode.{ModeSelectWork, ModeSenseWork, in_asked_mode};
+ghost use Rattle.drive_core.specs.Tell.{Gives};
+ghost use Rattle.drive_core.specs.Execute.{Takes};
+
+use super::Drive;
+use crate::faults::Fault;
+use crate::opening::check;
+use crate::telling::give;
+use pr_core::Keeper;
+use scsi_attention::Attention;
+use scsi_lists::{ModeList, mode_data, mode_data_without_descriptors};
+use scsi_sense::Reply;
+use scsi_wire::cut_to;
+use std::alloc::Global;
+use volume_core::Medium;
+use vtl_base::{Bytes, Nexus};
+
+impl<M: Medium, K: Keeper> Drive<M, K> {
+    /// Reads a parameter list, and is in the mode that it asks for (SPC-4, MODE SELECT).
+    pub(super) fn mode_select(&mut self, nexus: Nexus, sent: &[u8]) -> Result<Reply, Fault>
+        ensures { Takes M.state M.below K.kept K.below
+            (ModeSelectWork nexus sent.now (machine_of M.state K.kept self.old))
+            self.old result self.new }
+    {
+        match ModeList::decode(sent) {
+            Ok(list) => {
+                self.change_mode(nexus, list.buffered);
+                Ok(Reply::good(Bytes::new(self.alloc)))
+            }
+            Err(sense) => Ok(check(self.alloc, sense)),
+        }
+    }
+
+    // The mode is as a list asks, where it asks for one; a change of it is told to every other nexus.
+    fn change_mode(&mut self, nexus: Nexus, asked: Option<bool>)
+        ensures { self.new ≡ in_asked_mode asked nexus self.old }
+    {
+        if let Some(buffered) = asked {
+            if buffered != self.buffered {
+                self.buffered = buffered;
+                self.attentions
+                    .establish_for_others(nexus, Attention::ModeChanged);
+            }
+        }
+    }
+
+    /// Tells the mode, cut to the room that the host has (SPC-4, MODE SENSE).
+    pub(super) fn mode_sense(&mut self, bare: bool, room: u8) -> Result<Reply, Fault>
+        ensures { Takes M.state M.below K.kept K.below
+            (ModeSenseWork bare room (machine_of M.state K.kept self.old))
+            self.old result self.new }
+    {
+        tell_mode(self.alloc, self.buffered, bare, room)
+    }
+}
+
+// The mode, with a block descriptor or without one.
+fn tell_mode(alloc: Global, buffered: bool, bare: bool, room: u8) -> Result<Reply, Fault>
+    ensures { Gives (cut_to room (mode_data buffered bare)) result }
+{
+    if bare {
+        give(
+            alloc,
+            cut_to(&mode_data_without_descriptors(buffered), room as usize),
+        )
+    } else {
+        give(alloc, cut_to(&mode_data(buffered), room as usize))
+    }
+}

@@ -1,0 +1,76 @@
+//! A side is opened.
+ghost use Rattle.std.specs.Prelude.{◌≡◌, Some, false, IfOk, IfErr};
+ghost use Rattle.tape_disk.specs.Disk.{Keeps, Only};
+ghost use Rattle.tape_disk.specs.Moments.{LeavesOnly};
+ghost use Rattle.gate_journal.specs.Side.{StandsFor};
+ghost use Rattle.gate_journal.specs.Answers.{NoneFailed, NotOpened, NotOpenedAs, disk_after};
+ghost use Rattle.gate_journal.specs.Inner.Asked.{IsAsked, NotOpenedAsked};
+
+use crate::reading::{Frames, read_side};
+use crate::{Journal, Refused, SideKind};
+use std::alloc::Global;
+use tape_disk::Disk;
+
+impl<D: Disk> Journal<D> {
+    /// Opens the side that the disk holds. It begins with a sync, and writes nothing: at every
+    /// moment of it, and after every error, the disk stands for what it stood for. After `NotOurs`,
+    /// `Damaged` and `NoMemory` that is sure too.
+    pub fn open(alloc: Global, disk: D) -> Result<Journal<D>, Refused<D>>
+        ensures disk { Keeps (D.state disk) (D.state (disk_after result)) }
+        ensures ok { IfOk result (λ journal. (journal.failed ≡ false)
+            × NoneFailed (D.state disk) (D.state journal.disk)
+            × ((D.state disk).honest → StandsFor journal.heading journal.bodies (D.state disk).seen
+            × Only (D.state disk).seen (D.state journal.disk).may_leave)) }
+        ensures refused { IfErr result (λ refused.
+            NotOpened refused.error (D.state disk) (D.state refused.disk)) }
+        ensures any_moment { (D.state disk).honest →
+            LeavesOnly (D.state disk) (D.state (disk_after result)) (D.state disk).may_leave }
+    {
+        Self::open_asked(alloc, disk, None)
+    }
+
+    /// Opens the side of this kind that the disk holds, as `open` does. The header is read before
+    /// any frame, so a side of the other kind is `NotOurs`, also where it is damaged.
+    pub fn open_as(alloc: Global, disk: D, kind: SideKind) -> Result<Journal<D>, Refused<D>>
+        ensures disk { Keeps (D.state disk) (D.state (disk_after result)) }
+        ensures ok { IfOk result (λ journal. (journal.heading.kind ≡ kind) × (journal.failed ≡ false)
+            × NoneFailed (D.state disk) (D.state journal.disk)
+            × ((D.state disk).honest → StandsFor journal.heading journal.bodies (D.state disk).seen
+            × Only (D.state disk).seen (D.state journal.disk).may_leave)) }
+        ensures refused { IfErr result (λ refused.
+            NotOpenedAs kind refused.error (D.state disk) (D.state refused.disk)) }
+        ensures any_moment { (D.state disk).honest →
+            LeavesOnly (D.state disk) (D.state (disk_after result)) (D.state disk).may_leave }
+    {
+        Self::open_asked(alloc, disk, Some(kind))
+    }
+
+    // Opens the side that the disk holds, where it is of the kind that is asked for.
+    fn open_asked(alloc: Global, disk: D, asked: Option<SideKind>) -> Result<Journal<D>, Refused<D>>
+        ensures disk { Keeps (D.state disk) (D.state (disk_after result)) }
+        ensures ok { IfOk result (λ journal. IsAsked asked journal.heading.kind
+            × (journal.failed ≡ false) × NoneFailed (D.state disk) (D.state journal.disk)
+            × ((D.state disk).honest → StandsFor journal.heading journal.bodies (D.state disk).seen
+            × Only (D.state disk).seen (D.state journal.disk).may_leave)) }
+        ensures refused { IfErr result (λ refused.
+            NotOpenedAsked asked refused.error (D.state disk) (D.state refused.disk)) }
+        ensures any_moment { (D.state disk).honest →
+            LeavesOnly (D.state disk) (D.state (disk_after result)) (D.state disk).may_leave }
+    {
+        let mut disk = disk;
+        match read_side(alloc, &mut disk, asked) {
+            Ok((header, frames)) => {
+                let Frames { extents, end } = frames;
+                Ok(Journal {
+                    disk,
+                    header,
+                    extents,
+                    buffer: Vec::new(alloc),
+                    end,
+                    failed: false,
+                })
+            }
+            Err(error) => Err(Refused { error, disk }),
+        }
+    }
+}

@@ -1,0 +1,169 @@
+//! The lines of sides, by rows, by cuts, by each byte, and over a disk that fails.
+use super::plain_sides::plain_lines;
+use crate::checking::{Checked, check_side};
+use crate::programs::VtlFault;
+use std::alloc::Global;
+use std::process::Abort;
+use std::test::Fail;
+use tape_disk::{FuseDisk, MemDisk, OnceDisk};
+use vtl_base::Bytes;
+
+// A cartridge `T00001L6` of one partition of 4,096 bytes, with two frames, whose gates stand at 35,
+// 55 and 70: a block `hello`, and a filemark behind it.
+const SIDE: [u8; 71] = *b"\xa5VTLCART1\0\x01T00001L6        \0\0\0\0\0\0\x10\0\
+    \xa5\0\0\0\x0f\x01\0\0\0\0\0\0\0\0\x05hello\
+    \xa5\0\0\0\x0a\x02\0\0\0\0\x01\0\0\0\x01\
+    \0";
+
+// How often the disk is called until its two frames are opened.
+const CALLS: u64 = 8;
+
+const WHOLE: &str = "cartridge T00001L6 partitions 1 frames 2\npartition 0 objects 2 used 37\n";
+
+// The lines of the side with these bytes, which stay as they are.
+fn told(rt: &impl Abort, alloc: Global, bytes: &[u8]) -> Result<Bytes, Fail> {
+    let Checked { lines, disk } = check_side(alloc, MemDisk::from_bytes(alloc, bytes)?);
+    assert_eq!(rt; disk.bytes(), bytes);
+    match lines {
+        Ok(text) => Ok(text),
+        Err(_) => Err(Fail::from("not told")),
+    }
+}
+
+fn assert_tells(
+    rt: &impl Abort,
+    alloc: Global,
+    bytes: &[u8],
+    wanted: &str,
+    at: usize,
+) -> Result<(), Fail> {
+    let text = told(rt, alloc, bytes)?;
+    assert_eq!(rt; text.as_slice(), wanted.as_bytes(), "lines of {at}");
+    let plain = plain_lines(alloc, bytes)?;
+    assert_eq!(rt; plain.as_bytes(), wanted.as_bytes(), "plain lines of {at}");
+    Ok(())
+}
+
+fn changed(place: usize, value: u8) -> [u8; 71] {
+    let mut bytes = SIDE;
+    if place < bytes.len() {
+        bytes[place] = value;
+    }
+    bytes
+}
+
+#[test]
+fn a_side_and_its_changes(rt: HostRuntime) -> Result<(), Fail> {
+    let alloc = rt.alloc();
+    assert_tells(&rt, alloc, &SIDE, WHOLE, 71)?;
+    for (place, value, wanted) in [
+        (0, 0, "not a side\n"),
+        (9, 7, "not a side\n"),
+        (40, 4, "bad record at 35\n"),
+        (
+            55,
+            0,
+            "cartridge T00001L6 partitions 1 frames 1\npartition 0 objects 1 used 21\n",
+        ),
+        (61, 1, "bad record at 55\n"),
+        (
+            65,
+            0,
+            "cartridge T00001L6 partitions 1 frames 2\npartition 0 objects 1 used 16\n",
+        ),
+        (65, 3, "bad record at 55\n"),
+        (69, 0, "bad record at 55\n"),
+        (70, 0xa5, "damaged at 70\n"),
+        (70, 1, WHOLE),
+    ] {
+        assert_tells(&rt, alloc, &changed(place, value), wanted, place)?;
+    }
+    Ok(())
+}
+
+#[test]
+fn sides_that_are_cut(rt: HostRuntime) -> Result<(), Fail> {
+    let alloc = rt.alloc();
+    for length in 0..SIDE.len() {
+        let wanted = match length {
+            0..=34 => "not a side\n",
+            35..=55 => "damaged at 35\n",
+            _ => "damaged at 55\n",
+        };
+        assert_tells(&rt, alloc, &SIDE[..length], wanted, length)?;
+    }
+    let mut bytes = SIDE;
+    bytes[35] = 0;
+    let wanted = "cartridge T00001L6 partitions 1 frames 0\npartition 0 objects 0 used 0\n";
+    assert_tells(&rt, alloc, &bytes[..36], wanted, 36)
+}
+
+#[test]
+fn sides_of_several_partitions(rt: HostRuntime) -> Result<(), Fail> {
+    // A block `abc` in partition 3, ten filemarks in partition 1, and an erase in partition 1 that
+    // leaves eight of them.
+    let side = b"\xa5VTLCART1\0\x04ABCDEFGHIJKLMN09\0\0\0\0\0\0\x10\0\0\0\x01\0\0\0\0\0\
+        \0\0\0\0\0\0\x10\0\0\0\0\0\0\0\x10\0\
+        \xa5\0\0\0\x17\x01\x03\0\0\0\0\0\0\0\x03abc\x02\x01\0\0\0\0\0\0\0\x0a\
+        \xa5\0\0\0\x0a\x03\x01\0\0\0\x08\0\0\0\0\0";
+    let wanted = "cartridge ABCDEFGHIJKLMN09 partitions 4 frames 2\n\
+        partition 0 objects 0 used 0\n\
+        partition 1 objects 8 used 128\n\
+        partition 2 objects 0 used 0\n\
+        partition 3 objects 1 used 19\n";
+    assert_tells(&rt, rt.alloc(), side, wanted, 4)
+}
+
+#[test]
+fn stores_are_no_sides(rt: HostRuntime) -> Result<(), Fail> {
+    // Whole with no frame, without its gate, and with a frame that is not whole.
+    let stores: [&[u8]; 3] = [
+        b"\xa5VTLRESV1\0\0DRIVE1          \0",
+        b"\xa5VTLRESV1\0\0DRIVE16         ",
+        b"\xa5VTLRESV1\0\0DRIVE1          \xa5\0\0\0\x04\x01\0",
+    ];
+    for (at, store) in stores.into_iter().enumerate() {
+        assert_tells(&rt, rt.alloc(), store, "not a side\n", at)?;
+    }
+    Ok(())
+}
+
+#[test]
+fn each_byte_with_each_value(rt: HostRuntime) -> Result<(), Fail> {
+    let alloc = rt.alloc();
+    for place in 0..SIDE.len() {
+        for value in 0..=255 {
+            let bytes = changed(place, value);
+            let text = told(&rt, alloc, &bytes)?;
+            let plain = plain_lines(alloc, &bytes)?;
+            assert_eq!(rt; text.as_slice(), plain.as_bytes(), "{value} at {place}");
+        }
+    }
+    Ok(())
+}
+
+#[test]
+fn a_disk_that_fails(rt: HostRuntime) -> Result<(), Fail> {
+    let alloc = rt.alloc();
+    for calls in 0..20 {
+        let disk = MemDisk::from_bytes(alloc, &SIDE)?;
+        let stopped = check_side(alloc, FuseDisk::new(disk, calls));
+        assert_eq!(rt; stopped.disk.inner().bytes(), SIDE.as_slice());
+        let disk = MemDisk::from_bytes(alloc, &SIDE)?;
+        let failed = check_side(alloc, OnceDisk::new(disk, calls));
+        assert_eq!(rt; failed.disk.inner().bytes(), SIDE.as_slice());
+        for lines in [stopped.lines, failed.lines] {
+            match lines {
+                Ok(text) => {
+                    assert!(rt; calls >= CALLS, "told after {calls} calls");
+                    assert_eq!(rt; text.as_slice(), WHOLE.as_bytes());
+                }
+                Err(fault) => {
+                    assert!(rt; calls < CALLS, "failed after {calls} calls");
+                    assert_eq!(rt; fault, VtlFault::Device);
+                }
+            }
+        }
+    }
+    Ok(())
+}
