@@ -107,8 +107,8 @@ IsNotCreated (BadRecord at) memory device = ⊥
 IsNotCreated SideFull memory device = ⊥
 IsNotCreated Failed memory device = ⊥
 
--- Why a cartridge is not opened: what the old bytes are, and no call failed; or a fault; or memory ran out, where there
--- are the 27 bytes that each heading has, and no call failed. But for a fault what stands is then sure (own).
+-- Why a cartridge is not opened: what the old bytes are; a fault; or want of memory, where there are the 27 bytes of a
+-- heading. But for a fault no call failed, and what stands is sure (own).
 abbrev pub IsNotOpened : CartridgeError → DiskState → DiskState → Type 0
 IsNotOpened NotOurs old new = NoneFailed old new × (old.honest → IsNoCartridge old.seen × Only old.seen new.may_leave)
 IsNotOpened (Damaged at) old new =

@@ -52,9 +52,8 @@ abbrev pub disk_after : {D : Type 0} → Result (OpenSide D) (Refused D) → D
 disk_after (Ok side) = side.disk
 disk_after (Err refused) = refused.disk
 
--- Why a side is not opened, where these two facts say what bytes are not ours and what bytes are damaged: what the old
--- bytes are, and no call failed; or a fault; or memory ran out, where there are the 27 bytes that each heading has, and
--- no call failed. But for a fault what stands is then sure (own).
+-- Why a side is not opened, told which bytes are not ours and which are damaged: these; a fault; or want of memory,
+-- where there are the 27 bytes of a heading. But for a fault no call failed, and what stands is sure (own).
 abbrev pub NotOpenedBy : (List ℕ → Type 0) → (List ℕ → ℕ → Type 0) → JournalError → DiskState → DiskState → Type 0
 NotOpenedBy not_ours damaged NotOurs old new =
     NoneFailed old new × (old.honest → not_ours old.seen × Only old.seen new.may_leave)
