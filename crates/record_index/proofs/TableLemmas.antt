@@ -12,7 +12,7 @@ use Rattle.record_index.specs.declared.places.Placed.{Placed}
 use Rattle.record_index.specs.declared.places.Placed.TheVariants.{Block, Mark}
 use Rattle.record_index.specs.declared.tables.Entry.{Entry}
 use Rattle.record_index.specs.declared.tables.TheConstants.{NOWHERE}
-use Rattle.record_index.specs.Inner.Tables.{EndsBefore, EndsBehind, IsEntryAfter, IsSplitAt, IsTable, cost_of_objects, cost_of_placed, objects_of, objects_of_entry}
+use Rattle.record_index.specs.Inner.Tables.{EndsBefore, EndsBehind, IsEntryAfter, IsSplitAt, IsTable, StandsForSome, cost_of_objects, cost_of_placed, objects_of, objects_of_entry}
 use Rattle.record_index.proofs.Rows.{at_within, slice_get_left, slice_get_right, slice_get_taken, split_at, take_next, take_past}
 
 same_some : {A : Type 0} (x y : A) → Some x ≡ Some y → x ≡ y
@@ -195,3 +195,22 @@ push_marks entries entry count end cost table is end_is cost_is =
     subst (λ (e : Entry). IsTable (entries ++ e ∷ [])) (sym is) (push_entry entries made table
     (omega (arith, end_is, length-replicate {A = Placed} count Mark))
     (omega (arith, cost_is, sum_by-replicate cost_of_placed count Mark)))
+
+-- an entry of a block stands for an object
+pub block_stands : (entry : Entry) (place size end cost : ℕ)
+    → entry ≡ record { place = place; cost = cost; end = end; size = size } → place < NOWHERE → StandsForSome entry
+unfolding StandsForSome
+block_stands entry place size end cost is below =
+    let made : Entry = record { place = place; cost = cost; end = end; size = size } in
+    let row : objects_of_entry made ≡ Block place size ∷ [] =
+    cond-false (place == NOWHERE) (replicate size Mark) (Block place size ∷ [])
+    (ne_eqb place NOWHERE (λ same. omega (arith, below, same))) in
+    subst (λ (e : Entry). 1 ≤ length (objects_of_entry e)) (sym is) (omega (arith, ap length row))
+
+-- an entry of a run of marks does, where there is one
+pub marks_stand : (entry : Entry) (count end cost : ℕ)
+    → entry ≡ record { place = NOWHERE; cost = cost; end = end; size = count } → 1 ≤ count → StandsForSome entry
+unfolding StandsForSome
+marks_stand entry count end cost is some =
+    subst (λ (e : Entry). 1 ≤ length (objects_of_entry e)) (sym is)
+    (omega (arith, some, length-replicate {A = Placed} count Mark))

@@ -1,8 +1,8 @@
 //! The table of a partition: an entry for each block, and one for each run of marks.
-ghost use Rattle.std.specs.Prelude.{◌≡◌, ◌≤◌, ◌<◌, ◌+◌, ◌^◌, ◌++◌, [], OnOk, OnErr, length, take, slice_get, vec_len, vec_capacity};
+ghost use Rattle.std.specs.Prelude.{◌≡◌, ◌≤◌, ◌<◌, ◌+◌, ◌^◌, ◌++◌, [], All, OnOk, OnErr, length, take, slice_get, vec_len, vec_capacity};
 ghost use Rattle.record_index.specs.declared.tables.TheConstants.{NOWHERE};
 ghost use Rattle.record_index.specs.Places.{IsPlace, objects_of_run};
-ghost use Rattle.record_index.specs.Inner.Tables.{IsTable, cost_of_objects, objects_of, objects_of_entry};
+ghost use Rattle.record_index.specs.Inner.Tables.{IsTable, StandsForSome, cost_of_objects, objects_of, objects_of_entry};
 
 use crate::halving::entries_before;
 use crate::places::{Placed, Run};
@@ -39,8 +39,8 @@ impl Model for RunTable {
 
     ghost Value = { Table };
 
-    ghost use Rattle.std.specs.Prelude.{◌-◌, ◌<◌, ◌^◌, vec_len, vec_capacity};
-    ghost use Rattle.record_index.specs.Inner.Tables.{IsTable, cost_of_objects, objects_of};
+    ghost use Rattle.std.specs.Prelude.{◌-◌, ◌<◌, ◌^◌, All, vec_len, vec_capacity};
+    ghost use Rattle.record_index.specs.Inner.Tables.{IsTable, StandsForSome, cost_of_objects, objects_of};
 
     ghost view = { λ t. record {
       objects = objects_of t.entries.items;
@@ -48,6 +48,7 @@ impl Model for RunTable {
     } };
 
     ghost invariant = { λ t. IsTable t.entries.items
+        × All StandsForSome t.entries.items
         × (cost_of_objects (objects_of t.entries.items) < 2 ^ 64) };
 }
 
@@ -96,11 +97,14 @@ fn cost_of(entries: &[Entry], count: usize) -> u64
 // Puts an entry for the run behind the others.
 fn push_run(entries: &mut Vec<Entry>, run: Run)
     requires table { IsTable entries.old.items }
+    requires filled { All StandsForSome entries.old.items }
     requires room { vec_len entries.old < vec_capacity entries.old }
+    requires some { 1 ≤ length (objects_of_run run) }
     requires place { IsPlace run }
     requires end { length (objects_of entries.old.items ++ objects_of_run run) < 2 ^ 32 }
     requires cost { cost_of_objects (objects_of entries.old.items ++ objects_of_run run) < 2 ^ 64 }
     ensures table { IsTable entries.new.items }
+    ensures filled { All StandsForSome entries.new.items }
     ensures objects { objects_of entries.new.items ≡ objects_of entries.old.items ++ objects_of_run run }
     ensures len { vec_len entries.new ≡ vec_len entries.old + 1 }
     ensures capacity { vec_capacity entries.new ≡ vec_capacity entries.old }
@@ -126,8 +130,10 @@ fn push_run(entries: &mut Vec<Entry>, run: Run)
 // Keeps the first n objects; all of them where there are fewer.
 fn cut_entries(entries: &mut Vec<Entry>, n: ObjNo)
     requires table { IsTable entries.old.items }
+    requires filled { All StandsForSome entries.old.items }
     requires cost { cost_of_objects (objects_of entries.old.items) < 2 ^ 64 }
     ensures table { IsTable entries.new.items }
+    ensures filled { All StandsForSome entries.new.items }
     ensures objects { objects_of entries.new.items ≡ take n (objects_of entries.old.items) }
     ensures len { vec_len entries.new ≤ vec_len entries.old }
     ensures capacity { vec_capacity entries.new ≡ vec_capacity entries.old }
@@ -215,7 +221,7 @@ impl RunTable {
         cut_entries(&mut self.entries, n);
     }
 
-    // Puts a run behind the objects.
+    // Puts a run behind the objects; one of no object takes no entry.
     pub(crate) fn add(&mut self, run: Run)
         requires room { 1 ≤ self.old.reserved }
         requires place { IsPlace run }
@@ -224,6 +230,8 @@ impl RunTable {
         ensures objects { self.new.objects ≡ self.old.objects ++ objects_of_run run }
         ensures reserved { self.old.reserved ≤ self.new.reserved + 1 }
     {
-        push_run(&mut self.entries, run);
+        if run.count() > 0 {
+            push_run(&mut self.entries, run);
+        }
     }
 }

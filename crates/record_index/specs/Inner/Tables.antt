@@ -38,6 +38,10 @@ abbrev pub IsTable : List Entry → Type 0
 IsTable entries =
     (k : ℕ) (entry : Entry) → slice_get entries k ≡ Some entry → IsEntryAfter (take (k + 1) entries) entry
 
+-- the entry stands for an object at least (own)
+unfoldable pub StandsForSome : Entry → Type 0
+StandsForSome entry = 1 ≤ length (objects_of_entry entry)
+
 -- no entry, or one that ends at or before the number (own)
 abbrev pub EndsBefore : Option Entry → ℕ → Type 0
 EndsBefore None at = Unit {0}

@@ -1,8 +1,10 @@
 use Rattle.std.proofs.Common.{◌≡◌, ◌≤◌, ◌-◌, ℕ, length, take, replicate, ◌++◌, subst, sym, ap, ◌∙◌, List, arith, rules, vec_len}
+use Rattle.std.specs.List.{All}
 use Rattle.std.proofs.lemmas.List.{append-nil, take_all}
+use Rattle.std.proofs.lemmas.List.Elements.{All-take}
 use Rattle.record_index.specs.declared.places.Placed.TheVariants.{Mark}
 use Rattle.record_index.specs.declared.tables.Entry.{Entry}
-use Rattle.record_index.specs.Inner.Tables.{IsSplitAt, IsTable, cost_of_objects, objects_of}
+use Rattle.record_index.specs.Inner.Tables.{IsSplitAt, IsTable, StandsForSome, cost_of_objects, objects_of}
 use Rattle.record_index.proofs.Rows.{at_within}
 use Rattle.record_index.proofs.TableLemmas.{all_before, cost_within, table_take, taken}
 use Rattle.record_index.proofs.tables.cut_entries.Goals as goal
@@ -77,3 +79,13 @@ returns-else-end-n-clause-objects c =
     ∙ sym (append-nil (objects_of (take kept entries.items)))
     ∙ ap (λ (m : ℕ). objects_of (take kept entries.items) ++ replicate m Mark) none
     ∙ sym (taken entries.items c.args.n kept here.0 c.requires.table split here.1)
+
+pub push_run-requires-clause-filled : goal.push_run-requires-clause-filled
+push_run-requires-clause-filled c =
+    subst (λ (l : List Entry). All StandsForSome l) (sym c.truncate.ensures.items)
+    (All-take StandsForSome c.entries_before-kept.result c.args.entries.now.items c.requires.filled)
+
+pub returns-else-end-n-clause-filled : goal.returns-else-end-n-clause-filled
+returns-else-end-n-clause-filled c =
+    subst (λ (l : List Entry). All StandsForSome l) (sym c.truncate.ensures.items)
+    (All-take StandsForSome c.entries_before-kept.result c.args.entries.now.items c.requires.filled)
