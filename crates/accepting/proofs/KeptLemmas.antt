@@ -1,6 +1,6 @@
 -- Each step keeps what was acknowledged.
-use Rattle.std.proofs.Common.{◌≡◌, ◌⊎◌, inl, inr, ℕ, zero, suc, ◌+◌, ◌≤◌, List, [], ◌∷◌, ◌++◌, length, take, drop, refl, sym, ◌∙◌, ap, subst, arith, ⊎_elim, length-append}
-use Rattle.std.proofs.lemmas.List.{take-append-drop, take-append-le, take-take, length-take-le, take_all, append-nil}
+use Rattle.std.proofs.Common.{◌≡◌, ℕ, ◌≤◌, List, [], ◌∷◌, ◌++◌, length, take, drop, refl, sym, ◌∙◌, ap, subst, arith, ⊎_elim, length-append}
+use Rattle.std.proofs.lemmas.List.{take-append-drop, take-append-le, take-take, length-take-le, take_all}
 use Rattle.tape_disk.specs.Disk.{DiskState, Each}
 use Rattle.tape_disk.specs.Moments.{LeavesOnly, weakened}
 use Rattle.accepting.specs.Core.{Rules, Core, CoreStep, Accept, Store, Safe, Ack, Fault, Stop, IsCore, IsPrefix, CanAcknowledge, StepsTo, AllStepTo}

@@ -1,10 +1,10 @@
 -- What a crash leaves while steps are made: an event is a run of calls of the device, and the steps that it makes.
-use Rattle.std.specs.Prelude.{◌≡◌, ◌⊎◌, ℕ, zero, suc, ◌+◌, ◌-◌, ◌≤◌, List, [], ◌∷◌, ◌++◌, length, take, true, false, IsTrue, refl}
+use Rattle.std.specs.Prelude.{◌≡◌, ◌⊎◌, ℕ, zero, suc, ◌+◌, ◌≤◌, List, [], ◌∷◌, ◌++◌, length, take, true, false, IsTrue, refl}
 use Rattle.std.proofs.Common.{inl, inr, sym, ◌∙◌, ap, subst, arith, ⊎_elim}
-use Rattle.std.proofs.lemmas.List.{append-nil, take-append-le, take-take, take_all}
+use Rattle.std.proofs.lemmas.List.{take-append-le, take-take}
 use Rattle.tape_disk.specs.Disk.{DiskState, IsDisk, Each, Keeps}
 use Rattle.tape_disk.specs.Moments.{LeavesOnly, no_call, in_sequence, weakened, holds_now}
-use Rattle.accepting.specs.Core.{Rules, Core, CoreStep, Accept, Store, Safe, Ack, Fault, Stop, IsCore, IsWorking, StepsTo, AllStepTo, CanAcknowledge, IsPrefix, accepted_in, broken_in, recovered, settled, stopped, with_item, with_stored}
+use Rattle.accepting.specs.Core.{Rules, Core, CoreStep, Accept, Store, Safe, Ack, Fault, Stop, IsCore, IsWorking, AllStepTo, IsPrefix, accepted_in, broken_in, recovered, settled, stopped, with_item, with_stored}
 
 module _ (rules : Rules) where
   -- the image gives what is safe, or what is stored (own)
