@@ -1,0 +1,10 @@
+//! What was accepted, what of it is safe, and what a crash leaves: for changes of a cartridge and for saved
+//! reservations alike.
+#![tactic(auto)]
+
+pub mod accepting;
+pub mod laws;
+#[cfg(test)]
+mod tests;
+
+pub use accepting::Accepting;
