@@ -14,7 +14,7 @@ use Rattle.pr_core.specs.States.{empty_state, has_key, is_for_all, is_number, is
 use Rattle.pr_core.specs.Sound.{IsSound, is_held_rightly}
 use Rattle.pr_core.specs.Effects.{Effect, of_registrant, stays, with_key, keys_without}
 use Rattle.pr_core.specs.Register.{ends_without, left_without, register, register_and_ignore, registers, shows_key, unregisters, zero_key}
-use Rattle.pr_core.specs.Reserve.{clear, is_same_type, makes, release, release_held, release_under, reserve, reserve_under}
+use Rattle.pr_core.specs.Reserve.{clear, is_same_type, release, release_held, release_under, reserve, reserve_under}
 use Rattle.pr_core.specs.Preempt.{is_key_of_holder, preempt, preempt_holder, preempt_known, preempt_registrants, preempt_zero, preempted_by, takes_over_as}
 use Rattle.pr_core.specs.Orders.{Orders, effect_of}
 use Rattle.pr_core.proofs.SetLemmas.{none_in, replicate_shows, who_in}

@@ -5,7 +5,7 @@ use Rattle.scsi_attention.specs.AttentionSets.{AttentionSet, no_attentions, with
 use Rattle.pr_core.specs.declared.states.Reservation.{Reservation}
 use Rattle.pr_core.specs.declared.states.PrState.{PrState}
 use Rattle.pr_core.specs.declared.states.PrAnswer.{PrAnswer}
-use Rattle.pr_core.specs.declared.states.PrAnswer.TheVariants.{Good, Conflict}
+use Rattle.pr_core.specs.declared.states.PrAnswer.TheVariants.{Conflict}
 use Rattle.pr_core.specs.Sets.{Nexuses, Shows}
 use Rattle.pr_core.specs.States.{key_of, has_key}
 

@@ -1,5 +1,5 @@
 -- What keeps reservations through a loss of power, to a contract.
-use Rattle.std.specs.Prelude.{◌≡◌, ◌<◌, ◌≤◌, ◌+◌, ◌*◌, ℕ, Option, None, Some, Result, Ok, Err, List, [], ◌∷◌, ◌++◌, Bool, true, false, is_some, count_by, refl}
+use Rattle.std.specs.Prelude.{◌≡◌, ◌<◌, ◌+◌, ◌*◌, ℕ, Option, None, Some, Result, Ok, Err, List, [], ◌∷◌, Bool, true, false, is_some, count_by}
 use Rattle.vtl_base.specs.Below.{Below}
 use Rattle.pr_core.specs.declared.states.PrState.{PrState}
 use Rattle.pr_core.specs.declared.keepers.KeeperError.{KeeperError}

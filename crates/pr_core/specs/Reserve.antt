@@ -1,5 +1,5 @@
 -- RESERVE, RELEASE and CLEAR.
-use Rattle.std.specs.Prelude.{ℕ, ◌==◌, ◌&&◌, not, Bool, Option, None, Some, if◌then◌else◌}
+use Rattle.std.specs.Prelude.{ℕ, ◌==◌, ◌&&◌, Bool, Option, None, Some, if◌then◌else◌}
 use Rattle.scsi_attention.specs.AttentionSets.{AttentionSet}
 use Rattle.scsi_attention.specs.declared.attention_sets.Attention.TheVariants.{ReservationsReleased, ReservationsPreempted}
 use Rattle.scsi_lists.specs.declared.actions.PrType.{PrType}

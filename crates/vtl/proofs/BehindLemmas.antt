@@ -1,13 +1,11 @@
 -- What a script runs and writes: its first items, and then the others.
-use Rattle.std.proofs.Common.{◌≡◌, ℕ, ◌+◌, ◌⊎◌, inl, inr, Bool, true, false, List, [], ◌∷◌, ◌++◌, length, Option, Some, None, IfSome, Result, Ok, Err, refl, sym, ap, ◌∙◌, arith, append_assoc}
-use Rattle.std.proofs.lemmas.List.{append-nil, length-append}
+use Rattle.std.proofs.Common.{◌≡◌, ℕ, Bool, true, false, List, [], ◌∷◌, ◌++◌, Option, Some, None, IfSome, refl, sym, ap, ◌∙◌, append_assoc}
+use Rattle.std.proofs.lemmas.List.{append-nil}
 use Rattle.std.proofs.lemmas.Grind.{flat_map-append}
 use Rattle.std.specs.Io.KnownBytes.{Appends, Consumes}
 use Rattle.scsi_sense.specs.declared.replies.Reply.{Reply}
 use Rattle.vtl.specs.declared.items.Item.{Item}
 use Rattle.vtl.specs.declared.lines.ParsedLine.{ParsedLine}
-use Rattle.vtl.specs.declared.faults.ScriptFault.{ScriptFault}
-use Rattle.vtl.specs.declared.faults.ScriptFault.TheVariants.{BadLine, ReadFault, WriteFault, NoMemory}
 use Rattle.vtl.specs.Parsed.{parsed_lines}
 use Rattle.vtl.specs.Items.{items_to_run}
 use Rattle.vtl.specs.Text.{reply_text, text_of}

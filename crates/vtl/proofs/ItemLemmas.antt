@@ -1,28 +1,23 @@
 -- An item that is read, run and answered, and where that ends.
 use Rattle.std.proofs.Common.{◌≡◌, ℕ, ◌+◌, Bool, true, false, not, List, [], ◌∷◌, ◌++◌, length, take, Option, Result, Ok, Err, OnErr, refl, sym, ap, ◌∙◌, arith, append_assoc, ◌⊎◌, inl, inr}
-use Rattle.std.proofs.lemmas.List.{append-nil, length-append}
-use Rattle.std.proofs.lemmas.List.Folds.{list_any-append}
+use Rattle.std.proofs.lemmas.List.{append-nil}
 use Rattle.std.specs.Io.KnownBytes.{Appends}
 use Rattle.scsi_sense.specs.declared.replies.Reply.{Reply}
-use Rattle.vtl.specs.declared.lines.Line.{Line}
-use Rattle.vtl.specs.declared.lines.ParsedLine.{ParsedLine}
 use Rattle.vtl.specs.declared.items.Item.{Item}
 use Rattle.vtl.specs.declared.items.Item.TheVariants.{Phase}
 use Rattle.vtl.specs.declared.faults.ScriptFault.{ScriptFault}
 use Rattle.vtl.specs.declared.faults.ScriptFault.TheVariants.{BadLine, ReadFault, WriteFault, NoMemory}
-use Rattle.vtl.specs.Parsed.{parsed_lines, is_refused, refused_line}
+use Rattle.vtl.specs.Parsed.{parsed_lines, refused_line}
 use Rattle.vtl.specs.Items.{items_to_run}
 use Rattle.vtl.specs.Text.{text_of, AppendsPart}
-use Rattle.vtl.specs.Inner.Reading.{Reading, unbegun}
-use Rattle.vtl.specs.Inner.ReadItem.{rest_of, ParsesFirst, AreEmpty, IsItem, ReadsLines, RefusesItem}
-use Rattle.vtl.specs.Runs.{AnswersSome, ScriptEnds, RunsScript, WritesPart, RunsPart, WritesSome, Stops}
-use Rattle.vtl.specs.Inner.RunItem.{EndsFrom, FinishesScript, GoesOn, RunsItem}
-use Rattle.vtl.proofs.ReadingLemmas.{consumes_on, consumes_none}
+use Rattle.vtl.specs.Inner.Reading.{Reading}
+use Rattle.vtl.specs.Inner.ReadItem.{rest_of, AreEmpty, ReadsLines, RefusesItem}
+use Rattle.vtl.specs.Runs.{AnswersSome}
+use Rattle.vtl.specs.Inner.RunItem.{FinishesScript, GoesOn, RunsItem}
 use Rattle.vtl.proofs.LineLemmas.{at_end}
-use Rattle.vtl.proofs.PhaseLemmas.{texts}
-use Rattle.vtl.proofs.TextLemmas.{appends_none, appends_on}
-use Rattle.vtl.proofs.RefusedLemmas.{refused_behind, none_behind, none_refused, first_refused}
-use Rattle.vtl.proofs.BehindLemmas.{known_on, known_rest, text_of-append, items_behind, first_behind, writes_part_behind, runs_part_behind, writes_some_behind, in_script}
+use Rattle.vtl.proofs.TextLemmas.{appends_none}
+use Rattle.vtl.proofs.RefusedLemmas.{none_refused, first_refused}
+use Rattle.vtl.proofs.BehindLemmas.{known_on, known_rest, in_script}
 
 module _ {P : Type 0} (is_configured : ℕ → Bool) (answers : P → List Item → List Reply → P → Type 0)
     (nothing : (runner : P) → answers runner [] [] runner)

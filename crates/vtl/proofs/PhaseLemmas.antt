@@ -1,32 +1,25 @@
 -- The lines of a phase, read one after another.
-use Rattle.std.proofs.Common.{inl, inr, ◌≡◌, ℕ, ◌+◌, ◌<◌, ◌≤◌, Bool, true, false, not, ◌||◌, List, [], ◌∷◌, ◌++◌, length, take, drop, map, Option, Some, None, Result, Ok, Err, IfOk, position, refl, sym, ap, ◌∙◌, arith, append_assoc, length-take-le, nat_lt, filter_map, take_while, ◌==◌}
-use Rattle.std.proofs.lemmas.Bool.Decides.{nat_tests}
-use Rattle.std.proofs.lemmas.List.{take-append-le, drop-append-le, length-append, append-nil}
+use Rattle.std.proofs.Common.{inl, inr, ◌≡◌, ℕ, ◌+◌, ◌≤◌, Bool, true, false, ◌||◌, List, [], ◌∷◌, ◌++◌, length, Option, refl, sym, ap, ◌∙◌, arith, append_assoc, filter_map}
+use Rattle.std.proofs.lemmas.List.{length-append, append-nil}
 use Rattle.std.proofs.lemmas.List.Folds.{list_any-append, list_all-append}
-use Rattle.std.proofs.lemmas.List.Elements.{filter_map-append}
-use Rattle.std.specs.List.{slice_split, onto_first, list_any, list_all}
-use Rattle.std.specs.Io.KnownBytes.{Consumes, IsAtEnd}
+use Rattle.std.specs.List.{list_any, list_all}
+use Rattle.std.specs.Io.KnownBytes.{Consumes}
 use Rattle.vtl.specs.declared.lines.Line.{Line}
 use Rattle.vtl.specs.declared.lines.ParsedLine.{ParsedLine}
 use Rattle.vtl.specs.declared.lines.ParsedLine.TheVariants.{Nothing, PhaseEnd, Command, Refused}
-use Rattle.std.proofs.lemmas.List.Sums.{take_while-cons}
 use Rattle.vtl.specs.declared.phases.NextLine.{NextLine}
 use Rattle.vtl.specs.declared.phases.PhaseLines.{PhaseLines}
 use Rattle.vtl.specs.declared.items.Item.{Item}
 use Rattle.vtl.specs.declared.items.Item.TheVariants.{Phase}
 use Rattle.vtl.specs.declared.items.NextItem.{NextItem}
-use Rattle.vtl.specs.Parsed.{without_return, parsed_line, parsed_parts, parsed_lines, is_refused, is_phase_end, line_in}
+use Rattle.vtl.specs.Parsed.{parsed_lines, is_refused, is_phase_end, line_in}
 use Rattle.vtl.specs.Items.{has_host, by_host, items_after, items_to_run}
-use Rattle.vtl.specs.Inner.ReadItem.{rest_of, ReportsRefused, ParsesFirst, ReadsLine, RefusesLine, ReadsLines, ReadsPhase, ReadsItem, RefusesItem, IsItem}
+use Rattle.vtl.specs.Inner.ReadItem.{rest_of, ParsesFirst, ReadsLine, RefusesLine, ReadsLines, ReadsPhase, ReadsItem, RefusesItem, IsItem}
 use Rattle.vtl.specs.Runs.{TakesWithin}
 use Rattle.vtl.proofs.HostLemmas.{all_by_host}
-use Rattle.vtl.specs.declared.faults.ScriptFault.{ScriptFault}
-use Rattle.vtl.specs.declared.faults.ScriptFault.TheVariants.{BadLine}
-use Rattle.vtl.specs.Inner.Reading.{Reading, Comes, work_left}
+use Rattle.vtl.specs.Inner.Reading.{Reading, work_left}
 use Rattle.vtl.proofs.ReadingLemmas.{consumes_on, consumes_none}
 use Rattle.vtl.proofs.TurnLemmas.{by_host-none}
-use Rattle.vtl.proofs.SplitLemmas.{split_at, split_whole, found, missed}
-use Rattle.vtl.proofs.PartLemmas.{HasFirst, first_of_split, split_front, split_end, split_all, none_of, position_append}
 use Rattle.vtl.proofs.LineLemmas.{tells, refuses}
 
 -- some lines of a phase were read, with these commands

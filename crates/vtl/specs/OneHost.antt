@@ -1,10 +1,9 @@
 -- Scripts of at most one host (own).
-use Rattle.std.specs.Prelude.{◌≡◌, ℕ, ◌==◌, ◌≤◌, Bool, false, true, List, All, map, filter_map, Option, Result, Ok, IfSome}
+use Rattle.std.specs.Prelude.{◌≡◌, ℕ, ◌==◌, ◌≤◌, false, true, List, All, map, filter_map, Option, Result, Ok, IfSome}
 use Rattle.std.specs.List.{list_all, list_any}
 use Rattle.std.specs.Io.KnownBytes.{Appends}
 use Rattle.scsi_sense.specs.declared.replies.Reply.{Reply}
 use Rattle.vtl_base.specs.Below.{Below}
-use Rattle.pr_core.specs.declared.states.PrState.{PrState}
 use Rattle.pr_core.specs.Keepers.{KeeperState}
 use Rattle.volume_core.specs.declared.changes.Change.{Change}
 use Rattle.volume_core.specs.Medium.{MediumState}

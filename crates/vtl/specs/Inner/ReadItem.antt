@@ -3,7 +3,6 @@ use Rattle.std.specs.Prelude.{◌≡◌, ◌⊎◌, ℕ, ◌+◌, ◌<◌, ◌�
 use Rattle.std.specs.List.{list_any, list_all}
 use Rattle.std.specs.Io.KnownBytes.{Consumes, IsAtEnd}
 use Rattle.vtl_base.specs.declared.limits.TheConstants.{SCRIPT_BYTES}
-use Rattle.vtl.specs.declared.lines.Line.{Line}
 use Rattle.vtl.specs.declared.lines.ParsedLine.{ParsedLine}
 use Rattle.vtl.specs.declared.lines.ParsedLine.TheVariants.{Refused}
 use Rattle.vtl.specs.declared.phases.NextLine.{NextLine}

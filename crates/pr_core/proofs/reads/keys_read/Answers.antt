@@ -1,4 +1,4 @@
-use Rattle.std.proofs.Common.{arith, ◌≡◌, length}
+use Rattle.std.proofs.Common.{arith}
 use Rattle.pr_core.proofs.ReadLemmas.{keys_short}
 use Rattle.pr_core.proofs.reads.keys_read.Goals as goal
 

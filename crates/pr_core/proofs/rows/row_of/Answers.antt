@@ -1,4 +1,4 @@
-use Rattle.std.proofs.Common.{arith, rules, ◌∙◌}
+use Rattle.std.proofs.Common.{arith, ◌∙◌}
 use Rattle.pr_core.proofs.SetLemmas.{row_at_is}
 use Rattle.pr_core.proofs.rows.row_of.Goals as goal
 

@@ -1,5 +1,5 @@
-use Rattle.std.proofs.Common.{rules, ◌≡◌, subst, sym}
-use Rattle.scsi_attention.specs.AttentionSets.{no_attentions, AttentionSet}
+use Rattle.std.proofs.Common.{rules, subst}
+use Rattle.scsi_attention.specs.AttentionSets.{AttentionSet}
 use Rattle.pr_core.specs.Sets.{Shows}
 use Rattle.pr_core.specs.States.{others}
 use Rattle.pr_core.specs.Effects.{tells}
