@@ -109,23 +109,26 @@ fn each_host_is_told_its_own(rt: HostRuntime) -> Result<(), Fail> {
 }
 
 // Commands that another host's reservation stops, and else do nothing much.
-const STOPPED: [&'static [u8]; 7] = [
+const STOPPED: [&'static [u8]; 9] = [
     &[0x01, 0, 0, 0, 0, 0],
     &[0x08, 0, 0, 0, 0, 0],
     &[0x0a, 0, 0, 0, 0, 0],
     &[0x10, 0, 0, 0, 0, 0],
     &[0x11, 0, 0, 0, 0, 0],
+    &[0x15, 0, 0, 0, 0, 0],
     &[0x19, 0, 0, 0, 0, 0],
+    &[0x1b, 0, 0, 0, 1, 0],
     &[0x2b, 0, 0, 0, 0, 0, 0, 0, 0, 0],
 ];
 
 // Commands that no reservation stops, and what they answer.
-fn unstopped() -> [(&'static [u8], &'static [u8]); 6] {
+fn unstopped() -> [(&'static [u8], &'static [u8]); 7] {
     [
         (TEST_UNIT_READY, b""),
         (&[0x03, 0, 0, 0, 0, 0], b""),
         (&[0x05, 0, 0, 0, 0, 0], b"\0\x10\0\0\0\x01"),
         (&[0x12, 0, 0, 0, 2, 0], b"\x01\x80"),
+        (&[0x1a, 0, 0, 0, 4, 0], b"\x0b\0\x10\x08"),
         (
             &[0x34, 0, 0, 0, 0, 0, 0, 0, 0, 0],
             b"\x80\0\0\0\0\0\0\0\0\0\0\0\0\0\0\0\0\0\0\0",
