@@ -30,8 +30,7 @@ side_sight true medium = None
 side_sight false medium = Some (record { stored = medium.stored; torn = medium.torn })
 
 -- a medium, but for how its volume is split into what is stored and what is pending while it is awake and works, and
--- for
--- the room of its side (own)
+-- for the room of its side (own)
 pub record Sight : Type 0 where
   pub awake : Bool
   pub volume : List Part

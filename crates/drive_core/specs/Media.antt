@@ -59,8 +59,7 @@ module _ {M : Type 0} (state : M → MediumState) (below : Below M Change) where
         × (new ≡ old)
 
     -- what is in this bay goes out of the drive, parked; or nothing is there; or the device failed, and the medium
-    -- stays
-    -- loaded (own)
+    -- stays loaded (own)
     abbrev pub GoesOutOf : Bay M → DriveState M K → Result M Reply → DriveState M K → Type 0
     GoesOutOf Empty old (Ok out) new = ⊥
     GoesOutOf Empty old (Err reply) new = (reply ≡ check_with medium_not_present []) × (new ≡ old)
@@ -76,8 +75,7 @@ module _ {M : Type 0} (state : M → MediumState) (below : Below M Change) where
     GoesOut old result new = GoesOutOf old.bay old result new
 
     -- a drive is switched on with the medium as it opened, if any, these reservations and this keeper; where memory
-    -- runs
-    -- out, medium and keeper come back (own)
+    -- runs out, medium and keeper come back (own)
     abbrev pub SwitchesOn :
         Option M → PrState → K → Result (DriveState M K) (Option M × K × NoMemory) → Type 0
     SwitchesOn None reservations keeper (Ok new) = new ≡ powered_on Empty reservations keeper

@@ -98,8 +98,7 @@ left_of None = empty_state
 left_of (Some saved) = power_loss saved
 
 -- a drive that was just switched on with this in it, these reservations and this keeper: at the start, in buffered
--- mode,
--- and for every nexus the power on condition is established, and nothing else (SPC-4, SSC-4; the mode own)
+-- mode, and for every nexus the power on condition is established, and nothing else (SPC-4, SSC-4; the mode own)
 abbrev pub powered_on : {M K : Type 0} → Bay M → PrState → K → DriveState M K
 powered_on bay reservations keeper = record {
   bay = bay;

@@ -18,10 +18,8 @@ abbrev pub is_working : Bay MediumState → Bool
 is_working (Loaded medium) = not medium.failed
 is_working _ = false
 
--- whether a command synchronizes at a drive: REWIND, LOCATE, READ POSITION; a SPACE that is not over nothing; WRITE
--- FILEMARKS without IMMED, of none too; a READ of some bytes; in unbuffered mode a WRITE of some, and an ERASE
--- LOAD UNLOAD
--- of a loaded medium that works (SSC-4, buffered mode; READ, REWIND, READ POSITION and motions own)
+-- whether a command synchronizes: motions, READ POSITION, READ of some bytes, WRITE FILEMARKS without IMMED; if not
+-- buffered, WRITE of some, ERASE; LOAD UNLOAD of a working loaded medium (SSC-4; READ, READ POSITION, motions own)
 abbrev pub synchronizes : Machine → Command → Bool
 synchronizes machine Rewind = true
 synchronizes machine (Locate object part) = true

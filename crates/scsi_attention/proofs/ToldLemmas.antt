@@ -1,7 +1,9 @@
 -- What each nexus is told, joined with its set, place by place.
-use Rattle.std.proofs.Common.{◌≡◌, ℕ, zero, suc, ◌<◌, ◌≤◌, ◌+◌, List, [], ◌∷◌, None, Some, length, take, get_or, slice_get, set, refl, ap, sym, ◌∙◌, min, add-one, arith}
-use Rattle.scsi_attention.specs.AttentionSets.{AttentionSet, union}
-use Rattle.scsi_attention.specs.Attentions.{established_by}
+use Rattle.std.proofs.Common.{◌≡◌, ◌≢◌, ℕ, zero, suc, ◌<◌, ◌≤◌, ◌+◌, ◌-◌, List, [], ◌∷◌, Option, None, Some, length, take, get_or, slice_get, slice_set, set, map, option_map, refl, ap, sym, ◌∙◌, min, add-one, arith}
+use Rattle.std.proofs.lemmas.Option.{slice_get-map}
+use Rattle.scsi_attention.specs.declared.attention_sets.Attention.{Attention}
+use Rattle.scsi_attention.specs.AttentionSets.{AttentionSet, union, with_attention}
+use Rattle.scsi_attention.specs.Attentions.{established_by, established_for_all, established_for_others, put_back}
 
 -- at a place that was not told yet stands the set from before
 kept_at : (sets told : List AttentionSet) (place : ℕ) (any : AttentionSet) → place < length told
@@ -69,3 +71,50 @@ pub none_lost : (sets told : List AttentionSet) → length (established_by sets 
 none_lost sets [] = refl
 none_lost [] (first ∷ told) = refl
 none_lost (was ∷ sets) (first ∷ told) = omega (arith, none_lost sets told)
+
+-- where one set is put back after all were told, every other one is told
+told_but_one : (attention : Attention) (sets : List AttentionSet) (one place : ℕ) (own : AttentionSet) → place ≢ one
+    → slice_get (slice_set (map (with_attention attention) sets) one own) place
+    ≡ option_map (with_attention attention) (slice_get sets place)
+told_but_one attention [] one place own other = refl
+told_but_one attention (first ∷ sets) zero zero own other = absurd (other refl)
+told_but_one attention (first ∷ sets) zero (suc place) own other = slice_get-map (with_attention attention) sets place
+told_but_one attention (first ∷ sets) (suc one) zero own other = refl
+told_but_one attention (first ∷ sets) (suc one) (suc place) own other =
+    told_but_one attention sets one place own (λ same. other (ap suc same))
+
+-- the one that is put back stands there
+put_back_there : (attention : Attention) (sets : List AttentionSet) (one : ℕ) (own : AttentionSet)
+    → slice_get sets one ≡ Some own
+    → slice_get (slice_set (map (with_attention attention) sets) one own) one ≡ Some own
+put_back_there attention [] zero own is = cc
+put_back_there attention [] (suc one) own is = cc
+put_back_there attention (first ∷ sets) zero own is = refl
+put_back_there attention (first ∷ sets) (suc one) own is = put_back_there attention sets one own is
+
+others_told : (found : Option AttentionSet) (sets : List AttentionSet) (nexus place : ℕ) (attention : Attention)
+    → place ≢ nexus - 1
+    → slice_get (put_back found (established_for_all sets attention) nexus) place
+    ≡ option_map (with_attention attention) (slice_get sets place)
+others_told None sets nexus place attention other = slice_get-map (with_attention attention) sets place
+others_told (Some own) sets nexus place attention other = told_but_one attention sets (nexus - 1) place own other
+
+one_kept : (found : Option AttentionSet) (sets : List AttentionSet) (nexus : ℕ) (attention : Attention)
+    → slice_get sets (nexus - 1) ≡ found
+    → slice_get (put_back found (established_for_all sets attention) nexus) (nexus - 1) ≡ slice_get sets (nexus - 1)
+one_kept None sets nexus attention is =
+    slice_get-map (with_attention attention) sets (nexus - 1)
+    ∙ ap (λ (set : Option AttentionSet). option_map (with_attention attention) set) is ∙ sym is
+one_kept (Some own) sets nexus attention is = put_back_there attention sets (nexus - 1) own is ∙ sym is
+
+-- every nexus but one is told
+pub each_other_told : (sets : List AttentionSet) (nexus place : ℕ) (attention : Attention) → place ≢ nexus - 1
+    → slice_get (established_for_others sets nexus attention) place
+    ≡ option_map (with_attention attention) (slice_get sets place)
+each_other_told sets nexus place attention other =
+    others_told (slice_get sets (nexus - 1)) sets nexus place attention other
+
+-- and that one is not
+pub the_one_untold : (sets : List AttentionSet) (nexus : ℕ) (attention : Attention)
+    → slice_get (established_for_others sets nexus attention) (nexus - 1) ≡ slice_get sets (nexus - 1)
+the_one_untold sets nexus attention = one_kept (slice_get sets (nexus - 1)) sets nexus attention refl

@@ -1,8 +1,8 @@
 -- Laws of sets of unit attention conditions.
-use Rattle.std.specs.Prelude.{◌≡◌, ◌≢◌, ◌||◌, ℕ, Bool, true, false, List, Some, None, length, slice_get}
+use Rattle.std.specs.Prelude.{◌≡◌, ◌≢◌, ◌||◌, ◌-◌, ℕ, Bool, true, false, List, Some, None, length, option_map, slice_get}
 use Rattle.scsi_attention.specs.declared.attention_sets.Attention.{Attention}
 use Rattle.scsi_attention.specs.AttentionSets.{AttentionSet, contains, set_to, union, with_attention, without}
-use Rattle.scsi_attention.specs.Attentions.{established_by}
+use Rattle.scsi_attention.specs.Attentions.{established_by, established_for_others}
 
 -- a condition that was put in is in (own)
 abbrev pub HasWhatIsPutIn : Type 0
@@ -48,3 +48,16 @@ TheUntoldStay =
 -- there are as many sets as before (own)
 abbrev pub NoNexusIsLost : Type 0
 NoNexusIsLost = (sets told : List AttentionSet) → length (established_by sets told) ≡ length sets
+
+-- where every nexus but one is told of a condition, each other one has it beside its own (own)
+abbrev pub EachOtherIsTold : Type 0
+EachOtherIsTold =
+    (sets : List AttentionSet) (nexus place : ℕ) (attention : Attention) → place ≢ nexus - 1
+    → slice_get (established_for_others sets nexus attention) place
+    ≡ option_map (with_attention attention) (slice_get sets place)
+
+-- and that one keeps its set (own)
+abbrev pub TheOneIsNotTold : Type 0
+TheOneIsNotTold =
+    (sets : List AttentionSet) (nexus : ℕ) (attention : Attention)
+    → slice_get (established_for_others sets nexus attention) (nexus - 1) ≡ slice_get sets (nexus - 1)
