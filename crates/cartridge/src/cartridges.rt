@@ -98,6 +98,7 @@ impl<D: Disk> Cartridge<D> {
         ensures parts { result ≡ length (volume_made self.now.contents) }
         ensures some { 1 ≤ result }
         ensures few { result ≤ MAX_PARTITIONS }
+        ensures entries { result ≡ length self.now.reserved.entries }
     {
         self.index.parts()
     }

@@ -203,3 +203,31 @@ fn partitions_and_blocks(rt: HostRuntime) -> Result<(), Fail> {
     }
     Ok(())
 }
+
+#[test]
+fn many_frames_and_the_longest_body(rt: HostRuntime) -> Result<(), Fail> {
+    let alloc = rt.alloc();
+    let Ok(mut known) = Known::made(alloc, MemDisk::new(alloc), &[16_777_216]) else {
+        return Err(Fail::from("not made"));
+    };
+    for at in 0..300 {
+        assert_eq!(rt; known.store(alloc, &[marks(0, at, 1)]), Ok(()), "mark {at}");
+    }
+    // Eight records of 1,048,576 bytes, ten of them the head: 8,388,608.
+    let long = vec![in alloc; 0x5a; 1_048_566]?;
+    let mut changes = Vec::new(alloc);
+    for at in 300..308 {
+        changes.push(block(alloc, 0, at, &long)?)?;
+    }
+    assert_eq!(rt; known.store(alloc, &changes), Ok(()));
+    let Ok(known) = known.opened_again(alloc) else {
+        return Err(Fail::from("not opened again"));
+    };
+    let mut cartridge = known.into_cartridge();
+    assert_eq!(rt; told(&cartridge), (301, 308, 8_393_456));
+    let Ok(found) = fetched(alloc, &mut cartridge, 0, 307) else {
+        return Err(Fail::from("not fetched"));
+    };
+    assert!(rt; found.as_slice() == long.as_slice());
+    Ok(())
+}

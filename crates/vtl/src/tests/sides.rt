@@ -115,6 +115,21 @@ fn sides_of_several_partitions(rt: HostRuntime) -> Result<(), Fail> {
 }
 
 #[test]
+fn a_side_of_many_frames(rt: HostRuntime) -> Result<(), Fail> {
+    let alloc = rt.alloc();
+    // Twelve frames of two filemarks each.
+    let mut side = Vec::from_slice(alloc, &SIDE[..35])?;
+    for frame in 0..12u8 {
+        side.extend_from_slice(b"\xa5\0\0\0\x0a\x02\0\0\0\0")?;
+        side.push(2 * frame)?;
+        side.extend_from_slice(b"\0\0\0\x02")?;
+    }
+    side.push(0)?;
+    let wanted = "cartridge T00001L6 partitions 1 frames 12\npartition 0 objects 24 used 384\n";
+    assert_tells(&rt, alloc, &side, wanted, 12)
+}
+
+#[test]
 fn stores_are_no_sides(rt: HostRuntime) -> Result<(), Fail> {
     // Whole with no frame, without its gate, and with a frame that is not whole.
     let stores: [&[u8]; 3] = [
