@@ -72,6 +72,23 @@ fn set_of(conditions: &[Attention]) -> AttnSet {
 }
 
 #[test]
+fn every_nexus_but_one_is_told(rt: HostRuntime) {
+    let (Some(first), Some(other), Some(last)) = (Nexus::new(1), Nexus::new(2), Nexus::new(64))
+    else {
+        assert!(rt; false, "a nexus");
+        return;
+    };
+    let mut attentions = Attentions::all(set_of(&[RELEASED]));
+    attentions.establish_for_others(first, MEDIUM);
+    assert!(rt; reports(&mut attentions, first, &[RELEASED]));
+    assert!(rt; reports(&mut attentions, other, &[MEDIUM, RELEASED]));
+    attentions.establish_for_others(last, PREEMPTED);
+    assert!(rt; reports(&mut attentions, first, &[PREEMPTED]));
+    assert!(rt; reports(&mut attentions, other, &[PREEMPTED]));
+    assert!(rt; reports(&mut attentions, last, &[MEDIUM, RELEASED]));
+}
+
+#[test]
 fn two_sets_are_joined(rt: HostRuntime) {
     for one in ORDER.iter() {
         for other in ORDER.iter() {
