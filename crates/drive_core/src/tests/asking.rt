@@ -83,7 +83,7 @@ pub const B_AGAINST_C: &'static [u8] = b"\0\0\0\0\0\0\0\xb2\0\0\0\0\0\0\0\xc3\0\
 
 pub const A_WITH_APTPL: &'static [u8] = b"\0\0\0\0\0\0\0\0\0\0\0\0\0\0\0\xa1\0\0\0\0\x01\0\0\0";
 
-fn assert_answer(rt: &impl Abort, reply: &Reply, wanted: Answer, at: usize) {
+pub fn assert_answer(rt: &impl Abort, reply: &Reply, wanted: Answer, at: usize) {
     let (status, sense, bytes) = match wanted {
         Answer::Good(bytes) => (Status::Good, None, bytes),
         Answer::Check(key, code, qualifier) => (Status::Check, Some((key, code, qualifier)), NONE),
