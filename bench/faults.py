@@ -13,8 +13,8 @@ import sys
 from concurrent.futures import ThreadPoolExecutor
 
 TOP = os.path.dirname(os.path.dirname(os.path.abspath(__file__)))
-# by valgrind's count the run of the journal has 144 growths
-GROWTHS = {"journal_bench": 150, "cartridge_bench": 240}
+# by valgrind's count the run of the journal has 144 growths, that of a cartridge 113
+GROWTHS = {"journal_bench": 150, "cartridge_bench": 120}
 ABORTED = "CHECK 70000b000000000a00000000550300000000"
 
 

@@ -33,14 +33,14 @@ fn timed(rt: &HostRuntime, word: &str, count: u32) -> Option<Timed> {
 }
 
 /// With `store N`, `frame N`, `copy N`, `fetch N`, `side N` or `open N` it tells the nanoseconds and
-/// what came of it; with no words it does a little of each and tells that alone.
+/// what came of it; with no words it does a little of all but `frame`, and tells that alone.
 fn main(rt: HostRuntime) -> ExitCode {
     let Ok(words) = env::args(&rt) else {
         return ExitCode::from(1);
     };
     let mut words = words.skip(1);
     let (Some(word), Some(count)) = (words.next(), words.next()) else {
-        for word in ["store", "frame", "copy", "fetch", "side", "open"] {
+        for word in ["store", "copy", "fetch", "side", "open"] {
             match timed(&rt, word, 1) {
                 Some((_, count)) => {
                     let _ = println!(rt; "{word} {count}");
