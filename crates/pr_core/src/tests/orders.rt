@@ -1,5 +1,5 @@
 //! REGISTER, RESERVE, RELEASE and CLEAR, row by row.
-use super::{A, B, C, Standing, TYPES, after, gives, host, register};
+use super::{A, B, C, Standing, TYPES, after, gives, held, host, register};
 use crate::PrAnswer::{BadRelease, Conflict, Good};
 use crate::{PrAnswer, Reservations};
 use scsi_attention::Attention;
@@ -217,4 +217,23 @@ fn one_clears(rt: HostRuntime) {
             generation: 4,
         },
     );
+}
+
+// With APTPL a reservation outlives a loss of power, with the registration of who made it.
+#[test]
+fn a_reservation_outlives_a_loss_of_power(rt: HostRuntime) {
+    for kind in TYPES {
+        let registers = PrOut::Register {
+            key: 0,
+            new_key: A,
+            aptpl: true,
+        };
+        let orders = [(1, registers), (1, PrOut::Reserve { key: A, kind })];
+        let lost = after(&rt, &orders).power_loss();
+        assert_eq!(&rt; held(lost.state()), held_by_1(kind));
+        assert_eq!(&rt; lost.state().generation, 0);
+        assert_eq!(&rt; lost.state().aptpl, true);
+        assert_eq!(&rt; lost.state().key_of(host(&rt, 1)), Some(A));
+        assert_eq!(&rt; lost.allowed(host(&rt, 2)), false);
+    }
 }

@@ -192,3 +192,26 @@ fn the_key_is_of_registrants(rt: HostRuntime) {
     };
     gives(&rt, before, (4, preempt(C, C, None)), Good, &[], left);
 }
+
+// Where nothing is reserved, the registrations with the key go, and nothing is made.
+#[test]
+fn nothing_is_reserved(rt: HostRuntime) {
+    let before = after(
+        &rt,
+        &[
+            (1, register(0, A)),
+            (2, register(0, B)),
+            (3, register(0, B)),
+            (4, register(0, C)),
+        ],
+    );
+    refuses(&rt, before, (0, 0), preempt(A, 0, Some(ONE)), BadKey);
+    let left = Standing {
+        keys: &[(1, A), (4, C)],
+        held: (0, 0),
+        generation: 5,
+    };
+    let told: [(u8, Attention); 2] = [(2, RegistrationsPreempted), (3, RegistrationsPreempted)];
+    let order = (1, preempt(A, B, Some(ONE)));
+    gives(&rt, before, order, Good, &told, left);
+}
