@@ -1,4 +1,3 @@
-pub mod AnswerLemmas
 pub mod ContentsLemmas
 pub mod FetchLemmas
 pub mod GrowingLemmas
@@ -8,5 +7,4 @@ pub mod OpeningLemmas
 pub mod PlacingLemmas
 pub mod RecordLemmas
 pub mod StoringLemmas
-pub mod UniqueLemmas
 pub mod WalkingLemmas

@@ -19,7 +19,8 @@ use Rattle.cartridge.specs.Notes.{Notes, noted_contents, with_frame, with_torn}
 use Rattle.cartridge.specs.Lying.{LiesIn, LiesOnSide}
 use Rattle.cartridge.specs.Inner.Open.{IsOpen, StoresContents}
 use Rattle.cartridge.specs.Inner.Growing.{IsGrown}
-use Rattle.cartridge.proofs.ContentsLemmas.{bodies_more, contents_more, gives_more, is_bodies_more, moments, volume_more}
+use Rattle.cartridge.specs.Extending.{bodies_more, contents_more, volume_more}
+use Rattle.cartridge.proofs.ContentsLemmas.{gives_more, is_bodies_more, moments}
 use Rattle.cartridge.proofs.GrowingLemmas.{grown_lies, same_parts}
 use Rattle.cartridge.proofs.RecordLemmas.{all_applying}
 

@@ -25,7 +25,7 @@ use Rattle.cartridge.specs.Notes.{Notes, noted_contents, with_frame}
 use Rattle.cartridge.specs.Lying.{LiesIn, LiesOnSide}
 use Rattle.cartridge.specs.Inner.Open.{IsOpen}
 use Rattle.cartridge.specs.Inner.Reading.{IsReadUpTo, WalksTo}
-use Rattle.cartridge.proofs.ContentsLemmas.{bodies_more, contents_more, volume_more}
+use Rattle.cartridge.specs.Extending.{bodies_more, contents_more, volume_more}
 use Rattle.cartridge.proofs.OpenLemmas.{lies_in_next}
 
 pub unwritten_none : (disk : DiskState) → IsDisk disk → Unwritten disk disk

@@ -1,6 +1,8 @@
 pub mod Answers
 pub mod Codes
 pub mod Contents
+pub mod ContentsOn
+pub mod Extending
 pub mod Inner
 pub mod Lying
 pub mod Notes

@@ -1,4 +1,4 @@
-use Rattle.cartridge.proofs.UniqueLemmas.{bad_ours, bad_whole, damaged_once, damaged_ours}
+use Rattle.cartridge.specs.Inner.Unique.{bad_ours, bad_whole, damaged_once, damaged_ours}
 use Rattle.cartridge.proofs.laws.a_refusal_has_one_cause.Goals as goal
 
 pub returns : goal.returns

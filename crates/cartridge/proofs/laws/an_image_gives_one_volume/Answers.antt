@@ -1,4 +1,4 @@
-use Rattle.cartridge.proofs.UniqueLemmas.{bad_once, gives_good, gives_one, gives_ours, gives_whole}
+use Rattle.cartridge.specs.Inner.Unique.{bad_once, gives_good, gives_one, gives_ours, gives_whole}
 use Rattle.cartridge.proofs.laws.an_image_gives_one_volume.Goals as goal
 
 pub returns : goal.returns

@@ -1,4 +1,4 @@
-use Rattle.cartridge.proofs.AnswerLemmas.{answered}
+use Rattle.cartridge.specs.Inner.Answered.{answered}
 use Rattle.cartridge.proofs.laws.each_image_is_answered.Goals as goal
 
 pub returns : goal.returns

@@ -11,7 +11,7 @@ use Rattle.cartridge.specs.Answers.{entries_of}
 use Rattle.cartridge.specs.Contents.{bodies_of, volume_made}
 use Rattle.cartridge.specs.Lying.{HasBlock, LiesIn, LiesOnSide}
 use Rattle.cartridge.specs.Notes.{noted_contents, with_frame}
-use Rattle.cartridge.proofs.ContentsLemmas.{bodies_more}
+use Rattle.cartridge.specs.Extending.{bodies_more}
 use Rattle.cartridge.proofs.PlacingLemmas.{after_next, entries_are, entries_left, lies_placed, next_applies, takes_next}
 use Rattle.cartridge.proofs.RecordLemmas.{part_fits, spelled_next}
 use Rattle.cartridge.proofs.WalkingLemmas.{has_block_of, refused_alike}

@@ -15,8 +15,8 @@ use Rattle.record_index.specs.Records.{IsRecord, spell_all}
 use Rattle.record_index.specs.Inner.Decided.{never_both, same_list}
 use Rattle.record_index.specs.Inner.Decided.{decided as decided_list}
 use Rattle.cartridge.specs.Contents.{IsAnswered, IsBadFrame, IsContents, bodies_of, contents_from, volume_made}
-use Rattle.cartridge.proofs.ContentsLemmas.{bodies_more, contents_more}
-use Rattle.cartridge.proofs.UniqueLemmas.{begins_so, damaged_begins}
+use Rattle.cartridge.specs.Extending.{bodies_more, contents_more}
+use Rattle.cartridge.specs.Inner.Unique.{begins_so, damaged_begins}
 
 -- whether changes apply can be found out
 applying : (volume : List Part) (changes : List Change)
