@@ -82,8 +82,8 @@ impl Change {
         }
     }
 
-    // The partition that it concerns.
-    pub(crate) fn part(&self) -> PartNo
+    /// The partition that it concerns (own).
+    pub fn part(&self) -> PartNo
         ensures { result ≡ part_of self.now }
     {
         match self {
@@ -92,8 +92,8 @@ impl Change {
         }
     }
 
-    // How many objects stay.
-    pub(crate) fn kept(&self) -> ObjNo
+    /// How many objects stay (own).
+    pub fn kept(&self) -> ObjNo
         ensures { result ≡ kept_of self.now }
     {
         match self {
@@ -101,8 +101,8 @@ impl Change {
         }
     }
 
-    // How many objects it adds.
-    pub(crate) fn added(&self) -> u32
+    /// How many objects it adds (own).
+    pub fn added(&self) -> u32
         ensures { result ≡ length (added_by self.now) }
     {
         match self {
@@ -112,8 +112,8 @@ impl Change {
         }
     }
 
-    // What the objects that it adds take, in bytes.
-    pub(crate) fn cost(&self) -> u64
+    /// What the objects that it adds take of a partition, in bytes (own).
+    pub fn cost(&self) -> u64
         ensures { result ≡ used_of (added_by self.now) }
     {
         match self {
@@ -123,8 +123,8 @@ impl Change {
         }
     }
 
-    // Its block has 1 to 1,048,576 bytes, and its marks are at least one.
-    pub(crate) fn is_well_formed(&self) -> bool
+    /// Its block has 1 to 1,048,576 bytes, and its marks are at least one (own).
+    pub fn is_well_formed(&self) -> bool
         ensures { result ≡ is_well_formed self.now }
     {
         match self {

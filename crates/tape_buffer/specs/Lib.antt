@@ -1,0 +1,7 @@
+pub mod Inner
+pub mod Invariants
+pub mod Limits
+pub mod Moves
+pub mod Overlay
+pub mod Rules
+pub mod State

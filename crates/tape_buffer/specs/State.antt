@@ -1,0 +1,152 @@
+-- What contracts see of a buffered medium.
+use Rattle.std.specs.Prelude.{◌≡◌, ◌⊎◌, ◌+◌, ◌++◌, ◌≤◌, ℕ, List, [], ◌∷◌, Option, None, Some, Bool, true, false, length, sum_by, slice_index_or, if◌then◌else◌, option_map}
+use Rattle.tape_disk.specs.Disk.{DiskState, Only}
+use Rattle.volume_core.specs.declared.changes.Change.{Change}
+use Rattle.volume_core.specs.Volume.{AllApply}
+use Rattle.volume_core.specs.Medium.{MediumState, frame_size}
+use Rattle.gate_journal.specs.declared.header.SideKind.TheVariants.{Store}
+use Rattle.gate_journal.specs.Side.{Heading, spell}
+use Rattle.gate_journal.specs.State.{room_behind}
+use Rattle.record_index.specs.Records.{spell_all}
+use Rattle.cartridge.specs.Answers.{entries_of}
+use Rattle.cartridge.specs.Contents.{Contents, bodies_of, changes_in, changes_of, volume_made}
+use Rattle.cartridge.specs.ContentsOn.{contents_on}
+use Rattle.cartridge.specs.State.{ClosedCartridge, OpenCartridge, Reserved}
+use Rattle.accepting.specs.Core.{Core}
+use Rattle.tape_buffer.specs.declared.holding.Holding.{Holding}
+use Rattle.tape_buffer.specs.declared.holding.Holding.TheVariants.{Open, Closed, Between}
+
+-- a buffered medium: its cartridge, open or closed, and the changes that were accepted and are not stored yet (own)
+pub record BufferState (D : Type 0) : Type 0 where
+  pub held : Holding (OpenCartridge D) (ClosedCartridge D)
+  pub pending : List Change
+
+-- the room that is left on a side with these contents (own)
+abbrev pub room_of : Contents → ℕ
+room_of contents = room_behind (length (spell contents.heading (bodies_of contents.frames)))
+
+-- the room that is left on a side that may give contents; none where it gives none (own)
+abbrev pub room_found : Option Contents → ℕ
+room_found None = 0
+room_found (Some contents) = room_of contents
+
+-- the heading of no side (own)
+abbrev pub no_heading : Heading
+no_heading = record { kind = Store; name = []; capacities = [] }
+
+-- a closed cartridge that may give these contents, or these with the frame that was under way: stopped, and what it
+-- then gives is found when it is opened (own)
+abbrev pub found_core : Option Contents → List Change → Core Heading Change
+found_core None torn =
+    record { base = no_heading; accepted = []; stored = 0; safe = 0; fault = false; stuck = false; recovering = true }
+found_core (Some contents) torn =
+    record {
+      base = contents.heading;
+      accepted = changes_in contents ++ torn;
+      stored = length (changes_in contents) + length torn;
+      safe = length (changes_in contents);
+      fault = false;
+      stuck = false;
+      recovering = true;
+    }
+
+-- what is reserved is enough to store these changes, in one frame (own)
+pub record IsReservedFor (reserved : Reserved) (changes : List Change) : Type 0 where
+  pub frames : 1 ≤ length changes → 1 ≤ reserved.frames
+  pub body : length (spell_all changes) ≤ reserved.body
+  pub entries : (part : ℕ) → sum_by (entries_of part) changes ≤ slice_index_or reserved.entries part 0
+
+module _ {D : Type 0} where
+  -- an open cartridge, and what is pending over it (own)
+  abbrev pub open_buffer : OpenCartridge D → List Change → BufferState D
+  open_buffer cartridge pending = record { held = Open cartridge; pending = pending }
+
+  -- a closed cartridge, with nothing pending (own)
+  abbrev pub closed_buffer : ClosedCartridge D → BufferState D
+  closed_buffer cartridge = record { held = Closed cartridge; pending = [] }
+
+  -- the disk of a cartridge that is held (own)
+  abbrev pub disk_in : Holding (OpenCartridge D) (ClosedCartridge D) → Option D
+  disk_in (Open cartridge) = Some cartridge.disk
+  disk_in (Closed cartridge) = Some cartridge.disk
+  disk_in Between = None
+
+  -- an open cartridge, and what is pending over it, to a drive (own)
+  abbrev pub open_state : OpenCartridge D → List Change → MediumState
+  open_state cartridge pending =
+      record {
+        awake = true;
+        stored = Some (volume_made cartridge.contents);
+        pending = pending;
+        torn = changes_of cartridge.torn;
+        failed = cartridge.failed;
+        room = Some cartridge.room;
+      }
+
+  -- what was accepted by an open cartridge and what is pending over it: what its side holds is safe, and a frame under
+  -- way when the disk failed is stored (own)
+  abbrev pub open_core : OpenCartridge D → List Change → Core Heading Change
+  open_core cartridge pending =
+      record {
+        base = cartridge.contents.heading;
+        accepted = changes_in cartridge.contents ++ pending;
+        stored = length (changes_in cartridge.contents) + length (changes_of cartridge.torn);
+        safe = length (changes_in cartridge.contents);
+        fault = cartridge.failed;
+        stuck = false;
+        recovering = false;
+      }
+
+  -- What is pending applies to what is stored, fits the side a frame each, and its storing takes no memory. Where the
+  -- disk failed, the frame that was under way is none, or that of all that is pending (own).
+  pub record IsPendingOver (cartridge : OpenCartridge D) (pending : List Change) : Type 0 where
+    pub apply : AllApply (volume_made cartridge.contents) pending
+    pub torn : (cartridge.torn ≡ []) ⊎ (cartridge.torn ≡ pending ∷ [])
+    pub fits : sum_by frame_size pending ≤ cartridge.room
+    pub reserved : IsReservedFor cartridge.reserved pending
+
+  module _ (state : D → DiskState) where
+    -- the contents that the side of a closed cartridge gives: those that are known, or what a read of the disk gives
+    -- (own)
+    abbrev pub found_in : ClosedCartridge D → Option Contents
+    found_in cartridge =
+        if cartridge.known then Some cartridge.contents else contents_on (state cartridge.disk).seen
+
+    -- the changes of the frame that was under way in a closed cartridge when its disk failed (own)
+    abbrev pub torn_in : ClosedCartridge D → List Change
+    torn_in cartridge = if cartridge.known then changes_of cartridge.torn else []
+
+    -- a closed cartridge to a drive: what its side gives, which may be no volume (own)
+    abbrev pub closed_state : ClosedCartridge D → MediumState
+    closed_state cartridge =
+        record {
+          awake = false;
+          stored = option_map volume_made (found_in cartridge);
+          pending = [];
+          torn = torn_in cartridge;
+          failed = false;
+          room = Some (room_found (found_in cartridge));
+        }
+
+    -- a cartridge that is held, and what is pending, to a drive (own)
+    abbrev pub state_held : Holding (OpenCartridge D) (ClosedCartridge D) → List Change → MediumState
+    state_held (Open cartridge) pending = open_state cartridge pending
+    state_held (Closed cartridge) pending = closed_state cartridge
+    state_held Between pending =
+        record { awake = false; stored = None; pending = []; torn = []; failed = false; room = None }
+
+    -- a buffered medium to a drive (own)
+    abbrev pub state_of : BufferState D → MediumState
+    state_of buffer = state_held buffer.held buffer.pending
+
+    -- what a buffered medium has accepted, and how much of it is stored and safe (own)
+    abbrev pub core_held : Holding (OpenCartridge D) (ClosedCartridge D) → List Change → Core Heading Change
+    core_held (Open cartridge) pending = open_core cartridge pending
+    core_held (Closed cartridge) pending = found_core (found_in cartridge) (torn_in cartridge)
+    core_held Between pending = found_core None []
+
+    -- nothing else may be left by a crash than what a read gives, where nothing is known of a closed cartridge (own)
+    abbrev pub IsSettledOn : ClosedCartridge D → Type 0
+    IsSettledOn cartridge =
+        cartridge.known ≡ false → (state cartridge.disk).honest →
+        Only (state cartridge.disk).seen (state cartridge.disk).may_leave

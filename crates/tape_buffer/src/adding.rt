@@ -1,0 +1,73 @@
+//! A change is accepted.
+ghost use Rattle.std.specs.Prelude.{◌≡◌, ◌≤◌, ◌++◌, ◌∷◌, [], None, OnOk, OnErr, false, sum_by};
+ghost use Rattle.vtl_base.specs.Below.{Advances};
+ghost use Rattle.volume_core.specs.Volume.{after, refusal_of};
+ghost use Rattle.volume_core.specs.Medium.{Accepts, accepted_by, frame_size, met_fault};
+ghost use Rattle.volume_core.specs.Stores.{Stores};
+ghost use Rattle.cartridge.specs.Contents.{volume_made};
+ghost use Rattle.tape_buffer.specs.Limits.{FitsBuffer};
+ghost use Rattle.tape_buffer.specs.State.{IsPendingOver, open_buffer, open_state};
+ghost use Rattle.tape_buffer.specs.Moves.{buffer_below};
+
+use crate::overlay::refusal_seen;
+use crate::pending::Pending;
+use crate::storing::{reserve_over, settle_over};
+use cartridge::Cartridge;
+use tape_disk::Disk;
+use volume_core::{Change, MediumError};
+use vtl_base::NoMemory;
+
+// Accepts a change over an open cartridge, or refuses it. Where no more may be pending, what is pending is stored
+// first.
+pub(crate) fn accept_over<D: Disk>(
+    cartridge: &mut Cartridge<D>,
+    pending: &mut Pending,
+    change: Change,
+) -> Result<(), MediumError>
+    requires { IsPendingOver cartridge.old pending.old }
+    ensures held { IsPendingOver cartridge.new pending.new }
+    ensures answer { Accepts (open_state cartridge.old pending.old) change result
+        (open_state cartridge.new pending.new) }
+    ensures stores { Stores (open_state cartridge.old pending.old) (accepted_by result change)
+        (open_state cartridge.new pending.new) }
+    ensures advances { Advances (buffer_below D.state) (open_buffer cartridge.old pending.old)
+        (accepted_by result change) (met_fault result) (open_buffer cartridge.new pending.new) }
+{
+    if cartridge.has_failed() {
+        return Err(MediumError::Failed);
+    }
+    if let Some(cause) = refusal_seen(cartridge, pending.as_slice(), &change) {
+        return Err(MediumError::Refused(cause));
+    }
+    if pending.frame_bytes() + change.frame_size() > cartridge.room() {
+        return Err(MediumError::SideFull);
+    }
+    if pending.is_full_for(&change) {
+        settle_over(cartridge, pending)?;
+    }
+    match add_over(cartridge, pending, change) {
+        Ok(()) => Ok(()),
+        Err(NoMemory) => Err(MediumError::NoMemory),
+    }
+}
+
+// Adds a change that is not refused, and for which there is room on the side and among what is pending.
+fn add_over<D: Disk>(
+    cartridge: &mut Cartridge<D>,
+    pending: &mut Pending,
+    change: Change,
+) -> Result<(), NoMemory>
+    requires held { IsPendingOver cartridge.old pending.old }
+    requires works { cartridge.old.failed ≡ false }
+    requires unrefused { refusal_of (after (volume_made cartridge.old.contents) pending.old) change ≡ None }
+    requires room { sum_by frame_size (pending.old ++ change ∷ []) ≤ cartridge.old.room }
+    requires few { FitsBuffer (pending.old ++ change ∷ []) }
+    ensures held { IsPendingOver cartridge.new pending.new }
+    ensures same { cartridge.new ≡ record cartridge.old { reserved = cartridge.new.reserved } }
+    ensures ok { OnOk result (pending.new ≡ pending.old ++ change ∷ []) }
+    ensures err { OnErr result (pending.new ≡ pending.old) }
+{
+    cartridge.known();
+    reserve_over(cartridge, pending, &change)?;
+    pending.push(change)
+}

@@ -1,0 +1,87 @@
+//! A buffered medium.
+ghost use Rattle.std.specs.Prelude.{◌≡◌, Some, true, false};
+ghost use Rattle.accepting.specs.Core.{IsCore};
+ghost use Rattle.tape_buffer.specs.Rules.{medium_rules};
+ghost use Rattle.tape_buffer.specs.State.{IsSettledOn, closed_buffer, disk_in, state_of};
+ghost use Rattle.tape_buffer.specs.Moves.{ShowsOn, core_of};
+ghost use Rattle.tape_buffer.specs.declared.holding.Holding.TheVariants as Holdings;
+
+use crate::holding::Holding;
+use crate::pending::Pending;
+use cartridge::{Cartridge, Shelved};
+use std::alloc::Global;
+use std::marker::Model;
+use tape_disk::Disk;
+
+/// A medium over a cartridge on a disk, open or parked. What it accepts waits in memory until it is stored, all of it
+/// as one frame: at the latest when it is asked to, before the 65th change, and before the blocks that wait would
+/// pass 4,194,304 bytes. After a device fault it takes nothing until it was parked and woken.
+#[derive(Drop)]
+pub struct Buffered<D: Disk> {
+    pub(crate) alloc: Global,
+    pub(crate) held: Holding<Cartridge<D>, Shelved<D>>,
+    pub(crate) pending: Pending,
+}
+
+impl<D: Disk> Model for Buffered<D> {
+    ghost use Rattle.tape_buffer.specs.State.{BufferState};
+    ghost use Rattle.tape_buffer.specs.Invariants.{IsHeld};
+
+    ghost Value = { BufferState D };
+
+    ghost view = { λ b. record { held = b.held; pending = b.pending } };
+
+    ghost invariant = { λ b. IsHeld D.state b.held b.pending };
+}
+
+impl<D: Disk> Buffered<D> {
+    /// A parked medium over a closed cartridge. Of a disk that was only taken for a cartridge nothing may be unsure: a
+    /// sync of it has made that so.
+    pub fn parked(alloc: Global, shelved: Shelved<D>) -> Buffered<D>
+        requires { IsSettledOn D.state shelved }
+        ensures { result ≡ closed_buffer shelved }
+    {
+        Buffered {
+            alloc,
+            held: Holding::Closed(shelved),
+            pending: Pending::new(alloc),
+        }
+    }
+
+    /// Gives the closed cartridge of a parked medium.
+    pub fn into_shelved(self) -> Shelved<D>
+        requires { (state_of D.state self).awake ≡ false }
+        ensures { self.held ≡ Holdings.Closed result }
+    {
+        let Buffered { held, .. } = self;
+        match held {
+            Holding::Closed(shelved) => shelved,
+            Holding::Open(_open) => unreachable!(),
+            Holding::Between => unreachable!(),
+        }
+    }
+
+    /// What is safe is stored, and what is stored was accepted; and each image that a crash now may leave gives what is
+    /// safe, or what is stored.
+    pub fn known(&self)
+        ensures core { IsCore (core_of D.state self.now) }
+        ensures shows { ShowsOn D.state (disk_in self.now.held) (core_of D.state self.now) }
+    {
+        match &self.held {
+            Holding::Open(cartridge) => cartridge.known(),
+            Holding::Closed(shelved) => shelved.known(),
+            Holding::Between => unreachable!(),
+        }
+    }
+
+    /// The disk, to be looked at.
+    pub fn disk(&self) -> &D
+        ensures { disk_in self.now.held ≡ Some result.now }
+    {
+        match &self.held {
+            Holding::Open(cartridge) => cartridge.disk(),
+            Holding::Closed(shelved) => shelved.disk(),
+            Holding::Between => unreachable!(),
+        }
+    }
+}

@@ -1,0 +1,99 @@
+//! A block is read: from what is pending, or from the disk.
+ghost use Rattle.std.specs.Prelude.{◌≡◌, ◌≤◌, [], Some, OnOk, length, false};
+ghost use Rattle.tape_disk.specs.Disk.{Keeps};
+ghost use Rattle.gate_journal.specs.Crash.{Unwritten};
+ghost use Rattle.tape_buffer.specs.Inner.Fetching.{IsCopied, IsFetched};
+ghost use Rattle.vtl_base.specs.Below.{Advances};
+ghost use Rattle.vtl_base.specs.declared.limits.TheConstants.{MAX_BLOCK};
+ghost use Rattle.volume_core.specs.declared.objects.Kind.TheVariants as Kinds;
+ghost use Rattle.volume_core.specs.Volume.{after, block_at, kind_at};
+ghost use Rattle.volume_core.specs.Medium.{Fetches, met_fault};
+ghost use Rattle.volume_core.specs.Stores.{Stores};
+ghost use Rattle.cartridge.specs.Contents.{volume_made};
+ghost use Rattle.tape_buffer.specs.State.{IsPendingOver, open_buffer, open_state};
+ghost use Rattle.tape_buffer.specs.Moves.{buffer_below};
+
+use crate::overlay::{Seen, look_up};
+use cartridge::{Cartridge, CartridgeError};
+use tape_disk::Disk;
+use volume_core::{Change, MediumError};
+use vtl_base::{ObjNo, PartNo};
+
+// Gives the bytes of a block that is seen.
+pub(crate) fn fetch_over<D: Disk>(
+    cartridge: &mut Cartridge<D>,
+    pending: &[Change],
+    part: PartNo,
+    at: ObjNo,
+    into: &mut Vec<u8>,
+) -> Result<(), MediumError>
+    requires held { IsPendingOver cartridge.old pending.now }
+    requires block { kind_at (after (volume_made cartridge.old.contents) pending.now) part at ≡ Some Kinds.Block }
+    ensures held { IsPendingOver cartridge.new pending.now }
+    ensures bytes { (D.state cartridge.old.disk).honest → OnOk result
+        (block_at (after (volume_made cartridge.old.contents) pending.now) part at ≡ Some into.new.items) }
+    ensures bound { OnOk result (length into.new.items ≤ MAX_BLOCK) }
+    ensures answer { Fetches (open_state cartridge.old pending.now) result (open_state cartridge.new pending.now) }
+    ensures stores { Stores (open_state cartridge.old pending.now) [] (open_state cartridge.new pending.now) }
+    ensures advances { Advances (buffer_below D.state) (open_buffer cartridge.old pending.now) [] (met_fault result)
+        (open_buffer cartridge.new pending.now) }
+{
+    if cartridge.has_failed() {
+        return Err(MediumError::Failed);
+    }
+    cartridge.known();
+    match look_up(pending, part, at) {
+        Seen::Block(i) => copy_block(&pending[i], into),
+        Seen::Below => fetch_stored(cartridge, part, at, into),
+        Seen::Gone => unreachable!(),
+        Seen::Mark => unreachable!(),
+    }
+}
+
+// Copies the block of a change.
+fn copy_block(change: &Change, into: &mut Vec<u8>) -> Result<(), MediumError>
+    ensures { IsCopied change.now result into.new.items }
+{
+    into.clear();
+    match change {
+        Change::Put { block, .. } => match into.extend_from_slice(block.as_slice()) {
+            Ok(()) => Ok(()),
+            Err(_) => Err(MediumError::NoMemory),
+        },
+        Change::Marks { .. } | Change::Erase { .. } => unreachable!(),
+    }
+}
+
+// Reads the block of an object that no pending change concerns.
+fn fetch_stored<D: Disk>(
+    cartridge: &mut Cartridge<D>,
+    part: PartNo,
+    at: ObjNo,
+    into: &mut Vec<u8>,
+) -> Result<(), MediumError>
+    requires works { cartridge.old.failed ≡ false }
+    requires block { kind_at (volume_made cartridge.old.contents) part at ≡ Some Kinds.Block }
+    ensures disk { Keeps (D.state cartridge.old.disk) (D.state cartridge.new.disk) }
+    ensures same { cartridge.new ≡ record cartridge.old {
+      disk = cartridge.new.disk;
+      failed = cartridge.new.failed;
+    } }
+    ensures answer { IsFetched result cartridge.new.failed
+        (D.state cartridge.old.disk) (D.state cartridge.new.disk) }
+    ensures bytes { (D.state cartridge.old.disk).honest → OnOk result
+        (block_at (volume_made cartridge.old.contents) part at ≡ Some into.new.items) }
+    ensures bound { OnOk result (length into.new.items ≤ MAX_BLOCK) }
+    ensures unwritten { (D.state cartridge.old.disk).honest →
+        Unwritten (D.state cartridge.old.disk) (D.state cartridge.new.disk) }
+{
+    match cartridge.fetch(part, at, into) {
+        Ok(()) => Ok(()),
+        Err(CartridgeError::NoMemory) => Err(MediumError::NoMemory),
+        Err(CartridgeError::Device(_)) => Err(MediumError::Device),
+        Err(CartridgeError::Failed) => unreachable!(),
+        Err(CartridgeError::SideFull) => unreachable!(),
+        Err(CartridgeError::NotOurs) => unreachable!(),
+        Err(CartridgeError::Damaged { .. }) => unreachable!(),
+        Err(CartridgeError::BadRecord { .. }) => unreachable!(),
+    }
+}

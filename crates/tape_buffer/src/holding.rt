@@ -1,0 +1,26 @@
+//! What a buffered medium holds.
+ghost use Rattle.std.specs.Prelude.{◌≡◌};
+ghost use Rattle.tape_buffer.specs.declared.holding.Holding.TheVariants as Holdings;
+
+use std::mem;
+
+/// A cartridge, open or closed.
+#[derive(Drop)]
+pub enum Holding<C, S> {
+    Open(C),
+    Closed(S),
+    /// Neither, for a moment inside a call: no medium is ever found so.
+    Between,
+}
+
+/// Puts this where neither is held.
+pub(crate) fn hold<C, S>(place: &mut Holding<C, S>, held: Holding<C, S>)
+    requires { place.old ≡ Holdings.Between }
+    ensures { place.new ≡ held }
+{
+    match mem::replace(place, held) {
+        Holding::Between => {}
+        Holding::Open(_other) => unreachable!(),
+        Holding::Closed(_other) => unreachable!(),
+    }
+}

@@ -1,0 +1,16 @@
+//! Buffered mode: a medium over a cartridge on a disk. What it accepts waits in memory, and is stored as one frame.
+#![tactic(auto)]
+
+mod adding;
+mod buffered;
+mod catalogs;
+mod closing;
+mod fetching;
+pub mod holding;
+mod media;
+mod overlay;
+mod pending;
+mod storing;
+
+pub use buffered::Buffered;
+pub use holding::Holding;

@@ -1,0 +1,120 @@
+//! The calls of a buffered medium, as a drive makes them.
+use crate::adding::accept_over;
+use crate::buffered::Buffered;
+use crate::closing::{park_over, wake_closed};
+use crate::fetching::fetch_over;
+use crate::holding::{Holding, hold};
+use crate::storing::settle_over;
+use std::mem;
+use tape_disk::Disk;
+use volume_core::{Change, Medium, MediumError, Turn};
+use vtl_base::{ObjNo, PartNo};
+
+impl<D: Disk> Medium for Buffered<D> {
+    ghost use Rattle.vtl_base.specs.Below.{advances_nowhere};
+    ghost use Rattle.volume_core.specs.Stores.{stores_nowhere};
+    ghost use Rattle.tape_buffer.specs.State.{state_of};
+    ghost use Rattle.tape_buffer.specs.Moves.{buffer_below, medium_moves_nowhere, medium_moves_on};
+
+    ghost below = { buffer_below D.state };
+
+    fn accept(&mut self, change: Change) -> Result<(), MediumError> {
+        match &mut self.held {
+            Holding::Open(cartridge) => accept_over(cartridge, &mut self.pending, change),
+            Holding::Closed(_) => unreachable!(),
+            Holding::Between => unreachable!(),
+        }
+    }
+
+    fn fetch(&mut self, part: PartNo, at: ObjNo, into: &mut Vec<u8>) -> Result<(), MediumError> {
+        match &mut self.held {
+            Holding::Open(cartridge) => {
+                fetch_over(cartridge, self.pending.as_slice(), part, at, into)
+            }
+            Holding::Closed(_) => unreachable!(),
+            Holding::Between => unreachable!(),
+        }
+    }
+
+    fn settle(&mut self) -> Result<(), MediumError> {
+        match &mut self.held {
+            Holding::Open(cartridge) => settle_over(cartridge, &mut self.pending),
+            Holding::Closed(_) => unreachable!(),
+            Holding::Between => unreachable!(),
+        }
+    }
+
+    fn flush_turn(&mut self) -> Turn {
+        let count = self.pending.len();
+        let Holding::Open(cartridge) = &mut self.held else {
+            unreachable!()
+        };
+        if count == 0 || cartridge.has_failed() {
+            return Turn::Idle;
+        }
+        match settle_over(cartridge, &mut self.pending) {
+            Ok(()) => Turn::Stored(count),
+            Err(_) => Turn::Faulted,
+        }
+    }
+
+    fn park(&mut self) -> Result<(), MediumError> {
+        match mem::replace(&mut self.held, Holding::Between) {
+            Holding::Open(cartridge) => match park_over(cartridge, &mut self.pending) {
+                Ok(shelved) => {
+                    hold(&mut self.held, Holding::Closed(shelved));
+                    Ok(())
+                }
+                Err(broken) => {
+                    hold(&mut self.held, Holding::Open(broken));
+                    Err(MediumError::Device)
+                }
+            },
+            Holding::Closed(_other) => unreachable!(),
+            Holding::Between => unreachable!(),
+        }
+    }
+
+    fn wake(&mut self) -> Result<(), MediumError> {
+        if let Holding::Open(cartridge) = &self.held {
+            return if cartridge.has_failed() {
+                Err(MediumError::Failed)
+            } else {
+                Ok(())
+            };
+        }
+        match mem::replace(&mut self.held, Holding::Between) {
+            Holding::Closed(shelved) => match wake_closed(self.alloc, shelved) {
+                Ok(cartridge) => {
+                    hold(&mut self.held, Holding::Open(cartridge));
+                    Ok(())
+                }
+                Err((error, shelved)) => {
+                    hold(&mut self.held, Holding::Closed(shelved));
+                    Err(error)
+                }
+            },
+            Holding::Open(_other) => unreachable!(),
+            Holding::Between => unreachable!(),
+        }
+    }
+
+    fn pending(&self) -> usize {
+        self.pending.len()
+    }
+
+    fn has_failed(&self) -> bool {
+        match &self.held {
+            Holding::Open(cartridge) => cartridge.has_failed(),
+            Holding::Closed(_) => unreachable!(),
+            Holding::Between => unreachable!(),
+        }
+    }
+
+    ghost advances_nowhere = { λ medium. advances_nowhere (buffer_below D.state)
+        (medium_moves_nowhere D.state (λ disk honest. D.is_disk disk honest)) medium };
+
+    ghost stores_nowhere = { λ medium. stores_nowhere (state_of D.state medium) };
+
+    ghost moves_on = { medium_moves_on D.state };
+}

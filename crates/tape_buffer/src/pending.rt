@@ -1,0 +1,118 @@
+//! The changes that were accepted and are not stored yet.
+ghost use Rattle.std.specs.Prelude.{◌≡◌, ◌≤◌, ◌<◌, ◌+◌, ◌++◌, ◌⊎◌, ◌↔◌, [], ◌∷◌, IsTrue, OnOk, OnErr, length, sum_by};
+ghost use Rattle.vtl_base.specs.declared.limits.TheConstants.{MAX_BODY};
+ghost use Rattle.volume_core.specs.Medium.{frame_size};
+ghost use Rattle.record_index.specs.Records.{spell_all};
+ghost use Rattle.tape_buffer.specs.declared.pending.TheConstants.{MAX_PENDING, MAX_PENDING_BYTES};
+ghost use Rattle.tape_buffer.specs.Limits.{block_bytes, FitsBuffer};
+
+use std::alloc::Global;
+use std::marker::Model;
+use volume_core::Change;
+use vtl_base::NoMemory;
+
+/// The most changes that are pending (own).
+pub const MAX_PENDING: usize = 64;
+
+/// The most bytes of blocks that are pending, all together (own).
+pub const MAX_PENDING_BYTES: u64 = 4_194_304;
+
+// Changes that are pending, in order: 64 at most, with 4,194,304 bytes of blocks at most.
+#[derive(Drop)]
+pub(crate) struct Pending {
+    changes: Vec<Change>,
+    bytes: u64,
+}
+
+impl Model for Pending {
+    ghost use Rattle.std.specs.Prelude.{◌≡◌, ◌≤◌, List, length, sum_by};
+    ghost use Rattle.volume_core.specs.declared.changes.Change.{Change};
+    ghost use Rattle.tape_buffer.specs.Limits.{block_bytes, FitsBuffer};
+
+    ghost Value = { List Change };
+
+    ghost view = { λ p. p.changes.items };
+
+    ghost invariant = { λ p. FitsBuffer p.changes.items × (p.bytes ≡ sum_by block_bytes p.changes.items) };
+}
+
+// The bytes of a change's block.
+fn block_bytes(change: &Change) -> u64
+    ensures { result ≡ block_bytes change.now }
+{
+    match change {
+        Change::Put { block, .. } => block.len() as u64,
+        Change::Marks { .. } | Change::Erase { .. } => 0,
+    }
+}
+
+impl Pending {
+    pub(crate) fn new(alloc: Global) -> Self
+        ensures { result ≡ [] }
+    {
+        Pending {
+            changes: Vec::new(alloc),
+            bytes: 0,
+        }
+    }
+
+    pub(crate) fn len(&self) -> usize
+        ensures { result ≡ length self.now }
+    {
+        self.changes.len()
+    }
+
+    pub(crate) fn is_empty(&self) -> bool
+        ensures { IsTrue result ↔ (self.now ≡ []) }
+    {
+        self.changes.is_empty()
+    }
+
+    pub(crate) fn as_slice(&self) -> &[Change]
+        ensures { result.now ≡ self.now }
+    {
+        &self.changes
+    }
+
+    // Whether a change more would pass a limit.
+    pub(crate) fn is_full_for(&self, change: &Change) -> bool
+        ensures { IsTrue result ↔ (FitsBuffer (self.now ++ change.now ∷ []) → ⊥) }
+    {
+        self.changes.len() >= MAX_PENDING || block_bytes(change) > MAX_PENDING_BYTES - self.bytes
+    }
+
+    // What they take of a side, each as a frame of its own, in bytes.
+    pub(crate) fn frame_bytes(&self) -> u64
+        ensures { result ≡ sum_by frame_size self.now }
+    {
+        15 * self.changes.len() as u64 + self.bytes
+    }
+
+    // What they take of a body, in bytes.
+    pub(crate) fn body_bytes(&self) -> usize
+        ensures value { result ≡ length (spell_all self.now) }
+        ensures bound { result + 5 ≤ MAX_BODY }
+    {
+        10 * self.changes.len() + self.bytes as usize
+    }
+
+    // Takes a change that passes no limit.
+    pub(crate) fn push(&mut self, change: Change) -> Result<(), NoMemory>
+        requires { FitsBuffer (self.old ++ change ∷ []) }
+        ensures ok { OnOk result (self.new ≡ self.old ++ change ∷ []) }
+        ensures err { OnErr result (self.new ≡ self.old) }
+    {
+        self.changes.reserve(1)?;
+        self.bytes += block_bytes(&change);
+        self.changes.push_reserved(change);
+        Ok(())
+    }
+
+    // Lets all go.
+    pub(crate) fn clear(&mut self)
+        ensures { self.new ≡ [] }
+    {
+        self.changes.clear();
+        self.bytes = 0;
+    }
+}
