@@ -1,5 +1,6 @@
 //! A buffered medium.
-ghost use Rattle.std.specs.Prelude.{◌≡◌, Some, true, false};
+ghost use Rattle.std.specs.Prelude.{◌≡◌, List, Some, true, false};
+ghost use Rattle.volume_core.specs.Volume.{Part};
 ghost use Rattle.accepting.specs.Core.{IsCore};
 ghost use Rattle.tape_buffer.specs.Rules.{medium_rules};
 ghost use Rattle.tape_buffer.specs.State.{IsSettledOn, closed_buffer, disk_in, state_of};
@@ -61,11 +62,12 @@ impl<D: Disk> Buffered<D> {
         }
     }
 
-    /// What is safe is stored, and what is stored was accepted; and each image that a crash now may leave gives what is
-    /// safe, or what is stored.
+    /// What is safe is stored, and what is stored was accepted. Each image that a crash now may leave gives what is
+    /// safe, or what is stored; of a parked medium where its side gives a volume.
     pub fn known(&self)
         ensures core { IsCore (core_of D.state self.now) }
-        ensures shows { ShowsOn D.state (disk_in self.now.held) (core_of D.state self.now) }
+        ensures shows { (volume : List Part) → (state_of D.state self.now).stored ≡ Some volume →
+            ShowsOn D.state (disk_in self.now.held) (core_of D.state self.now) }
     {
         match &self.held {
             Holding::Open(cartridge) => cartridge.known(),

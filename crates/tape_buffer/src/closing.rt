@@ -10,6 +10,7 @@ ghost use Rattle.tape_buffer.specs.Inner.Waking.{wake_error_of};
 
 use crate::pending::Pending;
 use crate::storing::settle_over;
+use cartridge::laws::an_image_gives_one_volume;
 use cartridge::{Cartridge, CartridgeError, NotOpened, Shelved};
 use std::alloc::Global;
 use tape_disk::Disk;
@@ -33,15 +34,15 @@ pub(crate) fn park_over<D: Disk>(
         × Advances (buffer_below D.state) (open_buffer cartridge pending.old) [] true
         (open_buffer broken pending.new)) }
 {
-    let mut cartridge = cartridge;
-    if !cartridge.has_failed() {
-        match settle_over(&mut cartridge, pending) {
-            Ok(()) => {}
-            Err(MediumError::Device) => return Err(cartridge),
-            Err(_) => unreachable!(),
-        }
+    if cartridge.has_failed() {
+        return Ok(shelve_over(cartridge, pending));
     }
-    Ok(shelve_over(cartridge, pending))
+    let mut cartridge = cartridge;
+    match settle_over(&mut cartridge, pending) {
+        Ok(()) => Ok(shelve_over(cartridge, pending)),
+        Err(MediumError::Device) => Err(cartridge),
+        Err(_) => unreachable!(),
+    }
 }
 
 // Closes a cartridge over which nothing is pending, or one that has failed: then what is pending is given up.
@@ -75,6 +76,8 @@ pub(crate) fn wake_closed<D: Disk>(
         × Advances (buffer_below D.state) (closed_buffer shelved) [] (met_fault (Err back.0))
         (closed_buffer back.1)) }
 {
+    // Asked for the proof's sake: an image gives one cartridge's contents at most.
+    an_image_gives_one_volume();
     shelved.known();
     match Cartridge::open(alloc, shelved) {
         Ok(cartridge) => {

@@ -1,0 +1,89 @@
+-- A medium is parked: what its cartridge's side then gives.
+use Rattle.std.specs.Prelude.{◌≡◌, ◌⊎◌, ◌+◌, ◌++◌, ◌≤◌, ℕ, List, [], ◌∷◌, Bool, true, false, Option, None, Some, Ok, Err, length, take, drop, sum_by, refl}
+use Rattle.std.proofs.Common.{inl, inr, sym, ◌∙◌, ap, subst, arith}
+use Rattle.std.proofs.lemmas.List.{append-nil}
+use Rattle.std.proofs.lemmas.List.Sums.{sum_by-take-le}
+use Rattle.vtl_base.specs.Below.{Advances, advances_on}
+use Rattle.tape_disk.specs.Disk.{DiskState, IsDisk}
+use Rattle.volume_core.specs.declared.changes.Change.{Change}
+use Rattle.volume_core.specs.Volume.{Part}
+use Rattle.volume_core.specs.Medium.{IsParked, IsParkedFrom, LeavesRoom, MediumState, Settles, frame_size, volume_of}
+use Rattle.volume_core.specs.Stores.{Stores}
+use Rattle.cartridge.specs.Contents.{changes_in, changes_of}
+use Rattle.cartridge.specs.State.{ClosedCartridge, OpenCartridge}
+use Rattle.accepting.specs.Core.{Core, stopped}
+use Rattle.accepting.specs.Events.{CoreMoves, keeps_nowhere, moves_stopping}
+use Rattle.tape_buffer.specs.Moves.{MediumMoves, buffer_below, medium_moves_on}
+use Rattle.tape_buffer.specs.Rules.{medium_rules}
+use Rattle.tape_buffer.specs.State.{IsPendingOver, closed_buffer, closed_state, found_core, found_in, open_buffer, open_core, open_state, torn_in}
+use Rattle.tape_buffer.proofs.CoreLemmas.{open_is_core, stored_front}
+
+module _ {D : Type 0} (state : D → DiskState) (is_disk : (disk : D) → (state disk).honest → IsDisk (state disk)) where
+  -- a closed cartridge of these parts
+  abbrev shelved_of : OpenCartridge D → ClosedCartridge D
+  shelved_of c = record { disk = c.disk; known = true; contents = c.contents; torn = c.torn }
+
+  module _ (c : OpenCartridge D) (pending : List Change) (torn : (c.torn ≡ []) ⊎ (c.torn ≡ pending ∷ [])) where
+    -- it is stopped, and what may be stored is kept
+    shelved_core : found_core (Some c.contents) (changes_of c.torn)
+        ≡ stopped (open_core c pending).stored (open_core c pending)
+    shelved_core =
+        λ i. record {
+          base = c.contents.heading;
+          accepted = (sym (stored_front c pending torn)) i;
+          stored = length (changes_in c.contents) + length (changes_of c.torn);
+          safe = length (changes_in c.contents);
+          fault = false;
+          stuck = false;
+          recovering = true;
+        }
+
+    pub advances_shelved : (shelved : ClosedCartridge D) → shelved ≡ shelved_of c
+        → Advances (buffer_below state) (open_buffer c pending) [] false (closed_buffer shelved)
+    advances_shelved shelved is =
+        subst (λ (s : ClosedCartridge D). Advances (buffer_below state) (open_buffer c pending) [] false (closed_buffer s))
+        (sym is)
+        (record {
+          moved =
+              subst (λ (new : Core _ Change). CoreMoves medium_rules (state c.disk) (state c.disk) (open_core c pending) new [])
+              (sym shelved_core)
+              (moves_stopping medium_rules (state c.disk) (open_core c pending) (is_disk c.disk)
+              (open_is_core c pending torn));
+          counted = refl;
+          honesty = (λ h. h, λ h. h);
+        })
+
+  module _ (c c' : OpenCartridge D) (pending pending' : List Change) where
+    -- stored first, and then closed
+    pub parks_after : (honest honest' : Type 0) (shelved : ClosedCartridge D) → (honest → honest')
+        → Settles (open_state c pending) (Ok tt) (open_state c' pending')
+        → Stores (open_state c pending) [] (open_state c' pending')
+        → IsParkedFrom honest' c'.failed (open_state c' pending') (closed_state state shelved)
+        → IsParkedFrom honest c.failed (open_state c pending) (closed_state state shelved)
+    parks_after honest honest' shelved stays settled stores parked =
+        let works = subst (λ (f : Bool). IsParkedFrom honest' f (open_state c' pending') (closed_state state shelved))
+        settled.2.works parked in
+        subst (λ (f : Bool). IsParkedFrom honest f (open_state c pending) (closed_state state shelved)) (sym settled.0)
+        (record {
+          parked = works.parked;
+          works = works.works;
+          nothing_pending = works.nothing_pending;
+          gives = λ h. ((works.gives (stays h)).0 ∙ ap Some settled.2.volume_is, (works.gives (stays h)).1);
+          room_is = λ h.
+              omega (
+                arith,
+                works.room_is (stays h),
+                ap (λ (l : List Change). sum_by frame_size l) settled.1,
+                stores.room,
+                sum_by-take-le frame_size (pending ++ []) stores.count,
+                ap (λ (l : List Change). sum_by frame_size l) (append-nil pending),
+              );
+        })
+
+    pub advances_after : (shelved : ClosedCartridge D)
+        → Advances (buffer_below state) (open_buffer c pending) [] false (open_buffer c' pending')
+        → Advances (buffer_below state) (open_buffer c' pending') [] false (closed_buffer shelved)
+        → Advances (buffer_below state) (open_buffer c pending) [] false (closed_buffer shelved)
+    advances_after shelved first second =
+        advances_on (buffer_below state) (medium_moves_on state) (open_buffer c pending) (open_buffer c' pending')
+        (closed_buffer shelved) [] [] false first second

@@ -1,0 +1,54 @@
+-- A medium's answers, by what its cartridge answered.
+use Rattle.std.specs.Prelude.{◌≡◌, ◌⊎◌, ◌+◌, ◌++◌, ◌≤◌, ◌<◌, ℕ, List, [], ◌∷◌, Bool, true, false, Some, Ok, Err, length, take, drop, sum_by, refl}
+use Rattle.std.proofs.Common.{inl, inr, sym, ◌∙◌, ap, subst, arith}
+use Rattle.std.proofs.lemmas.List.{append-nil, drop_all, take_all}
+use Rattle.volume_core.specs.declared.changes.Change.{Change}
+use Rattle.volume_core.specs.Volume.{Part, after}
+use Rattle.volume_core.specs.Medium.{Breaks, Settles, Works, frame_size, volume_of}
+use Rattle.volume_core.specs.Stores.{Stores}
+use Rattle.cartridge.specs.Answers.{HasBroken, HasStored}
+use Rattle.cartridge.specs.Contents.{Contents, changes_of, volume_made}
+use Rattle.cartridge.specs.Extending.{volume_more}
+use Rattle.cartridge.specs.State.{OpenCartridge}
+use Rattle.record_index.specs.Records.{spell_all}
+use Rattle.tape_buffer.specs.State.{IsPendingOver, open_state}
+use Rattle.tape_buffer.proofs.RoomLemmas.{one_frame_fits}
+
+module _ {D : Type 0} (c c' : OpenCartridge D) (pending changes pending' : List Change) (some : 1 ≤ length pending)
+    (same : changes ≡ pending) (empty : pending' ≡ []) (of_changes : HasStored c changes c') where
+  stored : HasStored c pending c'
+  stored = subst (λ (l : List Change). HasStored c l c') same of_changes
+
+  volume_is : volume_made c'.contents ≡ after (volume_made c.contents) pending
+  volume_is = ap volume_made stored.contents ∙ volume_more c.contents pending
+
+  pub settles_stored : Settles (open_state c pending) (Ok tt) (open_state c' pending')
+  settles_stored = (
+    stored.was_fine,
+    empty,
+    record {
+      volume_is = ap (after (volume_made c'.contents)) empty ∙ volume_is;
+      works = stored.is_fine;
+      awake = refl;
+    },
+  )
+
+  pub stores_stored : Stores (open_state c pending) [] (open_state c' pending')
+  stores_stored =
+      let all : take (length pending) (pending ++ []) ≡ pending =
+      ap (take (length pending)) (append-nil pending) ∙ take_all (length pending) pending (omega arith) in
+      record {
+        count = length pending;
+        fits = omega (arith, ap length (append-nil pending));
+        stored = ap Some (volume_is ∙ ap (after (volume_made c.contents)) (sym all));
+        pending =
+            empty
+            ∙ sym (ap (drop (length pending)) (append-nil pending) ∙ drop_all (length pending) pending (omega arith));
+        room =
+            omega (
+              arith,
+              stored.room,
+              one_frame_fits pending some,
+              ap (λ (l : List Change). sum_by frame_size l) all,
+            );
+      }

@@ -1,0 +1,116 @@
+-- What changes take of a side, each as a frame of its own, and as one frame.
+use Rattle.std.specs.Prelude.{◌≡◌, ◌⊎◌, ◌+◌, ◌*◌, ◌++◌, ◌≤◌, ◌==◌, ℕ, Bool, true, false, IsTrue, List, [], ◌∷◌, length, sum_by, slice_index_or, if◌then◌else◌, refl}
+use Rattle.std.proofs.Common.{inl, inr, ap, subst, arith, length-append}
+use Rattle.std.proofs.lemmas.Bool.{cases_eq, ne_eqb}
+use Rattle.std.proofs.lemmas.List.Sums.{sum_by-append}
+use Rattle.volume_core.specs.declared.changes.Change.{Change}
+use Rattle.volume_core.specs.declared.changes.Change.TheVariants.{Put, Marks, Erase}
+use Rattle.volume_core.specs.Medium.{frame_size}
+use Rattle.record_index.specs.Records.{spell_all, spell_change, spell_head}
+use Rattle.volume_core.specs.Volume.{part_of}
+use Rattle.cartridge.specs.Answers.{KeepsReserved, entries_of}
+use Rattle.cartridge.specs.State.{Reserved}
+use Rattle.tape_buffer.specs.State.{IsReservedFor}
+
+-- a frame of one change has 5 bytes more than its record
+pub frame_of_one : (change : Change) → frame_size change ≡ length (spell_change change) + 5
+frame_of_one (Put part at block) = omega (arith, length-append (spell_head 1 part at (length block)) block)
+frame_of_one (Marks part at count) = refl
+frame_of_one (Erase part at) = refl
+
+-- frames of their own take 5 bytes each beside the records
+pub frames_of_each : (changes : List Change)
+    → sum_by frame_size changes ≡ length (spell_all changes) + 5 * length changes
+frames_of_each [] = refl
+frames_of_each (change ∷ changes) =
+    let next = sum_by-append frame_size (change ∷ []) changes in
+    omega (
+      arith,
+      next,
+      frame_of_one change,
+      frames_of_each changes,
+      length-append (spell_change change) (spell_all changes),
+    )
+
+-- what is not empty has one at least
+pub not_empty : {A : Type 0} (xs : List A) (empty : Bool) → (IsTrue empty → xs ≡ []) × (xs ≡ [] → IsTrue empty)
+    → empty ≡ false → 1 ≤ length xs
+not_empty [] empty is none = let never : IsTrue false = subst IsTrue none (is.1 refl) in absurd (cc)
+not_empty (x ∷ xs) empty is none = omega arith
+
+-- as one frame they take no more
+pub one_frame_fits : (changes : List Change) → 1 ≤ length changes
+    → length (spell_all changes) + 5 ≤ sum_by frame_size changes
+one_frame_fits changes some = omega (arith, frames_of_each changes, some)
+
+-- with one more
+pub spelled_more : (changes : List Change) (change : Change)
+    → length (spell_all (changes ++ change ∷ [])) + 5 ≡ length (spell_all changes) + frame_size change
+spelled_more [] change = omega (arith, frame_of_one change, length-append (spell_change change) [])
+spelled_more (first ∷ changes) change =
+    omega (
+      arith,
+      spelled_more changes change,
+      length-append (spell_change first) (spell_all changes),
+      length-append (spell_change first) (spell_all (changes ++ change ∷ [])),
+    )
+
+-- one or none is one at most
+at_most_one : (same : Bool) → (if same then 1 else 0) ≤ 1
+at_most_one true = omega arith
+at_most_one false = omega arith
+
+-- a change puts one block or run of marks at most
+one_entry : (part : ℕ) (change : Change) → entries_of part change ≤ 1
+one_entry part (Put p at block) = at_most_one (part == p)
+one_entry part (Marks p at count) = at_most_one (part == p)
+one_entry part (Erase p at) = omega arith
+
+-- and none elsewhere
+no_entry : (part : ℕ) (change : Change) → (part ≡ part_of change → ⊥) → entries_of part change ≡ 0
+no_entry part (Put p at block) other = ap (λ (b : Bool). if b then 1 else 0) (ne_eqb part p other)
+no_entry part (Marks p at count) other = ap (λ (b : Bool). if b then 1 else 0) (ne_eqb part p other)
+no_entry part (Erase p at) other = refl
+
+-- so many changes put so many at most
+few_entries : (part : ℕ) (changes : List Change) → sum_by (entries_of part) changes ≤ length changes
+few_entries part [] = omega arith
+few_entries part (change ∷ changes) =
+    let next = sum_by-append (entries_of part) (change ∷ []) changes in
+    omega (arith, next, one_entry part change, few_entries part changes)
+
+-- more that is reserved is enough for what it was enough for
+pub reserved_still : (old new : Reserved) (changes : List Change) → KeepsReserved old new → IsReservedFor old changes
+    → IsReservedFor new changes
+reserved_still old new changes keeps enough =
+    record {
+      frames = λ some. omega (arith, enough.frames some, keeps.frames);
+      body = omega (arith, enough.body, keeps.body);
+      entries = λ part. omega (arith, enough.entries part, keeps.entries part);
+    }
+
+-- it is enough for one change more where its frame and its entry were reserved too
+pub reserved_more : (old new : Reserved) (changes : List Change) (change : Change) → KeepsReserved old new
+    → IsReservedFor old changes → length (spell_all (changes ++ change ∷ [])) ≤ new.body → 1 ≤ new.frames
+    → length changes + 1 ≤ slice_index_or new.entries (part_of change) 0
+    → IsReservedFor new (changes ++ change ∷ [])
+reserved_more old new changes change keeps enough body frames entries =
+    record { frames = λ some. frames; body = body; entries = λ part. by part (cases_eq part (part_of change)) }
+  where
+    sum_more : (part : ℕ) → sum_by (entries_of part) (changes ++ change ∷ [])
+        ≡ sum_by (entries_of part) changes + sum_by (entries_of part) (change ∷ [])
+    sum_more part = sum_by-append (entries_of part) changes (change ∷ [])
+
+    by : (part : ℕ) → (part ≡ part_of change) ⊎ (part ≡ part_of change → ⊥)
+        → sum_by (entries_of part) (changes ++ change ∷ []) ≤ slice_index_or new.entries part 0
+    by part (inl same) =
+        omega (
+          arith,
+          sum_more part,
+          few_entries part changes,
+          few_entries part (change ∷ []),
+          ap (λ (p : ℕ). slice_index_or new.entries p 0) same,
+          entries,
+        )
+    by part (inr other) =
+        omega (arith, sum_more part, no_entry part change other, enough.entries part, keeps.entries part)

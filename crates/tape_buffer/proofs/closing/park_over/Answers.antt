@@ -1,0 +1,17 @@
+use Rattle.tape_buffer.proofs.ClosingLemmas.{advances_after, parks_after}
+use Rattle.tape_buffer.proofs.closing.park_over.Goals as goal
+
+pub returns-in-Ok-clause-ok : goal.returns-in-Ok-clause-ok
+returns-in-Ok-clause-ok g c =
+    let stored = c.in-Ok.ensures in
+    let shelved = c.shelve_over-in-Ok in
+    let disk = g.D.Disk.state in (
+      shelved.ensures.empty,
+      shelved.ensures.known,
+      parks_after disk g.met.D.Disk.is_disk c.args.cartridge c.settle_over.new.cartridge c.args.pending.now
+      c.settle_over.new.pending (disk c.args.cartridge.disk).honest
+      (disk c.settle_over.new.cartridge.disk).honest shelved.result stored.advances.honesty.0 stored.answer stored.stores
+      shelved.ensures.parks,
+      advances_after disk g.met.D.Disk.is_disk c.args.cartridge c.settle_over.new.cartridge c.args.pending.now
+      c.settle_over.new.pending shelved.result stored.advances shelved.ensures.advances,
+    )
