@@ -1,0 +1,3 @@
+pub mod OverlayLemmas
+pub mod PendingLemmas
+pub mod VolumeLemmas

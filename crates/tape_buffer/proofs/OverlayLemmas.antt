@@ -1,0 +1,93 @@
+-- What is seen of one object, and of the first objects, through a change.
+use Rattle.std.proofs.Common.{◌≡◌, ◌≢◌, ℕ, ◌<◌, ◌≤◌, ◌+◌, ◌-◌, List, [], ◌∷◌, ◌++◌, length, take, Option, None, Some, refl, sym, ◌∙◌, ap, arith, length-append}
+use Rattle.std.specs.Prelude.{slice_get}
+use Rattle.std.proofs.Math.Seq.{take-append-add}
+use Rattle.std.proofs.lemmas.List.{length-take-le, take-append-le, take-take}
+use Rattle.std.proofs.lemmas.List.Sums.{sum_by-append}
+use Rattle.volume_core.specs.declared.changes.Change.{Change}
+use Rattle.volume_core.specs.declared.objects.Object.{Object}
+use Rattle.volume_core.specs.Volume.{Part, added_by, cost_of, count_of, kept_of, objects_of, part_of, used_of, used_up_to}
+use Rattle.tape_buffer.proofs.VolumeLemmas.{IsChanged}
+
+get_front : {X : Type 0} (n : ℕ) (xs ys : List X) (i : ℕ) → i < n → n ≤ length xs
+    → slice_get (take n xs ++ ys) i ≡ slice_get xs i
+get_front zero xs ys i below fits = absurd (omega (arith, below))
+get_front (suc n) [] ys i below fits = absurd (omega (arith, fits))
+get_front (suc n) (x ∷ xs) ys zero below fits = refl
+get_front (suc n) (x ∷ xs) ys (suc i) below fits = get_front n xs ys i (omega (arith, below)) (omega (arith, fits))
+
+get_behind : {X : Type 0} (n : ℕ) (xs ys : List X) (i : ℕ) → n ≤ length xs
+    → slice_get (take n xs ++ ys) (n + i) ≡ slice_get ys i
+get_behind zero xs ys i fits = refl
+get_behind (suc n) [] ys i fits = absurd (omega (arith, fits))
+get_behind (suc n) (x ∷ xs) ys i fits = get_behind n xs ys i (omega (arith, fits))
+
+module _ (old new : List Part) (change : Change) (is : IsChanged old new change) where
+  -- in another partition the same is seen
+  pub same_elsewhere : (part at : ℕ) → (part_of change ≡ part → ⊥)
+      → slice_get (objects_of new part) at ≡ slice_get (objects_of old part) at
+  same_elsewhere part at apart =
+      ap (λ (l : List Object). slice_get l at) (is.others part (λ e. apart (sym e)))
+
+  -- so it is before the place where the change works
+  pub same_before : (part at : ℕ) → part_of change ≡ part → at < kept_of change
+      → slice_get (objects_of new part) at ≡ slice_get (objects_of old part) at
+  same_before part at here before =
+      ap (λ (n : ℕ). slice_get (objects_of new n) at) (sym here)
+      ∙ ap (λ (l : List Object). slice_get l at) is.objects
+      ∙ get_front (kept_of change) (objects_of old (part_of change)) (added_by change) at before is.kept
+      ∙ ap (λ (n : ℕ). slice_get (objects_of old n) at) here
+
+  -- and from that place on what it adds is seen
+  pub added_behind : (part at into : ℕ) → part_of change ≡ part → at ≡ kept_of change + into
+      → slice_get (objects_of new part) at ≡ slice_get (added_by change) into
+  added_behind part at into here there =
+      ap (λ (n : ℕ). slice_get (objects_of new n) at) (sym here)
+      ∙ ap (λ (l : List Object). slice_get l at) is.objects
+      ∙ ap (λ (n : ℕ). slice_get (take (kept_of change) (objects_of old (part_of change)) ++ added_by change) n) there
+      ∙ get_behind (kept_of change) (objects_of old (part_of change)) (added_by change) into is.kept
+
+  -- so many objects are there
+  pub count_after : (part : ℕ) → part_of change ≡ part
+      → count_of new part ≡ kept_of change + length (added_by change)
+  count_after part here =
+      ap (λ (n : ℕ). count_of new n) (sym here)
+      ∙ ap (λ (l : List Object). length l) is.objects
+      ∙ length-append (take (kept_of change) (objects_of old (part_of change))) (added_by change)
+      ∙ ap (λ (n : ℕ). n + length (added_by change))
+      (length-take-le (kept_of change) (objects_of old (part_of change)) is.kept)
+
+  pub count_elsewhere : (part : ℕ) → (part_of change ≡ part → ⊥) → count_of new part ≡ count_of old part
+  count_elsewhere part apart = ap (λ (l : List Object). length l) (is.others part (λ e. apart (sym e)))
+
+  -- the first objects take what they took, in another partition or where all of them stay
+  pub used_elsewhere : (part first : ℕ) → (part_of change ≡ part → ⊥)
+      → used_up_to new part first ≡ used_up_to old part first
+  used_elsewhere part first apart =
+      ap (λ (l : List Object). used_of (take first l)) (is.others part (λ e. apart (sym e)))
+
+  pub used_before : (part first : ℕ) → part_of change ≡ part → first ≤ kept_of change
+      → used_up_to new part first ≡ used_up_to old part first
+  used_before part first here before =
+      let objects = objects_of old (part_of change) in
+      ap (λ (n : ℕ). used_up_to new n first) (sym here)
+      ∙ ap (λ (l : List Object). used_of (take first l)) is.objects
+      ∙ ap used_of (take-append-le first (take (kept_of change) objects) (added_by change)
+      (omega (arith, before, length-take-le (kept_of change) objects is.kept)))
+      ∙ ap used_of (take-take first (kept_of change) objects before)
+      ∙ ap (λ (n : ℕ). used_up_to old n first) here
+
+  -- else what those that stay took, and what the first that are added take
+  pub used_behind : (part first into : ℕ) → part_of change ≡ part → first ≡ kept_of change + into
+      → used_up_to new part first ≡ used_up_to old part (kept_of change) + used_of (take into (added_by change))
+  used_behind part first into here there =
+      let objects = objects_of old (part_of change) in
+      let front = take (kept_of change) objects in
+      let size : length front ≡ kept_of change = length-take-le (kept_of change) objects is.kept in
+      ap (λ (n : ℕ). used_up_to new n first) (sym here)
+      ∙ ap (λ (l : List Object). used_of (take first l)) is.objects
+      ∙ ap (λ (n : ℕ). used_of (take n (front ++ added_by change)))
+      (there ∙ ap (λ (n : ℕ). n + into) (sym size))
+      ∙ ap used_of (take-append-add front (added_by change) into)
+      ∙ sum_by-append cost_of front (take into (added_by change))
+      ∙ ap (λ (n : ℕ). used_up_to old n (kept_of change) + used_of (take into (added_by change))) here
