@@ -1,11 +1,14 @@
 -- What is seen of one object, and of the first objects, through a change.
-use Rattle.std.proofs.Common.{◌≡◌, ◌≢◌, ℕ, ◌<◌, ◌≤◌, ◌+◌, ◌-◌, List, [], ◌∷◌, ◌++◌, length, take, Option, None, Some, refl, sym, ◌∙◌, ap, arith, length-append}
-use Rattle.std.specs.Prelude.{slice_get}
+use Rattle.std.proofs.Common.{◌≡◌, ◌≢◌, ℕ, zero, suc, ◌<◌, ◌≤◌, ◌+◌, ◌-◌, List, [], ◌∷◌, ◌++◌, length, take, Option, None, Some, refl, sym, ◌∙◌, ap, arith, length-append}
+use Rattle.std.specs.Prelude.{replicate, slice_get, slice_index_or}
 use Rattle.std.proofs.Math.Seq.{take-append-add}
-use Rattle.std.proofs.lemmas.List.{length-take-le, take-append-le, take-take}
+use Rattle.std.proofs.lemmas.List.{get_or-replicate, length-replicate, length-take-le, take-append-le, take-take}
+use Rattle.std.proofs.lemmas.Option.{slice_get-get_or}
 use Rattle.std.proofs.lemmas.List.Sums.{sum_by-append}
 use Rattle.volume_core.specs.declared.changes.Change.{Change}
+use Rattle.volume_core.specs.declared.changes.Change.TheVariants.{Put, Marks}
 use Rattle.volume_core.specs.declared.objects.Object.{Object}
+use Rattle.volume_core.specs.declared.objects.Object.TheVariants.{Block, Mark}
 use Rattle.volume_core.specs.Volume.{Part, added_by, cost_of, count_of, kept_of, objects_of, part_of, used_of, used_up_to}
 use Rattle.tape_buffer.proofs.VolumeLemmas.{IsChanged}
 
@@ -18,9 +21,38 @@ get_front (suc n) (x ∷ xs) ys (suc i) below fits = get_front n xs ys i (omega 
 
 get_behind : {X : Type 0} (n : ℕ) (xs ys : List X) (i : ℕ) → n ≤ length xs
     → slice_get (take n xs ++ ys) (n + i) ≡ slice_get ys i
-get_behind zero xs ys i fits = refl
+get_behind zero xs ys i fits = ap (λ (k : ℕ). slice_get ys k) (omega arith)
 get_behind (suc n) [] ys i fits = absurd (omega (arith, fits))
-get_behind (suc n) (x ∷ xs) ys i fits = get_behind n xs ys i (omega (arith, fits))
+get_behind (suc n) (x ∷ xs) ys i fits =
+    let moved : suc n + i ≡ suc (n + i) = omega arith in
+    ap (λ (k : ℕ). slice_get (x ∷ (take n xs ++ ys)) k) moved ∙ get_behind n xs ys i (omega (arith, fits))
+
+get_replicate : {X : Type 0} (n : ℕ) (x : X) (i : ℕ) → i < n → slice_get (replicate n x) i ≡ Some x
+get_replicate n x i inside =
+    slice_get-get_or (replicate n x) i x (omega (arith, inside, length-replicate n x))
+    ∙ ap Some (get_or-replicate n i x x inside)
+
+-- the first object that a block's change adds is the block
+pub block_first : (change : Change) (part kept : ℕ) (block : List ℕ) (into : ℕ) → change ≡ Put part kept block
+    → into ≡ 0 → slice_get (added_by change) into ≡ Some (Block block)
+block_first change part kept block into is first =
+    ap (λ (c : Change). slice_get (added_by c) into) is ∙ ap (λ (n : ℕ). slice_get (Block block ∷ []) n) first
+
+-- each object that a change of marks adds is a mark
+pub mark_each : (change : Change) (part kept count into : ℕ) → change ≡ Marks part kept count
+    → into < length (added_by change) → slice_get (added_by change) into ≡ Some Mark
+mark_each change part kept count into is inside =
+    ap (λ (c : Change). slice_get (added_by c) into) is
+    ∙ get_replicate count Mark into
+    (omega (arith, inside, ap (λ (c : Change). length (added_by c)) is, length-replicate count Mark))
+
+-- the change of this place, which puts a block into this partition
+pub found_at : (changes : List Change) (i : ℕ) (change : Change) (part of kept : ℕ) (block : List ℕ)
+    → change ≡ Put of kept block → part_of change ≡ part → i < length changes
+    → change ≡ slice_index_or changes i change → slice_get changes i ≡ Some (Put part kept block)
+found_at changes i change part of kept block is here inside at =
+    slice_get-get_or changes i change inside
+    ∙ ap Some (sym at ∙ is ∙ ap (λ (n : ℕ). Put n kept block) (sym (ap part_of is) ∙ here))
 
 module _ (old new : List Part) (change : Change) (is : IsChanged old new change) where
   -- in another partition the same is seen

@@ -1,5 +1,5 @@
 -- What changes that apply make of a volume: each changes the objects of its partition, and nothing else.
-use Rattle.std.proofs.Common.{◌≡◌, ◌≢◌, ℕ, ◌<◌, ◌≤◌, ◌+◌, List, [], ◌∷◌, ◌++◌, length, take, set, Option, None, Some, refl, sym, ◌∙◌, ap, arith, add-one, inl, inr, ⊎_elim, get_or}
+use Rattle.std.proofs.Common.{◌≡◌, ◌≢◌, ℕ, zero, suc, ◌<◌, ◌≤◌, ◌+◌, List, [], ◌∷◌, ◌++◌, length, take, set, Option, None, Some, refl, sym, ◌∙◌, ap, arith, add-one, inl, inr, ⊎_elim, get_or}
 use Rattle.std.specs.Prelude.{slice_get, slice_set, slice_index_or, nat_lt, ◌&&◌, if◌then◌else◌, not, Bool, true, false}
 use Rattle.std.proofs.Math.Seq.{take-suc}
 use Rattle.std.proofs.lemmas.Bool.{and_parts, cases_eq, leb-true, ltb-false}
@@ -99,7 +99,7 @@ pub changes_so : (volume : List Part) (change : Change) → refusal_of volume ch
     → IsChanged volume (changed volume change) change
 changes_so volume change none =
     let found = taken (slice_get volume (part_of change)) change none in
-    rw found.1.0 (changed_found volume change found.0 found.1.0 found.1.1)
+    rw found.1 (changed_found volume change found.0 found.1 found.2)
 
 -- the change of each place applies to what the ones before it made
 applies_at : (volume : List Part) (changes : List Change) (i : ℕ) (change : Change) → AllApply volume changes
