@@ -1,16 +1,19 @@
 -- What is seen of one object, and of the first objects, through a change.
-use Rattle.std.proofs.Common.{◌≡◌, ◌≢◌, ℕ, zero, suc, ◌<◌, ◌≤◌, ◌+◌, ◌-◌, List, [], ◌∷◌, ◌++◌, length, take, Option, None, Some, refl, sym, ◌∙◌, ap, arith, length-append}
+use Rattle.std.proofs.Common.{◌≡◌, ◌≢◌, ℕ, zero, suc, ◌<◌, ◌≤◌, ◌+◌, ◌-◌, ◌*◌, ◌⊎◌, inl, inr, min, List, [], ◌∷◌, ◌++◌, length, take, Option, None, Some, refl, sym, ◌∙◌, ap, arith, length-append}
 use Rattle.std.specs.Prelude.{replicate, slice_get, slice_index_or}
 use Rattle.std.proofs.Math.Seq.{take-append-add}
-use Rattle.std.proofs.lemmas.List.{get_or-replicate, length-replicate, length-take-le, take-append-le, take-take}
+use Rattle.std.proofs.lemmas.List.{get_or-replicate, length-replicate, length-take-le, take-append-le, take-replicate, take-take, take_all}
 use Rattle.std.proofs.lemmas.Option.{slice_get-get_or}
-use Rattle.std.proofs.lemmas.List.Sums.{sum_by-append}
+use Rattle.std.proofs.lemmas.List.Sums.{sum_by-append, sum_by-take-le}
+use Rattle.std.proofs.lemmas.List.Folds.{sum_by-replicate}
+use Rattle.std.proofs.lemmas.Bool.{cases_lt}
+use Rattle.vtl_base.specs.declared.limits.TheConstants.{OBJECT_COST}
 use Rattle.volume_core.specs.declared.changes.Change.{Change}
 use Rattle.volume_core.specs.declared.changes.Change.TheVariants.{Put, Marks}
 use Rattle.volume_core.specs.declared.objects.Object.{Object}
 use Rattle.volume_core.specs.declared.objects.Object.TheVariants.{Block, Mark}
-use Rattle.volume_core.specs.Volume.{Part, added_by, cost_of, count_of, kept_of, objects_of, part_of, used_of, used_up_to}
-use Rattle.tape_buffer.proofs.VolumeLemmas.{IsChanged}
+use Rattle.volume_core.specs.Volume.{AllApply, Part, added_by, after, capacity_of, cost_of, count_of, kept_of, objects_of, part_of, used_of, used_up_to}
+use Rattle.tape_buffer.proofs.VolumeLemmas.{IsChanged, stays_so}
 
 get_front : {X : Type 0} (n : ℕ) (xs ys : List X) (i : ℕ) → i < n → n ≤ length xs
     → slice_get (take n xs ++ ys) i ≡ slice_get xs i
@@ -45,6 +48,43 @@ mark_each change part kept count into is inside =
     ap (λ (c : Change). slice_get (added_by c) into) is
     ∙ get_replicate count Mark into
     (omega (arith, inside, ap (λ (c : Change). length (added_by c)) is, length-replicate count Mark))
+
+-- the first marks that a change adds take what so many marks take
+pub marks_first : (change : Change) (part kept count first : ℕ) → change ≡ Marks part kept count
+    → used_of (take first (added_by change)) ≡ min first count * OBJECT_COST
+marks_first change part kept count first is =
+    ap (λ (c : Change). used_of (take first (added_by c))) is ∙ by (cases_lt first count)
+    where
+      by : (first < count) ⊎ (count ≤ first) → used_of (take first (replicate count Mark)) ≡ min first count * OBJECT_COST
+      by (inl fewer) =
+          omega (
+            arith,
+            fewer,
+            ap used_of (take-replicate first count Mark (omega (arith, fewer))),
+            sum_by-replicate cost_of first Mark,
+          )
+      by (inr all) =
+          omega (
+            arith,
+            all,
+            ap used_of (take_all first (replicate count Mark) (omega (arith, all, length-replicate count Mark))),
+            sum_by-replicate cost_of count Mark,
+          )
+
+-- where all objects of a volume fit their capacity, the first ones do so after changes that apply
+pub first_fit : (volume : List Part) (changes : List Change) (part all first : ℕ) → AllApply volume changes
+    → all ≡ count_of volume part → used_up_to volume part all ≤ capacity_of volume part
+    → used_up_to (after volume changes) part first ≤ capacity_of volume part
+first_fit volume changes part all first apply counted fits =
+    let so = stays_so volume changes apply in
+    let whole : used_up_to volume part all ≡ used_of (objects_of volume part) =
+    ap used_of (take_all all (objects_of volume part) (omega (arith, counted))) in
+    omega (
+      arith,
+      so.fits part (omega (arith, whole, fits)),
+      so.capacities part,
+      sum_by-take-le cost_of (objects_of (after volume changes) part) first,
+    )
 
 -- the change of this place, which puts a block into this partition
 pub found_at : (changes : List Change) (i : ℕ) (change : Change) (part of kept : ℕ) (block : List ℕ)
