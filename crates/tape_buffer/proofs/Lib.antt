@@ -1,7 +1,12 @@
+pub mod AddingLemmas
 pub mod ClosingLemmas
 pub mod CoreLemmas
+pub mod FetchingLemmas
 pub mod HeldLemmas
 pub mod MediumLemmas
 pub mod OpeningLemmas
+pub mod OverlayLemmas
+pub mod PendingLemmas
 pub mod RoomLemmas
+pub mod VolumeLemmas
 pub mod WakingLemmas

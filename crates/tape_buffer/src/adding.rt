@@ -67,7 +67,9 @@ fn add_over<D: Disk>(
     ensures ok { OnOk result (pending.new ≡ pending.old ++ change ∷ []) }
     ensures err { OnErr result (pending.new ≡ pending.old) }
 {
+    // Asked for the proof's sake: at rest nothing is under way, and the partition is there.
     cartridge.known();
+    let _ = cartridge.parts();
     reserve_over(cartridge, pending, &change)?;
     pending.push(change)
 }

@@ -2,7 +2,7 @@
 ghost use Rattle.std.specs.Prelude.{◌≡◌, ◌≤◌, [], Some, OnOk, length, false};
 ghost use Rattle.tape_disk.specs.Disk.{Keeps};
 ghost use Rattle.gate_journal.specs.Crash.{Unwritten};
-ghost use Rattle.tape_buffer.specs.Inner.Fetching.{IsCopied, IsFetched};
+ghost use Rattle.tape_buffer.specs.Inner.Fetching.{IsCopied, IsFetched, IsPut};
 ghost use Rattle.vtl_base.specs.Below.{Advances};
 ghost use Rattle.vtl_base.specs.declared.limits.TheConstants.{MAX_BLOCK};
 ghost use Rattle.volume_core.specs.declared.objects.Kind.TheVariants as Kinds;
@@ -52,6 +52,7 @@ pub(crate) fn fetch_over<D: Disk>(
 
 // Copies the block of a change.
 fn copy_block(change: &Change, into: &mut Vec<u8>) -> Result<(), MediumError>
+    requires { IsPut change.now }
     ensures { IsCopied change.now result into.new.items }
 {
     into.clear();

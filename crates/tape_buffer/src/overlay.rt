@@ -88,7 +88,7 @@ fn cost_of_first(change: &Change, count: u32) -> u64
     match change {
         Change::Put { .. } if count == 0 => 0,
         Change::Put { .. } => change.cost(),
-        Change::Marks { count: marks, .. } => *marks.min(&count) as u64 * OBJECT_COST,
+        Change::Marks { count: marks, .. } => count.min(*marks) as u64 * OBJECT_COST,
         Change::Erase { .. } => 0,
     }
 }

@@ -1,8 +1,10 @@
 //! What is pending is stored, as one frame.
-ghost use Rattle.std.specs.Prelude.{◌≡◌, ◌++◌, [], ◌∷◌, OnOk, OnErr, false};
+ghost use Rattle.std.specs.Prelude.{◌≡◌, ◌<◌, ◌++◌, [], ◌∷◌, OnOk, length};
 ghost use Rattle.vtl_base.specs.Below.{Advances};
+ghost use Rattle.volume_core.specs.Volume.{part_of};
 ghost use Rattle.volume_core.specs.Medium.{Settles, met_fault};
 ghost use Rattle.volume_core.specs.Stores.{Stores};
+ghost use Rattle.tape_buffer.specs.Limits.{FitsBuffer};
 ghost use Rattle.tape_buffer.specs.State.{IsPendingOver, IsReservedFor, open_buffer, open_state};
 ghost use Rattle.tape_buffer.specs.Moves.{buffer_below};
 
@@ -54,7 +56,9 @@ pub(crate) fn reserve_over<D: Disk>(
     pending: &Pending,
     change: &Change,
 ) -> Result<(), NoMemory>
-    requires { IsReservedFor cartridge.old.reserved pending.now }
+    requires enough { IsReservedFor cartridge.old.reserved pending.now }
+    requires few { FitsBuffer (pending.now ++ change.now ∷ []) }
+    requires part { part_of change.now < length cartridge.old.reserved.entries }
     ensures same { cartridge.new ≡ record cartridge.old { reserved = cartridge.new.reserved } }
     ensures still { IsReservedFor cartridge.new.reserved pending.now }
     ensures ok { OnOk result (IsReservedFor cartridge.new.reserved (pending.now ++ change.now ∷ [])) }

@@ -7,6 +7,11 @@ use Rattle.volume_core.specs.declared.changes.Change.TheVariants.{Put, Marks, Er
 use Rattle.volume_core.specs.declared.media.MediumError.{MediumError}
 use Rattle.volume_core.specs.declared.media.MediumError.TheVariants.{NoMemory, Device}
 
+-- the change puts a block (own)
+abbrev pub IsPut : Change → Type 0
+IsPut (Put part at block) = Unit {0}
+IsPut _ = ⊥
+
 -- these bytes are a copy of the change's block, or memory ran out (own)
 abbrev pub IsCopied : Change → Result Unit MediumError → List ℕ → Type 0
 IsCopied (Put part at block) (Ok done) bytes = bytes ≡ block

@@ -1,19 +1,38 @@
-use Rattle.std.proofs.Common.{rules, ◌≡◌, ◌++◌, [], ◌∷◌, OnOk, OnErr, false, ℕ, ◌+◌, ◌-◌, ◌*◌, ◌<◌, ◌≤◌, length, ◌/◌, ◌%◌, Bool, true, nat_eq, nat_lt, List, slice_index_or, slice_set, bit_and, bit_or, Fits, w8, w32, w64, Bor, MutBor}
-use Rattle.vtl_base.specs.Below.{Advances}
-use Rattle.volume_core.specs.Medium.{Settles, met_fault}
-use Rattle.volume_core.specs.Stores.{Stores}
-use Rattle.tape_buffer.specs.State.{IsPendingOver, IsReservedFor, open_buffer, open_state}
-use Rattle.tape_buffer.specs.Moves.{buffer_below}
+use Rattle.std.proofs.Common.{◌++◌, [], ◌∷◌, arith}
+use Rattle.tape_buffer.proofs.AddingLemmas.{no_shorter, spelled_short}
+use Rattle.tape_buffer.proofs.RoomLemmas.{reserved_more, spelled_more}
 use Rattle.tape_buffer.proofs.storing.reserve_over.Goals as goal
 
--- src/storing.rt:62:16
 pub overflow_add-body : goal.overflow_add-body
-overflow_add-body g c = ?
+overflow_add-body g c =
+    omega (
+      arith,
+      c.body_bytes.ensures.value,
+      c.frame_size.ensures,
+      spelled_more c.args.pending.now c.args.change.now,
+      spelled_short (c.args.pending.now ++ c.args.change.now ∷ []) c.requires.few,
+    )
 
--- src/storing.rt:63:50
 pub overflow_add-len : goal.overflow_add-len
-overflow_add-len g c = ?
+overflow_add-len g c =
+    omega (
+      arith,
+      c.len.ensures,
+      no_shorter c.args.pending.now,
+      c.body_bytes.ensures.value,
+      c.body_bytes.ensures.bound,
+    )
 
--- src/storing.rt:52:1
 pub returns-in-Ok-clause-ok : goal.returns-in-Ok-clause-ok
-returns-in-Ok-clause-ok g c = ?
+returns-in-Ok-clause-ok g c =
+    reserved_more c.args.cartridge.now.reserved c.reserve.new.self.reserved c.args.pending.now c.args.change.now
+    c.in-Ok.ensures.grows c.requires.enough
+    (omega (
+      arith,
+      c.in-Ok.ensures.ok.0,
+      c.body_bytes.ensures.value,
+      c.frame_size.ensures,
+      spelled_more c.args.pending.now c.args.change.now,
+    ))
+    c.in-Ok.ensures.ok.1
+    (omega (arith, c.len.ensures, c.part.ensures, c.in-Ok.ensures.ok.2 (omega (arith, c.part.ensures, c.requires.part))))
