@@ -1,18 +1,30 @@
 -- A change more is pending.
-use Rattle.std.specs.Prelude.{◌≡◌, ◌⊎◌, ◌+◌, ◌++◌, ◌≤◌, ◌<◌, ℕ, List, [], ◌∷◌, Bool, true, false, Option, None, Some, length, sum_by, slice_get, refl}
+use Rattle.std.specs.Prelude.{◌≡◌, ◌⊎◌, ◌+◌, ◌++◌, ◌≤◌, ◌<◌, ℕ, List, [], ◌∷◌, Bool, true, false, Option, None, Some, Ok, IsTrue, length, sum_by, slice_get, not, if◌then◌else◌, refl}
 use Rattle.std.proofs.Common.{inl, inr, sym, ◌∙◌, ap, subst, arith, append_assoc}
+use Rattle.std.proofs.lemmas.Bool.{and_parts, leb-true}
+use Rattle.std.proofs.lemmas.List.{append-nil}
+use Rattle.std.proofs.lemmas.List.Sums.{sum_by-append, sum_by-take-le}
 use Rattle.std.proofs.lemmas.Option.{slice_get_within}
-use Rattle.vtl_base.specs.Below.{Advances}
+use Rattle.vtl_base.specs.Below.{Advances, advances_on}
 use Rattle.tape_disk.specs.Disk.{DiskState, IsDisk}
+use Rattle.gate_journal.specs.Side.{Heading}
 use Rattle.volume_core.specs.declared.changes.Change.{Change}
-use Rattle.volume_core.specs.Volume.{AllApply, Part, after, changed, part_of, refusal_in, refusal_of}
-use Rattle.volume_core.specs.Medium.{frame_size}
+use Rattle.volume_core.specs.declared.changes.Change.TheVariants.{Put, Marks, Erase}
+use Rattle.volume_core.specs.declared.changes.Refusal.TheVariants.{PastEnd, NoRoom, TooLong}
+use Rattle.volume_core.specs.Volume.{AllApply, Part, after, changed, is_well_formed, part_of, refusal_in, refusal_of}
+use Rattle.volume_core.specs.Medium.{Accepts, MediumState, Works, frame_size, volume_of}
+use Rattle.volume_core.specs.Stores.{Stores, after_append, stores_on}
 use Rattle.volume_core.specs.Plain.{moves_on_by_changes}
 use Rattle.record_index.specs.Records.{spell_all}
-use Rattle.cartridge.specs.Contents.{changes_in, volume_made}
+use Rattle.cartridge.specs.Contents.{IsContents, changes_in, changes_of, volume_made}
 use Rattle.cartridge.specs.State.{OpenCartridge, Reserved}
-use Rattle.tape_buffer.specs.Limits.{FitsBuffer}
-use Rattle.tape_buffer.specs.State.{IsPendingOver, IsReservedFor}
+use Rattle.accepting.specs.Core.{Core, with_item}
+use Rattle.accepting.specs.Events.{CoreMoves, moves_accepting}
+use Rattle.tape_buffer.specs.Limits.{FitsBuffer, block_bytes}
+use Rattle.tape_buffer.specs.Moves.{buffer_below, medium_moves_on}
+use Rattle.tape_buffer.specs.Rules.{applies_behind, is_unrefused, medium_rules}
+use Rattle.tape_buffer.specs.State.{IsPendingOver, IsReservedFor, open_buffer, open_core, open_state}
+use Rattle.tape_buffer.proofs.CoreLemmas.{open_is_core}
 use Rattle.tape_buffer.proofs.PendingLemmas.{records_of}
 
 -- what may be pending is short
@@ -63,3 +75,138 @@ pub pending_still : {D : Type 0} (c c' : OpenCartridge D) (pending pending' : Li
 pending_still c c' pending pending' over same reserved is =
     subst (λ (p : OpenCartridge _ × List Change). IsPendingOver p.0 p.1) (λ i. ((sym same) i, (sym is) i))
     (record { apply = over.apply; torn = over.torn; fits = over.fits; reserved = reserved })
+
+-- nothing is done, and a medium goes on
+pub ready_as_it_is : {D : Type 0} (c : OpenCartridge D) (pending : List Change) → c.failed ≡ false
+    → Works (volume_of (open_state c pending)) (open_state c pending)
+ready_as_it_is c pending works = record { volume_is = refl; works = works; awake = refl }
+
+-- once all is stored there is way
+pub way_after : {D : Type 0} (c c' : OpenCartridge D) (pending pending' : List Change) (change : Change)
+    → FitsBuffer (change ∷ []) → sum_by frame_size (pending ++ change ∷ []) ≤ c.room
+    → Stores (open_state c pending) [] (open_state c' pending') → pending' ≡ []
+    → FitsBuffer (pending' ++ change ∷ []) × (sum_by frame_size (pending' ++ change ∷ []) ≤ c'.room)
+way_after c c' pending pending' change alone room stores empty = (
+  subst (λ (l : List Change). FitsBuffer (l ++ change ∷ [])) (sym empty) alone,
+  omega (
+    arith,
+    ap (λ (l : List Change). sum_by frame_size (l ++ change ∷ [])) empty,
+    room,
+    sum_by-append frame_size pending (change ∷ []),
+    stores.room,
+    sum_by-take-le frame_size (pending ++ []) stores.count,
+    ap (λ (l : List Change). sum_by frame_size l) (append-nil pending),
+  ),
+)
+
+-- a change that is not refused may be pending alone
+pub alone_fits : (volume : List Part) (change : Change) → refusal_of volume change ≡ None → FitsBuffer (change ∷ [])
+alone_fits volume change none =
+    let found = there (slice_get volume (part_of change)) change none in
+    record { few = omega arith; short = short change (fine found.0 change (subst (λ (f : Option Part). refusal_in f change ≡ None) found.1 none)) }
+  where
+    unless : (past room well : Bool)
+        → (if past then Some PastEnd else (if not room then Some NoRoom else (if not well then Some TooLong else None)))
+        ≡ None → well ≡ true
+    unless true room well e = absurd (cc)
+    unless false false well e = absurd (cc)
+    unless false true false e = absurd (cc)
+    unless false true true e = refl
+
+    fine : (part : Part) (change : Change) → refusal_in (Some part) change ≡ None → is_well_formed change ≡ true
+    fine part change none = unless _ _ _ none
+
+    short : (change : Change) → is_well_formed change ≡ true → sum_by block_bytes (change ∷ []) ≤ 4194304
+    short (Put part at block) well =
+        omega (arith, leb-true (length block) 1048576 (and_parts _ _ well).1)
+    short (Marks part at count) well = omega arith
+    short (Erase part at) well = omega arith
+
+module _ {D : Type 0} (c m c' : OpenCartridge D) (pending between pending' : List Change) (change : Change)
+    (ready : Works (volume_of (open_state c pending)) (open_state m between))
+    (stores : Stores (open_state c pending) [] (open_state m between))
+    (same : c' ≡ record m { reserved = c'.reserved }) where
+  -- the same medium, to a drive
+  same_state : open_state c' between ≡ open_state m between
+  same_state = ap (λ (k : OpenCartridge D). open_state k between) same
+
+  pub stores_nothing_more : pending' ≡ between
+      → Stores (open_state c pending) [] (open_state c' pending')
+  stores_nothing_more is =
+      subst (λ (s : MediumState). Stores (open_state c pending) [] s)
+      (sym (ap (λ (l : List Change). open_state c' l) is ∙ same_state)) stores
+
+  module _ (is : pending' ≡ between ++ change ∷ []) where
+    new_state : open_state c' pending' ≡ open_state m (between ++ change ∷ [])
+    new_state = λ i. open_state (same i) (is i)
+
+    pub accepts_more : refusal_of (volume_of (open_state c pending)) change ≡ None → c.failed ≡ false
+        → Accepts (open_state c pending) change (Ok tt) (open_state c' pending')
+    accepts_more none works = (
+      none,
+      works,
+      subst (λ (s : MediumState). Works (changed (volume_of (open_state c pending)) change) s) (sym new_state)
+      (record {
+        volume_is =
+            after_append (volume_made m.contents) between (change ∷ [])
+            ∙ ap (λ (v : List Part). changed v change) ready.volume_is;
+        works = ready.works;
+        awake = refl;
+      }),
+    )
+
+    pub stores_more : Stores (open_state c pending) (change ∷ []) (open_state c' pending')
+    stores_more =
+        subst (λ (s : MediumState). Stores (open_state c pending) (change ∷ []) s) (sym new_state)
+        (stores_on (open_state c pending) (open_state m between) (open_state m (between ++ change ∷ [])) [] (change ∷ [])
+        stores
+        (record { count = 0; fits = omega arith; stored = refl; pending = refl; room = omega arith }))
+  module _ (state : D → DiskState) (is_disk : (disk : D) → (state disk).honest → IsDisk (state disk))
+      (advances : Advances (buffer_below state) (open_buffer c pending) [] false (open_buffer m between)) where
+    pub advances_nothing_more : pending' ≡ between
+        → Advances (buffer_below state) (open_buffer c pending) [] false (open_buffer c' pending')
+    advances_nothing_more is =
+        subst (λ (p : OpenCartridge D × List Change).
+        Advances (buffer_below state) (open_buffer c pending) [] false (open_buffer p.0 p.1))
+        (λ i. ((sym same) i, (sym is) i))
+        (record { moved = advances.moved; counted = advances.counted; honesty = advances.honesty })
+
+    pub advances_more : IsPendingOver m between → refusal_of (volume_of (open_state m between)) change ≡ None
+        → IsContents m.contents → m.failed ≡ false → pending' ≡ between ++ change ∷ []
+        → Advances (buffer_below state) (open_buffer c pending) (change ∷ []) false (open_buffer c' pending')
+    advances_more over none contents works is =
+        subst (λ (p : OpenCartridge D × List Change).
+        Advances (buffer_below state) (open_buffer c pending) (change ∷ []) false (open_buffer p.0 p.1))
+        (λ i. ((sym same) i, (sym is) i))
+        (advances_on (buffer_below state) (medium_moves_on state) (open_buffer c pending) (open_buffer m between)
+        (open_buffer (record m { reserved = c'.reserved }) (between ++ change ∷ [])) [] (change ∷ []) false advances
+        (record {
+          moved =
+              subst (λ (new : Core Heading Change).
+              CoreMoves medium_rules (state m.disk) (state m.disk) (open_core m between) new (change ∷ []))
+              (sym with_change)
+              (moves_accepting medium_rules (state m.disk) (open_core m between) change (is_disk m.disk)
+              (open_is_core m between over.torn) works refl (applies contents none));
+          counted = refl;
+          honesty = (λ h. h, λ h. h);
+        }))
+      where
+        with_change : open_core m (between ++ change ∷ []) ≡ with_item change (open_core m between)
+        with_change =
+            λ i. record {
+              base = m.contents.heading;
+              accepted = (sym (append_assoc (changes_in m.contents) between (change ∷ []))) i;
+              stored = length (changes_in m.contents) + length (changes_of m.torn);
+              safe = length (changes_in m.contents);
+              fault = m.failed;
+              stuck = false;
+              recovering = false;
+            }
+
+        applies : IsContents m.contents → refusal_of (volume_of (open_state m between)) change ≡ None
+            → IsTrue (applies_behind m.contents.heading (changes_in m.contents ++ between) change)
+        applies contents none =
+            ap is_unrefused
+            (ap (λ (v : List Part). refusal_of v change)
+            (ap (λ (v : List Part). after v (changes_in m.contents ++ between)) (sym contents.base)
+            ∙ after_append m.contents.base (changes_in m.contents) between) ∙ none)

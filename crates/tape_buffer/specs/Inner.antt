@@ -1,3 +1,4 @@
 -- What only private contracts use.
+pub mod Adding
 pub mod Fetching
 pub mod Waking

@@ -8,6 +8,7 @@ ghost use Rattle.cartridge.specs.Contents.{volume_made};
 ghost use Rattle.tape_buffer.specs.Limits.{FitsBuffer};
 ghost use Rattle.tape_buffer.specs.State.{IsPendingOver, open_buffer, open_state};
 ghost use Rattle.tape_buffer.specs.Moves.{buffer_below};
+ghost use Rattle.tape_buffer.specs.Inner.Adding.{IsReady};
 
 use crate::overlay::refusal_seen;
 use crate::pending::Pending;
@@ -39,15 +40,40 @@ pub(crate) fn accept_over<D: Disk>(
     if let Some(cause) = refusal_seen(cartridge, pending.as_slice(), &change) {
         return Err(MediumError::Refused(cause));
     }
-    if pending.frame_bytes() + change.frame_size() > cartridge.room() {
+    if change.frame_size() > cartridge.room() - pending.frame_bytes() {
         return Err(MediumError::SideFull);
     }
-    if pending.is_full_for(&change) {
-        settle_over(cartridge, pending)?;
-    }
+    make_way(cartridge, pending, &change)?;
     match add_over(cartridge, pending, change) {
         Ok(()) => Ok(()),
         Err(NoMemory) => Err(MediumError::NoMemory),
+    }
+}
+
+// Makes way for a change more among what is pending: where that would pass a limit, all is stored.
+fn make_way<D: Disk>(
+    cartridge: &mut Cartridge<D>,
+    pending: &mut Pending,
+    change: &Change,
+) -> Result<(), MediumError>
+    requires held { IsPendingOver cartridge.old pending.old }
+    requires works { cartridge.old.failed ≡ false }
+    requires alone { FitsBuffer (change.now ∷ []) }
+    requires room { sum_by frame_size (pending.old ++ change.now ∷ []) ≤ cartridge.old.room }
+    ensures held { IsPendingOver cartridge.new pending.new }
+    ensures answer { IsReady (open_state cartridge.old pending.old) result (open_state cartridge.new pending.new) }
+    ensures way { OnOk result (FitsBuffer (pending.new ++ change.now ∷ [])
+        × (sum_by frame_size (pending.new ++ change.now ∷ []) ≤ cartridge.new.room)) }
+    ensures stores { Stores (open_state cartridge.old pending.old) [] (open_state cartridge.new pending.new) }
+    ensures advances { Advances (buffer_below D.state) (open_buffer cartridge.old pending.old) [] (met_fault result)
+        (open_buffer cartridge.new pending.new) }
+{
+    if !pending.is_full_for(change) {
+        return Ok(());
+    }
+    match settle_over(cartridge, pending) {
+        Ok(()) => Ok(()),
+        Err(error) => Err(error),
     }
 }
 
@@ -71,5 +97,6 @@ fn add_over<D: Disk>(
     cartridge.known();
     let _ = cartridge.parts();
     reserve_over(cartridge, pending, &change)?;
-    pending.push(change)
+    pending.push(change)?;
+    Ok(())
 }

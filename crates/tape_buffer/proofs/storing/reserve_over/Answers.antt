@@ -1,4 +1,4 @@
-use Rattle.std.proofs.Common.{◌++◌, [], ◌∷◌, arith}
+use Rattle.std.proofs.Common.{ℕ, ◌++◌, [], ◌∷◌, slice_index_or, ap, arith}
 use Rattle.tape_buffer.proofs.AddingLemmas.{no_shorter, spelled_short}
 use Rattle.tape_buffer.proofs.RoomLemmas.{reserved_more, spelled_more}
 use Rattle.tape_buffer.proofs.storing.reserve_over.Goals as goal
@@ -35,4 +35,9 @@ returns-in-Ok-clause-ok g c =
       spelled_more c.args.pending.now c.args.change.now,
     ))
     c.in-Ok.ensures.ok.1
-    (omega (arith, c.len.ensures, c.part.ensures, c.in-Ok.ensures.ok.2 (omega (arith, c.part.ensures, c.requires.part))))
+    (omega (
+      arith,
+      c.len.ensures,
+      ap (λ (part : ℕ). slice_index_or c.reserve.new.self.reserved.entries part 0) c.part.ensures,
+      c.in-Ok.ensures.ok.2 (omega (arith, c.part.ensures, c.requires.part)),
+    ))

@@ -1,0 +1,23 @@
+use Rattle.std.proofs.Common.{length, ap, arith}
+use Rattle.cartridge.specs.Contents.{volume_made}
+use Rattle.volume_core.specs.Volume.{after}
+use Rattle.tape_buffer.proofs.AddingLemmas.{inside_of, pending_more, pending_still}
+use Rattle.tape_buffer.proofs.VolumeLemmas.{stays_so}
+use Rattle.tape_buffer.proofs.adding.add_over.Goals as goal
+
+pub reserve_over-requires-clause-part : goal.reserve_over-requires-clause-part
+reserve_over-requires-clause-part g c =
+    omega (
+      arith,
+      c.parts.ensures.parts,
+      c.parts.ensures.entries,
+      (stays_so (volume_made c.args.cartridge.now.contents) c.args.pending.now c.requires.held.apply).parts,
+      inside_of (after (volume_made c.args.cartridge.now.contents) c.args.pending.now) c.args.change
+      c.requires.unrefused,
+    )
+
+pub returns-clause-held : goal.returns-clause-held
+returns-clause-held g c =
+    pending_more c.args.cartridge.now c.reserve_over.new.cartridge c.args.pending.now c.push.new.self c.args.change
+    c.requires.held (c.known.ensures.at_rest c.requires.works) c.reserve_over.ensures.same c.requires.unrefused
+    c.requires.room c.in_ok-reserve_over.ensures.ok c.in_ok-push.ensures.ok
