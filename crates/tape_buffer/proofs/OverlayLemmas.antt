@@ -1,5 +1,5 @@
 -- What is seen of one object, and of the first objects, through a change.
-use Rattle.std.proofs.Common.{◌≡◌, ◌≢◌, ℕ, zero, suc, ◌<◌, ◌≤◌, ◌+◌, ◌-◌, ◌*◌, ◌⊎◌, inl, inr, ⊎_elim, get_or, min, List, [], ◌∷◌, ◌++◌, length, take, Option, None, Some, refl, sym, ◌∙◌, ap, arith, length-append}
+use Rattle.std.proofs.Common.{◌≡◌, ℕ, zero, suc, ◌<◌, ◌≤◌, ◌+◌, ◌-◌, ◌*◌, ◌⊎◌, inl, inr, ⊎_elim, get_or, min, List, [], ◌∷◌, ◌++◌, length, take, Option, None, Some, refl, sym, ◌∙◌, ap, arith, length-append}
 use Rattle.std.specs.Prelude.{replicate, slice_get, slice_index_or, if◌then◌else◌, not, Bool, true, false}
 use Rattle.std.proofs.Math.Seq.{take-append-add}
 use Rattle.std.proofs.lemmas.List.{get_or-replicate, length-replicate, length-take-le, take-append-le, take-replicate, take-take, take_all}
@@ -56,22 +56,22 @@ pub marks_first : (change : Change) (part kept count first : ℕ) → change ≡
     → used_of (take first (added_by change)) ≡ min first count * OBJECT_COST
 marks_first change part kept count first is =
     ap (λ (c : Change). used_of (take first (added_by c))) is ∙ by (cases_lt first count)
-    where
-      by : (first < count) ⊎ (count ≤ first) → used_of (take first (replicate count Mark)) ≡ min first count * OBJECT_COST
-      by (inl fewer) =
-          omega (
-            arith,
-            fewer,
-            ap used_of (take-replicate first count Mark (omega (arith, fewer))),
-            sum_by-replicate cost_of first Mark,
-          )
-      by (inr all) =
-          omega (
-            arith,
-            all,
-            ap used_of (take_all first (replicate count Mark) (omega (arith, all, length-replicate count Mark))),
-            sum_by-replicate cost_of count Mark,
-          )
+  where
+    by : (first < count) ⊎ (count ≤ first) → used_of (take first (replicate count Mark)) ≡ min first count * OBJECT_COST
+    by (inl fewer) =
+        omega (
+          arith,
+          fewer,
+          ap used_of (take-replicate first count Mark (omega (arith, fewer))),
+          sum_by-replicate cost_of first Mark,
+        )
+    by (inr all) =
+        omega (
+          arith,
+          all,
+          ap used_of (take_all first (replicate count Mark) (omega (arith, all, length-replicate count Mark))),
+          sum_by-replicate cost_of count Mark,
+        )
 
 -- where all objects of a volume fit their capacity, the first ones do so after changes that apply
 pub first_fit : (volume : List Part) (changes : List Change) (part all first : ℕ) → AllApply volume changes
@@ -198,11 +198,11 @@ no_room_in (Some part) change some kept lacks =
     let fits = le-ltb (length part.objects) (kept_of change) kept in
     let none : has_room part objects ≡ false =
     ⊎_elim
-        (λ many. and_left _ _ (lt-leb (length objects) MAX_OBJECTS
-        (omega (arith, many, size_after part.objects change kept))))
-        (λ much. and_right _ _ (lt-leb (used_of objects) part.capacity
-        (omega (arith, much, sum_by-append cost_of (take (kept_of change) part.objects) (added_by change)))))
-        lacks in
+    (λ many. and_left _ _ (lt-leb (length objects) MAX_OBJECTS
+    (omega (arith, many, size_after part.objects change kept))))
+    (λ much. and_right _ _ (lt-leb (used_of objects) part.capacity
+    (omega (arith, much, sum_by-append cost_of (take (kept_of change) part.objects) (added_by change)))))
+    lacks in
     λ i. cause (fits i) (none i) (is_well_formed change)
 
 rest_in : (found : Option Part) (change : Change) → (found ≡ None → ⊥)

@@ -1,6 +1,6 @@
 -- What changes that apply make of a volume: each changes the objects of its partition, and nothing else.
-use Rattle.std.proofs.Common.{◌≡◌, ◌≢◌, ℕ, zero, suc, ◌<◌, ◌≤◌, ◌+◌, List, [], ◌∷◌, ◌++◌, length, take, set, Option, None, Some, refl, sym, ◌∙◌, ap, arith, add-one, inl, inr, ⊎_elim, get_or}
-use Rattle.std.specs.Prelude.{slice_get, slice_set, slice_index_or, nat_lt, ◌&&◌, if◌then◌else◌, not, Bool, true, false}
+use Rattle.std.proofs.Common.{◌≡◌, ◌≢◌, ℕ, zero, suc, ◌<◌, ◌≤◌, ◌+◌, List, [], ◌∷◌, ◌++◌, length, take, set, Option, None, Some, refl, sym, ◌∙◌, ap, arith, add-one, ⊎_elim}
+use Rattle.std.specs.Prelude.{slice_get, slice_set, slice_index_or, nat_lt, if◌then◌else◌, not, Bool, true, false}
 use Rattle.std.proofs.Math.Seq.{take-suc}
 use Rattle.std.proofs.lemmas.Bool.{and_parts, cases_eq, leb-true, ltb-false}
 use Rattle.std.proofs.lemmas.List.{get_or-set_same, length-set}
@@ -9,10 +9,11 @@ use Rattle.vtl_base.specs.declared.limits.TheConstants.{MAX_OBJECTS}
 use Rattle.volume_core.specs.declared.changes.Change.{Change}
 use Rattle.volume_core.specs.declared.changes.Refusal.TheVariants.{PastEnd, NoRoom, TooLong}
 use Rattle.volume_core.specs.declared.objects.Object.{Object}
-use Rattle.volume_core.specs.Volume.{AllApply, Part, added_by, after, capacity_in, capacity_of, changed, changed_in, count_of, has_room, is_well_formed, kept_of, objects_after, objects_in, objects_of, part_after, part_of, refusal_in, refusal_of, used_of}
+use Rattle.volume_core.specs.Volume.{AllApply, Part, added_by, after, capacity_in, capacity_of, changed, count_of, has_room, is_well_formed, kept_of, objects_after, objects_in, objects_of, part_after, part_of, refusal_in, refusal_of, used_of}
 use Rattle.volume_core.specs.Stores.{after_append}
 
-get_set_same : {X : Type 0} (xs : List X) (i : ℕ) (x y : X) → slice_get xs i ≡ Some x → slice_get (set xs i y) i ≡ Some y
+get_set_same : {X : Type 0} (xs : List X) (i : ℕ) (x y : X) → slice_get xs i ≡ Some x
+    → slice_get (set xs i y) i ≡ Some y
 get_set_same xs i x y at =
     let inside = slice_get_within xs i x at in
     slice_get-get_or (set xs i y) i y (omega (arith, inside, length-set xs i y))
@@ -59,7 +60,8 @@ taken (Some part) change none =
 
 -- a volume, and the same after a change that applies to it
 pub record IsChanged (old new : List Part) (change : Change) : Type 0 where
-  pub objects : objects_of new (part_of change) ≡ take (kept_of change) (objects_of old (part_of change)) ++ added_by change
+  pub objects :
+      objects_of new (part_of change) ≡ take (kept_of change) (objects_of old (part_of change)) ++ added_by change
   pub others : (part : ℕ) → part ≢ part_of change → objects_of new part ≡ objects_of old part
   pub capacities : (part : ℕ) → capacity_of new part ≡ capacity_of old part
   pub parts : length new ≡ length old

@@ -1,5 +1,5 @@
 //! The volume that is seen: that of an open cartridge, with what is pending carried out.
-ghost use Rattle.std.specs.Prelude.{◌≡◌, ◌≤◌, ◌+◌, take, length};
+ghost use Rattle.std.specs.Prelude.{◌≡◌, ◌≤◌, take};
 ghost use Rattle.vtl_base.specs.declared.limits.TheConstants.{MAX_OBJECTS};
 ghost use Rattle.volume_core.specs.Volume.{AllApply, added_by, after, capacity_of, count_of, kind_at, refusal_of, used_of, used_up_to};
 ghost use Rattle.cartridge.specs.Contents.{volume_made};

@@ -1,9 +1,8 @@
 //! The changes that were accepted and are not stored yet.
-ghost use Rattle.std.specs.Prelude.{◌≡◌, ◌≤◌, ◌<◌, ◌+◌, ◌++◌, ◌⊎◌, ◌↔◌, [], ◌∷◌, IsTrue, OnOk, OnErr, length, sum_by};
+ghost use Rattle.std.specs.Prelude.{◌≡◌, ◌≤◌, ◌+◌, ◌++◌, ◌↔◌, [], ◌∷◌, IsTrue, OnOk, OnErr, length, sum_by};
 ghost use Rattle.vtl_base.specs.declared.limits.TheConstants.{MAX_BODY};
 ghost use Rattle.volume_core.specs.Medium.{frame_size};
 ghost use Rattle.record_index.specs.Records.{spell_all};
-ghost use Rattle.tape_buffer.specs.declared.pending.TheConstants.{MAX_PENDING, MAX_PENDING_BYTES};
 ghost use Rattle.tape_buffer.specs.Limits.{block_bytes, FitsBuffer};
 
 use std::alloc::Global;

@@ -1,5 +1,5 @@
-use Rattle.std.proofs.Common.{◌≡◌, ◌≤◌, ◌<◌, ◌+◌, ◌∙◌, ap, arith, inl, inr, length, sym, ℕ}
-use Rattle.volume_core.specs.Volume.{added_by, after, capacity_of, count_of, kept_of, used_of, used_up_to}
+use Rattle.std.proofs.Common.{◌∙◌, ap, arith, inl, inr, sym, ℕ}
+use Rattle.volume_core.specs.Volume.{after, used_up_to}
 use Rattle.cartridge.specs.Contents.{volume_made}
 use Rattle.tape_buffer.proofs.OverlayLemmas.{no_partition, no_room, past_end, too_long, unrefused}
 use Rattle.tape_buffer.proofs.VolumeLemmas.{stays_so}
@@ -32,9 +32,9 @@ returns-then-added-kept g c =
     (omega (arith, c.if-part-parts.false, c.parts.ensures.parts, so.parts))
     (omega (arith, c.if-kept-count_seen.false, c.count_seen.ensures.count, c.kept-kept.ensures))
     (elim c.then-added-kept.branch [
-      then-added-kept-via-then-added-kept w ↦
+      | then-added-kept-via-then-added-kept w ↦
           inl (omega (arith, w.if-added-kept.true, c.added.ensures, c.kept-kept.ensures))
-    | then-added-kept-via-else-added-kept+then-cost-left w ↦
+      | then-added-kept-via-else-added-kept+then-cost-left w ↦
           inr (omega (
             arith,
             w.if-cost-left.true,

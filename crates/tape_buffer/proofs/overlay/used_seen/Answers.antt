@@ -1,5 +1,5 @@
-use Rattle.std.proofs.Common.{◌≡◌, ◌≤◌, ◌-◌, ◌∙◌, ap, arith, sym, ℕ, take}
-use Rattle.volume_core.specs.Volume.{after, capacity_of, part_of, used_up_to}
+use Rattle.std.proofs.Common.{◌≡◌, ◌-◌, ◌∙◌, ap, arith, sym, ℕ, take}
+use Rattle.volume_core.specs.Volume.{after, used_up_to}
 use Rattle.cartridge.specs.Contents.{volume_made}
 use Rattle.tape_buffer.proofs.OverlayLemmas.{first_fit, used_before, used_behind, used_elsewhere}
 use Rattle.tape_buffer.proofs.VolumeLemmas.{changed_at}
@@ -58,13 +58,13 @@ loop-i-preserved g c =
     changed_at volume c.args.pending.now (c.loop-i.i - 1) c.loop-i.i change c.requires (omega arith) (omega arith)
     c.index-pending-i.is in
     let same
-        : used_up_to (after volume (take c.loop-i.i c.args.pending.now)) c.args.part c.loop-i.first
-        ≡ used_up_to (after volume (take (c.loop-i.i - 1) c.args.pending.now)) c.args.part c.loop-i.first =
+    : used_up_to (after volume (take c.loop-i.i c.args.pending.now)) c.args.part c.loop-i.first
+    ≡ used_up_to (after volume (take (c.loop-i.i - 1) c.args.pending.now)) c.args.part c.loop-i.first =
     elim c.else-part.branch [
-      else-part-via-then-part+else-kept-first w ↦
+      | else-part-via-then-part+else-kept-first w ↦
           used_before _ _ change is c.args.part c.loop-i.first (sym c.part.ensures ∙ w.if-part.true)
           (omega (arith, w.kept.ensures, w.if-kept-first.false))
-    | else-part-via-else-part w ↦
+      | else-part-via-else-part w ↦
           used_elsewhere _ _ change is c.args.part c.loop-i.first (λ e. w.if-part.false (c.part.ensures ∙ e))
     ] in
     omega (arith, c.loop-i.invariant, same)
@@ -76,7 +76,7 @@ overflow_add-result g c =
     first_fit volume c.args.pending.now c.args.part c.count.result c.args.n c.requires c.count.ensures.count
     (omega (arith, c.used-all.ensures.used, c.used-all.ensures.bound)) in
     let start : used_up_to (after volume (take c.loop-i.i c.args.pending.now)) c.args.part c.loop-i.first
-        ≡ used_up_to volume c.args.part c.loop-i.first =
+    ≡ used_up_to volume c.args.part c.loop-i.first =
     let none : c.loop-i.i ≡ 0 = omega (arith, c.loop-i-test.false) in
     ap (λ (n : ℕ). used_up_to (after volume (take n c.args.pending.now)) c.args.part c.loop-i.first) none in
     omega (
@@ -96,7 +96,7 @@ returns-clause-bound g c =
     first_fit volume c.args.pending.now c.args.part c.count.result c.args.n c.requires c.count.ensures.count
     (omega (arith, c.used-all.ensures.used, c.used-all.ensures.bound)) in
     let start : used_up_to (after volume (take c.loop-i.i c.args.pending.now)) c.args.part c.loop-i.first
-        ≡ used_up_to volume c.args.part c.loop-i.first =
+    ≡ used_up_to volume c.args.part c.loop-i.first =
     let none : c.loop-i.i ≡ 0 = omega (arith, c.loop-i-test.false) in
     ap (λ (n : ℕ). used_up_to (after volume (take n c.args.pending.now)) c.args.part c.loop-i.first) none in
     omega (arith, c.loop-i.invariant, start, c.used.ensures.used, fits)
