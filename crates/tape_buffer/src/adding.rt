@@ -37,13 +37,16 @@ pub(crate) fn accept_over<D: Disk>(
     if cartridge.has_failed() {
         return Err(MediumError::Failed);
     }
-    if let Some(cause) = refusal_seen(cartridge, pending.as_slice(), &change) {
-        return Err(MediumError::Refused(cause));
+    match refusal_seen(cartridge, pending.as_slice(), &change) {
+        Some(cause) => return Err(MediumError::Refused(cause)),
+        None => {}
     }
     if change.frame_size() > cartridge.room() - pending.frame_bytes() {
         return Err(MediumError::SideFull);
     }
     make_way(cartridge, pending, &change)?;
+    // Asked for the proof's sake: what it holds is a cartridge's contents.
+    cartridge.known();
     match add_over(cartridge, pending, change) {
         Ok(()) => Ok(()),
         Err(NoMemory) => Err(MediumError::NoMemory),

@@ -1,32 +1,50 @@
-use Rattle.std.proofs.Common.{rules, ◌≡◌, ◌≤◌, ◌++◌, ◌∷◌, [], None, OnOk, OnErr, false, sum_by, ℕ, ◌+◌, ◌-◌, ◌*◌, ◌<◌, length, ◌/◌, ◌%◌, Bool, true, nat_eq, nat_lt, List, slice_index_or, slice_set, bit_and, bit_or, Fits, w8, w32, w64, Bor, MutBor}
-use Rattle.vtl_base.specs.Below.{Advances}
-use Rattle.volume_core.specs.Volume.{after, refusal_of}
-use Rattle.volume_core.specs.Medium.{Accepts, accepted_by, frame_size, met_fault}
-use Rattle.volume_core.specs.Stores.{Stores}
+use Rattle.std.proofs.Common.{◌≡◌, List, [], None, ap, sym, ◌∙◌}
+use Rattle.vtl_base.specs.Below.{advances_nowhere}
+use Rattle.volume_core.specs.declared.changes.Change.{Change}
+use Rattle.volume_core.specs.Volume.{Part, after, refusal_of}
+use Rattle.volume_core.specs.Medium.{volume_of}
 use Rattle.cartridge.specs.Contents.{volume_made}
-use Rattle.tape_buffer.specs.Limits.{FitsBuffer}
-use Rattle.tape_buffer.specs.State.{IsPendingOver, open_buffer, open_state}
-use Rattle.tape_buffer.specs.Moves.{buffer_below}
-use Rattle.tape_buffer.specs.Inner.Adding.{IsReady}
+use Rattle.tape_buffer.specs.State.{open_buffer, open_state}
+use Rattle.tape_buffer.specs.Moves.{buffer_below, medium_moves_nowhere}
+use Rattle.tape_buffer.proofs.AddingLemmas.{accepts_more, advances_more}
+use Rattle.tape_buffer.proofs.adding.accept_over.Given.{Over}
 use Rattle.tape_buffer.proofs.adding.accept_over.Goals as goal
 
--- src/adding.rt:38:9
 pub returns-then-has_failed-clause-advances : goal.returns-then-has_failed-clause-advances
-returns-then-has_failed-clause-advances g c = ?
+returns-then-has_failed-clause-advances g c =
+    advances_nowhere (buffer_below g.D.Disk.state) (medium_moves_nowhere g.D.Disk.state g.met.D.Disk.is_disk)
+    (open_buffer c.args.cartridge.now c.args.pending.now)
 
--- src/adding.rt:41:9
 pub returns-in-Some-clause-advances : goal.returns-in-Some-clause-advances
-returns-in-Some-clause-advances g c = ?
+returns-in-Some-clause-advances g c =
+    advances_nowhere (buffer_below g.D.Disk.state) (medium_moves_nowhere g.D.Disk.state g.met.D.Disk.is_disk)
+    (open_buffer c.args.cartridge.now c.args.pending.now)
 
--- src/adding.rt:44:9
 pub returns-then-frame_size-room-clause-advances :
     goal.returns-then-frame_size-room-clause-advances
-returns-then-frame_size-room-clause-advances g c = ?
+returns-then-frame_size-room-clause-advances g c =
+    advances_nowhere (buffer_below g.D.Disk.state) (medium_moves_nowhere g.D.Disk.state g.met.D.Disk.is_disk)
+    (open_buffer c.args.cartridge.now c.args.pending.now)
 
--- src/adding.rt:23:1
+unrefused : (g : Over) (c : goal.In-Ok g)
+    → refusal_of (volume_of (open_state c.args.cartridge.now c.args.pending.now)) c.args.change ≡ None
+unrefused g c =
+    ap (λ (l : List Change). refusal_of (after (volume_made c.args.cartridge.now.contents) l) c.args.change)
+    (sym c.as_slice.ensures) ∙ sym c.refusal_seen.ensures ∙ c.in-None.is
+
 pub returns-in-Ok-clause-answer : goal.returns-in-Ok-clause-answer
-returns-in-Ok-clause-answer g c = ?
+returns-in-Ok-clause-answer g c =
+    accepts_more c.args.cartridge.now c.make_way.new.cartridge c.add_over.new.cartridge c.args.pending.now
+    c.make_way.new.pending c.add_over.new.pending c.args.change c.in_ok-make_way.ensures.answer
+    c.in_ok-make_way.ensures.stores c.in-Ok.ensures.same c.in-Ok.ensures.ok (unrefused g c)
+    (sym c.has_failed.ensures ∙ c.if-has_failed.false)
 
--- src/adding.rt:23:1
 pub returns-in-Ok-clause-advances : goal.returns-in-Ok-clause-advances
-returns-in-Ok-clause-advances g c = ?
+returns-in-Ok-clause-advances g c =
+    advances_more c.args.cartridge.now c.make_way.new.cartridge c.add_over.new.cartridge c.args.pending.now
+    c.make_way.new.pending c.add_over.new.pending c.args.change c.in_ok-make_way.ensures.answer
+    c.in_ok-make_way.ensures.stores c.in-Ok.ensures.same g.D.Disk.state g.met.D.Disk.is_disk
+    c.in_ok-make_way.ensures.advances c.in_ok-make_way.ensures.held
+    (ap (λ (v : List Part). refusal_of v c.args.change) c.in_ok-make_way.ensures.answer.volume_is ∙ unrefused g c)
+    c.known.ensures.contents c.in_ok-make_way.ensures.answer.works
+    c.in-Ok.ensures.ok
