@@ -30,7 +30,8 @@ module _ {D : Type 0} (state : D → DiskState) where
     pub shows : Each (state disk) (ShowsCore medium_rules (core_of state medium))
 
   -- From one medium to a later one just these changes were accepted. In the first all that was accepted is safe, and at
-  -- each moment since a crash leaves an image that gives all of it, and the first so many of those accepted since (own).
+  -- each moment since a crash leaves an image that gives all of it, and the first so many of those accepted since
+  -- (own).
   pub record KeepsAcknowledged (acked last : BufferState D) (made : List Change) : Type 0 where
     pub before : D
     pub disk_before : disk_in acked.held ≡ Some before

@@ -6,9 +6,9 @@ use pr_core::Keeper;
 use tape_buffer::Buffered;
 use tape_disk::Disk;
 
-/// Once a synchronizing command was acknowledged, a stop at any moment of whatever commands and turns come then, inside
-/// a call too, leaves the cartridge as a first part of its accepted changes leaves it, which holds every change that was
-/// accepted up to that command.
+/// Once a synchronizing command was acknowledged, a stop at any moment of whatever commands and
+/// turns come then, inside a call too, leaves the cartridge as a first part of its accepted changes
+/// leaves it, which holds every change that was accepted up to that command.
 pub fn a_stop_keeps_acknowledged_changes<D: Disk, K: Keeper>()
     ensures { StopsKeepChanges D.state K.kept K.below }
 {
