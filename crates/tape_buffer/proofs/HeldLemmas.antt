@@ -6,6 +6,7 @@ use Rattle.tape_disk.specs.Disk.{DiskState, Each, IsDisk}
 use Rattle.volume_core.specs.declared.changes.Change.{Change}
 use Rattle.volume_core.specs.Volume.{Part, capacity_of}
 use Rattle.volume_core.specs.Medium.{volume_of}
+use Rattle.gate_journal.specs.Side.{Heading}
 use Rattle.cartridge.specs.Contents.{Contents, GivesContents, ShowsContents, changes_in, changes_of, volume_made}
 use Rattle.cartridge.specs.ContentsOn.{contents_on, contents_on_gives}
 use Rattle.cartridge.specs.State.{ClosedCartridge, OpenCartridge}
@@ -14,7 +15,7 @@ use Rattle.accepting.specs.Events.{ShowsCore}
 use Rattle.tape_buffer.specs.declared.holding.Holding.{Holding}
 use Rattle.tape_buffer.specs.declared.holding.Holding.TheVariants.{Open, Closed, Between}
 use Rattle.tape_buffer.specs.Invariants.{IsHeld}
-use Rattle.tape_buffer.specs.Moves.{ShowsOn}
+use Rattle.tape_buffer.specs.Moves.{IsWhole, ShowsOn}
 use Rattle.tape_buffer.specs.Rules.{GivesChanges, medium_rules}
 use Rattle.tape_buffer.specs.State.{IsPendingOver, IsSettledOn, closed_state, core_held, disk_in, found_core, found_in, state_held, torn_in}
 use Rattle.tape_buffer.proofs.VolumeLemmas.{stays_so}
@@ -123,3 +124,26 @@ module _ {D : Type 0} (state : D → DiskState) (held : Holding (OpenCartridge D
       ap (λ (h : Holding (OpenCartridge D) (ClosedCartridge D)).
       capacity_of (volume_of (state_held state h pending)) part) same
       ∙ (stays_so (volume_made c.contents) pending over.apply).capacities part
+
+-- what of an open medium that works is stored is safe, and the rest is pending
+module _ {D : Type 0} (state : D → DiskState) (held : Holding (OpenCartridge D) (ClosedCartridge D))
+    (pending : List Change) where
+  pub whole_open : (c : OpenCartridge D) → held ≡ Open c → (c.failed ≡ false → c.torn ≡ [])
+      → IsWhole (core_held state held pending) pending
+  whole_open c same at_rest =
+      subst (λ (h : Holding (OpenCartridge D) (ClosedCartridge D)). IsWhole (core_held state h pending) pending)
+      (sym same)
+      (λ works going. (
+        omega (arith, ap (λ (t : List (List Change)). length (changes_of t)) (at_rest works)),
+        ap (λ (l : List Change). l ++ pending)
+            (sym (take_at (changes_in c.contents) pending (length (changes_in c.contents)) refl)),
+      ))
+
+  pub whole_closed : (c : ClosedCartridge D) → held ≡ Closed c → IsWhole (core_held state held pending) pending
+  whole_closed c same =
+      subst (λ (h : Holding (OpenCartridge D) (ClosedCartridge D)). IsWhole (core_held state h pending) pending)
+      (sym same) (by (found_in state c))
+    where
+      by : (found : Option Contents) → IsWhole (found_core found (torn_in state c)) pending
+      by None works going = absurd (cc)
+      by (Some contents) works going = absurd (cc)

@@ -1,5 +1,5 @@
 -- What a contract sees below a buffered medium: the disk, and by which steps it went on.
-use Rattle.std.specs.Prelude.{◌≡◌, ◌++◌, ℕ, List, [], Option, None, Some, refl}
+use Rattle.std.specs.Prelude.{◌≡◌, ◌++◌, ℕ, List, [], Option, None, Some, false, take, refl}
 use Rattle.std.proofs.Common.{◌∙◌}
 use Rattle.vtl_base.specs.Below.{Below}
 use Rattle.tape_disk.specs.Disk.{DiskState, IsDisk, Each}
@@ -9,6 +9,13 @@ use Rattle.accepting.specs.Core.{Core}
 use Rattle.accepting.specs.Events.{CoreMoves, ShowsCore, core_moves_nowhere, core_moves_on}
 use Rattle.tape_buffer.specs.Rules.{medium_rules}
 use Rattle.tape_buffer.specs.State.{BufferState, core_held, disk_in}
+
+-- while the device works and nothing was stopped, all that is stored is safe, and what was accepted beside it is
+-- pending (own)
+abbrev pub IsWhole : Core Heading Change → List Change → Type 0
+IsWhole core pending =
+    core.fault ≡ false → core.recovering ≡ false
+    → (core.safe ≡ core.stored) × (core.accepted ≡ take core.safe core.accepted ++ pending)
 
 module _ {D : Type 0} (state : D → DiskState) where
   -- what a medium has accepted, and how much of it is stored and safe (own)
