@@ -15,7 +15,7 @@ use Rattle.accepting.specs.Events.{ShowsCore}
 use Rattle.tape_buffer.specs.declared.holding.Holding.{Holding}
 use Rattle.tape_buffer.specs.declared.holding.Holding.TheVariants.{Open, Closed, Between}
 use Rattle.tape_buffer.specs.Invariants.{IsHeld}
-use Rattle.tape_buffer.specs.Moves.{IsWhole, ShowsOn}
+use Rattle.tape_buffer.specs.Moves.{IsSafeOrPending, ShowsOn}
 use Rattle.tape_buffer.specs.Rules.{GivesChanges, medium_rules}
 use Rattle.tape_buffer.specs.State.{IsPendingOver, IsSettledOn, closed_state, core_held, disk_in, found_core, found_in, state_held, torn_in}
 use Rattle.tape_buffer.proofs.VolumeLemmas.{stays_so}
@@ -129,9 +129,9 @@ module _ {D : Type 0} (state : D → DiskState) (held : Holding (OpenCartridge D
 module _ {D : Type 0} (state : D → DiskState) (held : Holding (OpenCartridge D) (ClosedCartridge D))
     (pending : List Change) where
   pub whole_open : (c : OpenCartridge D) → held ≡ Open c → (c.failed ≡ false → c.torn ≡ [])
-      → IsWhole (core_held state held pending) pending
+      → IsSafeOrPending (core_held state held pending) pending
   whole_open c same at_rest =
-      subst (λ (h : Holding (OpenCartridge D) (ClosedCartridge D)). IsWhole (core_held state h pending) pending)
+      subst (λ (h : Holding (OpenCartridge D) (ClosedCartridge D)). IsSafeOrPending (core_held state h pending) pending)
       (sym same)
       (λ works going. (
         omega (arith, ap (λ (t : List (List Change)). length (changes_of t)) (at_rest works)),
@@ -139,11 +139,11 @@ module _ {D : Type 0} (state : D → DiskState) (held : Holding (OpenCartridge D
             (sym (take_at (changes_in c.contents) pending (length (changes_in c.contents)) refl)),
       ))
 
-  pub whole_closed : (c : ClosedCartridge D) → held ≡ Closed c → IsWhole (core_held state held pending) pending
+  pub whole_closed : (c : ClosedCartridge D) → held ≡ Closed c → IsSafeOrPending (core_held state held pending) pending
   whole_closed c same =
-      subst (λ (h : Holding (OpenCartridge D) (ClosedCartridge D)). IsWhole (core_held state h pending) pending)
+      subst (λ (h : Holding (OpenCartridge D) (ClosedCartridge D)). IsSafeOrPending (core_held state h pending) pending)
       (sym same) (by (found_in state c))
     where
-      by : (found : Option Contents) → IsWhole (found_core found (torn_in state c)) pending
+      by : (found : Option Contents) → IsSafeOrPending (found_core found (torn_in state c)) pending
       by None works going = absurd (cc)
       by (Some contents) works going = absurd (cc)

@@ -12,8 +12,8 @@ use Rattle.tape_buffer.specs.State.{BufferState, core_held, disk_in}
 
 -- while the device works and nothing was stopped, all that is stored is safe, and what was accepted beside it is
 -- pending (own)
-abbrev pub IsWhole : Core Heading Change → List Change → Type 0
-IsWhole core pending =
+abbrev pub IsSafeOrPending : Core Heading Change → List Change → Type 0
+IsSafeOrPending core pending =
     core.fault ≡ false → core.recovering ≡ false
     → (core.safe ≡ core.stored) × (core.accepted ≡ take core.safe core.accepted ++ pending)
 

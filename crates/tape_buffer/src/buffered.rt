@@ -4,7 +4,7 @@ ghost use Rattle.volume_core.specs.Volume.{Part};
 ghost use Rattle.accepting.specs.Core.{IsCore};
 ghost use Rattle.tape_buffer.specs.Rules.{medium_rules};
 ghost use Rattle.tape_buffer.specs.State.{IsSettledOn, closed_buffer, disk_in, state_of};
-ghost use Rattle.tape_buffer.specs.Moves.{IsWhole, ShowsOn, core_of};
+ghost use Rattle.tape_buffer.specs.Moves.{IsSafeOrPending, ShowsOn, core_of};
 ghost use Rattle.tape_buffer.specs.declared.holding.Holding.TheVariants as Holdings;
 
 use crate::holding::Holding;
@@ -69,12 +69,12 @@ impl<D: Disk> Buffered<D> {
         }
     }
 
-    /// What is safe is stored, and what is stored was accepted; while it is open and has not failed, all that is stored
-    /// is safe, and the rest is pending. Each image that a crash now may leave gives what is safe, or what is stored; of
-    /// a parked medium where its side gives a volume.
+    /// What is safe is stored, and what is stored was accepted; while it is open and has not failed,
+    /// all that is stored is safe, and the rest is pending. Each image that a crash now may leave
+    /// gives what is safe, or what is stored; of a parked medium where its side gives a volume.
     pub fn known(&self)
         ensures core { IsCore (core_of D.state self.now) }
-        ensures whole { IsWhole (core_of D.state self.now) self.now.pending }
+        ensures whole { IsSafeOrPending (core_of D.state self.now) self.now.pending }
         ensures shows { (volume : List Part) → (state_of D.state self.now).stored ≡ Some volume →
             ShowsOn D.state (disk_in self.now.held) (core_of D.state self.now) }
     {
