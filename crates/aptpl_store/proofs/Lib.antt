@@ -1,0 +1,4 @@
+pub mod ContentsLemmas
+pub mod SavingLemmas
+pub mod SpellingLemmas
+pub mod TellingLemmas
