@@ -1,12 +1,10 @@
 -- What an open store keeps while a state is saved.
-use Rattle.std.proofs.Common.{◌≡◌, ◌⊎◌, inl, inr, ◌↔◌, ℕ, ◌≤◌, ◌<◌, ◌+◌, List, [], ◌∷◌, ◌++◌, length, take, Bool, true, false, Option, None, Some, Ok, is_some, refl, sym, ◌∙◌, ap, subst, arith, length-append}
-use Rattle.std.specs.List.{All}
+use Rattle.std.proofs.Common.{◌≡◌, inl, inr, ℕ, ◌≤◌, ◌<◌, ◌+◌, List, [], ◌∷◌, ◌++◌, length, take, true, false, Option, None, Some, Ok, is_some, refl, sym, ◌∙◌, ap, subst, arith, length-append}
 use Rattle.std.proofs.lemmas.List.{take_all, take_at}
 use Rattle.std.proofs.lemmas.List.Elements.{All-push}
 use Rattle.vtl_base.specs.Below.{Advances, advances_nowhere}
 use Rattle.tape_disk.specs.Disk.{DiskState, Each, IsDisk, Keeps}
-use Rattle.tape_disk.specs.Moments.{LeavesOnly, holds_now, no_call, weakened}
-use Rattle.gate_journal.specs.declared.header.SideKind.TheVariants.{Store}
+use Rattle.tape_disk.specs.Moments.{LeavesOnly, holds_now, weakened}
 use Rattle.gate_journal.specs.Answers.{Appended, Broke, NoneFailed}
 use Rattle.gate_journal.specs.Crash.{WithOrWithout}
 use Rattle.gate_journal.specs.Side.{Heading, StandsFor}
@@ -15,12 +13,12 @@ use Rattle.accepting.specs.Core.{Core, IsCore, settled, with_item}
 use Rattle.accepting.specs.Events.{CoreMoves, GivesSoMany, core_moves_nowhere, core_moves_on, moves_accepting, moves_failing, moves_storing}
 use Rattle.pr_core.specs.declared.states.PrState.{PrState}
 use Rattle.pr_core.specs.States.{power_loss}
-use Rattle.pr_core.specs.Keepers.{Broken, Saves, Stored, state_frame_size}
+use Rattle.pr_core.specs.Keepers.{Broken, Stored, state_frame_size}
 use Rattle.aptpl_store.specs.declared.spelling.TheConstants.{STATE_BYTES}
 use Rattle.aptpl_store.specs.Answers.{SavesState}
-use Rattle.aptpl_store.specs.Contents.{GivesStates, OpensAs, OpensAsEither, ShowsStates, bodies_of, latest}
+use Rattle.aptpl_store.specs.Contents.{GivesStates, OpensAs, OpensAsEither, ShowsStates, latest}
 use Rattle.aptpl_store.specs.Inner.Open.{IsOpen, StoresStates}
-use Rattle.aptpl_store.specs.Kept.{StoreMoves, core_of, core_with, store_below, store_kept, store_rules}
+use Rattle.aptpl_store.specs.Kept.{core_of, core_with, store_below, store_kept, store_rules}
 use Rattle.aptpl_store.specs.Notes.{Notes, with_state, with_torn}
 use Rattle.aptpl_store.specs.Spelling.{IsSavable, spell_state}
 use Rattle.aptpl_store.specs.State.{OpenStore}
@@ -252,10 +250,13 @@ module _ {D : Type 0} (state : D → DiskState) (is_disk : (d : D) → (state d)
               CoreMoves store_rules (state old.disk) (state new.disk) (core_with old.heading notes.states x.1)
               (core_with x.0.0 x.0.1.states x.0.1.torn) (saved ∷ []))
               (λ i. (
-                (sym heading_is i, (ap (λ (t : Option PrState). record {
-                  states = notes.states ++ saved ∷ [];
-                  torn = t;
-                }) (sym at_rest) ∙ sym notes_are) i),
+                (
+                  sym heading_is i,
+                  (ap (λ (t : Option PrState). record {
+                    states = notes.states ++ saved ∷ [];
+                    torn = t;
+                  }) (sym at_rest) ∙ sym notes_are) i,
+                ),
                 sym at_rest i,
               ))
               (moves_saved (state old.disk) (state new.disk) (is_disk old.disk) keeps old.heading notes.states saved

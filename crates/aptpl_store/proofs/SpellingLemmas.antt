@@ -1,10 +1,10 @@
 -- A state is spelled nexus by nexus.
-use Rattle.std.proofs.Common.{◌≡◌, inl, inr, ◌≤◌, ◌<◌, ◌+◌, ◌-◌, ◌*◌, ◌++◌, ℕ, zero, suc, List, [], ◌∷◌, length, map, take, Option, None, Some, refl, sym, ◌∙◌, ap, subst, arith, append_assoc, length-append, add-one, sub-one}
+use Rattle.std.proofs.Common.{◌≡◌, inl, inr, ◌≤◌, ◌<◌, ◌+◌, ◌-◌, ◌*◌, ◌++◌, ℕ, zero, suc, List, [], ◌∷◌, length, map, Option, None, Some, refl, sym, ◌∙◌, ap, subst, arith, append_assoc, length-append, add-one, sub-one}
 use Rattle.std.specs.Prelude.{count_by, is_some, if◌then◌else◌}
 use Rattle.std.specs.List.{All, range_with_len}
 use Rattle.std.specs.Int.{to_be_bytes, w64}
 use Rattle.std.proofs.Math.ListN.{get_or}
-use Rattle.std.proofs.lemmas.List.{append-nil, ext_get_or, get_or_past, length-map}
+use Rattle.std.proofs.lemmas.List.{ext_get_or, get_or_past}
 use Rattle.std.proofs.lemmas.List.Elements.{All-get_or}
 use Rattle.std.proofs.lemmas.List.FromFn.{length-map-range_with_len, get_or-map-range_with_len}
 use Rattle.std.proofs.lemmas.List.Sums.{count_by-le-length, sum_by-cons}
@@ -12,9 +12,8 @@ use Rattle.std.proofs.lemmas.Bool.{cases_lt}
 use Rattle.vtl_base.specs.declared.limits.TheConstants.{NEXUSES}
 use Rattle.pr_core.specs.declared.states.PrState.{PrState}
 use Rattle.pr_core.specs.Keepers.{state_frame_size}
-use Rattle.pr_core.specs.Sets.{row_at}
 use Rattle.pr_core.specs.States.{key_of}
-use Rattle.aptpl_store.specs.Spelling.{IsKey, IsSavable, Spells, registration, registrations, spell_state}
+use Rattle.aptpl_store.specs.Spelling.{IsKey, registration, registrations, spell_state}
 use Rattle.aptpl_store.specs.Inner.Told.{nexuses_from, registrations_of}
 
 -- the nexuses from one on are that one, and those from the next on

@@ -1,14 +1,14 @@
 -- What the spelling of a state tells is that state, but for the generation.
 use Rattle.std.proofs.Common.{◌≡◌, ◌⊎◌, inl, inr, ◌≤◌, ◌<◌, ◌+◌, ◌-◌, ◌++◌, ◌^◌, ℕ, zero, suc, List, [], ◌∷◌, length, map, drop, Bool, true, false, Option, None, Some, refl, sym, ◌∙◌, ap, subst, arith, length-append, eqb, eq-eqb, leb}
-use Rattle.std.specs.Prelude.{◌&&◌, IfNone, count_by, is_some, is_none, slice_index, slice_index_or, nat_le, unwrap_or, if◌then◌else◌, ◌==◌}
+use Rattle.std.specs.Prelude.{◌&&◌, IfNone, count_by, is_some, is_none, slice_index, slice_index_or, unwrap_or, if◌then◌else◌, ◌==◌}
 use Rattle.std.specs.Cmp.Lexicographic.{pointwise}
 use Rattle.std.specs.List.{All, range_with_len}
 use Rattle.std.specs.Int.{to_be_bytes, w64}
-use Rattle.std.proofs.lemmas.Bool.{and_from, and_parts, cases_lt, eqb-true, false≢true, le-leb, ne_eqb}
+use Rattle.std.proofs.lemmas.Bool.{and_from, cases_lt, false≢true, le-leb, ne_eqb}
 use Rattle.std.proofs.Math.ListN.{get_or, set}
 use Rattle.std.proofs.Math.Seq.{drop-cons}
 use Rattle.std.proofs.lemmas.List.{get_or-set_other, get_or-set_same, get_or_past}
-use Rattle.std.proofs.lemmas.List.Elements.{All-cons, All-head, All-nil, All-tail, All-weaker}
+use Rattle.std.proofs.lemmas.List.Elements.{All-cons, All-head, All-nil, All-tail}
 use Rattle.std.proofs.lemmas.List.FromFn.{length-range_with_len}
 use Rattle.byteorder.specs.Endian.{big_number}
 use Rattle.byteorder.specs.Numbers.{big_number-reads_back}
@@ -24,7 +24,7 @@ use Rattle.pr_core.specs.Sound.{IsSound, is_held_rightly}
 use Rattle.pr_core.specs.States.{is_for_all, is_registered, key_of}
 use Rattle.aptpl_store.specs.Spelling.{IsKey, IsSavable, Spells, aptpl_byte, holder_byte, registration, registrations, spell_state, type_byte}
 use Rattle.aptpl_store.specs.Inner.Told.{begins_with, behind, held_told, key_told, keys_told, nexus_told, nexuses_from, registrations_of, state_told}
-use Rattle.aptpl_store.proofs.SpellingLemmas.{key_at, keys_are, keys_fit, nexuses_more, nexuses_none, registrations_alike, registrations_all, registrations_more, registrations_none}
+use Rattle.aptpl_store.proofs.SpellingLemmas.{keys_are, keys_fit, nexuses_more, registrations_alike, registrations_all, registrations_more, registrations_none}
 
 -- the key of a nexus and of later ones
 pub keys_more : (nexus : ℕ) (later bytes : List ℕ)

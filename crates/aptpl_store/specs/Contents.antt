@@ -1,9 +1,10 @@
 -- What the side of a store holds, and what an image of it gives.
-use Rattle.std.specs.Prelude.{◌≡◌, ◌⊎◌, ◌<◌, ℕ, List, [], ◌∷◌, ◌++◌, length, map, take, slice_index_or, Option, None, Some, option_to_list}
+use Rattle.std.specs.Prelude.{◌≡◌, ◌⊎◌, ◌<◌, ℕ, List, [], ◌∷◌, ◌++◌, length, map, take, slice_index_or, Option, option_to_list}
 use Rattle.std.specs.List.{All}
 use Rattle.gate_journal.specs.declared.header.SideKind.TheVariants.{Cartridge, Store}
 use Rattle.gate_journal.specs.Side.{BeginsAs, Heading, IsDamagedOf, IsNotOurs, StandsFor, drive_name, spell}
 use Rattle.pr_core.specs.declared.states.PrState.{PrState}
+use Rattle.pr_core.specs.Saves.{AreSavedAlike}
 use Rattle.pr_core.specs.Staged.{last_saved}
 use Rattle.pr_core.specs.States.{empty_state, power_loss}
 use Rattle.aptpl_store.specs.Spelling.{IsSavable, Spells, spell_state}
@@ -41,6 +42,13 @@ abbrev pub OpensAsEither : Heading → PrState → PrState → List ℕ → Type
 OpensAsEither heading one other image =
     OpensAs heading (power_loss one) image ⊎ OpensAs heading (power_loss other) image
 
+-- each state of one list is saved as that at its place in another (own)
+abbrev pub AreAllSavedAlike : List PrState → List PrState → Type 0
+AreAllSavedAlike [] [] = Unit {0}
+AreAllSavedAlike (state ∷ states) (other ∷ others) = AreSavedAlike state other × AreAllSavedAlike states others
+AreAllSavedAlike [] (other ∷ others) = ⊥
+AreAllSavedAlike (state ∷ states) [] = ⊥
+
 -- the image begins with no header of a store: with no header at all, or with a cartridge's (own)
 abbrev pub IsNoStore : List ℕ → Type 0
 IsNoStore image = IsNotOurs image ⊎ BeginsAs Cartridge image
@@ -67,4 +75,3 @@ IsAnswered image =
     ((heading : Heading) × (states : List PrState) × GivesStates heading states image)
     ⊎ (IsNoStore image
     ⊎ (((at : ℕ) × IsDamagedOf Store image at) ⊎ ((at : ℕ) × IsBadFrameAt image at)))
-

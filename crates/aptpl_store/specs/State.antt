@@ -1,5 +1,5 @@
 -- What contracts see of an open store.
-use Rattle.std.specs.Prelude.{ℕ, List, Bool, Option, Some, length, refl}
+use Rattle.std.specs.Prelude.{ℕ, List, Bool, Option, refl}
 use Rattle.std.specs.Coded.{Coded, code_by, coded×, coded_ℕ, coded_bool, coded_list, coded_option}
 use Rattle.gate_journal.specs.Side.{Heading}
 use Rattle.gate_journal.specs.State.{heading_code}

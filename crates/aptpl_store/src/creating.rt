@@ -22,11 +22,7 @@ pub const RESERVED_SAVES: usize = 256;
 impl<D: Disk> AptplStore<D> {
     /// Makes the store of a drive, whatever the disk held: nothing is registered or reserved. After a device
     /// fault anything may stand on the disk. After `NoMemory` it was not touched, or it is the new store.
-    pub fn create(
-        alloc: Global,
-        disk: D,
-        drive: DriveNo,
-    ) -> Result<AptplStore<D>, StoreRefused<D>>
+    pub fn create(alloc: Global, disk: D, drive: DriveNo) -> Result<AptplStore<D>, StoreRefused<D>>
         ensures disk { Keeps (D.state disk) (D.state (disk_created result)) }
         ensures ok { IfOk result (λ store. (store.heading ≡ heading_for drive) × (store.states ≡ [])
             × (store.torn ≡ None) × (store.failed ≡ false) × (RESERVED_SAVES ≤ store.reserved)

@@ -26,10 +26,7 @@ impl<D: Disk> AptplStore<D> {
     /// nothing: at every moment of it, and after every error, the disk stands for what it stood for. After
     /// each but `Device` that is sure too. A cartridge's side is `NotOurs`, also where it is damaged: the
     /// header is read first. The first frame that spells no state is `BadRecord`, also where later ones do.
-    pub fn open(
-        alloc: Global,
-        disk: D,
-    ) -> Result<(AptplStore<D>, Reservations), StoreRefused<D>>
+    pub fn open(alloc: Global, disk: D) -> Result<(AptplStore<D>, Reservations), StoreRefused<D>>
         ensures disk { Keeps (D.state disk) (D.state (disk_opened result)) }
         ensures ok { IfOk result (λ opened. (opened.0.torn ≡ None) × (opened.0.failed ≡ false)
             × (RESERVED_SAVES ≤ opened.0.reserved)

@@ -1,5 +1,5 @@
 -- What opening a side finds, step by step.
-use Rattle.std.specs.Prelude.{◌≡◌, ◌++◌, ℕ, List, [], length, Option, None}
+use Rattle.std.specs.Prelude.{◌≡◌, ℕ, List, length, None}
 use Rattle.std.specs.List.{All}
 use Rattle.tape_disk.specs.Disk.{DiskState}
 use Rattle.gate_journal.specs.Side.{Heading}

@@ -18,5 +18,4 @@ returns-then-ne-clause-none c = λ state spells.
     c.as_slice.ensures.value ∙ c.fill_body.ensures.body
     ∙ ap spell_state (c.state.ensures.state ∙ c.in_ok-reservations.ensures.value ∙ c.state_told.ensures)
     ∙ told_spelled state c.args.body.now spells in
-
     false≢true (sym (ap not (equal_bytes c.as_slice.result.now c.args.body.now same)) ∙ sym c.ne.ensures ∙ c.if-ne.true)

@@ -25,15 +25,16 @@ invariant_of-self g c =
     let body_is : body ≡ spell_state state =
     c.deref.ensures.value ∙ c.fill_body.ensures.body ∙ ap spell_state c.state.ensures.state in
     let savable : IsSavable state = subst IsSavable c.state.ensures.state c.fill_body.ensures.savable in
-    let said = c.in-Ok.ensures in
-    (saved_open g.D.Disk.state g.met.D.Disk.is_disk old new _ _ notes c.self.invariant.0 c.self.invariant.1
-    c.fill_body.ensures.room state savable body body_is said.disk said.heading said.answer.0.was_fine
-    (λ h. said.any_moment h said.answer.0.was_fine)
-    said.answer.0 said.bodies said.sure c.with_state-self-inside.result.notes c.with_state-self-inside.ensures,
-    saved_stores g.D.Disk.state g.met.D.Disk.is_disk old new _ _ notes c.self.invariant.0 c.self.invariant.1
-    c.fill_body.ensures.room state savable body body_is said.disk said.heading said.answer.0.was_fine
-    (λ h. said.any_moment h said.answer.0.was_fine)
-    said.answer.0 said.bodies said.sure c.with_state-self-inside.result.notes c.with_state-self-inside.ensures)
+    let said = c.in-Ok.ensures in (
+      saved_open g.D.Disk.state g.met.D.Disk.is_disk old new _ _ notes c.self.invariant.0 c.self.invariant.1
+          c.fill_body.ensures.room state savable body body_is said.disk said.heading said.answer.0.was_fine
+          (λ h. said.any_moment h said.answer.0.was_fine)
+          said.answer.0 said.bodies said.sure c.with_state-self-inside.result.notes c.with_state-self-inside.ensures,
+      saved_stores g.D.Disk.state g.met.D.Disk.is_disk old new _ _ notes c.self.invariant.0 c.self.invariant.1
+          c.fill_body.ensures.room state savable body body_is said.disk said.heading said.answer.0.was_fine
+          (λ h. said.any_moment h said.answer.0.was_fine)
+          said.answer.0 said.bodies said.sure c.with_state-self-inside.result.notes c.with_state-self-inside.ensures,
+    )
 
 pub invariant_of-self-in-Err-Device : goal.invariant_of-self-in-Err-Device
 invariant_of-self-in-Err-Device g c =
@@ -47,15 +48,16 @@ invariant_of-self-in-Err-Device g c =
     c.deref.ensures.value ∙ c.fill_body.ensures.body ∙ ap spell_state c.state.ensures.state in
     let savable : IsSavable state = subst IsSavable c.state.ensures.state c.fill_body.ensures.savable in
     let said = c.in-Err-Device.ensures in
-    let broke = rw c.in-Err-Device.field-0-is at said.answer in
-    (broken_open g.D.Disk.state g.met.D.Disk.is_disk old new _ _ notes c.self.invariant.0 c.self.invariant.1
-    c.fill_body.ensures.room state savable body body_is said.disk said.heading broke.0.was_fine
-    (λ h. said.any_moment h broke.0.was_fine)
-    broke.0 said.bodies c.with_torn-self-inside.result.notes c.with_torn-self-inside.ensures,
-    broken_stores g.D.Disk.state g.met.D.Disk.is_disk old new _ _ notes c.self.invariant.0 c.self.invariant.1
-    c.fill_body.ensures.room state savable body body_is said.disk said.heading broke.0.was_fine
-    (λ h. said.any_moment h broke.0.was_fine)
-    broke.0 said.bodies c.with_torn-self-inside.result.notes c.with_torn-self-inside.ensures)
+    let broke = rw c.in-Err-Device.field-0-is at said.answer in (
+      broken_open g.D.Disk.state g.met.D.Disk.is_disk old new _ _ notes c.self.invariant.0 c.self.invariant.1
+          c.fill_body.ensures.room state savable body body_is said.disk said.heading broke.0.was_fine
+          (λ h. said.any_moment h broke.0.was_fine)
+          broke.0 said.bodies c.with_torn-self-inside.result.notes c.with_torn-self-inside.ensures,
+      broken_stores g.D.Disk.state g.met.D.Disk.is_disk old new _ _ notes c.self.invariant.0 c.self.invariant.1
+          c.fill_body.ensures.room state savable body body_is said.disk said.heading broke.0.was_fine
+          (λ h. said.any_moment h broke.0.was_fine)
+          broke.0 said.bodies c.with_torn-self-inside.result.notes c.with_torn-self-inside.ensures,
+    )
 
 pub returns-in-Ok-clause-answer : goal.returns-in-Ok-clause-answer
 returns-in-Ok-clause-answer g c =
@@ -69,11 +71,13 @@ returns-in-Ok-clause-answer g c =
     let body_is : body ≡ spell_state state =
     c.deref.ensures.value ∙ c.fill_body.ensures.body ∙ ap spell_state c.state.ensures.state in
     let savable : IsSavable state = subst IsSavable c.state.ensures.state c.fill_body.ensures.savable in
-    let said = c.in-Ok.ensures in
-    (said.answer.0.was_fine, saved_kept g.D.Disk.state g.met.D.Disk.is_disk old new _ _ notes c.self.invariant.0 c.self.invariant.1
-    c.fill_body.ensures.room state savable body body_is said.disk said.heading said.answer.0.was_fine
-    (λ h. said.any_moment h said.answer.0.was_fine)
-    said.answer.0 said.bodies said.sure c.with_state-self-inside.result.notes c.with_state-self-inside.ensures))
+    let said = c.in-Ok.ensures in (
+      said.answer.0.was_fine,
+      saved_kept g.D.Disk.state g.met.D.Disk.is_disk old new _ _ notes c.self.invariant.0 c.self.invariant.1
+          c.fill_body.ensures.room state savable body body_is said.disk said.heading said.answer.0.was_fine
+          (λ h. said.any_moment h said.answer.0.was_fine)
+          said.answer.0 said.bodies said.sure c.with_state-self-inside.result.notes c.with_state-self-inside.ensures,
+    ))
 
 pub returns-in-Ok-clause-advances : goal.returns-in-Ok-clause-advances
 returns-in-Ok-clause-advances g c =
@@ -160,11 +164,13 @@ returns-in-Err-Device-clause-answer g c =
     c.deref.ensures.value ∙ c.fill_body.ensures.body ∙ ap spell_state c.state.ensures.state in
     let savable : IsSavable state = subst IsSavable c.state.ensures.state c.fill_body.ensures.savable in
     let said = c.in-Err-Device.ensures in
-    let broke = rw c.in-Err-Device.field-0-is at said.answer in
-    (broke.0.was_fine, broken_kept g.D.Disk.state g.met.D.Disk.is_disk old new _ _ notes c.self.invariant.0 c.self.invariant.1
-    c.fill_body.ensures.room state savable body body_is said.disk said.heading broke.0.was_fine
-    (λ h. said.any_moment h broke.0.was_fine)
-    broke.0 said.bodies c.with_torn-self-inside.result.notes c.with_torn-self-inside.ensures))
+    let broke = rw c.in-Err-Device.field-0-is at said.answer in (
+      broke.0.was_fine,
+      broken_kept g.D.Disk.state g.met.D.Disk.is_disk old new _ _ notes c.self.invariant.0 c.self.invariant.1
+          c.fill_body.ensures.room state savable body body_is said.disk said.heading broke.0.was_fine
+          (λ h. said.any_moment h broke.0.was_fine)
+          broke.0 said.bodies c.with_torn-self-inside.result.notes c.with_torn-self-inside.ensures,
+    ))
 
 pub returns-in-Err-Device-clause-advances : goal.returns-in-Err-Device-clause-advances
 returns-in-Err-Device-clause-advances g c =
@@ -217,9 +223,11 @@ returns-in-Err-NoMemory-clause-answer g c =
     c.deref.ensures.value ∙ c.fill_body.ensures.body ∙ ap spell_state c.state.ensures.state in
     let savable : IsSavable state = subst IsSavable c.state.ensures.state c.fill_body.ensures.savable in
     let said = c.in-Err-NoMemory.ensures in
-    let why = rw c.in-Err-NoMemory.field-0-is at said.answer in
-    (why.0, λ full. omega (arith, full, frame_of state body savable body_is, why.1),
-    ap (λ (side : OpenSide g.row.D.Denot). store_kept (store_on side notes)) why.3))
+    let why = rw c.in-Err-NoMemory.field-0-is at said.answer in (
+      why.0,
+      λ full. omega (arith, full, frame_of state body savable body_is, why.1),
+      ap (λ (side : OpenSide g.row.D.Denot). store_kept (store_on side notes)) why.3,
+    ))
 
 pub returns-in-Err-NoMemory-clause-advances : goal.returns-in-Err-NoMemory-clause-advances
 returns-in-Err-NoMemory-clause-advances g c =
@@ -269,9 +277,11 @@ returns-in-Err-SideFull-clause-answer g c =
     c.deref.ensures.value ∙ c.fill_body.ensures.body ∙ ap spell_state c.state.ensures.state in
     let savable : IsSavable state = subst IsSavable c.state.ensures.state c.fill_body.ensures.savable in
     let said = c.in-Err-SideFull.ensures in
-    let why = rw c.in-Err-SideFull.field-0-is at said.answer in
-    (why.0, omega (arith, frame_of state body savable body_is, why.1),
-    ap (λ (side : OpenSide g.row.D.Denot). store_kept (store_on side notes)) why.2))
+    let why = rw c.in-Err-SideFull.field-0-is at said.answer in (
+      why.0,
+      omega (arith, frame_of state body savable body_is, why.1),
+      ap (λ (side : OpenSide g.row.D.Denot). store_kept (store_on side notes)) why.2,
+    ))
 
 pub returns-in-Err-SideFull-clause-advances : goal.returns-in-Err-SideFull-clause-advances
 returns-in-Err-SideFull-clause-advances g c =
