@@ -103,6 +103,13 @@ impl<M: Medium, K: Keeper> Drive<M, K> {
         }
     }
 
+    /// What keeps its reservations, for tests.
+    pub fn keeper(&self) -> &K
+        ensures { result.now ≡ self.now.keeper }
+    {
+        &self.keeper
+    }
+
     /// Opens a medium, awake or parked, and loads it into an empty drive: it stands at its start,
     /// and for every nexus it is established that the medium may have changed. One that can't be
     /// opened comes back with the reply: 4, 44/00 where it has failed, 3, 11/00 where its side is

@@ -1,5 +1,5 @@
 //! The reservations of a drive.
-ghost use Rattle.std.specs.Prelude.{◌≡◌, ◌||◌, not, is_some, IfOk};
+ghost use Rattle.std.specs.Prelude.{◌≡◌, ◌↔◌, ◌||◌, not, is_some, IfOk, IfSome, IsSome};
 ghost use Rattle.pr_core.specs.Sound.{IsSound};
 ghost use Rattle.pr_core.specs.States.{empty_state, is_allowed, power_loss};
 ghost use Rattle.pr_core.specs.Orders.{Orders};
@@ -43,6 +43,18 @@ impl Reservations {
         Reservations {
             state: PrState::empty(),
         }
+    }
+
+    /// The reservations of a state, where it keeps the rules: a reservation of types 7 and 8 names no holder,
+    /// and there is a registration; one of another type names a holder, who is registered; no key is 0.
+    pub fn of(state: PrState) -> Option<Self>
+        ensures sound { IsSome result ↔ IsSound state }
+        ensures value { IfSome result (λ reservations. reservations ≡ state) }
+    {
+        if state.is_known(0) || !state.is_held_rightly() {
+            return None;
+        }
+        Some(Reservations { state })
     }
 
     /// The state, to be read.

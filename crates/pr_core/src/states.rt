@@ -3,6 +3,7 @@ ghost use Rattle.std.specs.Prelude.{◌≡◌, length};
 ghost use Rattle.vtl_base.specs.declared.limits.TheConstants.{NEXUSES};
 ghost use Rattle.pr_core.specs.Keepers.{state_frame_size};
 ghost use Rattle.pr_core.specs.Sets.{is_some_in};
+ghost use Rattle.pr_core.specs.Sound.{is_held_rightly};
 ghost use Rattle.pr_core.specs.States.{has_key, is_allowed, is_for_all, is_for_registrants, is_for_registrants_only, is_registered, holds_this, key_of, others, power_loss, empty_state};
 
 use crate::rows::{any, place_of};
@@ -110,6 +111,12 @@ impl PrState {
         any(|other| self.is_other(nexus, other))
     }
 
+    pub(crate) fn has_registered(&self) -> bool
+        ensures { result ≡ is_some_in (is_registered self.now) }
+    {
+        any(|other| self.is_registered(other))
+    }
+
     pub(crate) fn is_known(&self, key: u64) -> bool
         ensures { result ≡ is_some_in (has_key self.now key) }
     {
@@ -126,6 +133,20 @@ impl PrState {
                     || is_for_registrants(held.kind) && self.is_registered(nexus)
             }
             None => true,
+        }
+    }
+
+    // Whether its reservation, if there is one, is held rightly.
+    pub(crate) fn is_held_rightly(&self) -> bool
+        ensures { result ≡ is_held_rightly self.now.reservation self.now }
+    {
+        match &self.reservation {
+            None => true,
+            Some(held) if is_for_all(held.kind) => held.holder.is_none() && self.has_registered(),
+            Some(held) => match held.holder {
+                Some(nexus) => self.is_registered(nexus),
+                None => false,
+            },
         }
     }
 

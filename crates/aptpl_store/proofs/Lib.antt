@@ -1,0 +1,8 @@
+pub mod AnswerLemmas
+pub mod ContentsLemmas
+pub mod DecidingLemmas
+pub mod OpeningLemmas
+pub mod SavingLemmas
+pub mod SpellingLemmas
+pub mod TellingLemmas
+pub mod UniqueLemmas

@@ -1,0 +1,299 @@
+-- What an open store keeps while a state is saved.
+use Rattle.std.proofs.Common.{◌≡◌, inl, inr, ℕ, ◌≤◌, ◌<◌, ◌+◌, List, [], ◌∷◌, ◌++◌, length, take, true, false, Option, None, Some, Ok, is_some, refl, sym, ◌∙◌, ap, subst, arith, length-append}
+use Rattle.std.proofs.lemmas.List.{take_all, take_at}
+use Rattle.std.proofs.lemmas.List.Elements.{All-push}
+use Rattle.vtl_base.specs.Below.{Advances, advances_nowhere}
+use Rattle.tape_disk.specs.Disk.{DiskState, Each, IsDisk, Keeps}
+use Rattle.tape_disk.specs.Moments.{LeavesOnly, holds_now, weakened}
+use Rattle.gate_journal.specs.Answers.{Appended, Broke, NoneFailed}
+use Rattle.gate_journal.specs.Crash.{WithOrWithout}
+use Rattle.gate_journal.specs.Side.{Heading, StandsFor}
+use Rattle.gate_journal.specs.State.{OpenSide, room_behind}
+use Rattle.accepting.specs.Core.{Core, IsCore, settled, with_item}
+use Rattle.accepting.specs.Events.{CoreMoves, GivesSoMany, core_moves_nowhere, core_moves_on, moves_accepting, moves_failing, moves_storing}
+use Rattle.pr_core.specs.declared.states.PrState.{PrState}
+use Rattle.pr_core.specs.States.{power_loss}
+use Rattle.pr_core.specs.Keepers.{Broken, Stored, state_frame_size}
+use Rattle.aptpl_store.specs.declared.spelling.TheConstants.{STATE_BYTES}
+use Rattle.aptpl_store.specs.Answers.{SavesState}
+use Rattle.aptpl_store.specs.Contents.{GivesStates, OpensAs, OpensAsEither, ShowsStates, latest}
+use Rattle.aptpl_store.specs.Inner.Open.{IsOpen, StoresStates}
+use Rattle.aptpl_store.specs.Kept.{core_of, core_with, store_below, store_kept, store_rules}
+use Rattle.aptpl_store.specs.Notes.{Notes, with_state, with_torn}
+use Rattle.aptpl_store.specs.Spelling.{IsSavable, spell_state}
+use Rattle.aptpl_store.specs.State.{OpenStore}
+use Rattle.aptpl_store.proofs.ContentsLemmas.{gives_more, with_body, latest_more, none_torn, opens_either, shows_more}
+use Rattle.aptpl_store.proofs.SpellingLemmas.{spelling_frame, spelling_short}
+
+-- an open store over this side
+abbrev pub store_on : {D : Type 0} → OpenSide D → Notes → OpenStore D
+store_on side notes =
+    record {
+      disk = side.disk;
+      heading = side.heading;
+      states = notes.states;
+      torn = notes.torn;
+      failed = side.failed;
+      room = room_behind side.end;
+      reserved = side.reserved;
+    }
+
+-- a state is a body
+pub is_body : (state : PrState) (body : List ℕ) → IsSavable state → body ≡ spell_state state
+    → (1 ≤ length body) × (length body ≤ 580)
+is_body state body savable is =
+    let size = ap (λ (l : List ℕ). length l) is in (
+      omega (arith, size),
+      omega (arith, size, spelling_short state savable.sound.all),
+    )
+
+-- with gate and length it is a state's frame
+pub frame_of : (state : PrState) (body : List ℕ) → IsSavable state → body ≡ spell_state state
+    → length body + 5 ≡ state_frame_size state
+frame_of state body savable is =
+    omega (arith, ap (λ (l : List ℕ). length l) is, spelling_frame state savable.sound.all)
+
+-- what is accepted and stored is no more than was accepted
+core_is : (heading : Heading) (states : List PrState) → IsCore (core_with heading states None)
+core_is heading states = record { safe = omega arith; stored = omega arith }
+
+module _ (disk disk' : DiskState) (is_disk : disk.honest → IsDisk disk) (keeps : Keeps disk disk')
+    (heading : Heading) (states : List PrState) (state : PrState)
+    (leaves : disk.honest → LeavesOnly disk disk' (ShowsStates heading states (Some state))) where
+  abbrev old : Core Heading PrState
+  old = core_with heading states None
+
+  abbrev mid : Core Heading PrState
+  mid = with_item state old
+
+  accepts : CoreMoves store_rules disk disk old mid (state ∷ [])
+  accepts = moves_accepting store_rules disk old state is_disk (core_is heading states) refl refl refl
+
+  counted : length (states ++ state ∷ []) ≡ length states + 1
+  counted = omega (arith, length-append states (state ∷ []))
+
+  before : take (length states) (states ++ state ∷ []) ≡ states
+  before = take_at states (state ∷ []) (length states) refl
+
+  after : take (length states + 1) (states ++ state ∷ []) ≡ states ++ state ∷ []
+  after = take_all (length states + 1) (states ++ state ∷ []) (omega (arith, counted))
+
+  either : (image : List ℕ) → ShowsStates heading states (Some state) image
+      → GivesSoMany store_rules mid 1 image
+  either image (inl gives) = inl (subst (λ (l : List PrState). GivesStates heading l image) (sym before) gives)
+  either image (inr gives) = inr (subst (λ (l : List PrState). GivesStates heading l image) (sym after) gives)
+
+  so_many : disk.honest → LeavesOnly disk disk' (GivesSoMany store_rules mid 1)
+  so_many h =
+      weakened disk disk' (ShowsStates heading states (Some state)) (GivesSoMany store_rules mid 1) (leaves h) either
+
+  -- the state was saved
+  pub moves_saved : (disk.honest → Each disk' (GivesStates heading (states ++ state ∷ [])))
+      → CoreMoves store_rules disk disk' old (core_with heading (states ++ state ∷ []) None) (state ∷ [])
+  moves_saved sure =
+      let stored = moves_storing store_rules disk disk' mid 1 keeps (refl, refl) refl (omega (arith, counted)) so_many
+      (λ h image left. subst (λ (l : List PrState). GivesStates heading l image) (sym after) (sure h image left)) in
+      subst (λ (core : Core Heading PrState). CoreMoves store_rules disk disk' old core (state ∷ []))
+      (λ i. record {
+        base = heading;
+        accepted = states ++ state ∷ [];
+        stored = sym counted i;
+        safe = sym counted i;
+        fault = false;
+        stuck = false;
+        recovering = false;
+      })
+      (core_moves_on store_rules disk disk disk' old mid (settled 1 mid) (state ∷ []) [] accepts stored)
+
+  -- the disk failed while it was saved
+  pub moves_broken : (disk'.honest → IsDisk disk')
+      → CoreMoves store_rules disk disk' old (core_with heading states (Some state)) (state ∷ [])
+  moves_broken is_disk' =
+      core_moves_on store_rules disk disk disk' old mid (core_with heading states (Some state)) (state ∷ []) [] accepts
+      (moves_failing store_rules disk disk' mid 1 is_disk' keeps (refl, refl) refl (omega (arith, counted)) so_many)
+
+module _ {D : Type 0} (state : D → DiskState) (is_disk : (d : D) → (state d).honest → IsDisk (state d)) where
+  -- a store that is the same
+  pub rests : (old new : OpenSide D) (notes : Notes) → new ≡ old
+      → Advances (store_below state) (store_on old notes) [] false (store_on new notes)
+  rests old new notes same =
+      subst (λ (side : OpenSide D). Advances (store_below state) (store_on old notes) [] false (store_on side notes))
+      (sym same)
+      (advances_nowhere (store_below state)
+      (λ (value : OpenStore D). core_moves_nowhere store_rules (state value.disk) (core_of value) (is_disk value.disk))
+      (store_on old notes))
+
+  module _ (old new : OpenSide D) (capacity capacity' : ℕ) (notes : Notes)
+      (is : IsOpen old.heading old.extents old.failed capacity notes)
+      (stores : (state old.disk).honest → StoresStates (state old.disk) old.heading old.bodies notes)
+      (room : STATE_BYTES ≤ capacity') (saved : PrState) (savable : IsSavable saved) (body : List ℕ)
+      (body_is : body ≡ spell_state saved) (keeps : Keeps (state old.disk) (state new.disk))
+      (heading_is : new.heading ≡ old.heading) (fine : old.failed ≡ false) where
+    pub at_rest : notes.torn ≡ None
+    at_rest = none_torn notes.torn (sym is.at_rest ∙ fine)
+
+    pub frame_is : length body + 5 ≡ state_frame_size saved
+    frame_is = frame_of saved body savable body_is
+
+    -- each moment shows the states, or these with the new one
+    module _ (leaves : (state old.disk).honest
+        → LeavesOnly (state old.disk) (state new.disk) (WithOrWithout old.heading old.bodies body)) where
+      pub shown : (state old.disk).honest
+          → LeavesOnly (state old.disk) (state new.disk) (ShowsStates old.heading notes.states (Some saved))
+      shown h =
+          weakened (state old.disk) (state new.disk) (WithOrWithout old.heading old.bodies body)
+          (ShowsStates old.heading notes.states (Some saved)) (leaves h)
+          (shows_more old.heading is.kind notes.states is.states saved savable old.bodies (stores h).bodies_are body
+          body_is)
+
+      pub opened : (state old.disk).honest
+          → LeavesOnly (state old.disk) (state new.disk) (OpensAsEither old.heading (latest notes.states) saved)
+      opened h =
+          weakened (state old.disk) (state new.disk) (ShowsStates old.heading notes.states (Some saved))
+          (OpensAsEither old.heading (latest notes.states) saved) (shown h)
+          (opens_either old.heading notes.states (Some saved))
+
+      -- the disk failed
+      module _ (broke : Broke old new (length body))
+          (bodies_are : (state old.disk).honest → new.bodies ≡ old.bodies)
+          (notes' : Notes) (notes_are : notes' ≡ with_torn notes saved) where
+        pub broken_open : IsOpen new.heading new.extents new.failed capacity' notes'
+        broken_open = subst (IsOpen new.heading new.extents new.failed capacity') (sym notes_are) (record {
+          kind = ap (λ (h : Heading). h.kind) heading_is ∙ is.kind;
+          states = is.states;
+          at_rest = broke.failed;
+          counted = ap (λ (l : List (ℕ × ℕ)). length l) broke.extents ∙ is.counted;
+          body = room;
+        })
+
+        pub broken_stores : (state new.disk).honest
+            → StoresStates (state new.disk) new.heading new.bodies notes'
+        broken_stores h' =
+            let h = keeps.was_honest h' in
+            subst (λ (x : Heading × Notes). StoresStates (state new.disk) x.0 new.bodies x.1)
+            (λ i. (sym heading_is i, sym notes_are i)) (record {
+              bodies_are = bodies_are h ∙ (stores h).bodies_are;
+              shows =
+                  holds_now (state old.disk) (state new.disk) (ShowsStates old.heading notes.states (Some saved))
+                  (is_disk new.disk h') (shown h);
+            })
+
+        pub broken_advances : (state old.disk).failures < (state new.disk).failures
+            → Advances (store_below state) (store_on old notes) (saved ∷ []) true (store_on new notes')
+        broken_advances cause = record {
+          moved =
+              subst (λ (x : (Heading × Notes) × Option PrState).
+              CoreMoves store_rules (state old.disk) (state new.disk) (core_with old.heading notes.states x.1)
+              (core_with x.0.0 x.0.1.states x.0.1.torn) (saved ∷ []))
+              (λ i. ((sym heading_is i, sym notes_are i), sym at_rest i))
+              (moves_broken (state old.disk) (state new.disk) (is_disk old.disk) keeps old.heading notes.states saved
+              shown (is_disk new.disk));
+          counted = cause;
+          honesty = (keeps.stays_honest, keeps.was_honest);
+        }
+
+        pub broken_kept : Broken (store_kept (store_on old notes)) saved (store_kept (store_on new notes'))
+        broken_kept = record {
+          saved = ap (λ (n : Notes). Some (latest n.states)) notes_are;
+          torn = ap (λ (n : Notes). n.torn) notes_are;
+          failed = broke.failed;
+          fitted = λ full. omega (arith, full, frame_is, broke.fitted);
+          room = ap (λ (n : ℕ). Some (room_behind n)) broke.end;
+        }
+
+      -- the state was saved
+      module _ (appended : Appended old new (length body))
+          (bodies_are : (state old.disk).honest → new.bodies ≡ old.bodies ++ body ∷ [])
+          (sure : (state old.disk).honest → Each (state new.disk) (StandsFor new.heading new.bodies))
+          (notes' : Notes) (notes_are : notes' ≡ with_state notes saved) where
+        pub saved_open : IsOpen new.heading new.extents new.failed capacity' notes'
+        saved_open = subst (IsOpen new.heading new.extents new.failed capacity') (sym notes_are) (record {
+          kind = ap (λ (h : Heading). h.kind) heading_is ∙ is.kind;
+          states = All-push IsSavable notes.states saved is.states savable;
+          at_rest = appended.is_fine ∙ sym (ap (λ (t : Option PrState). is_some t) at_rest);
+          counted =
+              omega (
+                arith,
+                ap (λ (l : List (ℕ × ℕ)). length l) appended.extents,
+                length-append old.extents ((old.end + 5, length body) ∷ []),
+                length-append notes.states (saved ∷ []),
+                is.counted,
+              );
+          body = room;
+        })
+
+        pub given : (state old.disk).honest
+            → Each (state new.disk) (GivesStates old.heading (notes.states ++ saved ∷ []))
+        given h image left =
+            gives_more old.heading is.kind notes.states is.states saved savable old.bodies (stores h).bodies_are body
+            body_is image
+            (subst (λ (x : Heading × List (List ℕ)). StandsFor x.0 x.1 image) (λ i. (heading_is i, bodies_are h i))
+            (sure h image left))
+
+        pub saved_stores : (state new.disk).honest → StoresStates (state new.disk) new.heading new.bodies notes'
+        saved_stores h' =
+            let h = keeps.was_honest h' in
+            subst (λ (x : Heading × Notes). StoresStates (state new.disk) x.0 new.bodies x.1)
+            (λ i. (sym heading_is i, sym notes_are i)) (record {
+              bodies_are =
+                  bodies_are h
+                  ∙ with_body old.heading is.kind notes.states is.states saved savable old.bodies
+                  (stores h).bodies_are body body_is;
+              shows = λ image left. inl (given h image left);
+            })
+
+        pub saved_advances : NoneFailed (state old.disk) (state new.disk)
+            → Advances (store_below state) (store_on old notes) (saved ∷ []) false (store_on new notes')
+        saved_advances none = record {
+          moved =
+              subst (λ (x : (Heading × Notes) × Option PrState).
+              CoreMoves store_rules (state old.disk) (state new.disk) (core_with old.heading notes.states x.1)
+              (core_with x.0.0 x.0.1.states x.0.1.torn) (saved ∷ []))
+              (λ i. (
+                (
+                  sym heading_is i,
+                  (ap (λ (t : Option PrState). record {
+                    states = notes.states ++ saved ∷ [];
+                    torn = t;
+                  }) (sym at_rest) ∙ sym notes_are) i,
+                ),
+                sym at_rest i,
+              ))
+              (moves_saved (state old.disk) (state new.disk) (is_disk old.disk) keeps old.heading notes.states saved
+              shown given);
+          counted = none;
+          honesty = (keeps.stays_honest, keeps.was_honest);
+        }
+
+        pub saved_kept : Stored (store_kept (store_on old notes)) saved (store_kept (store_on new notes'))
+        saved_kept = record {
+          saved =
+              ap Some (ap (λ (n : Notes). latest n.states) notes_are ∙ latest_more notes.states saved);
+          whole = ap (λ (n : Notes). n.torn) notes_are ∙ at_rest;
+          works = appended.is_fine;
+          room = omega (arith, appended.end, appended.fitted, frame_is);
+        }
+
+        pub saved_value : SavesState (store_on old notes) saved (Ok tt) (store_on new notes')
+        saved_value = (
+          λ i. record {
+            disk = new.disk;
+            heading = heading_is i;
+            states = (notes_are i).states;
+            torn = (notes_are i).torn;
+            failed = (appended.is_fine ∙ sym fine) i;
+            room = room_behind new.end;
+            reserved = new.reserved;
+          },
+          omega (arith, appended.end, appended.fitted, frame_is),
+          appended.reserved,
+        )
+
+        pub opens_saved : (state old.disk).honest
+            → Each (state new.disk) (OpensAs new.heading (power_loss saved))
+        opens_saved h image left = (
+          notes.states ++ saved ∷ [],
+          subst (λ (heading : Heading). GivesStates heading (notes.states ++ saved ∷ []) image) (sym heading_is)
+              (given h image left),
+          ap power_loss (sym (latest_more notes.states saved)),
+        )

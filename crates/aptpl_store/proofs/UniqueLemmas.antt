@@ -1,0 +1,179 @@
+-- An image has one answer at most: one store's states, or one cause for which it has none.
+use Rattle.std.proofs.Common.{◌≡◌, ◌⊎◌, inl, inr, ℕ, ◌<◌, ◌≤◌, List, [], ◌∷◌, ◌++◌, length, take, get_or, refl, sym, ◌∙◌, ap, subst, arith, append_assoc}
+use Rattle.std.specs.Prelude.{if◌then◌else◌}
+use Rattle.std.specs.List.{All, flat_map}
+use Rattle.std.proofs.lemmas.Bool.{cases_lt}
+use Rattle.std.proofs.lemmas.List.{append-nil, get_or-map, get_or-take, length-map, take_all}
+use Rattle.std.proofs.lemmas.List.Elements.{All-get_or, All-head, All-tail}
+use Rattle.gate_journal.specs.declared.header.SideKind.{SideKind}
+use Rattle.gate_journal.specs.declared.header.SideKind.TheVariants.{Cartridge, Store}
+use Rattle.gate_journal.specs.Side.{BeginsAs, Heading, IsDamagedAt, IsDamagedOf, StandsFor, frame, spell, spell_heading}
+use Rattle.gate_journal.specs.Inner.Headings.{same_heading}
+use Rattle.gate_journal.specs.Inner.Sides.{one_place, one_side, sound}
+use Rattle.pr_core.specs.declared.states.PrState.{PrState}
+use Rattle.pr_core.specs.Saves.{AreSavedAlike}
+use Rattle.pr_core.specs.Staged.{last_saved}
+use Rattle.pr_core.specs.States.{empty_state, power_loss}
+use Rattle.aptpl_store.specs.Contents.{AreAllSavedAlike, GivesStates, IsBadFrame, IsBadFrameAt, IsNoStore, OpensAs, bodies_of}
+use Rattle.aptpl_store.specs.Spelling.{IsSavable, spell_state}
+use Rattle.aptpl_store.proofs.TellingLemmas.{one_state}
+
+-- states that are spelled alike are saved alike
+same_states : (states others : List PrState) → All IsSavable states → All IsSavable others
+    → bodies_of states ≡ bodies_of others → AreAllSavedAlike states others
+same_states [] [] a b e = tt
+same_states (s ∷ ss) [] a b e = absurd (cc)
+same_states [] (o ∷ os) a b e = absurd (cc)
+same_states (s ∷ ss) (o ∷ os) a b e =
+    let first : spell_state s ≡ spell_state o = cc in
+    let rest : bodies_of ss ≡ bodies_of os = cc in (
+      one_state (spell_state s) s o (record { savable = All-head IsSavable s ss a; bytes = refl }) (record {
+        savable = All-head IsSavable o os b;
+        bytes = first;
+      }),
+      same_states ss os (All-tail IsSavable s ss a) (All-tail IsSavable o os b) rest,
+    )
+
+pub gives_one : (image : List ℕ) (h k : Heading) (states others : List PrState) → GivesStates h states image
+    → GivesStates k others image → (h ≡ k) × AreAllSavedAlike states others
+gives_one image h k states others one two =
+    let side = one_side image h k (bodies_of states) (bodies_of others) one.2 two.2 in
+    (side.0, same_states states others one.1 two.1 side.1)
+
+-- what is saved alike is lost alike
+lost_alike : (one other : PrState) → AreSavedAlike one other → power_loss one ≡ power_loss other
+lost_alike one other alike = λ i. if alike.aptpl i then (record {
+  keys = alike.keys i;
+  reservation = alike.reservation i;
+  aptpl = alike.aptpl i;
+  generation = 0;
+}) else empty_state
+
+-- the last of states that are saved alike are lost alike
+latest_alike : (one other : PrState) (states others : List PrState) → AreSavedAlike one other
+    → AreAllSavedAlike states others → power_loss (last_saved one states) ≡ power_loss (last_saved other others)
+latest_alike one other [] [] first rest = lost_alike one other first
+latest_alike one other (s ∷ ss) [] first rest = absurd rest
+latest_alike one other [] (o ∷ os) first rest = absurd rest
+latest_alike one other (s ∷ ss) (o ∷ os) first rest = latest_alike s o ss os rest.0 rest.1
+
+-- an image opens as one state
+pub opens_one : (image : List ℕ) (h k : Heading) (one other : PrState) → OpensAs h one image → OpensAs k other image
+    → (h ≡ k) × (one ≡ other)
+opens_one image h k one other (states, gives, is) (others, also, too) =
+    let same = gives_one image h k states others gives also in (
+      same.0,
+      is ∙ latest_alike empty_state empty_state states others (record {
+        keys = refl;
+        reservation = refl;
+        aptpl = refl;
+      }) same.1 ∙ sym too,
+    )
+
+-- an image begins with a header of one kind
+begins_once : (image : List ℕ) (k l : SideKind) → BeginsAs k image → BeginsAs l image → k ≡ l
+begins_once image k l (h, r, okh, kh, ish) (j, s, okj, kj, isj) =
+    let whole : spell_heading h ++ r ≡ spell_heading j ++ s =
+    ap (λ (x : List ℕ). x ++ r) (sym (append-nil (spell_heading h))) ∙ sym ish ∙ isj
+    ∙ ap (λ (x : List ℕ). x ++ s) (append-nil (spell_heading j)) in
+    sym kh ∙ ap (λ (x : Heading). x.kind) (same_heading h j r s okh okj whole) ∙ kj
+
+in_front : (h : Heading) (bodies : List (List ℕ)) (rest image : List ℕ) → image ≡ spell h bodies ++ rest
+    → image ≡ spell h [] ++ (flat_map frame bodies ++ rest)
+in_front h bodies rest image is =
+    is ∙ append_assoc (spell_heading h) (flat_map frame bodies) rest
+    ∙ ap (λ (x : List ℕ). x ++ (flat_map frame bodies ++ rest)) (sym (append-nil (spell_heading h)))
+
+-- a side begins with its header
+pub begins_so : (image : List ℕ) (h : Heading) (bodies : List (List ℕ)) → StandsFor h bodies image
+    → BeginsAs h.kind image
+begins_so image h bodies s =
+    (h, flat_map frame bodies ++ s.1.0 ∷ s.1.1, s.0.begins, refl, in_front h bodies (s.1.0 ∷ s.1.1) image s.1.3)
+
+-- a damaged side too
+pub damaged_begins : (image : List ℕ) (at : ℕ) (damage : IsDamagedAt image at) → BeginsAs damage.0.kind image
+damaged_begins image at (h, bodies, rest, side, is, far, broken) =
+    (h, flat_map frame bodies ++ rest, side.begins, refl, in_front h bodies rest image is)
+
+-- what begins with a store's header is a store's
+no_store_begins : (image : List ℕ) → IsNoStore image → BeginsAs Store image → ⊥
+no_store_begins image (inl never) (h, rest, ok, kind, is) = never h rest ok is
+no_store_begins image (inr cartridge) begins =
+    let kinds : Cartridge ≡ Store = begins_once image Cartridge Store cartridge begins in cc
+
+-- what gives states is the side of a store
+pub gives_ours : (image : List ℕ) (h : Heading) (states : List PrState) → GivesStates h states image
+    → IsNoStore image → ⊥
+gives_ours image h states gives none =
+    no_store_begins image none
+    (subst (λ (k : SideKind). BeginsAs k image) gives.0 (begins_so image h (bodies_of states) gives.2))
+
+-- and whole
+pub gives_whole : (image : List ℕ) (h : Heading) (states : List PrState) (at : ℕ) → GivesStates h states image
+    → IsDamagedOf Store image at → ⊥
+gives_whole image h states at gives damage = sound image h (bodies_of states) at gives.2 damage.1
+
+-- states that a side begins with reach no further than its first bad frame
+no_further : (h : Heading) (bodies : List (List ℕ)) (good : List PrState) (at : ℕ) → IsBadFrame h bodies good at
+    → (states : List PrState) → All IsSavable states → bodies_of states ≡ take (length states) bodies
+    → length good < length states → ⊥
+no_further h bodies good at bad states all spelled further =
+    let there : get_or bodies (length good) [] ≡ spell_state (get_or states (length good) empty_state) =
+    sym (get_or-take (length states) bodies (length good) [] further)
+    ∙ ap (λ (b : List (List ℕ)). get_or b (length good) []) (sym spelled)
+    ∙ get_or-map spell_state states (length good) empty_state [] further in
+    bad.bad (get_or states (length good) empty_state) (record {
+      savable = All-get_or IsSavable states (length good) empty_state further all;
+      bytes = there;
+    })
+
+-- what gives states has no bad frame
+pub gives_good : (image : List ℕ) (k : Heading) (states : List PrState) (at : ℕ) → GivesStates k states image
+    → IsBadFrameAt image at → ⊥
+gives_good image k states at gives (h, bodies, good, s, bad) =
+    let side = one_side image k h (bodies_of states) bodies gives.2 s in
+    let long : length bodies ≡ length states =
+    ap (λ (b : List (List ℕ)). length b) (sym side.1) ∙ length-map states spell_state in
+    no_further h bodies good at bad states gives.1
+    (side.1 ∙ sym (take_all (length states) bodies (omega (arith, long)))) (omega (arith, bad.inside, long))
+
+-- the first bad frame of a side is one
+one_bad : (h : Heading) (bodies : List (List ℕ)) (good others : List PrState) (a b : ℕ)
+    → IsBadFrame h bodies good a → IsBadFrame h bodies others b → a ≡ b
+one_bad h bodies good others a b one two = by (cases_lt (length good) (length others))
+  where
+    by : (length good < length others) ⊎ (length others ≤ length good) → a ≡ b
+    by (inl less) = absurd (no_further h bodies good a one others two.before two.spelled less)
+    by (inr least) = more (cases_lt (length others) (length good))
+      where
+        more : (length others < length good) ⊎ (length good ≤ length others) → a ≡ b
+        more (inl less) = absurd (no_further h bodies others b two good one.before one.spelled less)
+        more (inr most) =
+            let same : length good ≡ length others = omega (arith, least, most) in
+            one.gate
+            ∙ ap (λ (x : List (List ℕ)). length (spell h x))
+            (one.spelled ∙ ap (λ (k : ℕ). take k bodies) same ∙ sym two.spelled)
+            ∙ sym two.gate
+
+pub bad_once : (image : List ℕ) (a b : ℕ) → IsBadFrameAt image a → IsBadFrameAt image b → a ≡ b
+bad_once image a b (h, bodies, good, s, one) (k, others, found, t, two) =
+    let side = one_side image k h others bodies t s in
+    one_bad h bodies good found a b one
+    (subst (λ (x : Heading × List (List ℕ)). IsBadFrame x.0 x.1 found b) (λ i. (side.0 i, side.1 i)) two)
+
+-- a side with a bad frame is a store's
+pub bad_ours : (image : List ℕ) (at : ℕ) → IsNoStore image → IsBadFrameAt image at → ⊥
+bad_ours image at none (h, bodies, good, s, bad) =
+    no_store_begins image none
+    (subst (λ (k : SideKind). BeginsAs k image) bad.kind (begins_so image h bodies s))
+
+-- and whole
+pub bad_whole : (image : List ℕ) (a b : ℕ) → IsDamagedOf Store image a → IsBadFrameAt image b → ⊥
+bad_whole image a b damage (h, bodies, good, s, bad) = sound image h bodies a s damage.1
+
+-- a damaged store is a store, and damaged at one place
+pub damaged_ours : (image : List ℕ) (at : ℕ) → IsNoStore image → IsDamagedOf Store image at → ⊥
+damaged_ours image at none damage = no_store_begins image none damage.0
+
+pub damaged_once : (image : List ℕ) (a b : ℕ) → IsDamagedOf Store image a → IsDamagedOf Store image b → a ≡ b
+damaged_once image a b one two = one_place image a b one.1 two.1

@@ -1,0 +1,65 @@
+-- What holds after each answer of a call.
+use Rattle.std.specs.Prelude.{◌≡◌, ◌≤◌, ◌+◌, [], ◌∷◌, ◌++◌, length, Some, true, Result, Ok, Err}
+use Rattle.vtl_base.specs.declared.faults.DevFault.{DevFault}
+use Rattle.tape_disk.specs.Disk.{DiskState, Only}
+use Rattle.gate_journal.specs.declared.header.SideKind.TheVariants.{Store}
+use Rattle.gate_journal.specs.Side.{IsDamagedOf}
+use Rattle.gate_journal.specs.Answers.{IsFault, NoneFailed}
+use Rattle.pr_core.specs.declared.states.PrState.{PrState}
+use Rattle.pr_core.specs.declared.keepers.KeeperError.{KeeperError}
+use Rattle.pr_core.specs.declared.keepers.KeeperError.TheVariants as save
+use Rattle.pr_core.specs.Keepers.{state_frame_size}
+use Rattle.aptpl_store.specs.declared.error.StoreError.{StoreError}
+use Rattle.aptpl_store.specs.declared.error.StoreError.TheVariants.{NotOurs, Damaged, BadRecord, Device, NoMemory}
+use Rattle.aptpl_store.specs.declared.error.StoreRefused.{StoreRefused}
+use Rattle.aptpl_store.specs.Contents.{IsBadFrameAt, IsNoStore}
+use Rattle.aptpl_store.specs.State.{OpenStore}
+
+module _ {D : Type 0} where
+  -- A store is asked to save a state, and answers so: what is then in it, over any disk. At Ok the state comes last, in
+  -- a frame of its own; after a fault it is under way; memory runs out only where no save is reserved (own).
+  abbrev pub SavesState : OpenStore D → PrState → Result Unit KeeperError → OpenStore D → Type 0
+  SavesState old state (Ok done) new =
+      new ≡ record old {
+        disk = new.disk;
+        states = old.states ++ state ∷ [];
+        room = new.room;
+        reserved = new.reserved;
+      }
+      × (new.room + state_frame_size state ≡ old.room) × (old.reserved ≤ new.reserved + 1)
+  SavesState old state (Err save.Device) new =
+      new ≡ record old { disk = new.disk; torn = Some state; failed = true; reserved = new.reserved }
+      × (old.reserved ≤ new.reserved)
+  SavesState old state (Err save.NoMemory) new = (old.reserved ≡ 0) × (new ≡ old)
+  SavesState old state (Err save.SideFull) new = new ≡ old
+  SavesState old state (Err save.Failed) new = new ≡ old
+
+  -- the disk that a creation gives back, in the store or beside its refusal (own)
+  abbrev pub disk_created : Result (OpenStore D) (StoreRefused D) → D
+  disk_created (Ok store) = store.disk
+  disk_created (Err refused) = refused.disk
+
+  -- the disk that an opening gives back, in the store or beside its refusal (own)
+  abbrev pub disk_opened : {R : Type 0} → Result (OpenStore D × R) (StoreRefused D) → D
+  disk_opened (Ok opened) = opened.0.disk
+  disk_opened (Err refused) = refused.disk
+
+-- why a store is not made: memory ran out, or a fault (own)
+abbrev pub IsNotCreated : StoreError → Type 0 → (DevFault → Type 0) → Type 0
+IsNotCreated NoMemory memory device = memory
+IsNotCreated (Device fault) memory device = device fault
+IsNotCreated NotOurs memory device = ⊥
+IsNotCreated (Damaged at) memory device = ⊥
+IsNotCreated (BadRecord at) memory device = ⊥
+
+-- Why a store is not opened: what the old bytes are; a fault; or want of memory, where there are the 27 bytes of a
+-- heading. But for a fault no call failed, and what stands is sure (own).
+abbrev pub IsNotOpened : StoreError → DiskState → DiskState → Type 0
+IsNotOpened NotOurs old new = NoneFailed old new × (old.honest → IsNoStore old.seen × Only old.seen new.may_leave)
+IsNotOpened (Damaged at) old new =
+    NoneFailed old new × (old.honest → IsDamagedOf Store old.seen at × Only old.seen new.may_leave)
+IsNotOpened (BadRecord at) old new =
+    NoneFailed old new × (old.honest → IsBadFrameAt old.seen at × Only old.seen new.may_leave)
+IsNotOpened (Device fault) old new = IsFault fault old new
+IsNotOpened NoMemory old new =
+    NoneFailed old new × (old.honest → (27 ≤ length old.seen) × Only old.seen new.may_leave)

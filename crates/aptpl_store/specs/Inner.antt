@@ -1,0 +1,4 @@
+-- What only private contracts and invariants use.
+pub mod Open
+pub mod Reading
+pub mod Told

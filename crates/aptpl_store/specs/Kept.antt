@@ -1,0 +1,75 @@
+-- What a store is as a keeper: what it holds, and how it goes on below.
+use Rattle.std.specs.Prelude.{◌+◌, List, [], ◌∷◌, ◌++◌, length, Option, None, Some, true, false}
+use Rattle.vtl_base.specs.Below.{Below}
+use Rattle.tape_disk.specs.Disk.{DiskState}
+use Rattle.gate_journal.specs.Side.{Heading}
+use Rattle.accepting.specs.Core.{Core, Rules}
+use Rattle.accepting.specs.Events.{CoreMoves}
+use Rattle.pr_core.specs.declared.states.PrState.{PrState}
+use Rattle.pr_core.specs.Keepers.{KeeperState}
+use Rattle.aptpl_store.specs.Contents.{GivesStates, latest}
+use Rattle.aptpl_store.specs.State.{OpenStore}
+
+-- a store accepts any state, and an image of it gives the states that were saved, in order (own)
+abbrev pub store_rules : Rules
+store_rules = record {
+  Base = Heading;
+  Item = PrState;
+  applies = λ heading states state. true;
+  gives = GivesStates;
+}
+
+-- how far the saves of a store got: all its states are safe, and the one whose save was under way when the disk failed
+-- may be stored (own)
+abbrev pub core_with : Heading → List PrState → Option PrState → Core Heading PrState
+core_with heading states None =
+    record {
+      base = heading;
+      accepted = states;
+      stored = length states;
+      safe = length states;
+      fault = false;
+      stuck = false;
+      recovering = false;
+    }
+core_with heading states (Some state) =
+    record {
+      base = heading;
+      accepted = states ++ state ∷ [];
+      stored = length states + 1;
+      safe = length states;
+      fault = true;
+      stuck = false;
+      recovering = false;
+    }
+
+module _ {D : Type 0} where
+  -- how far the saves of an open store got (own)
+  abbrev pub core_of : OpenStore D → Core Heading PrState
+  core_of store = core_with store.heading store.states store.torn
+
+  -- what an open store holds as any keeper does (own)
+  abbrev pub store_kept : OpenStore D → KeeperState
+  store_kept store =
+      record {
+        saved = Some (latest store.states);
+        torn = store.torn;
+        failed = store.failed;
+        room = Some store.room;
+      }
+
+  module _ (state : D → DiskState) where
+    -- From old to new just these states were saved, or were under way when the disk failed. Where the disk is honest
+    -- and its images were those of the old store, each moment between has images of a store between (own).
+    abbrev pub StoreMoves : OpenStore D → List PrState → OpenStore D → Type 0
+    StoreMoves old made new =
+        CoreMoves store_rules (state old.disk) (state new.disk) (core_of old) (core_of new) made
+
+    -- what is seen below a store: the failures of its disk, whether it is honest, and its saves (own)
+    abbrev pub store_below : Below (OpenStore D) PrState
+    store_below =
+        record {
+          failures = λ store. (state store.disk).failures;
+          honest = λ store. (state store.disk).honest;
+          moves = StoreMoves;
+        }

@@ -1,0 +1,8 @@
+pub mod Answers
+pub mod Codes
+pub mod Contents
+pub mod Inner
+pub mod Kept
+pub mod Notes
+pub mod Spelling
+pub mod State

@@ -1,0 +1,108 @@
+//! A store is made.
+ghost use Rattle.std.specs.Prelude.{◌≡◌, ◌⊎◌, ◌≤◌, ◌<◌, ◌++◌, [], ◌∷◌, None, false, IfOk, IfErr, OnOk, OnErr, vec_capacity};
+ghost use Rattle.tape_disk.specs.Disk.{Each, Keeps};
+ghost use Rattle.gate_journal.specs.Answers.{IsFault, NoneFailed};
+ghost use Rattle.gate_journal.specs.Side.{CLOSED, drive_name, spell};
+ghost use Rattle.aptpl_store.specs.Answers.{IsNotCreated, disk_created};
+ghost use Rattle.aptpl_store.specs.Contents.{GivesStates, heading_for};
+
+use crate::error::{StoreError, StoreRefused};
+use crate::noted::Noted;
+use crate::spelling::STATE_BYTES;
+use crate::stores::AptplStore;
+use gate_journal::header::NAME_BYTES;
+use gate_journal::{Header, Journal, JournalError, Refused, SideKind};
+use std::alloc::Global;
+use tape_disk::Disk;
+use vtl_base::{DriveNo, NoMemory};
+
+/// How many saves take no memory after a creation or an opening.
+pub const RESERVED_SAVES: usize = 256;
+
+impl<D: Disk> AptplStore<D> {
+    /// Makes the store of a drive, whatever the disk held: nothing is registered or reserved. After a device
+    /// fault anything may stand on the disk. After `NoMemory` it was not touched, or it is the new store.
+    pub fn create(alloc: Global, disk: D, drive: DriveNo) -> Result<AptplStore<D>, StoreRefused<D>>
+        ensures disk { Keeps (D.state disk) (D.state (disk_created result)) }
+        ensures ok { IfOk result (λ store. (store.heading ≡ heading_for drive) × (store.states ≡ [])
+            × (store.torn ≡ None) × (store.failed ≡ false) × (RESERVED_SAVES ≤ store.reserved)
+            × NoneFailed (D.state disk) (D.state store.disk)) }
+        ensures bytes { IfOk result (λ store. (D.state disk).honest →
+            (D.state store.disk).seen ≡ spell store.heading [] ++ CLOSED ∷ []) }
+        ensures sure { IfOk result (λ store. (D.state disk).honest →
+            Each (D.state store.disk) (GivesStates store.heading [])) }
+        ensures refused { IfErr result (λ refused. IsNotCreated refused.error
+            ((refused.disk ≡ disk) ⊎ (NoneFailed (D.state disk) (D.state refused.disk)
+            × ((D.state disk).honest →
+            Each (D.state refused.disk) (GivesStates (heading_for drive) []))))
+            (λ fault. IsFault fault (D.state disk) (D.state refused.disk))) }
+    {
+        let header = Header {
+            kind: SideKind::Store,
+            name: name_of(drive),
+            capacities: Vec::new(alloc),
+        };
+        match Journal::create(alloc, disk, header) {
+            Ok(journal) => {
+                let mut journal = journal;
+                journal.known();
+                match make_room(alloc, &mut journal) {
+                    Ok(body) => Ok(AptplStore {
+                        journal,
+                        body,
+                        noted: Noted::none(),
+                    }),
+                    Err(_) => {
+                        let error = StoreError::NoMemory;
+                        let disk = journal.close();
+                        Err(StoreRefused { error, disk })
+                    }
+                }
+            }
+            Err(refused) => {
+                let Refused { error, disk } = refused;
+                let error = match error {
+                    JournalError::Device(fault) => StoreError::Device(fault),
+                    JournalError::NoMemory => StoreError::NoMemory,
+                    JournalError::NotOurs => unreachable!(),
+                    JournalError::Damaged { .. } => unreachable!(),
+                    JournalError::SideFull => unreachable!(),
+                    JournalError::Failed => unreachable!(),
+                };
+                Err(StoreRefused { error, disk })
+            }
+        }
+    }
+}
+
+// The name of a drive's store: `DRIVE` and the number, and spaces up to 16 bytes.
+fn name_of(drive: DriveNo) -> [u8; NAME_BYTES]
+    ensures { result ≡ drive_name drive }
+{
+    let number = drive.number();
+    let mut name = *b"DRIVE           ";
+    if number < 10 {
+        name[5] = b'0' + number;
+    } else {
+        name[5] = b'1';
+        name[6] = b'0' + (number - 10);
+    }
+    name
+}
+
+// Makes room in memory for later saves: a buffer for the longest body, and the frames.
+pub(crate) fn make_room<D: Disk>(
+    alloc: Global,
+    journal: &mut Journal<D>,
+) -> Result<Vec<u8>, NoMemory>
+    ensures same { journal.new ≡ record journal.old { reserved = journal.new.reserved } }
+    ensures ok { IfOk result (λ body. (STATE_BYTES ≤ vec_capacity body)
+        × (RESERVED_SAVES ≤ journal.new.reserved)) }
+{
+    let mut body = Vec::new(alloc);
+    body.reserve(STATE_BYTES)?;
+    let Ok(()) = journal.reserve(RESERVED_SAVES) else {
+        return Err(NoMemory);
+    };
+    Ok(body)
+}

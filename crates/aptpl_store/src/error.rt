@@ -1,0 +1,58 @@
+//! Why a store is not made or opened.
+ghost use Rattle.std.specs.Prelude.{◌≡◌};
+ghost use Rattle.aptpl_store.specs.declared.error.StoreError.TheVariants as Errors;
+
+use std::alloc::AllocError;
+use thiserror::Error;
+use vtl_base::{DevFault, NoMemory};
+
+/// Why a store is not made or opened (own).
+#[derive(Clone, Copy, PartialEq, Eq, Debug, Error)]
+pub enum StoreError {
+    /// The bytes begin with no header of a store.
+    #[error("not a store")]
+    NotOurs,
+    /// The first frame that is not whole has its gate at this place, counted in bytes.
+    #[error("damaged at {at}")]
+    Damaged {
+        /// The place of the gate.
+        at: u64,
+    },
+    /// The first frame whose body spells no state has its gate at this place, counted in bytes.
+    #[error("bad record at {at}")]
+    BadRecord {
+        /// The place of the gate.
+        at: u64,
+    },
+    /// The disk failed in this call.
+    #[error("device fault")]
+    Device(DevFault),
+    /// Memory ran out. No call of the disk failed.
+    #[error("out of memory")]
+    NoMemory,
+}
+
+impl From<AllocError> for StoreError {
+    ghost from_gives = { λ _ e. e ≡ Errors.NoMemory };
+
+    fn from(_: AllocError) -> Self {
+        StoreError::NoMemory
+    }
+}
+
+impl From<NoMemory> for StoreError {
+    ghost from_gives = { λ _ e. e ≡ Errors.NoMemory };
+
+    fn from(_: NoMemory) -> Self {
+        StoreError::NoMemory
+    }
+}
+
+/// A store that could not be made or opened, and its disk.
+#[derive(Drop, Debug)]
+pub struct StoreRefused<D> {
+    /// Why.
+    pub error: StoreError,
+    /// The disk that was handed in.
+    pub disk: D,
+}

@@ -1,0 +1,15 @@
+//! Saved reservations of a drive, on a disk: each state is one frame, whole or not there.
+#![tactic(auto)]
+
+mod creating;
+pub mod error;
+pub mod laws;
+mod noted;
+mod opening;
+mod saving;
+mod spelling;
+pub mod stores;
+mod telling;
+
+pub use error::{StoreError, StoreRefused};
+pub use stores::AptplStore;

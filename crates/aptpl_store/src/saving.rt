@@ -1,0 +1,71 @@
+//! A state is saved, as one frame.
+ghost use Rattle.std.specs.Prelude.{◌≡◌, ◌++◌, [], ◌∷◌, List, Some, false, OnOk};
+ghost use Rattle.vtl_base.specs.Below.{Advances};
+ghost use Rattle.tape_disk.specs.Disk.{Each, Keeps};
+ghost use Rattle.tape_disk.specs.Moments.{LeavesOnly};
+ghost use Rattle.pr_core.specs.Keepers.{Saves, save_met_fault, saved_by};
+ghost use Rattle.pr_core.specs.States.{power_loss};
+ghost use Rattle.aptpl_store.specs.Answers.{SavesState};
+ghost use Rattle.aptpl_store.specs.Contents.{OpensAs, OpensAsEither, latest};
+ghost use Rattle.aptpl_store.specs.Kept.{store_below, store_kept};
+
+use crate::spelling::fill_body;
+use crate::stores::AptplStore;
+use gate_journal::JournalError;
+use pr_core::{Keeper, KeeperError, Reservations};
+use tape_disk::Disk;
+
+impl<D: Disk> Keeper for AptplStore<D> {
+    ghost use Rattle.vtl_base.specs.Below.{advances_nowhere};
+    ghost use Rattle.accepting.specs.Events.{core_moves_nowhere, core_moves_on};
+    ghost use Rattle.aptpl_store.specs.Kept.{core_of, store_below, store_kept, store_rules};
+    ghost use Rattle.aptpl_store.specs.State.{OpenStore};
+
+    ghost kept = { store_kept };
+
+    ghost below = { store_below D.state };
+
+    /// Saves these reservations as one frame, in four calls of the disk, two of them syncs. At Ok they are
+    /// sure. Within what is reserved it takes no memory. After `Device` the side has the frame or not, and
+    /// nothing more is written; after every other error nothing changed.
+    fn save(&mut self, reservations: &Reservations) -> Result<(), KeeperError>
+        ensures answer { Saves (store_kept self.old) reservations.now result (store_kept self.new) }
+        ensures advances { Advances (store_below D.state)
+            self.old (saved_by result reservations.now) (save_met_fault result) self.new }
+        ensures saves { SavesState self.old reservations.now result self.new }
+        ensures sure { (D.state self.old.disk).honest → OnOk result
+            (Each (D.state self.new.disk) (OpensAs self.new.heading (power_loss reservations.now))) }
+        ensures any_moment { (D.state self.old.disk).honest → self.old.failed ≡ false →
+            LeavesOnly (D.state self.old.disk) (D.state self.new.disk)
+            (OpensAsEither self.old.heading (latest self.old.states) reservations.now) }
+    {
+        fill_body(&mut self.body, reservations.state());
+        match self.journal.append(&self.body) {
+            Ok(()) => {
+                self.noted = self.noted.with_state(reservations);
+                Ok(())
+            }
+            Err(JournalError::Device(_)) => {
+                self.noted = self.noted.with_torn(reservations);
+                Err(KeeperError::Device)
+            }
+            Err(JournalError::NoMemory) => Err(KeeperError::NoMemory),
+            Err(JournalError::SideFull) => Err(KeeperError::SideFull),
+            Err(JournalError::Failed) => Err(KeeperError::Failed),
+            Err(JournalError::NotOurs) => unreachable!(),
+            Err(JournalError::Damaged { .. }) => unreachable!(),
+        }
+    }
+
+    fn has_failed(&self) -> bool {
+        self.journal.has_failed()
+    }
+
+    ghost advances_nowhere = { λ store. advances_nowhere (store_below D.state)
+        (λ (value : OpenStore D). core_moves_nowhere store_rules (D.state value.disk) (core_of value) (D.is_disk value.disk))
+        store };
+
+    ghost moves_on = { λ a b c first second one two.
+        core_moves_on store_rules (D.state a.disk) (D.state b.disk) (D.state c.disk)
+        (core_of a) (core_of b) (core_of c) first second one two };
+}

@@ -1,0 +1,112 @@
+//! An open store.
+ghost use Rattle.std.specs.Prelude.{◌≡◌, length, false, is_some, unwrap_or};
+ghost use Rattle.tape_disk.specs.Disk.{Each};
+ghost use Rattle.gate_journal.specs.declared.header.SideKind.TheVariants as Kinds;
+ghost use Rattle.gate_journal.specs.State.{room_behind};
+ghost use Rattle.gate_journal.specs.Side.{spell};
+ghost use Rattle.aptpl_store.specs.Contents.{GivesStates, OpensAs, OpensAsEither, ShowsStates, bodies_of, latest};
+ghost use Rattle.pr_core.specs.States.{power_loss};
+
+use crate::noted::Noted;
+use gate_journal::Journal;
+use gate_journal::header::NAME_BYTES;
+use std::marker::Model;
+use tape_disk::Disk;
+
+/// The saved reservations of a drive, open on a disk. After a device fault it has failed until it is opened
+/// again.
+#[derive(Drop)]
+pub struct AptplStore<D: Disk> {
+    pub(crate) journal: Journal<D>,
+    // The next frame's body is put together here; there is room for the longest.
+    pub(crate) body: Vec<u8>,
+    pub(crate) noted: Noted,
+}
+
+impl<D: Disk> Model for AptplStore<D> {
+    ghost use Rattle.std.specs.Prelude.{vec_capacity};
+    ghost use Rattle.gate_journal.specs.State.{room_behind};
+    ghost use Rattle.aptpl_store.specs.Inner.Open.{IsOpen, StoresStates};
+    ghost use Rattle.aptpl_store.specs.State.{OpenStore, store_code};
+
+    ghost Value = { OpenStore D };
+
+    ghost coded = { store_code D.code };
+
+    ghost view = { λ a. record {
+      disk = a.journal.disk;
+      heading = a.journal.heading;
+      states = a.noted.notes.states;
+      torn = a.noted.notes.torn;
+      failed = a.journal.failed;
+      room = room_behind a.journal.end;
+      reserved = a.journal.reserved;
+    } };
+
+    ghost invariant = { λ a.
+        IsOpen a.journal.heading a.journal.extents a.journal.failed (vec_capacity a.body) a.noted.notes
+        × ((D.state a.journal.disk).honest →
+        StoresStates (D.state a.journal.disk) a.journal.heading a.journal.bodies a.noted.notes) };
+}
+
+impl<D: Disk> AptplStore<D> {
+    /// It is a drive's store, and has failed just where a state is under way. Where the disk is honest, each
+    /// image that a crash now may leave gives the states, or these with the one whose save was under way
+    /// when the disk failed; and it opens as what a loss of power leaves of the state that was saved last,
+    /// or of that one. The room is what the side's spelling leaves.
+    pub fn known(&self)
+        ensures kind { self.now.heading.kind ≡ Kinds.Store }
+        ensures at_rest { self.now.failed ≡ is_some self.now.torn }
+        ensures shows { (D.state self.now.disk).honest →
+            Each (D.state self.now.disk)
+            (ShowsStates self.now.heading self.now.states self.now.torn) }
+        ensures opens { (D.state self.now.disk).honest →
+            Each (D.state self.now.disk) (OpensAsEither self.now.heading
+            (latest self.now.states) (unwrap_or self.now.torn (latest self.now.states))) }
+        ensures sure { (D.state self.now.disk).honest → self.now.failed ≡ false →
+            Each (D.state self.now.disk) (GivesStates self.now.heading self.now.states) }
+        ensures room { (D.state self.now.disk).honest → self.now.room
+            ≡ room_behind (length (spell self.now.heading (bodies_of self.now.states))) }
+    {
+        // Looked at for the proof's sake: the facts are the type's.
+        self.journal.known();
+        let _ = &self.noted;
+    }
+
+    /// The name in the header: `DRIVE` and the drive's number, with spaces behind it up to 16 bytes.
+    pub fn name(&self) -> &[u8; NAME_BYTES]
+        ensures { result.now ≡ self.now.heading.name }
+    {
+        &self.journal.header().name
+    }
+
+    /// How many frames the side has: one for each state that was saved.
+    pub fn frames(&self) -> usize
+        ensures { result ≡ length self.now.states }
+    {
+        self.journal.frames()
+    }
+
+    /// The bytes that may still be added to the side, up to 1,099,511,627,776 in all with the end gate. A
+    /// state takes 9, and 9 for each registration.
+    pub fn room(&self) -> u64
+        ensures { result ≡ self.now.room }
+    {
+        self.journal.room()
+    }
+
+    /// The disk, to be looked at.
+    pub fn disk(&self) -> &D
+        ensures { result.now ≡ self.now.disk }
+    {
+        self.journal.disk()
+    }
+
+    /// Gives the disk back.
+    pub fn close(self) -> D
+        ensures { result ≡ self.disk }
+    {
+        let AptplStore { journal, .. } = self;
+        journal.close()
+    }
+}

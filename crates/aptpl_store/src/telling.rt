@@ -1,0 +1,91 @@
+//! The state that a body spells, if it spells one.
+ghost use Rattle.std.specs.Prelude.{◌≡◌, ◌≤◌, length, vec_capacity, IfSome, IfNone};
+ghost use Rattle.pr_core.specs.declared.states.PrState.{PrState};
+ghost use Rattle.aptpl_store.specs.Spelling.{Spells};
+ghost use Rattle.aptpl_store.specs.Inner.Told.{begins_with, behind, held_told, key_told, keys_told, nexus_told, nexuses_from, state_told};
+ghost use Rattle.scsi_lists.specs.Actions.{type_of};
+
+use crate::spelling::{HEAD_BYTES, REGISTRATION_BYTES, STATE_BYTES, fill_body};
+use byteorder::{BigEndian, ByteOrder};
+use pr_core::{PrState, Reservation, Reservations};
+use scsi_lists::PrType;
+use vtl_base::Nexus;
+use vtl_base::limits::NEXUSES;
+
+// Whether the bytes begin with the registration of a nexus.
+fn begins_with(number: u8, bytes: &[u8]) -> bool
+    ensures { result ≡ begins_with number bytes.now }
+{
+    bytes.len() >= REGISTRATION_BYTES && bytes[0] == number
+}
+
+// The key of a nexus, where the bytes begin with its registration, and what lies behind that.
+fn key_told(number: u8, bytes: &[u8]) -> (Option<u64>, &[u8])
+    ensures key { result.0 ≡ key_told number bytes.now }
+    ensures behind { result.1.now ≡ behind number bytes.now }
+{
+    if begins_with(number, bytes) {
+        (
+            Some(BigEndian::read_u64(&bytes[1..])),
+            &bytes[REGISTRATION_BYTES..],
+        )
+    } else {
+        (None, bytes)
+    }
+}
+
+// The keys by rising nexus, of which each may have its registration next.
+fn keys_told(bytes: &[u8]) -> [Option<u64>; 64]
+    ensures { result ≡ keys_told (nexuses_from 1) bytes.now }
+{
+    let mut keys = [None; 64];
+    let mut rest = bytes;
+    for number in 1..=NEXUSES {
+        let (key, behind) = key_told(number, rest);
+        keys[number as usize - 1] = key;
+        rest = behind;
+    }
+    keys
+}
+
+// A reservation of this type, if it is one, with this holder, if it is one.
+fn held_told(kind: u8, holder: u8) -> Option<Reservation>
+    ensures { result ≡ held_told (type_of kind) (nexus_told holder) }
+{
+    Some(Reservation {
+        kind: PrType::of(kind)?,
+        holder: Nexus::new(holder),
+    })
+}
+
+// What a body of four bytes and more would spell.
+fn state_told(body: &[u8]) -> PrState
+    requires { 4 ≤ length body.now }
+    ensures { result ≡ state_told body.now }
+{
+    PrState {
+        keys: keys_told(&body[HEAD_BYTES..]),
+        reservation: held_told(body[1], body[2]),
+        aptpl: body[0] == 1,
+        generation: 0,
+    }
+}
+
+// The reservations that a body spells, if it spells some: those that it would spell, where their spelling
+// is the body itself.
+pub(crate) fn decode(body: &[u8], spelled: &mut Vec<u8>) -> Option<Reservations>
+    requires room { STATE_BYTES ≤ vec_capacity spelled.old }
+    ensures some { IfSome result (λ reservations. Spells reservations body.now) }
+    ensures none { IfNone result ((state : PrState) → Spells state body.now → ⊥) }
+    ensures room { STATE_BYTES ≤ vec_capacity spelled.new }
+{
+    if body.len() < HEAD_BYTES {
+        return None;
+    }
+    let reservations = Reservations::of(state_told(body))?;
+    fill_body(spelled, reservations.state());
+    if spelled.as_slice() != body {
+        return None;
+    }
+    Some(reservations)
+}
