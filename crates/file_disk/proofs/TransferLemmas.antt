@@ -1,12 +1,22 @@
 -- Reads and writes that are gone on with.
-use Rattle.std.proofs.Common.{◌≡◌, ℕ, ◌+◌, ◌-◌, ◌<◌, ◌≤◌, List, [], ◌++◌, length, take, drop, refl, sym, ap, ◌∙◌, subst, inl, inr, arith, append_assoc, length-append, take-append-drop}
-use Rattle.std.specs.Prelude.{slice_range}
+use Rattle.std.proofs.Common.{◌≡◌, ℕ, ◌+◌, ◌-◌, ◌<◌, ◌≤◌, List, [], ◌++◌, length, take, drop, refl, sym, ap, ◌∙◌, subst, inl, inr, arith, Ok, Err, append_assoc, length-append, take-append-drop}
+use Rattle.std.specs.Prelude.{slice_range, Result, OnErr}
 use Rattle.std.proofs.lemmas.List.{append-nil, drop-drop, drop-take, drop_at, length-drop, length-take, length-take-le, take-take, take_at}
 use Rattle.tape_disk.specs.CallLog.{smears}
-use Rattle.tape_disk.specs.Disk.{DiskState, Elapses, Follows, IsDisk, Same, Smeared, overwritten}
+use Rattle.tape_disk.specs.Disk.{DiskState, Elapses, Follows, IsDisk, Same, Smeared, Writes, overwritten}
+use Rattle.vtl_base.specs.declared.faults.DevFault.{DevFault}
 use Rattle.file_disk.specs.Inner.Transfers.{HasRead, HasWritten}
 use Rattle.file_disk.proofs.RunLemmas.{ran_none, ran_on}
 use Rattle.file_disk.proofs.SmearLemmas.{smeared_same, smeared_twice, smeared_wider}
+
+-- a fact of every error
+pub on_err : {T E : Type 0} (P : Type 0) (result : Result T E) → P → OnErr result P
+on_err P (Ok value) fact = tt
+on_err P (Err error) fact = fact
+
+-- one call fewer is left
+pub calls_on : (all left : ℕ) → 0 < left → left ≤ all → all - left + 1 ≡ all - (left - 1)
+calls_on all left some within = omega (arith, some, within)
 
 -- the bytes of a range, by its length
 pub range_of : (xs : List ℕ) (at n : ℕ) → slice_range xs at (at + n) ≡ take n (drop at xs)
@@ -75,40 +85,46 @@ overwritten_on at done count bytes old inside more within =
     = sym (append_assoc (take at old) (take done bytes) tail) in
     let long : length (take done bytes) + length part ≡ length (take count bytes)
     = sym (length-append (take done bytes) part) ∙ ap length whole in
+    let ends : at + length (take done bytes) + length part ≡ at + length (take count bytes) = omega (arith, long) in
     ap (λ (l : List ℕ). overwritten (at + done) part l) mid_is
-    ∙ ap (λ (l : List ℕ). l ++ part ++ drop (at + done + length part) (front ++ tail)) (take_at front tail (at + done) size)
+    ∙ ap (λ (l : List ℕ). l ++ part ++ drop (at + done + length part) (front ++ tail))
+    (take_at front tail (at + done) size)
     ∙ ap (λ (l : List ℕ). front ++ part ++ l)
     (sym (drop-drop (length part) (at + done) (front ++ tail))
     ∙ ap (λ (l : List ℕ). drop (length part) l) (drop_at front tail (at + done) size)
     ∙ drop-drop (length part) (at + length (take done bytes)) old
-    ∙ ap (λ (m : ℕ). drop m old)
-    (let end : at + length (take done bytes) + length part ≡ at + length (take count bytes) = omega (arith, long) in end))
+    ∙ ap (λ (m : ℕ). drop m old) ends)
     ∙ append_assoc (take at old) (take done bytes) (part ++ drop (at + length (take count bytes)) old)
     ∙ ap (λ (l : List ℕ). take at old ++ l)
     (sym (append_assoc (take done bytes) part (drop (at + length (take count bytes)) old))
     ∙ ap (λ (l : List ℕ). l ++ drop (at + length (take count bytes)) old) whole)
 
 module _ (at done : ℕ) (bytes : List ℕ) (within : done ≤ length bytes) where
-  -- what a write of the bytes that are left may have left, a write of all may have left
-  pub smeared_rest : (old new : List ℕ) → Smeared (at + done) (length (drop done bytes)) old new
-      → Smeared at (length bytes) old new
-  smeared_rest old new = smeared_wider at (length bytes) (at + done) (length (drop done bytes)) (omega arith)
-      (omega (arith, within, length-drop done bytes)) old new
+  -- the bytes that are left
+  rest : List ℕ
+  rest = slice_range bytes done (length bytes)
 
-  pub crash_rest : (old new : List ℕ → Type 0) → Follows (Smeared (at + done) (length (drop done bytes))) old new
+  ends : at + done + length rest ≤ at + length bytes
+  ends = omega (arith, within, length-take (length bytes - done) (drop done bytes), length-drop done bytes)
+
+  -- what a write of the bytes that are left may have left, a write of all may have left
+  pub smeared_rest : (old new : List ℕ) → Smeared (at + done) (length rest) old new → Smeared at (length bytes) old new
+  smeared_rest old new = smeared_wider at (length bytes) (at + done) (length rest) (omega arith) ends old new
+
+  pub crash_rest : (old new : List ℕ → Type 0) → Follows (Smeared (at + done) (length rest)) old new
       → Follows (Smeared at (length bytes)) old new
   crash_rest old new crash image left =
       let torn = crash image left in
       (torn.0, torn.1.0, smeared_rest torn.0 image torn.1.1)
 
   -- some of the bytes that are left were written
-  pub smeared_some : (count : ℕ) (old new : List ℕ) → new ≡ overwritten (at + done) (take count (drop done bytes)) old
+  pub smeared_some : (count : ℕ) (old new : List ℕ) → new ≡ overwritten (at + done) (take count rest) old
       → Smeared at (length bytes) old new
   smeared_some count old new written =
-      let part : List ℕ = take count (drop done bytes) in
-      subst (Smeared at (length bytes) old) (sym written)
+      let part : List ℕ = take count rest in
+      subst (λ (l : List ℕ). Smeared at (length bytes) old l) (sym written)
       (smeared_wider at (length bytes) (at + done) (length part) (omega arith)
-      (omega (arith, within, length-take count (drop done bytes), length-drop done bytes)) old
+      (omega (arith, ends, length-take count rest)) old
       (overwritten (at + done) part old) (smears (at + done) part old))
 
 -- nothing was written yet
@@ -121,7 +137,7 @@ written_none at bytes state = record {
   keeps = λ image left. left;
 }
 
-module _ (calls at done count : ℕ) (bytes : List ℕ) (old mid new : DiskState) where
+module _ (calls at done : ℕ) (bytes : List ℕ) (old mid new : DiskState) where
   -- what one call more leaves, whatever it answered
   pub smeared_more : HasWritten calls at done bytes old mid → Smeared at (length bytes) mid.seen new.seen
       → Smeared at (length bytes) old.seen new.seen
@@ -136,14 +152,14 @@ module _ (calls at done count : ℕ) (bytes : List ℕ) (old mid new : DiskState
       (first.0, first.1.0, smeared_twice at (length bytes) first.0 last.0 image first.1.1 last.1.1)
 
   -- one call more
-  pub written_more : at ≤ length old.seen → done ≤ count → count ≤ length bytes
+  pub written_more : (count : ℕ) → at ≤ length old.seen → done ≤ count → count ≤ length bytes
       → HasWritten calls at done bytes old mid → Elapses mid new
       → new.seen ≡ overwritten (at + done) (slice_range bytes done count) mid.seen
       → Smeared at (length bytes) mid.seen new.seen
       → Follows (Smeared at (length bytes)) mid.may_leave new.may_leave
       → ((image : List ℕ) → mid.may_leave image → new.may_leave image)
       → HasWritten (calls + 1) at count bytes old new
-  written_more inside more within so_far time written torn crash keeps = record {
+  written_more count inside more within so_far time written torn crash keeps = record {
     ran = ran_on calls old mid new so_far.ran time (λ t image le leaves. inr (keeps image leaves));
     seen = written
         ∙ ap (λ (l : List ℕ). overwritten (at + done) (slice_range bytes done count) l) so_far.seen
@@ -152,3 +168,13 @@ module _ (calls at done count : ℕ) (bytes : List ℕ) (old mid new : DiskState
     crash = crash_more so_far crash;
     keeps = λ image left. keeps image (so_far.keeps image left);
   }
+
+-- a call that failed and changed nothing is a write that failed
+pub not_written : (old new : DiskState) → Same old new → (fault : DevFault) (at : ℕ) (bytes : List ℕ)
+    → Writes at bytes (Err fault) old new
+not_written old new same fault at bytes = record {
+  written = tt;
+  smeared = subst (λ (l : List ℕ). Smeared at (length bytes) old.seen l) (sym same.seen)
+      (smeared_same at (length bytes) old.seen);
+  crash = λ image left. (image, same.crash image left, smeared_same at (length bytes) image);
+}

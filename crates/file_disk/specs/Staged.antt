@@ -20,5 +20,5 @@ abbrev pub staged_log : StagedFile → CallLog
 staged_log file = mem_log file.disk
 
 -- that of the disk below; a file counts no failures (own)
-abbrev pub staged_state : StagedFile → DiskState
-staged_state file = state_of (staged_log file) 0
+abbrev pub staged_file_state : StagedFile → DiskState
+staged_file_state file = state_of (staged_log file) 0
