@@ -5,33 +5,33 @@ use Rattle.tape_disk.specs.CallLog.{Wrote, CallLog, idled, kept, logged, state_o
 use Rattle.tape_disk.specs.Disk.{Smeared, WriteAt}
 use Rattle.file_disk.specs.declared.raw.CallFailed.{CallFailed}
 use Rattle.file_disk.specs.declared.raw.Stop.{Stop}
-use Rattle.file_disk.specs.RawFile.{CutsFile, WritesPart}
+use Rattle.file_disk.specs.RawFile.{CutsFile, WritesSomeBytes}
 use Rattle.file_disk.proofs.SmearLemmas.{smeared_same, smeared_wider}
 
 module _ (log mid new : CallLog) (same : mid ≡ log) where
   -- the first of the bytes were written
   pub staged_wrote : (at count : ℕ) (bytes : List ℕ) → new ≡ logged (WriteAt at (take count bytes)) mid
-      → WritesPart at bytes (Ok count) (state_of log 0) (state_of new 0)
+      → WritesSomeBytes at bytes (Ok count) (state_of log 0) (state_of new 0)
   staged_wrote at count bytes is =
       let size : length (take count bytes) ≤ length bytes = omega (arith, length-take count bytes) in
-      subst (λ (l : CallLog). WritesPart at bytes (Ok count) (state_of log 0) (state_of l 0))
+      subst (λ (l : CallLog). WritesSomeBytes at bytes (Ok count) (state_of log 0) (state_of l 0))
       (sym (is ∙ ap (λ (l : CallLog). logged (WriteAt at (take count bytes)) l) same)) (record {
         written = refl;
         none = tt;
         smeared = tt;
         crash = λ image left. (
-          left.0, left.1.0,
+          left.0, left.1,
           smeared_wider at (length bytes) at (length (take count bytes)) (omega arith) (omega (arith, size))
-              left.0 image left.1.1,
+              left.0 image left.2,
         );
         keeps = λ image left. (image, left, smeared_same at (length (take count bytes)) image);
       })
 
   -- nothing was written
   pub staged_stopped : (at : ℕ) (bytes : List ℕ) (stop : Stop) → new ≡ idled mid
-      → WritesPart at bytes (Err stop) (state_of log 0) (state_of new 0)
+      → WritesSomeBytes at bytes (Err stop) (state_of log 0) (state_of new 0)
   staged_stopped at bytes stop is =
-      subst (λ (l : CallLog). WritesPart at bytes (Err stop) (state_of log 0) (state_of l 0))
+      subst (λ (l : CallLog). WritesSomeBytes at bytes (Err stop) (state_of log 0) (state_of l 0))
       (sym (is ∙ ap idled same)) (record {
         written = tt;
         none = λ interrupted. refl;

@@ -81,57 +81,58 @@ overwritten_on at done count bytes old inside more within =
     let whole : take done bytes ++ part ≡ take count bytes
     = sym (take_sum done (count - done) bytes)
       ∙ ap (λ (m : ℕ). take m bytes) (let all : done + (count - done) ≡ count = omega (arith, more) in all) in
-    let mid_is : overwritten at (take done bytes) old ≡ front ++ tail
-    = sym (append_assoc (take at old) (take done bytes) tail) in
     let long : length (take done bytes) + length part ≡ length (take count bytes)
     = sym (length-append (take done bytes) part) ∙ ap length whole in
-    let ends : at + length (take done bytes) + length part ≡ at + length (take count bytes) = omega (arith, long) in
-    ap (λ (l : List ℕ). overwritten (at + done) part l) mid_is
-    ∙ ap (λ (l : List ℕ). l ++ part ++ drop (at + done + length part) (front ++ tail))
+    let place : at + length (take done bytes) + length part ≡ at + length (take count bytes) = omega (arith, long) in
+    ap (λ (l : List ℕ). l ++ part ++ drop (at + done + length part) (front ++ tail))
     (take_at front tail (at + done) size)
     ∙ ap (λ (l : List ℕ). front ++ part ++ l)
     (sym (drop-drop (length part) (at + done) (front ++ tail))
     ∙ ap (λ (l : List ℕ). drop (length part) l) (drop_at front tail (at + done) size)
     ∙ drop-drop (length part) (at + length (take done bytes)) old
-    ∙ ap (λ (m : ℕ). drop m old) ends)
-    ∙ append_assoc (take at old) (take done bytes) (part ++ drop (at + length (take count bytes)) old)
-    ∙ ap (λ (l : List ℕ). take at old ++ l)
-    (sym (append_assoc (take done bytes) part (drop (at + length (take count bytes)) old))
-    ∙ ap (λ (l : List ℕ). l ++ drop (at + length (take count bytes)) old) whole)
+    ∙ ap (λ (m : ℕ). drop m old) place)
+    ∙ ap (λ (l : List ℕ). l ++ drop (at + length (take count bytes)) old)
+    (append_assoc (take at old) (take done bytes) part ∙ ap (λ (l : List ℕ). take at old ++ l) whole)
+
+-- the bytes that are left
+abbrev pub rest_of : List ℕ → ℕ → List ℕ
+rest_of bytes done = take (length bytes - done) (drop done bytes)
 
 module _ (at done : ℕ) (bytes : List ℕ) (within : done ≤ length bytes) where
-  -- the bytes that are left
-  rest : List ℕ
-  rest = slice_range bytes done (length bytes)
-
-  ends : at + done + length rest ≤ at + length bytes
+  ends : at + done + length (take (length bytes - done) (drop done bytes)) ≤ at + length bytes
   ends = omega (arith, within, length-take (length bytes - done) (drop done bytes), length-drop done bytes)
 
   -- what a write of the bytes that are left may have left, a write of all may have left
-  pub smeared_rest : (old new : List ℕ) → Smeared (at + done) (length rest) old new → Smeared at (length bytes) old new
-  smeared_rest old new = smeared_wider at (length bytes) (at + done) (length rest) (omega arith) ends old new
+  pub smeared_rest : (old new : List ℕ) → Smeared (at + done) (length (rest_of bytes done)) old new
+      → Smeared at (length bytes) old new
+  smeared_rest old new =
+      smeared_wider at (length bytes) (at + done) (length (rest_of bytes done)) (omega arith) ends old new
 
-  pub crash_rest : (old new : List ℕ → Type 0) → Follows (Smeared (at + done) (length rest)) old new
+  pub crash_rest : (old new : List ℕ → Type 0) → Follows (Smeared (at + done) (length (rest_of bytes done))) old new
       → Follows (Smeared at (length bytes)) old new
   crash_rest old new crash image left =
       let torn = crash image left in
-      (torn.0, torn.1.0, smeared_rest torn.0 image torn.1.1)
+      (torn.0, torn.1, smeared_rest torn.0 image torn.2)
 
   -- some of the bytes that are left were written
-  pub smeared_some : (count : ℕ) (old new : List ℕ) → new ≡ overwritten (at + done) (take count rest) old
-      → Smeared at (length bytes) old new
+  pub smeared_some : (count : ℕ) (old new : List ℕ)
+      → new ≡ overwritten (at + done) (take count (rest_of bytes done)) old → Smeared at (length bytes) old new
   smeared_some count old new written =
-      let part : List ℕ = take count rest in
+      let part : List ℕ = take count (rest_of bytes done) in
+      let fewer : length (take count (take (length bytes - done) (drop done bytes)))
+      ≤ length (take (length bytes - done) (drop done bytes))
+      = omega (arith, length-take count (take (length bytes - done) (drop done bytes))) in
       subst (λ (l : List ℕ). Smeared at (length bytes) old l) (sym written)
-      (smeared_wider at (length bytes) (at + done) (length part) (omega arith)
-      (omega (arith, ends, length-take count rest)) old
+      (smeared_wider at (length bytes) (at + done) (length part) (omega arith) (omega (arith, ends, fewer)) old
       (overwritten (at + done) part old) (smears (at + done) part old))
 
 -- nothing was written yet
 pub written_none : (at : ℕ) (bytes : List ℕ) (state : DiskState) → HasWritten 0 at 0 bytes state state
 written_none at bytes state = record {
   ran = ran_none state;
-  seen = sym (take-append-drop at state.seen);
+  seen = sym (take-append-drop at state.seen)
+      ∙ ap (λ (l : List ℕ). l ++ drop at state.seen) (sym (append-nil (take at state.seen)))
+      ∙ ap (λ (m : ℕ). take at state.seen ++ [] ++ drop m state.seen) (let here : at ≡ at + 0 = omega arith in here);
   smeared = smeared_same at (length bytes) state.seen;
   crash = λ image left. (image, left, smeared_same at (length bytes) image);
   keeps = λ image left. left;
@@ -148,8 +149,8 @@ module _ (calls at done : ℕ) (bytes : List ℕ) (old mid new : DiskState) wher
       → Follows (Smeared at (length bytes)) old.may_leave new.may_leave
   crash_more so_far crash image left =
       let last = crash image left in
-      let first = so_far.crash last.0 last.1.0 in
-      (first.0, first.1.0, smeared_twice at (length bytes) first.0 last.0 image first.1.1 last.1.1)
+      let first = so_far.crash last.0 last.1 in
+      (first.0, first.1, smeared_twice at (length bytes) first.0 last.0 image first.2 last.2)
 
   -- one call more
   pub written_more : (count : ℕ) → at ≤ length old.seen → done ≤ count → count ≤ length bytes

@@ -13,7 +13,7 @@ pub record IsAsHonest (old new : DiskState) : Type 0 where
 -- A call that writes the first of the bytes, from a place on. What it wrote a read gives; a call that was
 -- interrupted wrote none. After an error a read may give any bytes in the range, and from the old end on; so may
 -- a crash, until a sync. No write makes sure what was not sure before (POSIX, pwrite).
-pub record WritesPart (at : ℕ) (bytes : List ℕ) (result : Result ℕ Stop) (old new : DiskState) : Type 0 where
+pub record WritesSomeBytes (at : ℕ) (bytes : List ℕ) (result : Result ℕ Stop) (old new : DiskState) : Type 0 where
   pub written : IfOk result (λ count. new.seen ≡ overwritten at (take count bytes) old.seen)
   pub none : IfErr result (λ stop. stop ≡ Interrupted → new.seen ≡ old.seen)
   pub smeared : OnErr result (Smeared at (length bytes) old.seen new.seen)

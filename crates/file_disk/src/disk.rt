@@ -62,7 +62,7 @@ fn measured<F: RawFile>(file: &F, last: u64) -> Size
 }
 
 // Whether a file may have so many bytes from that place on.
-fn fits(at: u64, count: usize) -> bool
+pub(crate) fn fits(at: u64, count: usize) -> bool
     ensures { IsTrue result → at + count < 2 ^ 63 }
 {
     at <= MAX_FILE && count as u64 <= MAX_FILE - at

@@ -1,7 +1,7 @@
 //! An open file by the calls that a system has for it, and what an honest system makes of each.
 ghost use Rattle.std.specs.Prelude.{◌≡◌, ◌≤◌, ◌+◌, length, take, IfOk, Result, Some, slice_range};
 ghost use Rattle.tape_disk.specs.Disk.{DiskState, IsDisk, Elapses, Same};
-ghost use Rattle.file_disk.specs.RawFile.{IsAsHonest, WritesPart, CutsFile, SyncsFile};
+ghost use Rattle.file_disk.specs.RawFile.{IsAsHonest, WritesSomeBytes, CutsFile, SyncsFile};
 
 use std::fmt::Debug;
 
@@ -46,7 +46,7 @@ pub trait RawFile {
         ensures honesty { IsAsHonest (state self.old) (state self.new) }
         ensures time { (state self.old).honest → Elapses (state self.old) (state self.new) }
         ensures writes { (state self.old).honest →
-            WritesPart at bytes.now result (state self.old) (state self.new) };
+            WritesSomeBytes at bytes.now result (state self.old) (state self.new) };
 
     /// Takes away the bytes from a place on. The place is the end at most.
     fn cut(&mut self, len: u64) -> Result<(), CallFailed>

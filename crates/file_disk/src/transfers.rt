@@ -1,7 +1,7 @@
 //! Reads and writes that go on where a call moved fewer bytes than were asked for.
 ghost use Rattle.std.specs.Prelude.{◌≡◌, ◌+◌, ◌<◌, ◌≤◌, ◌^◌, ℕ, List, length, take, IfOk, OnOk, OnErr, slice_range};
 ghost use Rattle.tape_disk.specs.Disk.{Elapses, Follows, Same, Smeared, overwritten};
-ghost use Rattle.file_disk.specs.RawFile.{IsAsHonest, WritesPart};
+ghost use Rattle.file_disk.specs.RawFile.{IsAsHonest, WritesSomeBytes};
 
 use crate::raw::{CallFailed, RawFile, Stop};
 
