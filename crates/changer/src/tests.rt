@@ -37,7 +37,10 @@ fn what_is_refused(rt: HostRuntime) -> Result<(), Fail> {
         match slots.place(address, Tape(7)) {
             Ok(()) => assert!(rt; false, "placed at {address}"),
             Err(refused) => {
-                assert_eq!(rt; (refused.error, refused.value), (SlotError::BadAddress, Tape(7)));
+                assert_eq!(rt;
+                    (refused.error, refused.value),
+                    (SlotError::BadAddress, Tape(7))
+                );
             }
         }
         assert_eq!(rt; slots.take(address), Err(SlotError::BadAddress));

@@ -44,18 +44,18 @@ module _ (xs ys : List ℕ) (n : ℕ) where
           let size : n ≡ length xs + (n - length xs) = omega (arith, past) in
           let rest : drop (length xs) (take n ys) ≡ take (n - length xs) begins.0
           = ap (λ (m : ℕ). drop (length xs) (take m ys)) size
-            ∙ drop-take (length xs) (n - length xs) ys
-            ∙ ap (λ (l : List ℕ). take (n - length xs) (drop (length xs) l)) begins.1
-            ∙ ap (λ (l : List ℕ). take (n - length xs) l) (drop_at xs begins.0 (length xs) refl) in
+          ∙ drop-take (length xs) (n - length xs) ys
+          ∙ ap (λ (l : List ℕ). take (n - length xs) (drop (length xs) l)) begins.1
+          ∙ ap (λ (l : List ℕ). take (n - length xs) l) (drop_at xs begins.0 (length xs) refl) in
           let front : take (length xs) (take n ys) ≡ xs
           = take-take (length xs) n ys (omega (arith, past))
-            ∙ ap (λ (l : List ℕ). take (length xs) l) begins.1
-            ∙ take_at xs begins.0 (length xs) refl in (
+          ∙ ap (λ (l : List ℕ). take (length xs) l) begins.1
+          ∙ take_at xs begins.0 (length xs) refl in (
             take (n - length xs) begins.0,
             sym (take-append-drop (length xs) (take n ys))
-            ∙ ap (λ (l : List ℕ). l ++ drop (length xs) (take n ys)) front
-            ∙ ap (λ (l : List ℕ). xs ++ l) rest
-            ∙ ap (λ (l : List ℕ). l ++ take (n - length xs) begins.0) (sym (take_all n xs (omega (arith, past)))),
+                ∙ ap (λ (l : List ℕ). l ++ drop (length xs) (take n ys)) front
+                ∙ ap (λ (l : List ℕ). xs ++ l) rest
+                ∙ ap (λ (l : List ℕ). l ++ take (n - length xs) begins.0) (sym (take_all n xs (omega (arith, past)))),
           )
 
 -- nothing was written, and that is no more than a write may have left

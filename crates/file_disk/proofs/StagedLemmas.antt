@@ -20,7 +20,8 @@ module _ (log mid new : CallLog) (same : mid ≡ log) where
         none = tt;
         smeared = tt;
         crash = λ image left. (
-          left.0, left.1,
+          left.0,
+          left.1,
           smeared_wider at (length bytes) at (length (take count bytes)) (omega arith) (omega (arith, size))
               left.0 image left.2,
         );

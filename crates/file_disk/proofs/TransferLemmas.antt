@@ -80,7 +80,7 @@ overwritten_on at done count bytes old inside more within =
     = omega (arith, first, length-append (take at old) (take done bytes), length-take-le at old inside) in
     let whole : take done bytes ++ part ≡ take count bytes
     = sym (take_sum done (count - done) bytes)
-      ∙ ap (λ (m : ℕ). take m bytes) (let all : done + (count - done) ≡ count = omega (arith, more) in all) in
+    ∙ ap (λ (m : ℕ). take m bytes) (let all : done + (count - done) ≡ count = omega (arith, more) in all) in
     let long : length (take done bytes) + length part ≡ length (take count bytes)
     = sym (length-append (take done bytes) part) ∙ ap length whole in
     let place : at + length (take done bytes) + length part ≡ at + length (take count bytes) = omega (arith, long) in

@@ -110,8 +110,14 @@ fn what_is_refused(rt: HostRuntime) -> Result<(), Fail> {
     assert!(rt; !fs::exists(&rt, missing.as_str())?);
     let disk = open(&rt, kept.as_str())?;
     assert_eq!(rt; refusal(open(&rt, kept.as_str())), Some(FileError::InUse));
-    assert_eq!(rt; refusal(open_to_read(&rt, kept.as_str())), Some(FileError::InUse));
-    assert_eq!(rt; refusal(create(&rt, kept.as_str())), Some(FileError::Exists));
+    assert_eq!(rt;
+        refusal(open_to_read(&rt, kept.as_str())),
+        Some(FileError::InUse)
+    );
+    assert_eq!(rt;
+        refusal(create(&rt, kept.as_str())),
+        Some(FileError::Exists)
+    );
     drop(disk);
     assert!(rt; open(&rt, kept.as_str()).is_ok());
     let bytes = fs::read(&rt, kept.as_str())?;
@@ -193,7 +199,10 @@ fn each_error_is_counted(rt: HostRuntime) -> Result<(), Fail> {
     assert_eq!(rt; (failures(disk.sync()), disk.file().disk().syncs()), (5, 0));
     assert_eq!(rt; (failures(disk.sync()), disk.file().disk().syncs()), (0, 1));
     assert_eq!(rt; failures(cut_to(&mut disk, 1)), 0);
-    assert_eq!(rt; (disk.len(), disk.file().disk().bytes()), (1, b"a".as_slice()));
+    assert_eq!(rt;
+        (disk.len(), disk.file().disk().bytes()),
+        (1, b"a".as_slice())
+    );
     Ok(())
 }
 
@@ -268,7 +277,13 @@ fn a_length_that_is_not_told(rt: HostRuntime) {
     assert_eq!(rt; failures(put(&mut disk, 0, b"x")), 1);
     assert_eq!(rt; (failures(put(&mut disk, 0, b"xyz")), disk.len()), (0, 3));
     let mut disk = DiskOver::new(Untold { calls: 0 });
-    assert_eq!(rt; (failures(cut_to(&mut disk, 0)), failures(cut_to(&mut disk, 0))), (1, 0));
+    assert_eq!(rt;
+        (
+            failures(cut_to(&mut disk, 0)),
+            failures(cut_to(&mut disk, 0))
+        ),
+        (1, 0)
+    );
 }
 
 // Writes in another thread, and gives the disk back.

@@ -25,7 +25,7 @@ fn read_on<F: RawFile>(
     ensures bytes { (F.state file.old).honest →
         take done buffer.old ≡ slice_range (F.state file.old).seen at (at + done) →
         IfOk result
-            (λ count. take count buffer.new ≡ slice_range (F.state file.old).seen at (at + count)) }
+        (λ count. take count buffer.new ≡ slice_range (F.state file.old).seen at (at + count)) }
 {
     match file.read_some(at + done as u64, &mut buffer[done..]) {
         Ok(count) => {
@@ -100,11 +100,7 @@ fn write_on<F: RawFile>(
 }
 
 /// Writes all bytes from a place on, in as many calls as that takes.
-pub(crate) fn write_all<F: RawFile>(
-    file: &mut F,
-    at: u64,
-    bytes: &[u8],
-) -> Result<(), CallFailed>
+pub(crate) fn write_all<F: RawFile>(file: &mut F, at: u64, bytes: &[u8]) -> Result<(), CallFailed>
     requires place { at + length bytes.now < 2 ^ 63 }
     requires inside { (F.state file.old).honest → at ≤ length (F.state file.old).seen }
     ensures honesty { IsAsHonest (F.state file.old) (F.state file.new) }

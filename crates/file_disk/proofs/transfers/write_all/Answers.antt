@@ -62,11 +62,11 @@ loop-left-preserved g c =
       omega (arith, so.1),
       c.in_ok-done.ensures.bound.1,
       λ honest.
-      let mid = so.0.stays_honest honest in
-      subst (λ (calls : ℕ). HasWritten calls c.args.at c.in_ok-done.done bytes old new)
-      (calls_on CALLS c.loop-left.left c.loop-left-test.true so.1)
-      (written_more (CALLS - c.loop-left.left) c.args.at c.loop-left.done bytes old between new
-      c.in_ok-done.done (c.requires.inside honest) c.in_ok-done.ensures.bound.0 c.in_ok-done.ensures.bound.1
-      (so.3 honest) (c.write_on.ensures.time mid) (c.in_ok-done.ensures.written mid)
-      (c.write_on.ensures.smeared mid) (c.write_on.ensures.crash mid) (c.write_on.ensures.keeps mid)),
+          let mid = so.0.stays_honest honest in
+          subst (λ (calls : ℕ). HasWritten calls c.args.at c.in_ok-done.done bytes old new)
+          (calls_on CALLS c.loop-left.left c.loop-left-test.true so.1)
+          (written_more (CALLS - c.loop-left.left) c.args.at c.loop-left.done bytes old between new
+          c.in_ok-done.done (c.requires.inside honest) c.in_ok-done.ensures.bound.0 c.in_ok-done.ensures.bound.1
+          (so.3 honest) (c.write_on.ensures.time mid) (c.in_ok-done.ensures.written mid)
+          (c.write_on.ensures.smeared mid) (c.write_on.ensures.crash mid) (c.write_on.ensures.keeps mid)),
     )
