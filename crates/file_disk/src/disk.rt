@@ -1,5 +1,5 @@
 //! A disk over an open file.
-ghost use Rattle.std.specs.Prelude.{◌≡◌, ◌+◌, ◌-◌, ◌<◌, ◌≤◌, ◌^◌, min, true, length, IsTrue};
+ghost use Rattle.std.specs.Prelude.{◌≡◌, ◌↔◌, ◌+◌, ◌-◌, ◌<◌, ◌≤◌, ◌^◌, min, true, length, IsTrue};
 ghost use Rattle.tape_disk.specs.Disk.{Elapses, Same};
 ghost use Rattle.file_disk.specs.RawFile.{IsAsHonest};
 
@@ -63,7 +63,7 @@ fn measured<F: RawFile>(file: &F, last: u64) -> Size
 
 // Whether a file may have so many bytes from that place on.
 pub(crate) fn fits(at: u64, count: usize) -> bool
-    ensures { IsTrue result → at + count < 2 ^ 63 }
+    ensures { IsTrue result ↔ (at + count < 2 ^ 63) }
 {
     at <= MAX_FILE && count as u64 <= MAX_FILE - at
 }
@@ -117,9 +117,11 @@ impl<F: RawFile> DiskOver<F> {
 
 impl<F: RawFile> Disk for DiskOver<F> {
     ghost use Rattle.tape_disk.specs.Faults.{is_disk_over};
-    ghost use Rattle.file_disk.specs.OpenFile.{file_disk_state};
+    ghost use Rattle.file_disk.specs.OpenFile.{CountsOnce, file_disk_state};
 
     ghost state = { file_disk_state F.state };
+
+    ghost effect = { CountsOnce };
 
     ghost is_disk = { λ disk honest. is_disk_over (F.state disk.file) disk.failures
         (F.is_file disk.file honest) };
