@@ -103,7 +103,7 @@ fn open_as(rt: &HostRuntime, path: &str, options: &OpenOptions) -> Result<FileDi
     }
 }
 
-// A disk over an open file that is a regular one, above the standard streams, and locked.
+// A disk over an open file that is a regular one, above the standard streams, locked and settled.
 fn prepared(file: File) -> Result<FileDisk, FileError>
     ensures ok { IfOk result (λ disk. disk.failures ≡ 0) }
 {
@@ -116,7 +116,10 @@ fn prepared(file: File) -> Result<FileDisk, FileError>
         Err(_) => return Err(device()),
     }
     lock(&file)?;
-    Ok(DiskOver::new(SystemFile::new(file)))
+    match SystemFile::settled(file) {
+        Ok(file) => Ok(DiskOver::new(file)),
+        Err(_) => Err(device()),
+    }
 }
 
 // Where a standard stream was closed the file may have its number, and what is written to the

@@ -4,6 +4,7 @@ ghost use Rattle.std.specs.Prelude.{◌≡◌, ◌≢◌};
 use crate::raw::{CallFailed, RawFile, Stop};
 use std::fs::File;
 use std::io::ErrorKind;
+use std::os::fd::AsRawFd;
 use std::os::unix::fs::FileExt;
 
 /// An open file of the operating system. Whether it is honest no proof says.
@@ -24,9 +25,22 @@ fn stop_of(kind: ErrorKind) -> Stop
     }
 }
 
+// Has the system read the file from its device again. After a sync that failed, what it keeps of the
+// file in memory may be other than what the device has, and no later sync would write it.
+fn forget_kept(file: &File) {
+    let _ = libc::posix_fadvise(file.as_raw_fd(), 0, 0, libc::POSIX_FADV_DONTNEED);
+}
+
 impl SystemFile {
-    pub(crate) fn new(file: File) -> SystemFile {
-        SystemFile { file }
+    /// An open file, of which all is sure, also where a sync of an earlier process has failed.
+    pub(crate) fn settled(file: File) -> Result<SystemFile, CallFailed> {
+        let synced = file.sync_all().is_ok();
+        forget_kept(&file);
+        if synced {
+            Ok(SystemFile { file })
+        } else {
+            Err(CallFailed)
+        }
     }
 }
 
@@ -69,7 +83,10 @@ impl RawFile for SystemFile {
     fn sync(&mut self) -> Result<(), CallFailed> {
         match self.file.sync_all() {
             Ok(()) => Ok(()),
-            Err(_) => Err(CallFailed),
+            Err(_) => {
+                forget_kept(&self.file);
+                Err(CallFailed)
+            }
         }
     }
 }
