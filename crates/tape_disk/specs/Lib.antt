@@ -1,5 +1,6 @@
 pub mod CallLog
 pub mod Disk
+pub mod Failures
 pub mod Faults
 pub mod FuseDisk
 pub mod Inner

@@ -7,15 +7,18 @@ use vtl_base::DevFault;
 /// The failures of a disk. Their count has no bound, and the number that a fault tells is held at
 /// the greatest.
 #[derive(Drop)]
-pub(crate) struct Failures {
+pub struct Failures {
     told: u64,
     pub(crate) count: Count,
     ghost counted: { told ≡ min count.value (2 ^ 64 - 1) },
 }
 
 impl Failures {
-    pub(crate) fn none() -> Failures
-        ensures { result.count.value ≡ 0 }
+    ghost use Rattle.tape_disk.specs.Failures.{failure_count};
+
+    /// No failure yet.
+    pub fn none() -> Failures
+        ensures { failure_count result ≡ 0 }
     {
         Failures {
             told: 0,
@@ -24,9 +27,9 @@ impl Failures {
     }
 
     /// One more, and the fault that tells it.
-    pub(crate) fn rise(&mut self) -> DevFault
-        ensures count { self.new.count.value ≡ self.old.count.value + 1 }
-        ensures told { result.failures ≡ min self.new.count.value (2 ^ 64 - 1) }
+    pub fn rise(&mut self) -> DevFault
+        ensures count { failure_count self.new ≡ failure_count self.old + 1 }
+        ensures told { result.failures ≡ min (failure_count self.new) (2 ^ 64 - 1) }
     {
         let Failures { told, count } = self;
         *count = count.after();
@@ -35,7 +38,7 @@ impl Failures {
     }
 
     pub(crate) fn copy(&self) -> Failures
-        ensures { result.count.value ≡ self.now.count.value }
+        ensures { failure_count result ≡ failure_count self.now }
     {
         Failures {
             told: self.told,

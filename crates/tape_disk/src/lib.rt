@@ -14,6 +14,7 @@ mod overwrite;
 mod tests;
 
 pub use disk::Disk;
+pub use failures::Failures;
 pub use fuse::FuseDisk;
 pub use memory::MemDisk;
 pub use once::OnceDisk;

@@ -1,0 +1,10 @@
+//! The slots of a library: a place for each element address of a slot.
+#![tactic(auto)]
+
+pub mod error;
+pub mod slots;
+#[cfg(test)]
+mod tests;
+
+pub use error::{NotPlaced, SlotError};
+pub use slots::Slots;

@@ -1,0 +1,4 @@
+pub mod RunLemmas
+pub mod SmearLemmas
+pub mod StagedLemmas
+pub mod TransferLemmas

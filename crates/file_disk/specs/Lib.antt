@@ -1,0 +1,4 @@
+pub mod Inner
+pub mod OpenFile
+pub mod RawFile
+pub mod Staged

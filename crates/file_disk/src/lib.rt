@@ -1,0 +1,20 @@
+//! A disk over a file of the operating system.
+#![tactic(auto)]
+
+pub mod disk;
+pub mod opening;
+pub mod raw;
+pub mod staged;
+pub mod system;
+#[cfg(test)]
+mod tests;
+mod transfers;
+
+pub use disk::DiskOver;
+pub use opening::{FileError, create, open, open_to_read};
+pub use raw::{CallFailed, RawFile, Stop};
+pub use staged::{StagedFile, Turn};
+pub use system::SystemFile;
+
+/// A disk over a file of the operating system.
+pub type FileDisk = DiskOver<SystemFile>;

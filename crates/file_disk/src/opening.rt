@@ -1,0 +1,155 @@
+//! Making and opening the file of a disk.
+ghost use Rattle.std.specs.Prelude.{◌≡◌, IfOk, IfErr};
+ghost use Rattle.file_disk.specs.declared.opening.FileError.{FileError};
+
+use crate::FileDisk;
+use crate::disk::DiskOver;
+use crate::system::SystemFile;
+use std::fs::{File, OpenOptions, TryLockError};
+use std::io::ErrorKind;
+use std::os::fd::AsRawFd;
+use std::path::Path;
+use std::{fs, io};
+use thiserror::Error;
+use vtl_base::DevFault;
+
+/// Why a file was not made or opened.
+#[derive(Clone, Copy, PartialEq, Eq, Debug, Error)]
+pub enum FileError {
+    /// There is a file of this name, or something else. It was not touched.
+    #[error("file exists")]
+    Exists,
+    /// There is no file of this name, or not the folder that it names.
+    #[error("no such file")]
+    Missing,
+    /// What has this name is no regular file. It was not touched.
+    #[error("not a file")]
+    NotAFile,
+    /// Another process has the file open as a disk, or this one.
+    #[error("file in use")]
+    InUse,
+    /// The system reported another error. A file that was made is gone again, where the system
+    /// could take it away.
+    #[error("device fault")]
+    Device(DevFault),
+}
+
+fn device() -> FileError
+    ensures { result ≡ FileError.Device (record { failures = 1 }) }
+{
+    FileError::Device(DevFault { failures: 1 })
+}
+
+// What an error of the system means for a name.
+fn error_of(error: &io::Error) -> FileError {
+    match error.kind() {
+        ErrorKind::AlreadyExists => FileError::Exists,
+        ErrorKind::NotFound => FileError::Missing,
+        ErrorKind::IsADirectory => FileError::NotAFile,
+        _ => device(),
+    }
+}
+
+/// Makes a file of no bytes and opens it, for this process alone. At Ok the name is sure. A file
+/// that exists is not touched. The name is taken as it stands, from the working directory.
+pub fn create(rt: &HostRuntime, path: &str) -> Result<FileDisk, FileError>
+    ensures ok { IfOk result (λ disk. disk.failures ≡ 0) }
+{
+    let mut options = OpenOptions::new();
+    options.read(true).write(true).create_new(true);
+    let file = match options.open(rt, path) {
+        Ok(file) => file,
+        Err(error) => return Err(error_of(&error)),
+    };
+    match prepared(file).and_then(|disk| sync_folder(rt, path).map(|_| disk)) {
+        Ok(disk) => Ok(disk),
+        Err(error) => {
+            let _ = fs::remove_file(rt, path);
+            Err(error)
+        }
+    }
+}
+
+/// Opens a file, for this process alone.
+pub fn open(rt: &HostRuntime, path: &str) -> Result<FileDisk, FileError>
+    ensures ok { IfOk result (λ disk. disk.failures ≡ 0) }
+{
+    let mut options = OpenOptions::new();
+    options.read(true).write(true);
+    open_as(rt, path, &options)
+}
+
+/// Opens a file to be read, for this process alone: each call that would change it fails.
+pub fn open_to_read(rt: &HostRuntime, path: &str) -> Result<FileDisk, FileError>
+    ensures ok { IfOk result (λ disk. disk.failures ≡ 0) }
+{
+    let mut options = OpenOptions::new();
+    options.read(true);
+    open_as(rt, path, &options)
+}
+
+// The name is looked at first, since the opening of a pipe may wait for its other end.
+fn open_as(rt: &HostRuntime, path: &str, options: &OpenOptions) -> Result<FileDisk, FileError>
+    ensures ok { IfOk result (λ disk. disk.failures ≡ 0) }
+{
+    match fs::metadata(rt, path) {
+        Ok(found) if found.is_file() => {}
+        Ok(_) => return Err(FileError::NotAFile),
+        Err(error) => return Err(error_of(&error)),
+    }
+    match options.open(rt, path) {
+        Ok(file) => prepared(file),
+        Err(error) => Err(error_of(&error)),
+    }
+}
+
+// A disk over an open file that is a regular one, above the standard streams, locked and settled.
+fn prepared(file: File) -> Result<FileDisk, FileError>
+    ensures ok { IfOk result (λ disk. disk.failures ≡ 0) }
+{
+    let Ok(file) = above_streams(file) else {
+        return Err(device());
+    };
+    match file.metadata() {
+        Ok(found) if found.is_file() => {}
+        Ok(_) => return Err(FileError::NotAFile),
+        Err(_) => return Err(device()),
+    }
+    lock(&file)?;
+    match SystemFile::settled(file) {
+        Ok(file) => Ok(DiskOver::new(file)),
+        Err(_) => Err(device()),
+    }
+}
+
+// Where a standard stream was closed the file may have its number, and what is written to the
+// stream would land in the file.
+fn above_streams(file: File) -> io::Result<File> {
+    if file.as_raw_fd() <= 2 {
+        file.try_clone()
+    } else {
+        Ok(file)
+    }
+}
+
+// Where the file system has no locks the file is taken without one.
+fn lock(file: &File) -> Result<(), FileError> {
+    match file.try_lock() {
+        Ok(()) => Ok(()),
+        Err(TryLockError::WouldBlock) => Err(FileError::InUse),
+        Err(TryLockError::Error(error)) if error.kind() == ErrorKind::Unsupported => Ok(()),
+        Err(TryLockError::Error(_)) => Err(device()),
+    }
+}
+
+// Makes the names in the folder of this file sure.
+fn sync_folder(rt: &HostRuntime, path: &str) -> Result<(), FileError> {
+    let folder = match Path::new(path).parent() {
+        Some(parent) if !parent.as_str().is_empty() => parent.as_str(),
+        _ => ".",
+    };
+    match File::open(rt, folder) {
+        Ok(folder) => folder.sync_all().map_err(|_| device()),
+        Err(_) => Err(device()),
+    }
+}
