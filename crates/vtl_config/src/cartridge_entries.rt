@@ -39,7 +39,7 @@ fn is_at_home(drives: &[DriveEntry], home: Address) -> bool
     }
 }
 
-fn values_in<'a>(entry: &'a Table) -> Result<FoundCartridge<'a>, Rule>
+fn values_in(entry: &Table) -> Result<FoundCartridge<'_>, Rule>
     ensures ok { IfOk result (λ found.
         IsCartridgeTable (table_view entry.now) found.barcode found.file.now found.capacities (address_of found.home)) }
     ensures err { IfErr result (TableBreaks cartridge_keys (table_view entry.now)) }
@@ -47,11 +47,27 @@ fn values_in<'a>(entry: &'a Table) -> Result<FoundCartridge<'a>, Rule>
     if !has_only(entry, &KEYS) {
         return Err(Rule::OtherKey);
     }
+    let barcode = match barcode_at(entry) {
+        Ok(barcode) => barcode,
+        Err(rule) => return Err(rule),
+    };
+    let file = match text_at(entry, Key::File) {
+        Ok(file) => file,
+        Err(rule) => return Err(rule),
+    };
+    let capacities = match capacities_at(entry) {
+        Ok(capacities) => capacities,
+        Err(rule) => return Err(rule),
+    };
+    let home = match home_at(entry) {
+        Ok(home) => home,
+        Err(rule) => return Err(rule),
+    };
     Ok(FoundCartridge {
-        barcode: barcode_at(entry)?,
-        file: text_at(entry, Key::File)?,
-        capacities: capacities_at(entry)?,
-        home: home_at(entry)?,
+        barcode,
+        file,
+        capacities,
+        home,
     })
 }
 
@@ -64,11 +80,17 @@ fn cartridge_in<'a>(
         found.barcode found.file.now found.capacities (address_of found.home)) }
     ensures err { IfErr result (CartridgeTableBreaks drives.now before.now (table_view entry.now)) }
 {
-    let found = values_in(entry)?;
+    let found = match values_in(entry) {
+        Ok(found) => found,
+        Err(rule) => return Err(rule),
+    };
     if has_barcode(before, &found.barcode) {
         return Err(Rule::Double(Key::Barcode));
     }
-    if has_drive_file(drives, found.file) || has_cartridge_file(before, found.file) {
+    if has_drive_file(drives, found.file) {
+        return Err(Rule::Double(Key::File));
+    }
+    if has_cartridge_file(before, found.file) {
         return Err(Rule::Double(Key::File));
     }
     if has_home(before, found.home) {

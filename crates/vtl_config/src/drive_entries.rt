@@ -29,8 +29,14 @@ fn drive_in<'a>(before: &[DriveEntry], entry: &'a Table) -> Result<FoundDrive<'a
     if !has_only(entry, &KEYS) {
         return Err(Rule::OtherKey);
     }
-    let number = drive_number_at(entry)?;
-    let file = text_at(entry, Key::Reservations)?;
+    let number = match drive_number_at(entry) {
+        Ok(number) => number,
+        Err(rule) => return Err(rule),
+    };
+    let file = match text_at(entry, Key::Reservations) {
+        Ok(file) => file,
+        Err(rule) => return Err(rule),
+    };
     if has_number(before, number) {
         return Err(Rule::Double(Key::Number));
     }

@@ -45,10 +45,22 @@ fn read_table(alloc: Global, table: &Table) -> Result<Config, ConfigError>
             rule: Rule::OtherKey,
         });
     }
-    let drive_entries = entries_at(table, Key::Drive)?;
-    let cartridge_entries = entries_at(table, Key::Cartridge)?;
-    let drives = read_drives(alloc, drive_entries)?;
-    let cartridges = read_cartridges(alloc, drives.as_slice(), cartridge_entries)?;
+    let drives = match entries_at(table, Key::Drive) {
+        Ok(entries) => entries,
+        Err(error) => return Err(error),
+    };
+    let cartridges = match entries_at(table, Key::Cartridge) {
+        Ok(entries) => entries,
+        Err(error) => return Err(error),
+    };
+    let drives = match read_drives(alloc, drives) {
+        Ok(drives) => drives,
+        Err(error) => return Err(error),
+    };
+    let cartridges = match read_cartridges(alloc, drives.as_slice(), cartridges) {
+        Ok(cartridges) => cartridges,
+        Err(error) => return Err(error),
+    };
     Ok(Config { cartridges, drives })
 }
 
