@@ -19,17 +19,17 @@ pub data TableBreaks (keys : List Key) (entry : Members) (rule : Rule) : Type 0 
 
 -- The rule that a drive's table breaks behind these drives (own).
 pub data DriveTableBreaks (before : List DriveEntry) (entry : Members) (rule : Rule) : Type 0 where
-  in_itself : TableBreaks drive_keys entry rule → DriveTableBreaks before entry rule
+  drive_alone : TableBreaks drive_keys entry rule → DriveTableBreaks before entry rule
   double_number :
       (number : ℕ) → rule ≡ Double Number → value_at Number entry ≡ Some (whole number)
       → Contains (numbers_of before) number → DriveTableBreaks before entry rule
-  double_file :
+  double_reservations :
       (file : List ℕ) → rule ≡ Double Reservations → value_at Reservations entry ≡ Some (string file)
       → Contains (drive_files before) file → DriveTableBreaks before entry rule
 
 -- The rule that a cartridge's table breaks in a library of these drives, behind these cartridges (own).
 pub data CartridgeTableBreaks (drives : List DriveEntry) (before : List CartridgeEntry) (entry : Members) (rule : Rule) : Type 0 where
-  in_itself : TableBreaks cartridge_keys entry rule → CartridgeTableBreaks drives before entry rule
+  cartridge_alone : TableBreaks cartridge_keys entry rule → CartridgeTableBreaks drives before entry rule
   double_barcode :
       (barcode : List ℕ) → rule ≡ Double Barcode → value_at Barcode entry ≡ Some (string barcode)
       → Contains (barcodes_of before) barcode → CartridgeTableBreaks drives before entry rule

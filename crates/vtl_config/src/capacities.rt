@@ -88,14 +88,19 @@ pub(crate) fn capacities_at(table: &Table) -> Result<Capacities, Rule>
     ensures range { IfOk result AreCapacities }
     ensures err { IfErr result (Misfits Key.Capacities (value_at Key.Capacities (table_view table.now))) }
 {
-    let Some(value) = value_at(table, Key::Capacities) else {
-        return Err(Rule::Missing(Key::Capacities));
-    };
-    match value.as_array() {
-        Some(items) if are_integers(items.as_slice()) => match capacities_of(items.as_slice()) {
-            Some(found) => Ok(found),
-            None => Err(Rule::OutOfRange(Key::Capacities)),
+    match value_at(table, Key::Capacities) {
+        Some(value) => match value.as_array() {
+            Some(items) => {
+                if !are_integers(items.as_slice()) {
+                    return Err(Rule::OtherKind(Key::Capacities));
+                }
+                match capacities_of(items.as_slice()) {
+                    Some(found) => Ok(found),
+                    None => Err(Rule::OutOfRange(Key::Capacities)),
+                }
+            }
+            None => Err(Rule::OtherKind(Key::Capacities)),
         },
-        _ => Err(Rule::OtherKind(Key::Capacities)),
+        None => Err(Rule::Missing(Key::Capacities)),
     }
 }

@@ -2,7 +2,7 @@
 ghost use Rattle.std.specs.Prelude.{◌≡◌, IfOk, IfErr, MatchBool, map};
 ghost use Rattle.std.specs.List.{Contains};
 ghost use Rattle.toml.specs.View.{view, table_view};
-ghost use Rattle.vtl_config.specs.Entries.{address_of, numbers_of, IsCartridgeTable};
+ghost use Rattle.vtl_config.specs.Entries.{address_of, numbers_of, drive_files, AreDistinct, IsCartridgeTable};
 ghost use Rattle.vtl_config.specs.Keys.{cartridge_keys};
 ghost use Rattle.vtl_config.specs.Rules.{TableBreaks, CartridgeTableBreaks, EntryBreaks};
 ghost use Rattle.vtl_config.specs.Values.{IsDriveNumber};
@@ -123,6 +123,7 @@ pub(crate) fn read_cartridges(
     drives: &[DriveEntry],
     entries: &[Value],
 ) -> Result<Vec<CartridgeEntry>, ConfigError>
+    requires { AreDistinct (drive_files drives.now) }
     ensures ok { IfOk result (λ cartridges. AreCartridges drives.now (map view entries.now) cartridges.items) }
     ensures err { IfErr result (CartridgesRefused drives.now (map view entries.now)) }
 {

@@ -9,6 +9,8 @@ pub mod entries;
 pub mod keys;
 mod reading;
 pub mod rules;
+#[cfg(test)]
+mod tests;
 mod values;
 
 pub use capacities::Capacities;

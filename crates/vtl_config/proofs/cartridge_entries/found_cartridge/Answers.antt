@@ -1,14 +1,14 @@
-use Rattle.std.proofs.Common.{rules, ◌≡◌, IfOk, IfErr, MatchBool, map, ℕ, ◌+◌, ◌-◌, ◌*◌, ◌<◌, ◌≤◌, length, ◌/◌, ◌%◌, Bool, true, false, nat_eq, nat_lt, List, [], ◌∷◌, ◌++◌, slice_index_or, slice_set, bit_and, bit_or, Fits, w8, w32, w64, Bor, MutBor}
-use Rattle.std.specs.List.{Contains}
+use Rattle.std.proofs.Common.{sym}
+use Rattle.std.proofs.lemmas.Result.{IfErr-weaker}
+use Rattle.toml.specs.Data.{table}
 use Rattle.toml.specs.View.{view, table_view}
-use Rattle.vtl_config.specs.Entries.{address_of, numbers_of, IsCartridgeTable}
-use Rattle.vtl_config.specs.Keys.{cartridge_keys}
-use Rattle.vtl_config.specs.Rules.{TableBreaks, CartridgeTableBreaks, EntryBreaks}
-use Rattle.vtl_config.specs.Values.{IsDriveNumber}
-use Rattle.vtl_config.specs.Configs.{AreCartridges, IsAtHome}
-use Rattle.vtl_config.specs.Inner.Found.{FitsCartridgeTable, FitsCartridge, CartridgesRefused}
+use Rattle.vtl_config.specs.Rules.{CartridgeTableBreaks, EntryBreaks, its_table}
+use Rattle.vtl_config.proofs.ValueLemmas.{table_value}
 use Rattle.vtl_config.proofs.cartridge_entries.found_cartridge.Goals as goal
 
--- src/cartridge_entries.rt:105:1
 pub returns-in-Some-clause-err : goal.returns-in-Some-clause-err
-returns-in-Some-clause-err c = ?
+returns-in-Some-clause-err c =
+    IfErr-weaker c.cartridge_in.result (CartridgeTableBreaks c.args.drives.now c.args.before.now (table_view c.in-Some.entry.now))
+    (EntryBreaks (CartridgeTableBreaks c.args.drives.now c.args.before.now) (view c.args.value.now))
+    (λ rule breaks. its_table (table_view c.in-Some.entry.now) (table_value _ _ (sym c.in-Some.ensures)) breaks)
+    c.cartridge_in.ensures.err

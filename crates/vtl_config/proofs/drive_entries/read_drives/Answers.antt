@@ -35,4 +35,4 @@ loop-place-preserved c =
 
 pub returns-clause-ok : goal.returns-clause-ok
 returns-clause-ok c =
-    rw take_all c.loop-place.place c.args.entries.now (omega arith) at c.loop-place.invariant
+    rw (take_all c.loop-place.place c.args.entries.now (omega arith)) at c.loop-place.invariant

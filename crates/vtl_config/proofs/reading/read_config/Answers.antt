@@ -1,11 +1,16 @@
-use Rattle.std.proofs.Common.{rules, ◌≡◌, Some, IfOk, IfErr, map, ℕ, ◌+◌, ◌-◌, ◌*◌, ◌<◌, ◌≤◌, length, ◌/◌, ◌%◌, Bool, true, false, nat_eq, nat_lt, List, [], ◌∷◌, ◌++◌, slice_index_or, slice_set, bit_and, bit_or, Fits, w8, w32, w64, Bor, MutBor}
-use Rattle.toml.specs.View.{view, table_view}
-use Rattle.vtl_config.specs.Keys.{top_keys}
-use Rattle.vtl_config.specs.Values.{value_at, kind_of, entries}
-use Rattle.vtl_config.specs.Configs.{EntriesAt, IsConfig, Says, Refuses}
-use Rattle.vtl_config.specs.Inner.Found.{IsNoList, TableRefused}
+use Rattle.std.proofs.Common.{◌≡◌, Some}
+use Rattle.std.proofs.lemmas.Result.{IfErr-weaker}
+use Rattle.toml.specs.Parse.{parse_document}
+use Rattle.toml.specs.View.{table_view}
+use Rattle.vtl_config.specs.Configs.{Refuses}
+use Rattle.vtl_config.specs.Inner.Found.{TableRefused}
+use Rattle.vtl_config.proofs.EntryLemmas.{text_refused}
 use Rattle.vtl_config.proofs.reading.read_config.Goals as goal
 
--- src/reading.rt:69:1
 pub returns-in-Ok-table_from_str-clause-err : goal.returns-in-Ok-table_from_str-clause-err
-returns-in-Ok-table_from_str-clause-err c = ?
+returns-in-Ok-table_from_str-clause-err c =
+    let root = table_view c.in-Ok-table_from_str.table in
+    let parsed : parse_document c.args.text.now ≡ Some root =
+        rw (← c.in-Ok.ensures.cases.0) c.in-Ok-table_from_str.ensures.ok in
+    IfErr-weaker c.read_table.result (TableRefused root) (Refuses c.args.text.now)
+    (λ error why. text_refused c.args.text.now root error c.in-Ok.ensures.cases.1 parsed why) c.read_table.ensures.err

@@ -1,0 +1,32 @@
+-- The command line is one whose matches are known.
+use Rattle.std.proofs.Common.{◌≡◌, ℕ, true, List, Option, Some, None, option_map, Box, refl, ap, ◌∙◌, sym}
+use Rattle.std.proofs.lemmas.Option.{same_Some}
+use Rattle.std.specs.Box.{box_value}
+use Rattle.clap.specs.Faults.{is_simple_and_free}
+use Rattle.clap.specs.Matches.{found_of}
+use Rattle.clap.specs.Simple.{is_simple, subcommand_rows}
+use Rattle.clap.specs.Walk.{Row, rows_of}
+use Rattle.clap.specs.declared.parser.matches.SubCommand.{SubCommand}
+use Rattle.clap.specs.declared.parser.matches.ArgMatches.TheViews.{out-SubCommand}
+use Rattle.clap.proofs.OnLiterals.{clap_on_literals}
+use Rattle.vtl_words.specs.Commands.{vtl_command}
+
+pub line_is_simple : is_simple vtl_command ≡ true
+unfolding clap_on_literals
+line_is_simple = refl
+
+pub line_is_free : is_simple_and_free vtl_command ≡ true
+unfolding clap_on_literals
+line_is_free = refl
+
+-- the word and the rows of a subcommand
+pub rows_from_parts :
+    {Z : Type 0} (sub : Option (Box SubCommand Z)) (word : List ℕ) (rows : List Row)
+    → Some word ≡ option_map (λ b. (out-SubCommand (box_value b)).name.now) sub
+    → Some rows ≡ option_map (λ p. p.1) (subcommand_rows sub)
+    → subcommand_rows sub ≡ Some (word, rows)
+rows_from_parts None word rows named matched = cc
+rows_from_parts (Some b) word rows named matched =
+    let same_word : word ≡ (out-SubCommand (box_value b)).name.now = same_Some _ _ named in
+    let same_rows : rows ≡ rows_of (found_of (out-SubCommand (box_value b)).matches) = same_Some _ _ matched in
+    rw (same_word, same_rows) refl
