@@ -1,12 +1,12 @@
 -- Items, and the list of values that they are.
-use Rattle.std.proofs.Common.{◌≡◌, ℕ, suc, Bool, true, false, ◌&&◌, ◌<◌, ◌⊎◌, inl, inr, List, [], ◌∷◌, length, map, Some, None, nat_le, arith, refl, ap, ◌∙◌}
+use Rattle.std.proofs.Common.{◌≡◌, suc, Bool, true, false, ◌&&◌, ◌<◌, ◌⊎◌, inl, inr, List, [], ◌∷◌, length, map, Some, None, nat_le, arith, refl, ap, ◌∙◌}
 use Rattle.std.proofs.lemmas.Bool.{lt-leb, and_left, and_right}
 use Rattle.std.proofs.lemmas.List.Folds.{list_all-map}
 use Rattle.std.specs.List.{list_all}
 use Rattle.toml.specs.Data.{Data, string, integer, float, boolean, datetime, array, table, as_array}
 use Rattle.toml.specs.View.{items_of, view}
 use Rattle.toml.specs.declared.value.Value.{Value}
-use Rattle.vtl_config.specs.Values.{items_all, count_items, are_capacities, is_integer, is_of_kind, numbers, IsWithin}
+use Rattle.vtl_config.specs.Values.{items_all, count_items, hold_capacities, is_integer, is_of_kind, numbers, IsWithin}
 use Rattle.vtl_config.specs.declared.keys.Key.TheVariants.{Capacities}
 use Rattle.vtl_config.proofs.ValueLemmas.{array_value}
 
@@ -20,7 +20,7 @@ count_items-items_of (d ∷ ds) = ap suc (count_items-items_of ds)
 
 -- too few values, or too many, are no capacities
 pub no_capacities :
-    (ds : List Data) → (length ds ≡ 0) ⊎ (4 < length ds) → are_capacities (items_of ds) ≡ false
+    (ds : List Data) → (length ds ≡ 0) ⊎ (4 < length ds) → hold_capacities (items_of ds) ≡ false
 no_capacities [] few = refl
 no_capacities (d ∷ ds) (inl none) = absurd (omega arith)
 no_capacities (d ∷ ds) (inr many) =
@@ -49,6 +49,7 @@ no_list_kind (table x) e = refl
 -- a list that is no capacities is outside its limits
 pub not_within :
     (value : Data) (vs seen : List Value) → as_array value ≡ Some (items_of (map view vs)) → seen ≡ vs
-    → are_capacities (items_of (map view seen)) ≡ false → ¬ IsWithin Capacities value
-not_within value vs seen is_list same no =
-    rw (array_value value (items_of (map view vs)) is_list, ← same) (λ (h : are_capacities (items_of (map view seen)) ≡ true). cc)
+    → hold_capacities (items_of (map view seen)) ≡ false → ¬ IsWithin Capacities value
+not_within value vs seen is_list same none =
+    rw (array_value value (items_of (map view vs)) is_list, ← same)
+    (λ (h : hold_capacities (items_of (map view seen)) ≡ true). cc)

@@ -7,7 +7,7 @@ use Rattle.toml.specs.Data.{Data, string, integer, float, boolean, datetime, arr
 use Rattle.toml.specs.Parse.{parse_document}
 use Rattle.toml.specs.View.{view}
 use Rattle.toml.specs.declared.value.Value.{Value}
-use Rattle.vtl_config.specs.Configs.{EntriesAt, AreDrives, AreCartridges, IsAtHome, BrokenAt, at_drive, at_cartridge, Refuses}
+use Rattle.vtl_config.specs.Configs.{EntriesAt, AreDrives, AreCartridges, IsAtHome, BrokenAt, at_drive, at_cartridge, RefusesText}
 use Rattle.vtl_config.specs.Entries.{address_of, numbers_of, drive_files, barcodes_of, cartridge_files, homes_of, IsDrive, IsCartridge}
 use Rattle.vtl_config.specs.Rules.{EntryBreaks}
 use Rattle.vtl_config.specs.Inner.Found.{FitsDrive, FitsDriveTable, FitsCartridge, FitsCartridgeTable, DrivesRefused, CartridgesRefused, TableRefused}
@@ -22,12 +22,12 @@ use Rattle.vtl_config.proofs.ListLemmas.{each_push, distinct_push, split_here, l
 
 -- an entry that breaks a rule, behind those that are right
 pub broken_here :
-    {E : Type 0} (Are : List Data → List E → Type 0) (Breaks : List E → Members → Rule → Type 0) (place : ℕ → Place)
-    (values : List Value) (i : ℕ) (value : Value) (before : List E) (rule : Rule)
+    {E : Type 0} (Are : List Data → List E → Type 0) (breaks_of : List E → Members → Rule → Type 0)
+    (place : ℕ → Place) (values : List Value) (i : ℕ) (value : Value) (before : List E) (rule : Rule)
     → i < length values → value ≡ get_or values i value → Are (map view (take i values)) before
-    → EntryBreaks (Breaks before) (view value) rule
-    → BrokenAt Are Breaks place (map view values) (place (i + 1)) rule
-broken_here Are Breaks place values i value before rule below is right broken =
+    → EntryBreaks (breaks_of before) (view value) rule
+    → BrokenAt Are breaks_of place (map view values) (place (i + 1)) rule
+broken_here Are breaks_of place values i value before rule below is right broken =
     let split = split_here view values i value below in record {
       heads = map view (take i values);
       value = view value;
@@ -70,7 +70,8 @@ drives_push entries drives value drive are fits =
 
 -- what is found of a cartridge is found in a table
 fits_cartridge_table :
-    (drives : List DriveEntry) (before : List CartridgeEntry) (value : Data) (barcode file capacities : List ℕ) (home : ℕ)
+    (drives : List DriveEntry) (before : List CartridgeEntry) (value : Data) (barcode file capacities : List ℕ)
+    (home : ℕ)
     → FitsCartridge drives before value barcode file capacities home
     → (entry : Members) × (value ≡ table entry)
     × FitsCartridgeTable drives before entry barcode file capacities home
@@ -136,7 +137,7 @@ cartridges_refused root entries more drives NoMemory there are here why = tt
 -- why a text is refused, where its table is
 pub text_refused :
     (text : List ℕ) (root : Members) (error : ConfigError) → IsUtf8 text → parse_document text ≡ Some root
-    → TableRefused root error → Refuses text error
+    → TableRefused root error → RefusesText text error
 text_refused text root NotUtf8 utf8 parsed why = absurd why
 text_refused text root NotToml utf8 parsed why = absurd why
 text_refused text root (Refused place rule) utf8 parsed why =

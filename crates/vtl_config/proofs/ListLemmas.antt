@@ -1,10 +1,10 @@
 -- Lists: what an entry shares with those before it, and one more at the end.
-use Rattle.std.proofs.Common.{◌≡◌, ℕ, zero, suc, ◌+◌, ◌<◌, ◌≤◌, Bool, true, false, ◌||◌, List, [], ◌∷◌, ◌++◌, length, take, get_or, map, inl, inr, arith, refl, sym, ap, ◌∙◌}
+use Rattle.std.proofs.Common.{◌≡◌, ℕ, zero, suc, ◌+◌, ◌<◌, ◌≤◌, Bool, true, List, [], ◌∷◌, ◌++◌, length, take, get_or, map, inl, inr, arith, refl, sym, ap, ◌∙◌}
 use Rattle.std.proofs.lemmas.Bool.{cases_Bool, or_left, or_right}
 use Rattle.std.proofs.lemmas.List.{take_more, map-append}
 use Rattle.std.proofs.lemmas.List.Elements.{Contains-push_cases}
 use Rattle.std.specs.List.{Contains, list_any}
-use Rattle.vtl_config.specs.Entries.{Each, AreDistinct}
+use Rattle.vtl_config.specs.Entries.{Paired, AreDistinct}
 
 contains_first : {A : Type 0} (y : A) (ys : List A) (x : A) → y ≡ x → Contains (y ∷ ys) x
 contains_first y ys x e = (0, omega arith, e)
@@ -35,7 +35,7 @@ contains_any f same x complete (d ∷ ds) (suc k) below here =
 -- one more at the end of both
 pub each_push :
     {A B : Type 0} (R : A → B → Type 0) (values : List A) (entries : List B) (value : A) (entry : B)
-    → Each R values entries → R value entry → Each R (values ++ value ∷ []) (entries ++ entry ∷ [])
+    → Paired R values entries → R value entry → Paired R (values ++ value ∷ []) (entries ++ entry ∷ [])
 each_push R [] [] value entry each here = (here, tt)
 each_push R [] (b ∷ bs) value entry each here = absurd each
 each_push R (a ∷ more) [] value entry each here = absurd each

@@ -1,10 +1,10 @@
 -- What the kind of a value says of it.
-use Rattle.std.proofs.Common.{◌≡◌, ℕ, ℤ, pos, negsuc, Bool, true, false, List, Option, Some, None, refl, ap, sym, ◌∙◌}
+use Rattle.std.proofs.Common.{◌≡◌, ℕ, ℤ, pos, negsuc, List, Some, None, ap}
 use Rattle.std.proofs.lemmas.Option.{same_Some}
 use Rattle.toml.specs.Data.{Data, string, integer, float, boolean, datetime, array, table, Items, Members, as_str, as_integer, as_array, as_table}
 use Rattle.vtl_config.specs.declared.keys.Key.{Key}
 use Rattle.vtl_config.specs.declared.keys.Key.TheVariants.{Cartridge, Drive, Barcode, File, Capacities, Home, Number, Reservations}
-use Rattle.vtl_config.specs.Values.{Kind, kind_of, text, number, entries, numbers, natural_of, IsWithin, whole}
+use Rattle.vtl_config.specs.Values.{kind_of_key, number, natural_of, IsWithin}
 
 -- a value that is a text
 pub string_value : (value : Data) (s : List ℕ) → as_str value ≡ Some s → value ≡ string s
@@ -52,7 +52,7 @@ natural_value (pos n) found e = ap pos (same_Some _ _ e)
 natural_value (negsuc n) found e = cc
 
 -- an integer below 0 is no address and no number of a drive
-pub below_zero : (key : Key) (n : ℤ) → kind_of key ≡ number → natural_of n ≡ None → ¬ IsWithin key (integer n)
+pub below_zero : (key : Key) (n : ℤ) → kind_of_key key ≡ number → natural_of n ≡ None → ¬ IsWithin key (integer n)
 below_zero Cartridge n k e = cc
 below_zero Drive n k e = cc
 below_zero Barcode n k e = cc

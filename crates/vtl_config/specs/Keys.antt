@@ -17,13 +17,15 @@ name_of Home = codes "home"
 name_of Number = codes "number"
 name_of Reservations = codes "reservations"
 
--- the keys at the top, of a drive, and of a cartridge (own)
+-- the keys at the top (own)
 abbrev pub top_keys : List Key
 top_keys = Cartridge ∷ Drive ∷ []
 
+-- the keys of a drive's table (own)
 abbrev pub drive_keys : List Key
 drive_keys = Number ∷ Reservations ∷ []
 
+-- the keys of a cartridge's table (own)
 abbrev pub cartridge_keys : List Key
 cartridge_keys = Barcode ∷ File ∷ Capacities ∷ Home ∷ []
 

@@ -1,5 +1,5 @@
 -- The rules of a configuration's entries: when each refusal comes.
-use Rattle.std.specs.Prelude.{◌≡◌, ℕ, true, false, Some, None, List, ◌++◌}
+use Rattle.std.specs.Prelude.{◌≡◌, ℕ, false, Some, None, List, ◌++◌}
 use Rattle.std.specs.List.{Contains}
 use Rattle.toml.specs.Data.{Data, string, table, Members, as_table}
 use Rattle.vtl_config.specs.Entries.{numbers_of, drive_files, barcodes_of, cartridge_files, homes_of}
@@ -28,7 +28,8 @@ pub data DriveTableBreaks (before : List DriveEntry) (entry : Members) (rule : R
       → Contains (drive_files before) file → DriveTableBreaks before entry rule
 
 -- The rule that a cartridge's table breaks in a library of these drives, behind these cartridges (own).
-pub data CartridgeTableBreaks (drives : List DriveEntry) (before : List CartridgeEntry) (entry : Members) (rule : Rule) : Type 0 where
+pub data CartridgeTableBreaks (drives : List DriveEntry) (before : List CartridgeEntry) (entry : Members)
+    (rule : Rule) : Type 0 where
   cartridge_alone : TableBreaks cartridge_keys entry rule → CartridgeTableBreaks drives before entry rule
   double_barcode :
       (barcode : List ℕ) → rule ≡ Double Barcode → value_at Barcode entry ≡ Some (string barcode)

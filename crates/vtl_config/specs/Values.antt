@@ -1,6 +1,6 @@
 -- The values that the keys of a configuration may have.
 use Rattle.std.specs.Prelude.{◌≡◌, ◌≤◌, ◌<◌, ◌-◌, ◌⊎◌, ◌&&◌, ℕ, suc, ℤ, pos, negsuc, Bool, true, false, Option, Some, None, IsTrue, IsSomeAnd, nat_le, is_some, ⊤}
-use Rattle.toml.specs.Data.{Data, string, integer, float, boolean, datetime, array, table, Items, no_items, item, Members, get_member, as_str, as_integer, as_array}
+use Rattle.toml.specs.Data.{Data, string, integer, array, Items, no_items, item, Members, get_member, as_str, as_integer, as_array}
 use Rattle.vtl_base.specs.Barcode.{IsBarcode}
 use Rattle.vtl_base.specs.Limits.{is_capacity}
 use Rattle.vtl_base.specs.declared.limits.TheConstants.{DRIVES, SLOTS, FIRST_SLOT, MAX_PARTITIONS}
@@ -26,15 +26,15 @@ pub data Kind : Type 0 where
   numbers : Kind
 
 -- the kind of a key's value (own)
-abbrev pub kind_of : Key → Kind
-kind_of Cartridge = entries
-kind_of Drive = entries
-kind_of Barcode = text
-kind_of File = text
-kind_of Capacities = numbers
-kind_of Home = number
-kind_of Number = number
-kind_of Reservations = text
+abbrev pub kind_of_key : Key → Kind
+kind_of_key Cartridge = entries
+kind_of_key Drive = entries
+kind_of_key Barcode = text
+kind_of_key File = text
+kind_of_key Capacities = numbers
+kind_of_key Home = number
+kind_of_key Number = number
+kind_of_key Reservations = text
 
 -- each of the items passes the test
 abbrev pub items_all : (Data → Bool) → Items → Bool
@@ -50,6 +50,7 @@ count_items (item value rest) = suc (count_items rest)
 abbrev pub is_integer : Data → Bool
 is_integer value = is_some (as_integer value)
 
+-- the value is of this kind
 abbrev pub is_of_kind : Kind → Data → Bool
 is_of_kind text value = is_some (as_str value)
 is_of_kind number value = is_integer value
@@ -71,8 +72,8 @@ is_capacity_value (integer (pos n)) = is_capacity n
 is_capacity_value _ = false
 
 -- 1 to 4 capacities (own)
-abbrev pub are_capacities : Items → Bool
-are_capacities items =
+abbrev pub hold_capacities : Items → Bool
+hold_capacities items =
     (nat_le 1 (count_items items) && nat_le (count_items items) MAX_PARTITIONS) && items_all is_capacity_value items
 
 -- the whole number that an integer is, from 0 on
@@ -83,7 +84,7 @@ natural_of (negsuc n) = None
 -- a value of its kind is within its limits; a file's name has none (own)
 abbrev pub IsWithin : Key → Data → Type 0
 IsWithin Barcode (string name) = IsBarcode name
-IsWithin Capacities (array items) = IsTrue (are_capacities items)
+IsWithin Capacities (array items) = IsTrue (hold_capacities items)
 IsWithin Home (integer n) = IsSomeAnd (natural_of n) IsAddress
 IsWithin Number (integer n) = IsSomeAnd (natural_of n) IsDriveNumber
 IsWithin _ _ = ⊤
@@ -92,8 +93,8 @@ IsWithin _ _ = ⊤
 pub data Misfits (key : Key) (found : Option Data) (rule : Rule) : Type 0 where
   missing : rule ≡ Missing key → found ≡ None → Misfits key found rule
   other_kind :
-      (value : Data) → rule ≡ OtherKind key → found ≡ Some value → is_of_kind (kind_of key) value ≡ false
+      (value : Data) → rule ≡ OtherKind key → found ≡ Some value → is_of_kind (kind_of_key key) value ≡ false
       → Misfits key found rule
   out_of_range :
-      (value : Data) → rule ≡ OutOfRange key → found ≡ Some value → is_of_kind (kind_of key) value ≡ true
+      (value : Data) → rule ≡ OutOfRange key → found ≡ Some value → is_of_kind (kind_of_key key) value ≡ true
       → ¬ IsWithin key value → Misfits key found rule

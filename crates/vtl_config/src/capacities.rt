@@ -4,7 +4,7 @@ ghost use Rattle.std.specs.List.{list_all};
 ghost use Rattle.toml.specs.Data.{array};
 ghost use Rattle.toml.specs.View.{view, table_view, items_of};
 ghost use Rattle.vtl_base.specs.Limits.{is_capacity};
-ghost use Rattle.vtl_config.specs.Values.{value_at, whole, is_integer, is_capacity_value, are_capacities, Misfits};
+ghost use Rattle.vtl_config.specs.Values.{value_at, whole, is_integer, is_capacity_value, hold_capacities, Misfits};
 ghost use Rattle.vtl_config.specs.Capacities.{AreCapacities};
 
 use crate::keys::Key;
@@ -65,7 +65,7 @@ fn capacity_of(item: &Value) -> Option<u64>
 }
 
 fn capacities_of(items: &[Value]) -> Option<Capacities>
-    ensures { MatchOption result (are_capacities (items_of (map view items.now)) ≡ false)
+    ensures { MatchOption result (hold_capacities (items_of (map view items.now)) ≡ false)
         (λ found. map view items.now ≡ map whole found) }
 {
     if items.is_empty() || items.len() > PARTITIONS {

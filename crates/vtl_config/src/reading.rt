@@ -2,8 +2,8 @@
 ghost use Rattle.std.specs.Prelude.{◌≡◌, Some, IfOk, IfErr, map};
 ghost use Rattle.toml.specs.View.{view, table_view};
 ghost use Rattle.vtl_config.specs.Keys.{top_keys};
-ghost use Rattle.vtl_config.specs.Values.{value_at, kind_of, entries};
-ghost use Rattle.vtl_config.specs.Configs.{EntriesAt, IsConfig, Says, Refuses};
+ghost use Rattle.vtl_config.specs.Values.{value_at, kind_of_key, entries};
+ghost use Rattle.vtl_config.specs.Configs.{EntriesAt, IsConfig, Says, RefusesText};
 ghost use Rattle.vtl_config.specs.Inner.Found.{IsNoList, TableRefused};
 
 use crate::cartridge_entries::read_cartridges;
@@ -19,7 +19,7 @@ const KEYS: [Key; 2] = [Key::Cartridge, Key::Drive];
 
 // The entries of a list, none where it is missing.
 fn entries_at<'a>(table: &'a Table, list: Key) -> Result<&'a [Value], ConfigError>
-    requires { kind_of list ≡ entries }
+    requires { kind_of_key list ≡ entries }
     ensures ok { IfOk result (λ items. EntriesAt list (table_view table.now) (map view items.now)) }
     ensures err { IfErr result (IsNoList list (table_view table.now)) }
 {
@@ -68,7 +68,7 @@ fn read_table(alloc: Global, table: &Table) -> Result<Config, ConfigError>
 /// the first that is met is told.
 pub fn read_config(alloc: Global, text: &[u8]) -> Result<Config, ConfigError>
     ensures ok { IfOk result (Says text.now) }
-    ensures err { IfErr result (Refuses text.now) }
+    ensures err { IfErr result (RefusesText text.now) }
 {
     let Ok(text) = std::str::from_utf8(text) else {
         return Err(ConfigError::NotUtf8);

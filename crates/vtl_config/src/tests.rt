@@ -177,8 +177,19 @@ cartridge = [
     }
 }
 
+// A cartridge with these values at its four keys.
+fn second(alloc: Global, barcode: &str, file: &str, capacities: &str, home: &str) -> Option<ConfigError> {
+    let values = format!(in alloc;
+        "{{ barcode = {barcode}, file = {file}, capacities = {capacities}, home = {home} }}"
+    );
+    match values {
+        Ok(values) => second_cartridge(alloc, values.as_str()),
+        Err(_) => Some(ConfigError::NoMemory),
+    }
+}
+
 #[test]
-fn a_cartridge_has_four_values(rt: HostRuntime) {
+fn a_cartridge_has_four_keys(rt: HostRuntime) {
     let alloc = rt.alloc();
     for (text, rule) in [
         ("\"B\"", Rule::NotATable),
@@ -187,55 +198,67 @@ fn a_cartridge_has_four_values(rt: HostRuntime) {
         ("{ barcode = \"B\", file = \"b\", home = 1 }", Rule::Missing(Key::Capacities)),
         ("{ barcode = \"B\", file = \"b\", capacities = [4096] }", Rule::Missing(Key::Home)),
         ("{ barcode = \"B\", file = \"b\", capacities = [4096], home = 1, x = 1 }", Rule::OtherKey),
-        ("{ barcode = 1, file = \"b\", capacities = [4096], home = 1 }", Rule::OtherKind(Key::Barcode)),
-        ("{ barcode = \"B\", file = 1, capacities = [4096], home = 1 }", Rule::OtherKind(Key::File)),
-        ("{ barcode = \"B\", file = \"b\", capacities = 4096, home = 1 }", Rule::OtherKind(Key::Capacities)),
-        ("{ barcode = \"B\", file = \"b\", capacities = [4096.0], home = 1 }", Rule::OtherKind(Key::Capacities)),
-        ("{ barcode = \"B\", file = \"b\", capacities = [4096, \"4096\"], home = 1 }", Rule::OtherKind(Key::Capacities)),
-        ("{ barcode = \"B\", file = \"b\", capacities = [4096], home = 1002.0 }", Rule::OtherKind(Key::Home)),
-        ("{ barcode = \"B\", file = \"b\", capacities = [4096], home = true }", Rule::OtherKind(Key::Home)),
-        ("{ barcode = \"B\", file = \"b\", capacities = [4096], home = \"1002\" }", Rule::OtherKind(Key::Home)),
     ] {
         assert_eq!(rt; second_cartridge(alloc, text), broken(Place::Cartridge(2), rule), "{text}");
+    }
+}
+
+#[test]
+fn a_cartridges_values_have_their_kinds(rt: HostRuntime) {
+    let alloc = rt.alloc();
+    for (barcode, file, capacities, home, key) in [
+        ("1", "\"b\"", "[4096]", "1", Key::Barcode),
+        ("[\"B\"]", "\"b\"", "[4096]", "1", Key::Barcode),
+        ("\"B\"", "1", "[4096]", "1", Key::File),
+        ("\"B\"", "\"b\"", "4096", "1", Key::Capacities),
+        ("\"B\"", "\"b\"", "[4096.0]", "1", Key::Capacities),
+        ("\"B\"", "\"b\"", "[4096, \"4096\"]", "1", Key::Capacities),
+        ("\"B\"", "\"b\"", "[4096]", "1002.0", Key::Home),
+        ("\"B\"", "\"b\"", "[4096]", "true", Key::Home),
+        ("\"B\"", "\"b\"", "[4096]", "\"1002\"", Key::Home),
+    ] {
+        let refused = second(alloc, barcode, file, capacities, home);
+        assert_eq!(rt; refused, broken(Place::Cartridge(2), Rule::OtherKind(key)), "{capacities} {home}");
     }
 }
 
 #[test]
 fn a_cartridges_values_have_limits(rt: HostRuntime) {
     let alloc = rt.alloc();
-    for (text, rule) in [
-        ("{ barcode = \"\", file = \"b\", capacities = [4096], home = 1 }", Rule::OutOfRange(Key::Barcode)),
-        ("{ barcode = \"b\", file = \"b\", capacities = [4096], home = 1 }", Rule::OutOfRange(Key::Barcode)),
-        ("{ barcode = \"12345678901234567\", file = \"b\", capacities = [4096], home = 1 }", Rule::OutOfRange(Key::Barcode)),
-        ("{ barcode = \"B\", file = \"b\", capacities = [], home = 1 }", Rule::OutOfRange(Key::Capacities)),
-        ("{ barcode = \"B\", file = \"b\", capacities = [4095], home = 1 }", Rule::OutOfRange(Key::Capacities)),
-        ("{ barcode = \"B\", file = \"b\", capacities = [1_099_511_627_777], home = 1 }", Rule::OutOfRange(Key::Capacities)),
-        ("{ barcode = \"B\", file = \"b\", capacities = [-4096], home = 1 }", Rule::OutOfRange(Key::Capacities)),
-        ("{ barcode = \"B\", file = \"b\", capacities = [4096, 4096, 4096, 4096, 4096], home = 1 }", Rule::OutOfRange(Key::Capacities)),
-        ("{ barcode = \"B\", file = \"b\", capacities = [4096, 4096, 4096, 0], home = 1 }", Rule::OutOfRange(Key::Capacities)),
-        ("{ barcode = \"B\", file = \"b\", capacities = [4096], home = 0 }", Rule::OutOfRange(Key::Home)),
-        ("{ barcode = \"B\", file = \"b\", capacities = [4096], home = 17 }", Rule::OutOfRange(Key::Home)),
-        ("{ barcode = \"B\", file = \"b\", capacities = [4096], home = 1000 }", Rule::OutOfRange(Key::Home)),
-        ("{ barcode = \"B\", file = \"b\", capacities = [4096], home = 1257 }", Rule::OutOfRange(Key::Home)),
-        ("{ barcode = \"B\", file = \"b\", capacities = [4096], home = -1 }", Rule::OutOfRange(Key::Home)),
-        ("{ barcode = \"B\", file = \"b\", capacities = [4096], home = 66537 }", Rule::OutOfRange(Key::Home)),
+    for (barcode, capacities, home, key) in [
+        ("\"\"", "[4096]", "1", Key::Barcode),
+        ("\"b\"", "[4096]", "1", Key::Barcode),
+        ("\"12345678901234567\"", "[4096]", "1", Key::Barcode),
+        ("\"B\"", "[]", "1", Key::Capacities),
+        ("\"B\"", "[4095]", "1", Key::Capacities),
+        ("\"B\"", "[1_099_511_627_777]", "1", Key::Capacities),
+        ("\"B\"", "[-4096]", "1", Key::Capacities),
+        ("\"B\"", "[4096, 4096, 4096, 4096, 4096]", "1", Key::Capacities),
+        ("\"B\"", "[4096, 4096, 4096, 0]", "1", Key::Capacities),
+        ("\"B\"", "[4096]", "0", Key::Home),
+        ("\"B\"", "[4096]", "17", Key::Home),
+        ("\"B\"", "[4096]", "1000", Key::Home),
+        ("\"B\"", "[4096]", "1257", Key::Home),
+        ("\"B\"", "[4096]", "-1", Key::Home),
+        ("\"B\"", "[4096]", "66537", Key::Home),
     ] {
-        assert_eq!(rt; second_cartridge(alloc, text), broken(Place::Cartridge(2), rule), "{text}");
+        let refused = second(alloc, barcode, "\"b\"", capacities, home);
+        assert_eq!(rt; refused, broken(Place::Cartridge(2), Rule::OutOfRange(key)), "{capacities} {home}");
     }
 }
 
 #[test]
 fn no_value_of_a_cartridge_is_double(rt: HostRuntime) {
     let alloc = rt.alloc();
-    for (text, rule) in [
-        ("{ barcode = \"A\", file = \"b\", capacities = [4096], home = 1 }", Rule::Double(Key::Barcode)),
-        ("{ barcode = \"B\", file = \"a\", capacities = [4096], home = 1 }", Rule::Double(Key::File)),
-        ("{ barcode = \"B\", file = \"r\", capacities = [4096], home = 1 }", Rule::Double(Key::File)),
-        ("{ barcode = \"B\", file = \"b\", capacities = [4096], home = 1001 }", Rule::Double(Key::Home)),
-        ("{ barcode = \"B\", file = \"b\", capacities = [4096], home = 2 }", Rule::NoSuchDrive),
+    for (barcode, file, home, rule) in [
+        ("\"A\"", "\"b\"", "1", Rule::Double(Key::Barcode)),
+        ("\"B\"", "\"a\"", "1", Rule::Double(Key::File)),
+        ("\"B\"", "\"r\"", "1", Rule::Double(Key::File)),
+        ("\"B\"", "\"b\"", "1001", Rule::Double(Key::Home)),
+        ("\"B\"", "\"b\"", "2", Rule::NoSuchDrive),
     ] {
-        assert_eq!(rt; second_cartridge(alloc, text), broken(Place::Cartridge(2), rule), "{text}");
+        let refused = second(alloc, barcode, file, "[4096]", home);
+        assert_eq!(rt; refused, broken(Place::Cartridge(2), rule), "{barcode} {file} {home}");
     }
-    let good = "{ barcode = \"B\", file = \"b\", capacities = [4096], home = 1 }";
-    assert_eq!(rt; second_cartridge(alloc, good), None);
+    assert_eq!(rt; second(alloc, "\"B\"", "\"b\"", "[4096]", "1"), None);
 }

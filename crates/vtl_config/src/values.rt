@@ -2,7 +2,7 @@
 ghost use Rattle.std.specs.Prelude.{◌≡◌, ◌≤◌, ◌<◌, pos, Some, None, IfOk, IfErr, IsTrue, MatchOption, option_map, length};
 ghost use Rattle.toml.specs.Data.{string};
 ghost use Rattle.toml.specs.View.{view, table_view, array_view};
-ghost use Rattle.vtl_config.specs.Values.{value_at, Misfits, whole, natural_of, kind_of, text, number, IsDriveNumber, IsAddress};
+ghost use Rattle.vtl_config.specs.Values.{value_at, Misfits, whole, natural_of, kind_of_key, text, number, IsDriveNumber, IsAddress};
 ghost use Rattle.vtl_config.specs.Entries.{address_of};
 ghost use Rattle.vtl_base.specs.Barcode.{IsBarcode};
 
@@ -21,7 +21,7 @@ pub(crate) fn value_at<'a>(table: &'a Table, key: Key) -> Option<&'a Value>
 
 // The text at a key.
 pub(crate) fn text_at<'a>(table: &'a Table, key: Key) -> Result<&'a str, Rule>
-    requires { kind_of key ≡ text }
+    requires { kind_of_key key ≡ text }
     ensures ok { IfOk result (λ found. value_at key (table_view table.now) ≡ Some (string found.now)) }
     ensures err { IfErr result (Misfits key (value_at key (table_view table.now))) }
 {
@@ -42,7 +42,7 @@ fn natural_of(number: i64) -> Option<u64>
 
 // The whole number at a key.
 fn number_at(table: &Table, key: Key) -> Result<u64, Rule>
-    requires { kind_of key ≡ number }
+    requires { kind_of_key key ≡ number }
     ensures ok { IfOk result (λ found. value_at key (table_view table.now) ≡ Some (whole found)) }
     ensures err { IfErr result (Misfits key (value_at key (table_view table.now))) }
 {

@@ -8,11 +8,12 @@ use Rattle.clap.specs.declared.builder.action.ArgAction.TheVariants.{Set, SetTru
 abbrev pub memory_flag : Rule
 memory_flag = record (new_rule (codes "memory")) { long = Some (codes "memory"); action = Some SetTrue }
 
--- `--config FILE`, which may be left out or not (own)
+-- `--config FILE`, which may be left out (own)
 abbrev pub config_option : Rule
 config_option =
     record (new_rule (codes "config")) { long = Some (codes "config"); action = Some Set; value_names = 1 }
 
+-- `--config FILE`, which has to be there (own)
 abbrev pub config_required : Rule
 config_required = record config_option { required = true }
 
@@ -20,20 +21,23 @@ config_required = record config_option { required = true }
 abbrev pub file_word : Rule
 file_word = record (new_rule (codes "file")) { action = Some Set; value_names = 1; required = true }
 
--- `run [--memory] [--config FILE]`, `create --config FILE` and `check FILE` (own)
+-- `run [--memory] [--config FILE]` (own)
 abbrev pub run_command : App
 run_command = with_rule (with_rule (new_app (codes "run")) memory_flag) config_option
 
+-- `create --config FILE` (own)
 abbrev pub create_command : App
 create_command = with_rule (new_app (codes "create")) config_required
 
+-- `check FILE` (own)
 abbrev pub check_command : App
 check_command = with_rule (new_app (codes "check")) file_word
 
--- `vtl`, which has one of the three words behind it (own)
+-- a word has to follow, and `help` is none (own)
 abbrev pub needs_a_word : Shape → Shape
 needs_a_word shape = record shape { subcommand_required = true; disable_help_subcommand = true }
 
+-- `vtl`, with one of the three words behind it (own)
 abbrev pub vtl_command : App
 vtl_command =
     with_subcommand

@@ -1,5 +1,5 @@
 -- What command words ask for, and when they are refused.
-use Rattle.std.specs.Prelude.{◌≡◌, ◌≢◌, ◌⊎◌, ◌==◌, ℕ, Bool, List, [], Option, Some, None, String, string_bytes, option_map, if◌then◌else◌, codes, map, ⊤}
+use Rattle.std.specs.Prelude.{◌≡◌, ◌≢◌, ◌⊎◌, ℕ, Bool, false, List, [], Option, Some, None, String, string_bytes, option_map, if◌then◌else◌, codes, map, ⊤}
 use Rattle.std.specs.Option.{option_map_or}
 use Rattle.std.specs.Str.{bytes_eq}
 use Rattle.std.specs.declared.alloc.Global.{Global}
@@ -21,6 +21,7 @@ pub data Asked : Type 0 where
   create : List ℕ → Asked
   check : List ℕ → Asked
 
+-- the order as it is seen
 abbrev pub asked_of : Order → Asked
 asked_of (order.Run memory config) = run memory (option_map string_bytes config)
 asked_of (order.Create config) = create (string_bytes config)
@@ -40,9 +41,9 @@ asked_by word rows =
     else None
 
 -- what matches ask for
-abbrev pub asked_in : Option (List ℕ × List Row) → Option Asked
-asked_in None = None
-asked_in (Some matches) = asked_by matches.0 matches.1
+abbrev pub asked_from : Option (List ℕ × List Row) → Option Asked
+asked_from None = None
+asked_from (Some matches) = asked_by matches.0 matches.1
 
 -- words as bytes
 abbrev pub texts_of : List (String Global) → List (List ℕ)
@@ -51,16 +52,16 @@ texts_of words = map (λ word. string_bytes word) words
 -- the words ask for this: the parser finds no fault in them, and its matches ask for it (own)
 pub record Asks (words : List (List ℕ)) (asked : Asked) : Type 0 where
   pub no_fault : fault_of vtl_command words ≡ []
-  pub matches : asked_in (subcommand_of vtl_command words) ≡ Some asked
+  pub matches : asked_from (subcommand_of vtl_command words) ≡ Some asked
 
 -- the parser finds such a fault in the words, or its matches ask for nothing (own)
-abbrev pub IsRefused : List (List ℕ) → Type 0
-IsRefused words =
+abbrev pub AreRefused : List (List ℕ) → Type 0
+AreRefused words =
     ((kind : ErrorKind) × (kind ≢ DisplayHelp) × IsAmong kind (fault_of vtl_command words))
-    ⊎ (asked_in (subcommand_of vtl_command words) ≡ None)
+    ⊎ (asked_from (subcommand_of vtl_command words) ≡ None)
 
 -- why words give no order; memory may run out at any (own)
-abbrev pub Refuses : List (List ℕ) → WordsError → Type 0
-Refuses words (Help text) = IsAmong DisplayHelp (fault_of vtl_command words)
-Refuses words Refused = IsRefused words
-Refuses words NoMemory = ⊤
+abbrev pub RefusesWords : List (List ℕ) → WordsError → Type 0
+RefusesWords words (Help text) = IsAmong DisplayHelp (fault_of vtl_command words)
+RefusesWords words Refused = AreRefused words
+RefusesWords words NoMemory = ⊤

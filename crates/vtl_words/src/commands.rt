@@ -82,8 +82,8 @@ fn named<'a>(alloc: Global, name: &'a str, about: &'a str) -> Command<'a>
 
 // The command with one argument more, which is not global.
 fn with<'a>(command: Command<'a>, arg: Arg<'a>) -> Result<Command<'a>, AllocError>
-    requires arg { arg.entry.global ≡ false }
-    requires local { (out-Command command.entry).has_globals ≡ false }
+    requires arg { arg.global ≡ false }
+    requires local { (out-Command command).has_globals ≡ false }
     ensures app { IfOk result (λ r. app_of r ≡ with_rule (app_of command.entry) (rule_of arg.entry)) }
     ensures local { IfOk result (λ r. (out-Command r).has_globals ≡ false) }
 {
@@ -92,8 +92,8 @@ fn with<'a>(command: Command<'a>, arg: Arg<'a>) -> Result<Command<'a>, AllocErro
 
 // The command with one word more.
 fn with_word<'a>(command: Command<'a>, word: Command<'a>) -> Result<Command<'a>, AllocError>
-    requires command { (out-Command command.entry).has_globals ≡ false }
-    requires word { (out-Command word.entry).has_globals ≡ false }
+    requires command { (out-Command command).has_globals ≡ false }
+    requires word { (out-Command word).has_globals ≡ false }
     ensures app { IfOk result (λ r. app_of r ≡ with_subcommand (app_of command.entry) (app_of word.entry).top) }
     ensures local { IfOk result (λ r. (out-Command r).has_globals ≡ false) }
 {

@@ -6,7 +6,7 @@ ghost use Rattle.clap.specs.Simple.{subcommand_of, subcommand_rows_of};
 ghost use Rattle.clap.specs.Values.{kind_of};
 ghost use Rattle.clap.specs.Walk.{first_of, rows_of};
 ghost use Rattle.vtl_words.specs.Commands.{vtl_command};
-ghost use Rattle.vtl_words.specs.Orders.{asked_of, asked_by, asked_in, is_set, texts_of, Asks, Refuses};
+ghost use Rattle.vtl_words.specs.Orders.{asked_of, asked_by, asked_from, is_set, texts_of, Asks, RefusesWords};
 ghost use Rattle.vtl_words.specs.Inner.Told.{Tells, AsksNothing};
 
 use crate::commands::vtl_command;
@@ -32,7 +32,7 @@ fn told(alloc: Global, error: &clap::Error) -> WordsError
 fn parsed<'a>(alloc: Global, words: &'a [String]) -> Result<ArgMatches<'a>, WordsError>
     ensures no_fault { IfOk result (λ _. fault_of vtl_command (texts_of words.now) ≡ []) }
     ensures ok { IfOk result (λ m. subcommand_rows_of m ≡ subcommand_of vtl_command (texts_of words.now)) }
-    ensures err { IfErr result (Refuses (texts_of words.now)) }
+    ensures err { IfErr result (RefusesWords (texts_of words.now)) }
 {
     let command = match vtl_command(alloc) {
         Ok(command) => command,
@@ -51,7 +51,7 @@ fn value_of<'a>(matches: &ArgMatches<'a>, id: &str) -> Option<&'a str>
 }
 
 fn is_set(value: Option<&str>) -> bool
-    ensures { result ≡ is_set (option_map (λ text. text.now) value) }
+    ensures { result ≡ is_set (option_map (λ text. text.now) value.entry) }
 {
     match value {
         Some(text) => text == "true",
@@ -60,7 +60,7 @@ fn is_set(value: Option<&str>) -> bool
 }
 
 fn copied(alloc: Global, value: Option<&str>) -> Result<Option<String>, WordsError>
-    ensures ok { IfOk result (λ copy. option_map string_bytes copy ≡ option_map (λ text. text.now) value) }
+    ensures ok { IfOk result (λ copy. option_map string_bytes copy ≡ option_map (λ text. text.now) value.entry) }
     ensures err { IfErr result (λ e. e ≡ WordsError.NoMemory) }
 {
     match value {
@@ -73,7 +73,8 @@ fn copied(alloc: Global, value: Option<&str>) -> Result<Option<String>, WordsErr
 }
 
 fn run_order(alloc: Global, matches: &ArgMatches<'_>) -> Result<Order, WordsError>
-    ensures ok { IfOk result (λ order. asked_by (codes "run") (rows_of (found_of matches.now)) ≡ Some (asked_of order)) }
+    ensures ok { IfOk result (λ order.
+        asked_by (codes "run") (rows_of (found_of matches.now)) ≡ Some (asked_of order)) }
     ensures err { IfErr result (λ e. e ≡ WordsError.NoMemory) }
 {
     let memory = is_set(value_of(matches, "memory"));
@@ -84,7 +85,8 @@ fn run_order(alloc: Global, matches: &ArgMatches<'_>) -> Result<Order, WordsErro
 }
 
 fn create_order(alloc: Global, matches: &ArgMatches<'_>) -> Result<Order, WordsError>
-    ensures ok { IfOk result (λ order. asked_by (codes "create") (rows_of (found_of matches.now)) ≡ Some (asked_of order)) }
+    ensures ok { IfOk result (λ order.
+        asked_by (codes "create") (rows_of (found_of matches.now)) ≡ Some (asked_of order)) }
     ensures err { IfErr result (AsksNothing (asked_by (codes "create") (rows_of (found_of matches.now)))) }
 {
     match copied(alloc, value_of(matches, "config")) {
@@ -95,7 +97,8 @@ fn create_order(alloc: Global, matches: &ArgMatches<'_>) -> Result<Order, WordsE
 }
 
 fn check_order(alloc: Global, matches: &ArgMatches<'_>) -> Result<Order, WordsError>
-    ensures ok { IfOk result (λ order. asked_by (codes "check") (rows_of (found_of matches.now)) ≡ Some (asked_of order)) }
+    ensures ok { IfOk result (λ order.
+        asked_by (codes "check") (rows_of (found_of matches.now)) ≡ Some (asked_of order)) }
     ensures err { IfErr result (AsksNothing (asked_by (codes "check") (rows_of (found_of matches.now)))) }
 {
     match copied(alloc, value_of(matches, "file")) {
@@ -122,8 +125,8 @@ fn order_by(alloc: Global, word: &str, matches: &ArgMatches<'_>) -> Result<Order
 }
 
 fn order_in(alloc: Global, matches: &ArgMatches<'_>) -> Result<Order, WordsError>
-    ensures ok { IfOk result (λ order. asked_in (subcommand_rows_of matches.now) ≡ Some (asked_of order)) }
-    ensures err { IfErr result (AsksNothing (asked_in (subcommand_rows_of matches.now))) }
+    ensures ok { IfOk result (λ order. asked_from (subcommand_rows_of matches.now) ≡ Some (asked_of order)) }
+    ensures err { IfErr result (AsksNothing (asked_from (subcommand_rows_of matches.now))) }
 {
     match matches.subcommand() {
         Some((word, inner)) => order_by(alloc, word, inner),
@@ -134,7 +137,7 @@ fn order_in(alloc: Global, matches: &ArgMatches<'_>) -> Result<Order, WordsError
 /// The order that the words of a command line give. The first word is the program's name.
 pub fn read_words(alloc: Global, words: &[String]) -> Result<Order, WordsError>
     ensures ok { IfOk result (λ order. Asks (texts_of words.now) (asked_of order)) }
-    ensures err { IfErr result (Refuses (texts_of words.now)) }
+    ensures err { IfErr result (RefusesWords (texts_of words.now)) }
 {
     let matches = match parsed(alloc, words) {
         Ok(matches) => matches,

@@ -1,14 +1,14 @@
 -- What is found of an entry before it is taken.
 use Rattle.std.specs.Prelude.{◌≡◌, ℕ, Some, false, List, ◌++◌, ⊤}
 use Rattle.std.specs.List.{Contains}
-use Rattle.toml.specs.Data.{Data, string, integer, float, boolean, datetime, array, table, Members}
-use Rattle.vtl_config.specs.Configs.{AreDrives, AreCartridges, IsAtHome, BrokenAt, Breaks}
+use Rattle.toml.specs.Data.{Data, table, Members}
+use Rattle.vtl_config.specs.Configs.{AreDrives, AreCartridges, IsAtHome, BrokenAt, ConfigBreaks}
 use Rattle.vtl_config.specs.Entries.{numbers_of, drive_files, barcodes_of, cartridge_files, homes_of, IsDriveTable, IsCartridgeTable}
 use Rattle.vtl_config.specs.Rules.{DriveTableBreaks, CartridgeTableBreaks}
 use Rattle.vtl_config.specs.declared.entries.DriveEntry.{DriveEntry}
 use Rattle.vtl_config.specs.declared.entries.CartridgeEntry.{CartridgeEntry}
 use Rattle.vtl_config.specs.declared.rules.Place.TheVariants.{Top, Drive, Cartridge}
-use Rattle.vtl_config.specs.Values.{value_at, kind_of, is_of_kind}
+use Rattle.vtl_config.specs.Values.{value_at, kind_of_key, is_of_kind}
 use Rattle.vtl_config.specs.declared.keys.Key.{Key}
 use Rattle.vtl_config.specs.declared.rules.Rule.TheVariants.{OtherKind}
 use Rattle.vtl_config.specs.declared.rules.ConfigError.{ConfigError}
@@ -25,7 +25,8 @@ FitsDrive before (table entry) number file = FitsDriveTable before entry number 
 FitsDrive before _ number file = ⊥
 
 -- a cartridge's table, none of whose values stands before, and whose home is listed
-pub record FitsCartridgeTable (drives : List DriveEntry) (before : List CartridgeEntry) (entry : Members) (barcode file capacities : List ℕ) (home : ℕ) : Type 0 where
+pub record FitsCartridgeTable (drives : List DriveEntry) (before : List CartridgeEntry) (entry : Members)
+    (barcode file capacities : List ℕ) (home : ℕ) : Type 0 where
   pub is_table : IsCartridgeTable entry barcode file capacities home
   pub new_barcode : ¬ Contains (barcodes_of before) barcode
   pub new_file : ¬ Contains (drive_files drives ++ cartridge_files before) file
@@ -55,11 +56,11 @@ CartridgesRefused drives entries NoMemory = ⊤
 abbrev pub IsNoList : Key → Members → ConfigError → Type 0
 IsNoList list entry error =
     (value : Data) × (error ≡ Refused Top (OtherKind list)) × (value_at list entry ≡ Some value)
-    × (is_of_kind (kind_of list) value ≡ false)
+    × (is_of_kind (kind_of_key list) value ≡ false)
 
 -- why a table is refused; memory may run out at any
 abbrev pub TableRefused : Members → ConfigError → Type 0
 TableRefused entry NotUtf8 = ⊥
 TableRefused entry NotToml = ⊥
-TableRefused entry (Refused place rule) = Breaks entry place rule
+TableRefused entry (Refused place rule) = ConfigBreaks entry place rule
 TableRefused entry NoMemory = ⊤

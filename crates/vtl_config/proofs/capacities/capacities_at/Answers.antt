@@ -11,7 +11,8 @@ returns-in-None-capacities_of-clause-err c =
     out_of_range value refl (sym c.in-Some.ensures)
     (list_kind value c.in-Some-as_array.items.now.items c.as_slice.result.now is_list c.as_slice.ensures.value
     ∙ (sym c.are_integers.ensures ∙ c.if-not-are_integers.false))
-    (not_within value c.in-Some-as_array.items.now.items c.as_slice-2.result.now is_list c.as_slice-2.ensures.value
+    (not_within value c.in-Some-as_array.items.now.items c.as_slice-in-Some-as_array.result.now is_list
+    c.as_slice-in-Some-as_array.ensures.value
     c.in-None-capacities_of.ensures)
 
 pub returns-then-not-are_integers-clause-err : goal.returns-then-not-are_integers-clause-err

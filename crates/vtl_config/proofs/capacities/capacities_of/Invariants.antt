@@ -1,4 +1,4 @@
-use Rattle.std.proofs.Common.{◌≡◌, ◌≤◌, IsTrue, length, map, take}
+use Rattle.std.proofs.Common.{◌≡◌, IsTrue, length, map, take}
 use Rattle.std.specs.List.{All}
 use Rattle.toml.specs.View.{view}
 use Rattle.vtl_base.specs.Limits.{is_capacity}

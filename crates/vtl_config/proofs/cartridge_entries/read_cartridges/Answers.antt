@@ -1,11 +1,11 @@
-use Rattle.std.proofs.Common.{◌≡◌, ◌+◌, [], ◌∷◌, ◌++◌, map, take, string_bytes, refl, sym, ap, ◌∙◌, arith, rules}
+use Rattle.std.proofs.Common.{◌≡◌, ◌+◌, [], ◌∷◌, ◌++◌, map, take, string_bytes, sym, ap, ◌∙◌, arith, rules}
 use Rattle.std.proofs.lemmas.List.{take_all, append-nil}
 use Rattle.toml.specs.View.{view}
 use Rattle.toml.specs.declared.value.Value.{Value}
 use Rattle.vtl_config.specs.Configs.{AreCartridges}
 use Rattle.vtl_config.specs.Entries.{address_of, drive_files}
 use Rattle.vtl_config.specs.Inner.Found.{FitsCartridge}
-use Rattle.vtl_config.specs.Rules.{CartridgeTableBreaks, EntryBreaks}
+use Rattle.vtl_config.specs.Rules.{CartridgeTableBreaks}
 use Rattle.vtl_config.specs.declared.rules.Place.TheVariants.{Cartridge}
 use Rattle.vtl_config.proofs.EntryLemmas.{broken_here, cartridges_push}
 use Rattle.vtl_config.proofs.ListLemmas.{taken_more}
@@ -36,7 +36,8 @@ loop-place-preserved c =
     let taken : map view (take (place + 1) values) ≡ map view (take place values) ++ view here ∷ [] =
         taken_more view values place here c.loop-place-test.true
         ∙ ap (λ (v : Value). map view (take place values) ++ view v ∷ []) (sym c.index-entries-place.is) in
-    let text : string_bytes c.in_ok-file.file ≡ c.in-Ok.found.file.now = search (rules, c.in_ok-file.ensures.ok) in
+    let text : string_bytes c.in_ok-file.file ≡ c.in-Ok.found.file.now =
+        search (rules, c.in_ok-file.ensures.ok) in
     let fits : FitsCartridge c.args.drives.now c.loop-place.cartridges.items (view here) c.in-Ok.found.barcode
         (string_bytes c.in_ok-file.file) c.in-Ok.found.capacities (address_of c.in-Ok.found.home) =
         rw (← c.as_slice.ensures.value, text) c.in-Ok.ensures.ok in

@@ -1,6 +1,5 @@
 use Rattle.std.proofs.Common.{sym}
 use Rattle.std.proofs.lemmas.Result.{IfErr-weaker}
-use Rattle.toml.specs.Data.{table}
 use Rattle.toml.specs.View.{view, table_view}
 use Rattle.vtl_config.specs.Rules.{DriveTableBreaks, EntryBreaks, its_table}
 use Rattle.vtl_config.proofs.ValueLemmas.{table_value}

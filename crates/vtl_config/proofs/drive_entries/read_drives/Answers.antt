@@ -1,10 +1,10 @@
-use Rattle.std.proofs.Common.{◌≡◌, ◌+◌, [], ◌∷◌, ◌++◌, map, take, string_bytes, refl, sym, ap, ◌∙◌, arith, rules}
+use Rattle.std.proofs.Common.{◌≡◌, ◌+◌, [], ◌∷◌, ◌++◌, map, take, string_bytes, sym, ap, ◌∙◌, arith, rules}
 use Rattle.std.proofs.lemmas.List.{take_all}
 use Rattle.toml.specs.View.{view}
 use Rattle.toml.specs.declared.value.Value.{Value}
 use Rattle.vtl_config.specs.Configs.{AreDrives}
 use Rattle.vtl_config.specs.Inner.Found.{FitsDrive}
-use Rattle.vtl_config.specs.Rules.{DriveTableBreaks, EntryBreaks}
+use Rattle.vtl_config.specs.Rules.{DriveTableBreaks}
 use Rattle.vtl_config.specs.declared.rules.Place.TheVariants.{Drive}
 use Rattle.vtl_config.proofs.EntryLemmas.{broken_here, drives_push}
 use Rattle.vtl_config.proofs.ListLemmas.{taken_more}
@@ -27,7 +27,8 @@ loop-place-preserved c =
     let taken : map view (take (place + 1) values) ≡ map view (take place values) ++ view here ∷ [] =
         taken_more view values place here c.loop-place-test.true
         ∙ ap (λ (v : Value). map view (take place values) ++ view v ∷ []) (sym c.index-entries-place.is) in
-    let text : string_bytes c.in_ok-reservations.reservations ≡ c.in-Ok.found.file.now = search (rules, c.in_ok-reservations.ensures.ok) in
+    let text : string_bytes c.in_ok-reservations.reservations ≡ c.in-Ok.found.file.now =
+        search (rules, c.in_ok-reservations.ensures.ok) in
     let fits : FitsDrive c.loop-place.drives.items (view here) c.in-Ok.found.number
         (string_bytes c.in_ok-reservations.reservations) =
         rw (← c.as_slice.ensures.value, text) c.in-Ok.ensures.ok in

@@ -1,7 +1,6 @@
 use Rattle.std.proofs.Common.{map, arith, refl}
 use Rattle.toml.specs.View.{view, table_view}
 use Rattle.vtl_config.specs.Configs.{no_list}
-use Rattle.vtl_config.specs.Inner.Found.{CartridgesRefused}
 use Rattle.vtl_config.specs.declared.keys.Key.TheVariants.{Cartridge, Drive}
 use Rattle.vtl_config.proofs.EntryLemmas.{drives_refused, cartridges_refused}
 use Rattle.vtl_config.proofs.reading.read_table.Goals as goal

@@ -1,4 +1,4 @@
-use Rattle.std.proofs.Common.{◌≡◌, sym, refl}
+use Rattle.std.proofs.Common.{refl}
 use Rattle.toml.specs.Data.{string}
 use Rattle.vtl_base.specs.Barcode.{IsBarcode}
 use Rattle.vtl_config.specs.Values.{out_of_range}
