@@ -1,0 +1,5 @@
+pub mod KeyLemmas
+pub mod ValueLemmas
+pub mod ListLemmas
+pub mod CapacityLemmas
+pub mod EntryLemmas

@@ -1,0 +1,14 @@
+use Rattle.std.proofs.Common.{sym}
+use Rattle.std.proofs.lemmas.Result.{IfErr-weaker}
+use Rattle.toml.specs.View.{view, table_view}
+use Rattle.vtl_config.specs.Rules.{CartridgeTableBreaks, EntryBreaks, its_table}
+use Rattle.vtl_config.proofs.ValueLemmas.{table_value}
+use Rattle.vtl_config.proofs.cartridge_entries.found_cartridge.Goals as goal
+
+pub returns-in-Some-clause-err : goal.returns-in-Some-clause-err
+returns-in-Some-clause-err c =
+    IfErr-weaker c.cartridge_in.result
+    (CartridgeTableBreaks c.args.drives.now c.args.before.now (table_view c.in-Some.entry.now))
+    (EntryBreaks (CartridgeTableBreaks c.args.drives.now c.args.before.now) (view c.args.value.now))
+    (λ rule breaks. its_table (table_view c.in-Some.entry.now) (table_value _ _ (sym c.in-Some.ensures)) breaks)
+    c.cartridge_in.ensures.err

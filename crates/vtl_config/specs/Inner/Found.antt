@@ -1,0 +1,66 @@
+-- What is found of an entry before it is taken.
+use Rattle.std.specs.Prelude.{◌≡◌, ℕ, Some, false, List, ◌++◌, ⊤}
+use Rattle.std.specs.List.{Contains}
+use Rattle.toml.specs.Data.{Data, table, Members}
+use Rattle.vtl_config.specs.Configs.{AreDrives, AreCartridges, IsAtHome, BrokenAt, ConfigBreaks}
+use Rattle.vtl_config.specs.Entries.{numbers_of, drive_files, barcodes_of, cartridge_files, homes_of, IsDriveTable, IsCartridgeTable}
+use Rattle.vtl_config.specs.Rules.{DriveTableBreaks, CartridgeTableBreaks}
+use Rattle.vtl_config.specs.declared.entries.DriveEntry.{DriveEntry}
+use Rattle.vtl_config.specs.declared.entries.CartridgeEntry.{CartridgeEntry}
+use Rattle.vtl_config.specs.declared.rules.Place.TheVariants.{Top, Drive, Cartridge}
+use Rattle.vtl_config.specs.Values.{value_at, kind_of_key, is_of_kind}
+use Rattle.vtl_config.specs.declared.keys.Key.{Key}
+use Rattle.vtl_config.specs.declared.rules.Rule.TheVariants.{OtherKind}
+use Rattle.vtl_config.specs.declared.rules.ConfigError.{ConfigError}
+use Rattle.vtl_config.specs.declared.rules.ConfigError.TheVariants.{NotUtf8, NotToml, Refused, NoMemory}
+
+-- a drive's table, none of whose values stands before
+pub record FitsDriveTable (before : List DriveEntry) (entry : Members) (number : ℕ) (file : List ℕ) : Type 0 where
+  pub is_table : IsDriveTable entry number file
+  pub new_number : ¬ Contains (numbers_of before) number
+  pub new_file : ¬ Contains (drive_files before) file
+
+abbrev pub FitsDrive : List DriveEntry → Data → ℕ → List ℕ → Type 0
+FitsDrive before (table entry) number file = FitsDriveTable before entry number file
+FitsDrive before _ number file = ⊥
+
+-- a cartridge's table, none of whose values stands before, and whose home is listed
+pub record FitsCartridgeTable (drives : List DriveEntry) (before : List CartridgeEntry) (entry : Members)
+    (barcode file capacities : List ℕ) (home : ℕ) : Type 0 where
+  pub is_table : IsCartridgeTable entry barcode file capacities home
+  pub new_barcode : ¬ Contains (barcodes_of before) barcode
+  pub new_file : ¬ Contains (drive_files drives ++ cartridge_files before) file
+  pub new_home : ¬ Contains (homes_of before) home
+  pub is_listed : IsAtHome (numbers_of drives) home
+
+abbrev pub FitsCartridge : List DriveEntry → List CartridgeEntry → Data → List ℕ → List ℕ → List ℕ → ℕ → Type 0
+FitsCartridge drives before (table entry) barcode file capacities home =
+    FitsCartridgeTable drives before entry barcode file capacities home
+FitsCartridge drives before _ barcode file capacities home = ⊥
+
+-- why drives or cartridges are refused; memory may run out at any
+abbrev pub DrivesRefused : List Data → ConfigError → Type 0
+DrivesRefused entries NotUtf8 = ⊥
+DrivesRefused entries NotToml = ⊥
+DrivesRefused entries (Refused place rule) = BrokenAt AreDrives DriveTableBreaks Drive entries place rule
+DrivesRefused entries NoMemory = ⊤
+
+abbrev pub CartridgesRefused : List DriveEntry → List Data → ConfigError → Type 0
+CartridgesRefused drives entries NotUtf8 = ⊥
+CartridgesRefused drives entries NotToml = ⊥
+CartridgesRefused drives entries (Refused place rule) =
+    BrokenAt (AreCartridges drives) (CartridgeTableBreaks drives) Cartridge entries place rule
+CartridgesRefused drives entries NoMemory = ⊤
+
+-- a list is none
+abbrev pub IsNoList : Key → Members → ConfigError → Type 0
+IsNoList list entry error =
+    (value : Data) × (error ≡ Refused Top (OtherKind list)) × (value_at list entry ≡ Some value)
+    × (is_of_kind (kind_of_key list) value ≡ false)
+
+-- why a table is refused; memory may run out at any
+abbrev pub TableRefused : Members → ConfigError → Type 0
+TableRefused entry NotUtf8 = ⊥
+TableRefused entry NotToml = ⊥
+TableRefused entry (Refused place rule) = ConfigBreaks entry place rule
+TableRefused entry NoMemory = ⊤

@@ -1,0 +1,7 @@
+pub mod Keys
+pub mod Values
+pub mod Capacities
+pub mod Entries
+pub mod Rules
+pub mod Configs
+pub mod Inner

@@ -1,0 +1,82 @@
+//! The drives of a configuration.
+ghost use Rattle.std.specs.Prelude.{◌≡◌, IfOk, IfErr, map};
+ghost use Rattle.toml.specs.View.{view, table_view};
+ghost use Rattle.vtl_config.specs.Rules.{DriveTableBreaks, EntryBreaks};
+ghost use Rattle.vtl_config.specs.Configs.{AreDrives};
+ghost use Rattle.vtl_config.specs.Inner.Found.{FitsDriveTable, FitsDrive, DrivesRefused};
+
+use crate::doubles::{has_drive_file, has_number};
+use crate::entries::DriveEntry;
+use crate::keys::{Key, has_only};
+use crate::rules::{ConfigError, Place, Rule};
+use crate::values::{drive_number_at, text_at};
+use std::alloc::Global;
+use toml::{Table, Value};
+use vtl_base::DriveNo;
+
+const KEYS: [Key; 2] = [Key::Number, Key::Reservations];
+
+#[derive(Drop)]
+struct FoundDrive<'a> {
+    number: DriveNo,
+    file: &'a str,
+}
+
+fn drive_in<'a>(before: &[DriveEntry], entry: &'a Table) -> Result<FoundDrive<'a>, Rule>
+    ensures ok { IfOk result (λ found. FitsDriveTable before.now (table_view entry.now) found.number found.file.now) }
+    ensures err { IfErr result (DriveTableBreaks before.now (table_view entry.now)) }
+{
+    if !has_only(entry, &KEYS) {
+        return Err(Rule::OtherKey);
+    }
+    let number = match drive_number_at(entry) {
+        Ok(number) => number,
+        Err(rule) => return Err(rule),
+    };
+    let file = match text_at(entry, Key::Reservations) {
+        Ok(file) => file,
+        Err(rule) => return Err(rule),
+    };
+    if has_number(before, number) {
+        return Err(Rule::Double(Key::Number));
+    }
+    if has_drive_file(before, file) {
+        return Err(Rule::Double(Key::Reservations));
+    }
+    Ok(FoundDrive { number, file })
+}
+
+fn found_drive<'a>(before: &[DriveEntry], value: &'a Value) -> Result<FoundDrive<'a>, Rule>
+    ensures ok { IfOk result (λ found. FitsDrive before.now (view value.now) found.number found.file.now) }
+    ensures err { IfErr result (EntryBreaks (DriveTableBreaks before.now) (view value.now)) }
+{
+    match value.as_table() {
+        Some(entry) => drive_in(before, entry),
+        None => Err(Rule::NotATable),
+    }
+}
+
+// The drives of these entries. The first entry that breaks a rule is told.
+pub(crate) fn read_drives(alloc: Global, entries: &[Value]) -> Result<Vec<DriveEntry>, ConfigError>
+    ensures ok { IfOk result (λ drives. AreDrives (map view entries.now) drives.items) }
+    ensures err { IfErr result (DrivesRefused (map view entries.now)) }
+{
+    let mut drives = Vec::new(alloc);
+    for (place, value) in entries.iter().enumerate() {
+        let found = match found_drive(drives.as_slice(), value) {
+            Ok(found) => found,
+            Err(rule) => {
+                return Err(ConfigError::Refused {
+                    place: Place::Drive(place + 1),
+                    rule,
+                });
+            }
+        };
+        let reservations = String::from_str(alloc, found.file)?;
+        drives.push(DriveEntry {
+            number: found.number,
+            reservations,
+        })?;
+    }
+    Ok(drives)
+}

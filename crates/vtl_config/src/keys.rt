@@ -1,0 +1,63 @@
+//! The keys of a configuration.
+ghost use Rattle.std.specs.Prelude.{◌≡◌};
+ghost use Rattle.vtl_config.specs.Keys.{name_of, is_one_of, has_only};
+ghost use Rattle.toml.specs.View.{table_view};
+
+use toml::Table;
+
+/// A key of a configuration's tables (own).
+#[derive(Clone, Copy, PartialEq, Eq, Debug)]
+pub enum Key {
+    /// At the top: the list of cartridges.
+    Cartridge,
+    /// At the top: the list of drives.
+    Drive,
+    /// Of a cartridge: its barcode.
+    Barcode,
+    /// Of a cartridge: the name of its file.
+    File,
+    /// Of a cartridge: the capacities of its partitions, in bytes.
+    Capacities,
+    /// Of a cartridge: the element address where it is at power on.
+    Home,
+    /// Of a drive: its number.
+    Number,
+    /// Of a drive: the name of the file of its reservations.
+    Reservations,
+}
+
+impl Key {
+    /// The key as a text has it.
+    pub fn name(self) -> &'static str
+        ensures { result.now ≡ name_of self }
+    {
+        match self {
+            Key::Cartridge => "cartridge",
+            Key::Drive => "drive",
+            Key::Barcode => "barcode",
+            Key::File => "file",
+            Key::Capacities => "capacities",
+            Key::Home => "home",
+            Key::Number => "number",
+            Key::Reservations => "reservations",
+        }
+    }
+}
+
+fn is_one_of(keys: &[Key], name: &str) -> bool
+    ensures { result ≡ is_one_of keys.now name.now }
+{
+    keys.iter().any(|key| key.name() == name)
+}
+
+// Whether each key of the table is one of these.
+pub(crate) fn has_only(table: &Table, keys: &[Key]) -> bool
+    ensures { result ≡ has_only keys.now (table_view table.now) }
+{
+    for name in table.keys() {
+        if !is_one_of(keys, name.as_str()) {
+            return false;
+        }
+    }
+    true
+}

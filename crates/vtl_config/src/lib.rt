@@ -1,0 +1,20 @@
+//! The configuration of a library: its cartridges and drives, read from a TOML table.
+#![tactic(auto)]
+
+mod capacities;
+mod cartridge_entries;
+mod doubles;
+mod drive_entries;
+pub mod entries;
+pub mod keys;
+mod reading;
+pub mod rules;
+#[cfg(test)]
+mod tests;
+mod values;
+
+pub use capacities::Capacities;
+pub use entries::{Address, CartridgeEntry, Config, DriveEntry};
+pub use keys::Key;
+pub use reading::read_config;
+pub use rules::{ConfigError, Place, Rule};

@@ -1,0 +1,70 @@
+//! Why a configuration is refused.
+use crate::keys::Key;
+use std::alloc::{AllocError, AllocFailed};
+use thiserror::Error;
+
+/// Where in a configuration a rule is broken. Entries are counted from 1 on, in the order of the text.
+#[derive(Clone, Copy, PartialEq, Eq, Debug)]
+pub enum Place {
+    Top,
+    Drive(usize),
+    Cartridge(usize),
+}
+
+/// The rules of a configuration (own): each line is a refusal.
+#[derive(Clone, Copy, PartialEq, Eq, Debug)]
+pub enum Rule {
+    /// An entry of a list is no table.
+    NotATable,
+    /// A key is none of those that the place has.
+    OtherKey,
+    /// The key is missing.
+    Missing(Key),
+    /// The value of the key is of another kind.
+    OtherKind(Key),
+    /// The value of the key is outside its limits.
+    OutOfRange(Key),
+    /// The value of the key stands at an entry before.
+    Double(Key),
+    /// The home is a drive that is not listed.
+    NoSuchDrive,
+}
+
+/// Why a text gives no configuration.
+#[derive(Clone, Copy, PartialEq, Eq, Debug, Error)]
+pub enum ConfigError {
+    /// The bytes are no text.
+    #[error("not UTF-8")]
+    NotUtf8,
+    /// The text is no TOML document.
+    #[error("no TOML document")]
+    NotToml,
+    /// The document breaks a rule.
+    #[error("{place:?}: {rule:?}")]
+    Refused { place: Place, rule: Rule },
+    /// A growth was refused.
+    #[error("out of memory")]
+    NoMemory,
+}
+
+impl From<AllocError> for ConfigError {
+    ghost use Rattle.std.specs.Prelude.{◌≡◌};
+    ghost use Rattle.vtl_config.specs.declared.rules.ConfigError.TheVariants.{NoMemory};
+
+    ghost from_gives = { λ _ e. e ≡ NoMemory };
+
+    fn from(_: AllocError) -> Self {
+        ConfigError::NoMemory
+    }
+}
+
+impl<T: Drop> From<AllocFailed<T>> for ConfigError {
+    ghost use Rattle.std.specs.Prelude.{◌≡◌};
+    ghost use Rattle.vtl_config.specs.declared.rules.ConfigError.TheVariants.{NoMemory};
+
+    ghost from_gives = { λ _ e. e ≡ NoMemory };
+
+    fn from(_: AllocFailed<T>) -> Self {
+        ConfigError::NoMemory
+    }
+}

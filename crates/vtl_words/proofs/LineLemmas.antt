@@ -1,0 +1,50 @@
+-- The command line is one whose matches are known.
+use Rattle.std.proofs.Common.{◌≡◌, ◌⊎◌, inl, inr, ℕ, true, List, Option, Some, None, option_map, Box, refl, subst}
+use Rattle.std.proofs.lemmas.Option.{same_Some}
+use Rattle.std.specs.Box.{box_value}
+use Rattle.clap.specs.Faults.{fault_of, is_simple_and_free}
+use Rattle.clap.specs.Kinds.{IsAmong}
+use Rattle.clap.specs.Matches.{found_of}
+use Rattle.clap.specs.Simple.{is_simple, subcommand_rows}
+use Rattle.clap.specs.Walk.{Row, rows_of}
+use Rattle.clap.specs.declared.parser.matches.SubCommand.{SubCommand}
+use Rattle.clap.specs.declared.parser.matches.ArgMatches.TheViews.{out-SubCommand}
+use Rattle.clap.proofs.OnLiterals.{clap_on_literals}
+use Rattle.clap.specs.declared.error.kind.ErrorKind.{ErrorKind}
+use Rattle.clap.specs.declared.error.kind.ErrorKind.TheVariants.{OutOfMemory}
+use Rattle.vtl_words.specs.Commands.{vtl_command}
+use Rattle.vtl_words.specs.Inner.Told.{Tells}
+use Rattle.vtl_words.specs.Orders.{RefusesWords}
+use Rattle.vtl_words.specs.declared.orders.WordsError.{WordsError}
+use Rattle.vtl_words.specs.declared.orders.WordsError.TheVariants.{Help, Refused, NoMemory}
+
+pub line_is_simple : is_simple vtl_command ≡ true
+unfolding clap_on_literals
+line_is_simple = refl
+
+pub line_is_free : is_simple_and_free vtl_command ≡ true
+unfolding clap_on_literals
+line_is_free = refl
+
+-- the word and the rows of a subcommand
+pub rows_from_parts :
+    {Z : Type 0} (sub : Option (Box SubCommand Z)) (word : List ℕ) (rows : List Row)
+    → Some word ≡ option_map (λ b. (out-SubCommand (box_value b)).name.now) sub
+    → Some rows ≡ option_map (λ p. p.1) (subcommand_rows sub)
+    → subcommand_rows sub ≡ Some (word, rows)
+rows_from_parts None word rows named matched = cc
+rows_from_parts (Some b) word rows named matched =
+    let same_word : word ≡ (out-SubCommand (box_value b)).name.now = same_Some _ _ named in
+    let same_rows : rows ≡ rows_of (found_of (out-SubCommand (box_value b)).matches) = same_Some _ _ matched in
+    rw (same_word, same_rows) refl
+
+-- what an error of the parser is told as refuses the words
+pub told_refused :
+    (words : List (List ℕ)) (kind : ErrorKind) (error : WordsError) → Tells kind error
+    → (kind ≡ OutOfMemory) ⊎ IsAmong kind (fault_of vtl_command words) → RefusesWords words error
+told_refused words kind (Help text) tells (inl memory) = cc
+told_refused words kind (Help text) tells (inr among) =
+    subst (λ (k : ErrorKind). IsAmong k (fault_of vtl_command words)) tells among
+told_refused words kind Refused tells (inl memory) = absurd (tells.1 memory)
+told_refused words kind Refused tells (inr among) = inl (kind, tells.0, among)
+told_refused words kind NoMemory tells has = tt

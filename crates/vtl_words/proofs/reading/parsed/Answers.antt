@@ -1,0 +1,18 @@
+use Rattle.std.proofs.Common.{◌≡◌, ◌∙◌, ap, subst}
+use Rattle.clap.specs.Faults.{fault_of, is_simple_and_free}
+use Rattle.clap.specs.Kinds.{HasKind}
+use Rattle.clap.specs.Simple.{App}
+use Rattle.clap.specs.Values.{kind_of}
+use Rattle.vtl_words.specs.Commands.{vtl_command}
+use Rattle.vtl_words.specs.Orders.{texts_of}
+use Rattle.vtl_words.proofs.LineLemmas.{line_is_free, told_refused}
+use Rattle.vtl_words.proofs.reading.parsed.Goals as goal
+
+pub returns-in-Err-try_get_matches_from-clause-err : goal.returns-in-Err-try_get_matches_from-clause-err
+returns-in-Err-try_get_matches_from-clause-err c =
+    let error = c.in-Err-try_get_matches_from.error in
+    let words = texts_of c.args.words.now in
+    let has = c.in-Err-try_get_matches_from.ensures.kinds (ap is_simple_and_free c.in-Ok.ensures ∙ line_is_free) in
+    let kinds : HasKind (fault_of vtl_command words) error =
+        subst (λ (app : App). HasKind (fault_of app words) error) c.in-Ok.ensures has in
+    told_refused words (kind_of error) c.told.result c.told.ensures kinds

@@ -1,0 +1,45 @@
+-- The command line of the program, in the words of the parser.
+use Rattle.std.specs.Prelude.{true, Some, codes}
+use Rattle.clap.specs.Simple.{App, Shape, new_app, new_rule, on_top, with_rule, with_subcommand}
+use Rattle.clap.specs.Walk.{Rule}
+use Rattle.clap.specs.declared.builder.action.ArgAction.TheVariants.{Set, SetTrue}
+
+-- `--memory`, a flag (own)
+abbrev pub memory_flag : Rule
+memory_flag = record (new_rule (codes "memory")) { long = Some (codes "memory"); action = Some SetTrue }
+
+-- `--config FILE`, which may be left out (own)
+abbrev pub config_option : Rule
+config_option =
+    record (new_rule (codes "config")) { long = Some (codes "config"); action = Some Set; value_names = 1 }
+
+-- `--config FILE`, which has to be there (own)
+abbrev pub config_required : Rule
+config_required = record config_option { required = true }
+
+-- a file, which stands by itself (own)
+abbrev pub file_word : Rule
+file_word = record (new_rule (codes "file")) { action = Some Set; value_names = 1; required = true }
+
+-- `run [--memory] [--config FILE]` (own)
+abbrev pub run_command : App
+run_command = with_rule (with_rule (new_app (codes "run")) memory_flag) config_option
+
+-- `create --config FILE` (own)
+abbrev pub create_command : App
+create_command = with_rule (new_app (codes "create")) config_required
+
+-- `check FILE` (own)
+abbrev pub check_command : App
+check_command = with_rule (new_app (codes "check")) file_word
+
+-- a word has to follow, and `help` is none (own)
+abbrev pub needs_a_word : Shape → Shape
+needs_a_word shape = record shape { subcommand_required = true; disable_help_subcommand = true }
+
+-- `vtl`, with one of the three words behind it (own)
+abbrev pub vtl_command : App
+vtl_command =
+    with_subcommand
+    (with_subcommand (with_subcommand (on_top needs_a_word (new_app (codes "vtl"))) run_command.top)
+    create_command.top) check_command.top

@@ -1,0 +1,67 @@
+-- What command words ask for, and when they are refused.
+use Rattle.std.specs.Prelude.{◌≡◌, ◌≢◌, ◌⊎◌, ℕ, Bool, false, List, [], Option, Some, None, String, string_bytes, option_map, if◌then◌else◌, codes, map, ⊤}
+use Rattle.std.specs.Option.{option_map_or}
+use Rattle.std.specs.Str.{bytes_eq}
+use Rattle.std.specs.declared.alloc.Global.{Global}
+use Rattle.clap.specs.Faults.{fault_of}
+use Rattle.clap.specs.Kinds.{IsAmong}
+use Rattle.clap.specs.Simple.{subcommand_of}
+use Rattle.clap.specs.Walk.{Row, first_of}
+use Rattle.clap.specs.declared.error.kind.ErrorKind.{ErrorKind}
+use Rattle.clap.specs.declared.error.kind.ErrorKind.TheVariants.{DisplayHelp}
+use Rattle.vtl_words.specs.Commands.{vtl_command}
+use Rattle.vtl_words.specs.declared.orders.Order.{Order}
+use Rattle.vtl_words.specs.declared.orders.Order.TheVariants as order
+use Rattle.vtl_words.specs.declared.orders.WordsError.{WordsError}
+use Rattle.vtl_words.specs.declared.orders.WordsError.TheVariants.{Help, Refused, NoMemory}
+
+-- an order, with texts as bytes
+pub data Asked : Type 0 where
+  run : Bool → Option (List ℕ) → Asked
+  create : List ℕ → Asked
+  check : List ℕ → Asked
+
+-- the order as it is seen
+abbrev pub asked_of : Order → Asked
+asked_of (order.Run memory config) = run memory (option_map string_bytes config)
+asked_of (order.Create config) = create (string_bytes config)
+asked_of (order.Check file) = check (string_bytes file)
+
+-- the flag was given
+abbrev pub is_set : Option (List ℕ) → Bool
+is_set value = option_map_or (λ text. bytes_eq text (codes "true")) value false
+
+-- what a word with these matches asks for, if a required value is there (own)
+abbrev pub asked_by : List ℕ → List Row → Option Asked
+asked_by word rows =
+    if bytes_eq word (codes "run")
+    then Some (run (is_set (first_of (codes "memory") rows)) (first_of (codes "config") rows))
+    else if bytes_eq word (codes "create") then option_map create (first_of (codes "config") rows)
+    else if bytes_eq word (codes "check") then option_map check (first_of (codes "file") rows)
+    else None
+
+-- what matches ask for
+abbrev pub asked_from : Option (List ℕ × List Row) → Option Asked
+asked_from None = None
+asked_from (Some matches) = asked_by matches.0 matches.1
+
+-- words as bytes
+abbrev pub texts_of : List (String Global) → List (List ℕ)
+texts_of words = map (λ word. string_bytes word) words
+
+-- the words ask for this: the parser finds no fault in them, and its matches ask for it (own)
+pub record Asks (words : List (List ℕ)) (asked : Asked) : Type 0 where
+  pub no_fault : fault_of vtl_command words ≡ []
+  pub matches : asked_from (subcommand_of vtl_command words) ≡ Some asked
+
+-- the parser finds such a fault in the words, or its matches ask for nothing (own)
+abbrev pub AreRefused : List (List ℕ) → Type 0
+AreRefused words =
+    ((kind : ErrorKind) × (kind ≢ DisplayHelp) × IsAmong kind (fault_of vtl_command words))
+    ⊎ (asked_from (subcommand_of vtl_command words) ≡ None)
+
+-- why words give no order; memory may run out at any (own)
+abbrev pub RefusesWords : List (List ℕ) → WordsError → Type 0
+RefusesWords words (Help text) = IsAmong DisplayHelp (fault_of vtl_command words)
+RefusesWords words Refused = AreRefused words
+RefusesWords words NoMemory = ⊤

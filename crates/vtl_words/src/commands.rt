@@ -1,0 +1,141 @@
+//! The command line of the program, with its help.
+ghost use Rattle.std.specs.Prelude.{◌≡◌, IfOk, false, codes};
+ghost use Rattle.clap.specs.Simple.{app_of, new_app, on_top, with_rule, with_subcommand};
+ghost use Rattle.clap.specs.Walk.{rule_of};
+ghost use Rattle.clap.specs.declared.builder.command.Command.TheViews.{out-Command};
+ghost use Rattle.vtl_words.specs.Commands as line;
+
+use clap::{Arg, ArgAction, Command};
+use std::alloc::{AllocError, Global};
+
+const ABOUT: &str = "A virtual tape library: runs scripts of drive commands over cartridges in files";
+
+const AFTER_HELP: &str = "\
+Example:
+  vtl create --config library.toml
+  vtl run --config library.toml < backup.script
+  vtl check t1.tape
+
+Statuses:
+  0  done
+  1  command words, configuration, script or checked file refused
+  2  device, file or stream
+  3  out of memory
+";
+
+const RUN_ABOUT: &str = "Runs the script on standard input and prints its answers";
+
+const CREATE_ABOUT: &str = "Makes each missing file of a configuration; a file that is there is kept";
+
+const CHECK_ABOUT: &str = "Tells what the file of a cartridge or of a drive's reservations holds";
+
+const CONFIG_HELP: &str = "The configuration: a TOML file of cartridges and drives";
+
+const MEMORY_HELP: &str = "Keeps cartridges and reservations in memory; no file is touched";
+
+const FILE_HELP: &str = "The file to look at; it is not changed";
+
+fn memory_flag<'a>(alloc: Global) -> Arg<'a>
+    ensures rule { rule_of result ≡ line.memory_flag }
+    ensures local { result.global ≡ false }
+{
+    let flag = Arg::new(alloc, "memory")
+        .long("memory")
+        .action(ArgAction::SetTrue);
+    flag.help(MEMORY_HELP)
+}
+
+fn config_option<'a>(alloc: Global) -> Arg<'a>
+    ensures rule { rule_of result ≡ line.config_option }
+    ensures local { result.global ≡ false }
+{
+    let option = Arg::new(alloc, "config")
+        .long("config")
+        .action(ArgAction::Set);
+    option.value_name("FILE").help(CONFIG_HELP)
+}
+
+fn config_required<'a>(alloc: Global) -> Arg<'a>
+    ensures rule { rule_of result ≡ line.config_required }
+    ensures local { result.global ≡ false }
+{
+    config_option(alloc).required(true)
+}
+
+fn file_word<'a>(alloc: Global) -> Arg<'a>
+    ensures rule { rule_of result ≡ line.file_word }
+    ensures local { result.global ≡ false }
+{
+    let file = Arg::new(alloc, "file")
+        .action(ArgAction::Set)
+        .required(true);
+    file.value_name("FILE").help(FILE_HELP)
+}
+
+// A command of this name, with nothing yet.
+fn named<'a>(alloc: Global, name: &'a str, about: &'a str) -> Command<'a>
+    ensures app { app_of result ≡ new_app name.entry.now }
+    ensures local { (out-Command result).has_globals ≡ false }
+{
+    Command::new(alloc, name).about(about)
+}
+
+// The command with one argument more, which is not global.
+fn with<'a>(command: Command<'a>, arg: Arg<'a>) -> Result<Command<'a>, AllocError>
+    requires arg { arg.global ≡ false }
+    requires local { (out-Command command).has_globals ≡ false }
+    ensures app { IfOk result (λ r. app_of r ≡ with_rule (app_of command.entry) (rule_of arg.entry)) }
+    ensures local { IfOk result (λ r. (out-Command r).has_globals ≡ false) }
+{
+    command.arg(arg)
+}
+
+// The command with one word more.
+fn with_word<'a>(command: Command<'a>, word: Command<'a>) -> Result<Command<'a>, AllocError>
+    requires command { (out-Command command).has_globals ≡ false }
+    requires word { (out-Command word).has_globals ≡ false }
+    ensures app { IfOk result (λ r. app_of r ≡ with_subcommand (app_of command.entry) (app_of word.entry).top) }
+    ensures local { IfOk result (λ r. (out-Command r).has_globals ≡ false) }
+{
+    command.subcommand(word)
+}
+
+fn run_command<'a>(alloc: Global) -> Result<Command<'a>, AllocError>
+    ensures app { IfOk result (λ r. app_of r ≡ line.run_command) }
+    ensures local { IfOk result (λ r. (out-Command r).has_globals ≡ false) }
+{
+    let command = with(named(alloc, "run", RUN_ABOUT), memory_flag(alloc))?;
+    with(command, config_option(alloc))
+}
+
+fn create_command<'a>(alloc: Global) -> Result<Command<'a>, AllocError>
+    ensures app { IfOk result (λ r. app_of r ≡ line.create_command) }
+    ensures local { IfOk result (λ r. (out-Command r).has_globals ≡ false) }
+{
+    with(named(alloc, "create", CREATE_ABOUT), config_required(alloc))
+}
+
+fn check_command<'a>(alloc: Global) -> Result<Command<'a>, AllocError>
+    ensures app { IfOk result (λ r. app_of r ≡ line.check_command) }
+    ensures local { IfOk result (λ r. (out-Command r).has_globals ≡ false) }
+{
+    with(named(alloc, "check", CHECK_ABOUT), file_word(alloc))
+}
+
+// `vtl` before its words.
+fn program<'a>(alloc: Global) -> Command<'a>
+    ensures app { app_of result ≡ on_top line.needs_a_word (new_app (codes "vtl")) }
+    ensures local { (out-Command result).has_globals ≡ false }
+{
+    let command = named(alloc, "vtl", ABOUT).after_help(AFTER_HELP);
+    command.subcommand_required(true).disable_help_subcommand(true)
+}
+
+/// The command line of the program.
+pub(crate) fn vtl_command<'a>(alloc: Global) -> Result<Command<'a>, AllocError>
+    ensures { IfOk result (λ r. app_of r ≡ line.vtl_command) }
+{
+    let command = with_word(program(alloc), run_command(alloc)?)?;
+    let command = with_word(command, create_command(alloc)?)?;
+    with_word(command, check_command(alloc)?)
+}

@@ -1,0 +1,11 @@
+//! The command words of the program.
+#![tactic(auto)]
+
+mod commands;
+mod orders;
+mod reading;
+#[cfg(test)]
+mod tests;
+
+pub use orders::{Order, WordsError};
+pub use reading::read_words;

@@ -1,0 +1,147 @@
+//! Reads command words.
+ghost use Rattle.std.specs.Prelude.{◌≡◌, ◌≢◌, [], Some, IfOk, IfErr, option_map, string_bytes, codes};
+ghost use Rattle.clap.specs.Faults.{fault_of};
+ghost use Rattle.clap.specs.Matches.{found_of};
+ghost use Rattle.clap.specs.Simple.{subcommand_of, subcommand_rows_of};
+ghost use Rattle.clap.specs.Values.{kind_of};
+ghost use Rattle.clap.specs.Walk.{first_of, rows_of};
+ghost use Rattle.vtl_words.specs.Commands.{vtl_command};
+ghost use Rattle.vtl_words.specs.Orders.{asked_of, asked_by, asked_from, is_set, texts_of, Asks, RefusesWords};
+ghost use Rattle.vtl_words.specs.Inner.Told.{Tells, AsksNothing};
+
+use crate::commands::vtl_command;
+use crate::orders::{Order, WordsError};
+use clap::ArgMatches;
+use clap::error::ErrorKind;
+use std::alloc::Global;
+
+// What an error of the parser is told as.
+fn told(alloc: Global, error: &clap::Error) -> WordsError
+    ensures { Tells (kind_of error.now) result }
+{
+    match error.kind() {
+        ErrorKind::OutOfMemory => WordsError::NoMemory,
+        ErrorKind::DisplayHelp => match format!(in alloc; "{error}") {
+            Ok(text) => WordsError::Help(text),
+            Err(_) => WordsError::NoMemory,
+        },
+        _ => WordsError::Refused,
+    }
+}
+
+fn parsed<'a>(alloc: Global, words: &'a [String]) -> Result<ArgMatches<'a>, WordsError>
+    ensures no_fault { IfOk result (λ _. fault_of vtl_command (texts_of words.now) ≡ []) }
+    ensures ok { IfOk result (λ m. subcommand_rows_of m ≡ subcommand_of vtl_command (texts_of words.now)) }
+    ensures err { IfErr result (RefusesWords (texts_of words.now)) }
+{
+    let command = match vtl_command(alloc) {
+        Ok(command) => command,
+        Err(_) => return Err(WordsError::NoMemory),
+    };
+    match command.try_get_matches_from(words) {
+        Ok(matches) => Ok(matches),
+        Err(error) => Err(told(alloc, &error)),
+    }
+}
+
+fn value_of<'a>(matches: &ArgMatches<'a>, id: &str) -> Option<&'a str>
+    ensures { option_map (λ value. value.now) result ≡ first_of id.now (rows_of (found_of matches.now)) }
+{
+    matches.get_str(id)
+}
+
+fn is_set(value: Option<&str>) -> bool
+    ensures { result ≡ is_set (option_map (λ text. text.now) value.entry) }
+{
+    match value {
+        Some(text) => text == "true",
+        None => false,
+    }
+}
+
+fn copied(alloc: Global, value: Option<&str>) -> Result<Option<String>, WordsError>
+    ensures ok { IfOk result (λ copy. option_map string_bytes copy ≡ option_map (λ text. text.now) value.entry) }
+    ensures err { IfErr result (λ e. e ≡ WordsError.NoMemory) }
+{
+    match value {
+        Some(text) => match String::from_str(alloc, text) {
+            Ok(copy) => Ok(Some(copy)),
+            Err(_) => Err(WordsError::NoMemory),
+        },
+        None => Ok(None),
+    }
+}
+
+fn run_order(alloc: Global, matches: &ArgMatches<'_>) -> Result<Order, WordsError>
+    ensures ok { IfOk result (λ order.
+        asked_by (codes "run") (rows_of (found_of matches.now)) ≡ Some (asked_of order)) }
+    ensures err { IfErr result (λ e. e ≡ WordsError.NoMemory) }
+{
+    let memory = is_set(value_of(matches, "memory"));
+    match copied(alloc, value_of(matches, "config")) {
+        Ok(config) => Ok(Order::Run { memory, config }),
+        Err(error) => Err(error),
+    }
+}
+
+fn create_order(alloc: Global, matches: &ArgMatches<'_>) -> Result<Order, WordsError>
+    ensures ok { IfOk result (λ order.
+        asked_by (codes "create") (rows_of (found_of matches.now)) ≡ Some (asked_of order)) }
+    ensures err { IfErr result (AsksNothing (asked_by (codes "create") (rows_of (found_of matches.now)))) }
+{
+    match copied(alloc, value_of(matches, "config")) {
+        Ok(Some(config)) => Ok(Order::Create { config }),
+        Ok(None) => Err(WordsError::Refused),
+        Err(error) => Err(error),
+    }
+}
+
+fn check_order(alloc: Global, matches: &ArgMatches<'_>) -> Result<Order, WordsError>
+    ensures ok { IfOk result (λ order.
+        asked_by (codes "check") (rows_of (found_of matches.now)) ≡ Some (asked_of order)) }
+    ensures err { IfErr result (AsksNothing (asked_by (codes "check") (rows_of (found_of matches.now)))) }
+{
+    match copied(alloc, value_of(matches, "file")) {
+        Ok(Some(file)) => Ok(Order::Check { file }),
+        Ok(None) => Err(WordsError::Refused),
+        Err(error) => Err(error),
+    }
+}
+
+fn order_by(alloc: Global, word: &str, matches: &ArgMatches<'_>) -> Result<Order, WordsError>
+    ensures ok { IfOk result (λ order. asked_by word.now (rows_of (found_of matches.now)) ≡ Some (asked_of order)) }
+    ensures err { IfErr result (AsksNothing (asked_by word.now (rows_of (found_of matches.now)))) }
+{
+    if word == "run" {
+        return run_order(alloc, matches);
+    }
+    if word == "create" {
+        return create_order(alloc, matches);
+    }
+    if word == "check" {
+        return check_order(alloc, matches);
+    }
+    Err(WordsError::Refused)
+}
+
+fn order_in(alloc: Global, matches: &ArgMatches<'_>) -> Result<Order, WordsError>
+    ensures ok { IfOk result (λ order. asked_from (subcommand_rows_of matches.now) ≡ Some (asked_of order)) }
+    ensures err { IfErr result (AsksNothing (asked_from (subcommand_rows_of matches.now))) }
+{
+    match matches.subcommand() {
+        Some((word, inner)) => order_by(alloc, word, inner),
+        None => Err(WordsError::Refused),
+    }
+}
+
+/// The order that the words of a command line give. The first word is the program's name.
+pub fn read_words(alloc: Global, words: &[String]) -> Result<Order, WordsError>
+    ensures ok { IfOk result (λ order. Asks (texts_of words.now) (asked_of order)) }
+    ensures err { IfErr result (RefusesWords (texts_of words.now)) }
+{
+    let matches = match parsed(alloc, words) {
+        Ok(matches) => matches,
+        Err(error) => return Err(error),
+    };
+    order_in(alloc, &matches)
+}

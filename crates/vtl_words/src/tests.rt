@@ -1,0 +1,111 @@
+//! Words that are taken, refused, or ask for help. What is expected was worked out by hand.
+use crate::{Order, WordsError, read_words};
+use std::alloc::Global;
+use std::test::Fail;
+
+// The order of a line, whose words are parted by single spaces. The first is the program's name.
+fn asked(alloc: Global, line: &str) -> Result<Order, WordsError> {
+    let mut words = Vec::new(alloc);
+    for word in line.split(' ') {
+        words.push(String::from_str(alloc, word)?)?;
+    }
+    read_words(alloc, words.as_slice())
+}
+
+#[test]
+fn run_has_a_flag_and_an_option(rt: HostRuntime) {
+    let alloc = rt.alloc();
+    for (line, in_memory, file) in [
+        ("vtl run", false, None),
+        ("vtl run --memory", true, None),
+        ("vtl run --config a.toml", false, Some("a.toml")),
+        ("vtl run --config=a.toml", false, Some("a.toml")),
+        ("vtl run --memory --config a.toml", true, Some("a.toml")),
+        ("vtl run --config a.toml --memory", true, Some("a.toml")),
+        ("vtl run --config ./dir/a=b", false, Some("./dir/a=b")),
+        ("other run --memory", true, None),
+    ] {
+        let answer = asked(alloc, line);
+        let Ok(Order::Run { memory, config }) = answer else {
+            assert!(rt; false, "{line}");
+            return;
+        };
+        assert_eq!(rt; memory, in_memory, "{line}");
+        assert_eq!(rt; config.as_ref().map(|file| file.as_str()), file, "{line}");
+    }
+}
+
+#[test]
+fn create_and_check_have_a_file(rt: HostRuntime) {
+    let alloc = rt.alloc();
+    for line in ["vtl create --config lib.toml", "vtl create --config=lib.toml"] {
+        let Ok(Order::Create { config }) = asked(alloc, line) else {
+            assert!(rt; false, "{line}");
+            return;
+        };
+        assert_eq!(rt; config.as_str(), "lib.toml");
+    }
+    for (line, name) in [
+        ("vtl check t1.tape", "t1.tape"),
+        ("vtl check run", "run"),
+        ("vtl check -- --config", "--config"),
+    ] {
+        let Ok(Order::Check { file }) = asked(alloc, line) else {
+            assert!(rt; false, "{line}");
+            return;
+        };
+        assert_eq!(rt; file.as_str(), name);
+    }
+}
+
+#[test]
+fn other_words_are_refused(rt: HostRuntime) {
+    let alloc = rt.alloc();
+    for line in [
+        "vtl",
+        "vtl run extra",
+        "vtl walk",
+        "vtl help",
+        "vtl --version",
+        "vtl --memory run",
+        "vtl run --memory --memory",
+        "vtl run --memory=true",
+        "vtl run --config",
+        "vtl run --config a --config b",
+        "vtl run --conf a",
+        "vtl run -m",
+        "vtl RUN",
+        "vtl create",
+        "vtl create lib.toml",
+        "vtl create --memory --config a",
+        "vtl check",
+        "vtl check a b",
+        "vtl check --config a",
+        "vtl run run",
+    ] {
+        assert!(rt; matches!(asked(alloc, line), Err(WordsError::Refused)), "{line}");
+    }
+    let none: Vec<String> = Vec::new(alloc);
+    assert!(rt; matches!(read_words(alloc, none.as_slice()), Err(WordsError::Refused)));
+}
+
+#[test]
+fn help_tells_the_words_an_example_and_the_statuses(rt: HostRuntime) -> Result<(), Fail> {
+    let alloc = rt.alloc();
+    for (line, told) in [
+        ("vtl --help", ["run", "create", "check", "vtl run --config", "out of memory"]),
+        ("vtl -h", ["Usage: vtl", "Example:", "Statuses:", "  0  done", "  2  device"]),
+        ("vtl run --help", ["--memory", "--config <FILE>", "standard input", "TOML", "vtl run"]),
+        ("vtl create -h", ["--config <FILE>", "Makes", "kept", "configuration", "vtl create"]),
+        ("vtl check --help", ["<FILE>", "Tells", "file", "not changed", "vtl check"]),
+    ] {
+        let Err(WordsError::Help(text)) = asked(alloc, line) else {
+            assert!(rt; false, "{line}");
+            return Ok(());
+        };
+        for part in told {
+            assert!(rt; text.as_str().contains(part), "{line}: {part}");
+        }
+    }
+    Ok(())
+}
