@@ -1,12 +1,12 @@
 //! Drives.
-ghost use Rattle.std.specs.Prelude.{◌≡◌, ◌↔◌, IsTrue, IfOk, option_copied};
+ghost use Rattle.std.specs.Prelude.{◌≡◌, ◌↔◌, IsTrue, IfOk, false, is_some, option_copied};
 ghost use Rattle.drive_core.specs.declared.bays.Bay.TheVariants as Bays;
 ghost use Rattle.drive_core.specs.State.{machine_of, medium_in, left_of, IsBayPositioned};
 ghost use Rattle.drive_core.specs.Conditions.{denial_reply, denied, without_condition};
 ghost use Rattle.drive_core.specs.Checks.{Executes};
 ghost use Rattle.drive_core.specs.Synchronize.{IsSynchronizing, Acknowledges, NothingPending};
 ghost use Rattle.drive_core.specs.Execute.{Answers, Takes, HonestIn, asked};
-ghost use Rattle.drive_core.specs.Media.{TakesTurn, TakesIn, LoadSteps, GoesOut, UnloadSteps, SwitchesOn, PowerOnSteps};
+ghost use Rattle.drive_core.specs.Media.{TakesTurn, TakesIn, InsertSteps, LoadSteps, GoesOut, UnloadSteps, SwitchesOn, PowerOnSteps};
 
 mod loading;
 mod modes;
@@ -120,6 +120,24 @@ impl<M: Medium, K: Keeper> Drive<M, K> {
         ensures step { LoadSteps M.state M.below K.kept self.old medium result self.new }
     {
         self.take_in(medium)
+    }
+
+    /// Puts a parked medium into an empty drive: it is there, not loaded, and no host is told. It takes
+    /// no memory.
+    pub fn insert(&mut self, medium: M)
+        requires empty { self.old.bay ≡ Bays.Empty }
+        requires parked { (M.state medium).awake ≡ false }
+        ensures inserted { self.new ≡ record self.old { bay = Bays.Unloaded medium } }
+        ensures step { InsertSteps M.state M.below K.kept self.old medium self.new }
+    {
+        fill(&mut self.bay, Bay::Unloaded(medium));
+    }
+
+    /// Whether a reservation is held at the drive.
+    pub fn held(&self) -> bool
+        ensures { result ≡ is_some self.now.reservations.reservation }
+    {
+        self.reservations.is_held()
     }
 
     /// Unloads what is in the drive, as UNLOAD does, and gives it out, parked. Where there is nothing
