@@ -145,6 +145,8 @@ impl<M: Medium, K: Keeper> Drive<M, K> {
     /// second case the medium stays loaded, and has failed.
     pub fn unload(&mut self) -> Result<M, Reply>
         ensures out { GoesOut M.state M.below self.old result self.new }
+        ensures parked { IfOk result (λ medium.
+            ((M.state medium).awake ≡ false) × (self.new.bay ≡ Bays.Empty)) }
         ensures step { UnloadSteps M.state M.below K.kept self.old result self.new }
     {
         self.give_out()
@@ -203,7 +205,9 @@ impl<M: Medium, K: Keeper> Drive<M, K> {
 
     // Parks what is loaded, and gives out what is in the drive.
     fn give_out(&mut self) -> Result<M, Reply>
-        ensures { GoesOut M.state M.below self.old result self.new }
+        ensures out { GoesOut M.state M.below self.old result self.new }
+        ensures parked { IfOk result (λ medium.
+            ((M.state medium).awake ≡ false) × (self.new.bay ≡ Bays.Empty)) }
     {
         match mem::replace(&mut self.bay, Bay::Empty) {
             Bay::Empty => Err(check(self.alloc, Sense::medium_not_present())),

@@ -227,3 +227,31 @@ fn a_cartridge_goes_out(rt: HostRuntime) -> Result<(), Fail> {
     assert!(&rt; parked.is_empty());
     Ok(())
 }
+
+#[test]
+fn a_cartridge_is_put_in(rt: HostRuntime) -> Result<(), Fail> {
+    let alloc = rt.alloc();
+    let mut drive = with_tape(&rt, alloc, SOUND)?;
+    let rows: [Row; 1] = [(1, WRITE_5, b"hello", GOOD)];
+    ask_all(&rt, &mut drive, &rows);
+    match drive.unload() {
+        Ok(medium) => drive.insert(medium),
+        Err(_) => assert!(&rt; false, "nothing came out"),
+    }
+    // It is there, not loaded, and nobody is told; then it is loaded.
+    assert!(&rt; !drive.is_empty());
+    let rows: [Row; 5] = [
+        (2, TEST_UNIT_READY, NONE, NO_MEDIUM),
+        (1, TEST_UNIT_READY, NONE, NO_MEDIUM),
+        (1, LOAD, NONE, GOOD),
+        (1, READ_5, NONE, HELLO),
+        (2, TEST_UNIT_READY, NONE, CHANGED),
+    ];
+    ask_all(&rt, &mut drive, &rows);
+    // A reservation is held from its making on.
+    assert!(&rt; !drive.held());
+    let rows: [Row; 2] = [(1, REGISTER, A_NEW, GOOD), (1, RESERVE_5, BY_A, GOOD)];
+    ask_all(&rt, &mut drive, &rows);
+    assert!(&rt; drive.held());
+    Ok(())
+}
