@@ -6,7 +6,7 @@ ghost use Rattle.clap.specs.Simple.{subcommand_of, subcommand_rows_of};
 ghost use Rattle.clap.specs.Values.{kind_of};
 ghost use Rattle.clap.specs.Walk.{first_of, rows_of};
 ghost use Rattle.vtl_words.specs.Commands.{vtl_command};
-ghost use Rattle.vtl_words.specs.Orders.{asked_of, asked_by, asked_from, is_set, texts_of, Asks, RefusesWords};
+ghost use Rattle.vtl_words.specs.Orders.{asked_of, asked_by, order_from, is_set, texts_of, Asks, RefusesWords};
 ghost use Rattle.vtl_words.specs.Inner.Told.{Tells, AsksNothing};
 
 use crate::commands::vtl_command;
@@ -125,11 +125,11 @@ fn order_by(alloc: Global, word: &str, matches: &ArgMatches<'_>) -> Result<Order
 }
 
 fn order_in(alloc: Global, matches: &ArgMatches<'_>) -> Result<Order, WordsError>
-    ensures ok { IfOk result (λ order. asked_from (subcommand_rows_of matches.now) ≡ Some (asked_of order)) }
-    ensures err { IfErr result (AsksNothing (asked_from (subcommand_rows_of matches.now))) }
+    ensures ok { IfOk result (λ order. order_from (subcommand_rows_of matches.now) ≡ Some (asked_of order)) }
+    ensures err { IfErr result (AsksNothing (order_from (subcommand_rows_of matches.now))) }
 {
     match matches.subcommand() {
-        Some((word, inner)) => order_by(alloc, word, inner),
+        Some(found) => order_by(alloc, found.0, found.1),
         None => Err(WordsError::Refused),
     }
 }
