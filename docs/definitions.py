@@ -44,13 +44,15 @@ WORDS = {
     "buffer": ["BUFFER_RECORDS", "BUFFER_BYTES"],
     "block descriptor": ["descriptor_length", "descriptor_block_length", "fixes_block_length"],
     "buffered mode": ["DriveState", "buffered_mode", "suits", "synchronizes"],
-    "capacity": ["is_capacity", "capacity_of", "MIN_CAPACITY", "MAX_CAPACITY"],
+    "capacity": ["is_capacity", "capacity_of", "AreCapacities", "MIN_CAPACITY", "MAX_CAPACITY"],
     "CDB, command block": ["decoded", "command_of", "opcode_of", "block_length"],
     "change": ["changed", "Applies", "after"],
     "CHECK CONDITION": ["check_with"],
     "check of a side": ["SideText", "IsNotTold"],
     "checks, their order": ["Executes", "verdict", "state_denial"],
     "clear": ["cleared", "without_condition", "denied"],
+    "command words": ["Asks", "RefusesWords", "vtl_command"],
+    "configuration": ["Says", "IsConfig", "RefusesText"],
     "CODE and COUNT of SPACE": ["space_code", "space_count", "is_over_nothing"],
     "CP, PARTITION of LOCATE": ["changes_partition", "partition_asked", "part_asked"],
     "crash": ["DiskState", "LeavesOnly", "IsImage", "CrashesKeepAcknowledged"],
@@ -67,7 +69,11 @@ WORDS = {
     "disk model": ["DiskState", "Writes", "Cuts", "Syncs", "IsDisk"],
     "drive": ["DriveState", "Machine", "Step"],
     "early warning": ["is_in_early_zone", "early_warning", "is_warned", "made_reply", "IsEarlyWarning"],
+<<<<<<< HEAD
     "element address": ["is_slot", "held_at", "FIRST_SLOT", "SLOTS"],
+=======
+    "element address": ["FIRST_SLOT", "SLOTS", "IsAddress"],
+>>>>>>> 76f1186161bb7e7aa2812afe22e6f01bc584f4c3
     "EOD, end of data": ["end_of_data", "object_at", "SpacesTo", "LocatesTo"],
     "EOM, end of medium": ["key_byte"],
     "EOP, end of partition": ["is_near_end", "has_room", "volume_overflow"],
@@ -91,7 +97,12 @@ WORDS = {
     "gate": ["OPEN", "CLOSED"],
     "GOOD": ["good_with"],
     "header": ["Heading", "IsHeading", "spell_heading"],
+<<<<<<< HEAD
     "honest": ["Below", "HonestIn", "HonestStepsAreSteps", "DiskState", "IsAsHonest"],
+=======
+    "home of a cartridge": ["IsAtHome", "IsAddress"],
+    "honest": ["Below", "HonestIn", "HonestStepsAreSteps", "DiskState"],
+>>>>>>> 76f1186161bb7e7aa2812afe22e6f01bc584f4c3
     "host": ["host_of", "NEXUSES"],
     "ILI, incorrect length": ["incorrect_length", "block_reply"],
     "image": ["DiskState", "Each", "StandsFor"],

@@ -239,28 +239,36 @@ steps_determined spaces locates orders old beside Unload FlushTurn o o' made mad
 steps_determined spaces locates orders old beside (Insert medium) (Insert other) output output' made made' new new' e
     sure asks calm calm' h k =
     insert_determined spaces locates orders old beside made made' new new' e sure medium other output output' asks h k
-steps_determined spaces locates orders old beside (Execute request) (Insert inserted) o o' made made' new new' e sure asks c c' h
+steps_determined spaces locates orders old beside (Execute request) (Insert inserted) o o' made made' new new' e sure
+    asks c c' h
     k =
     absurd asks
-steps_determined spaces locates orders old beside (Load medium) (Insert inserted) o o' made made' new new' e sure asks c c' h
+steps_determined spaces locates orders old beside (Load medium) (Insert inserted) o o' made made' new new' e sure asks c
+    c' h
     k =
     absurd asks
-steps_determined spaces locates orders old beside (PowerOn medium kept) (Insert inserted) o o' made made' new new' e sure asks c c' h
+steps_determined spaces locates orders old beside (PowerOn medium kept) (Insert inserted) o o' made made' new new' e
+    sure asks c c' h
     k =
     absurd asks
-steps_determined spaces locates orders old beside FlushTurn (Insert inserted) o o' made made' new new' e sure asks c c' h
+steps_determined spaces locates orders old beside FlushTurn (Insert inserted) o o' made made' new new' e sure asks c c'
+    h
     k =
     absurd asks
 steps_determined spaces locates orders old beside Unload (Insert inserted) o o' made made' new new' e sure asks c c' h
     k =
     absurd asks
-steps_determined spaces locates orders old beside (Insert medium) (Execute other) o o' made made' new new' e sure asks c c' h k =
+steps_determined spaces locates orders old beside (Insert medium) (Execute other) o o' made made' new new' e sure asks c
+    c' h k =
     absurd asks
-steps_determined spaces locates orders old beside (Insert medium) (Load other) o o' made made' new new' e sure asks c c' h k =
+steps_determined spaces locates orders old beside (Insert medium) (Load other) o o' made made' new new' e sure asks c c'
+    h k =
     absurd asks
-steps_determined spaces locates orders old beside (Insert medium) (PowerOn other kept) o o' made made' new new' e sure asks c c' h k =
+steps_determined spaces locates orders old beside (Insert medium) (PowerOn other kept) o o' made made' new new' e sure
+    asks c c' h k =
     absurd asks
-steps_determined spaces locates orders old beside (Insert medium) FlushTurn o o' made made' new new' e sure asks c c' h k =
+steps_determined spaces locates orders old beside (Insert medium) FlushTurn o o' made made' new new' e sure asks c c' h
+    k =
     absurd asks
 steps_determined spaces locates orders old beside (Insert medium) Unload o o' made made' new new' e sure asks c c' h k =
     absurd asks

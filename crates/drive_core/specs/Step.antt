@@ -13,8 +13,10 @@ use Rattle.drive_core.specs.Turn.{FlushTurns}
 use Rattle.drive_core.specs.Load.{Inserts, Loads, PowersOn}
 use Rattle.drive_core.specs.LoadUnload.{TakesOut}
 
--- what a drive is asked: to carry a command out, to take a flusher's turn, to take a medium in, to have a parked one put
--- into it, to give its medium out, to switch on with this medium in it, if any, and with this keeper (SAM-5; SMC-3; SPC-4; turn and keeper own)
+-- what a drive is asked: to carry a command out, to take a flusher's turn, to take a medium in, to have a parked one
+-- put
+-- into it, to give its medium out, to switch on with this medium in it, if any, and with this keeper (SAM-5; SMC-3;
+-- SPC-4; turn and keeper own)
 pub data Input : Type 0 where
   Execute : (request : Request) → Input
   FlushTurn : Input
