@@ -154,7 +154,7 @@ fn a_fault_at_each_call_of_a_turn(rt: HostRuntime) -> Result<(), Fail> {
             assert_eq!(&rt; drive.turn(), Turn::Idle);
             asks(&rt, &mut drive, told);
             asks(&rt, &mut drive, &FOUND_AGAIN);
-            reads(&rt, &mut drive, if at == 3 { b"ab" } else { b"a" });
+            reads(&rt, &mut drive, if at == 3 { b"ab".as_slice() } else { b"a" });
         }
     }
     Ok(())
