@@ -153,18 +153,18 @@ module _ (H : Type 0) where
       (acknowledged : Acknowledges reply) where
     medium_clean : (bay : Bay MediumState) (command : Command) → synchronizes old command ≡ true
         → length sent ≡ sent_length command
-        → OnMediumIn bay (MediumWork H command old.buffered sent) old (Ok reply) made new → NothingPending new
+        → OnMediumIn bay (MediumWork H command old.buffered sent) old (Ok reply) made new → NothingPending H new
     medium_clean (Loaded medium) command sure counted h =
         let clean : IsClean h.0.medium =
         work_settled command old sent (mounted medium old.position) reply made.changes h.0 sure counted h.1
         acknowledged in
-        rw h.2 clean
+        rw h.2 (clean, tt)
     medium_clean Empty command sure counted h = absurd h
     medium_clean (Unloaded medium) command sure counted h = absurd h
 
     -- the work of a synchronizing command
     pub command_settled : (command : Command) → synchronizes old command ≡ true → length sent ≡ sent_length command
-        → Work H command nexus sent old (Ok reply) made new → NothingPending new
+        → Work H command nexus sent old (Ok reply) made new → NothingPending H new
     command_settled TestUnitReady sure counted h = cc
     command_settled Rewind sure counted h = medium_clean old.bay Rewind sure counted h
     command_settled (Read asked suppress) sure counted h = medium_clean old.bay (Read asked suppress) sure counted h
@@ -270,7 +270,7 @@ module _ (machine : Machine) (request : Request) where
 module _ (H : Type 0) (old : Machine) (request : Request) (reply : Reply) (made : Made) (new : Machine) where
   settled_as : (judged : Result Command Denial) → Judged request judged
       → ExecutesAs H judged request old (Ok reply) made new → IsSynchronizing old request.cdb → Acknowledges reply
-      → NothingPending new
+      → NothingPending H new
   settled_as (Err denial) never h sure acknowledged =
       let same : reply ≡ denial_reply denial = cc h.0 in
       absurd (never (subst (λ (r : Reply). Acknowledges r) same acknowledged))
@@ -279,6 +279,6 @@ module _ (H : Type 0) (old : Machine) (request : Request) (reply : Reply) (made 
 
   -- a synchronizing command that is acknowledged leaves nothing pending
   pub settled : Executes H request old (Ok reply) made new → IsSynchronizing old request.cdb → Acknowledges reply
-      → NothingPending new
+      → NothingPending H new
   settled h sure acknowledged =
       settled_as (verdict old request) (code_judged old request (opcode_of request.cdb) refl) h sure acknowledged

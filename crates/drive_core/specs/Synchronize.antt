@@ -9,7 +9,7 @@ use Rattle.scsi_sense.specs.declared.sense_data.SenseKey.TheVariants.{NoSense}
 use Rattle.scsi_wire.specs.Commands.{decoded}
 use Rattle.volume_core.specs.Medium.{MediumState}
 use Rattle.drive_core.specs.declared.bays.Bay.{Bay}
-use Rattle.drive_core.specs.declared.bays.Bay.TheVariants.{Loaded}
+use Rattle.drive_core.specs.declared.bays.Bay.TheVariants.{Unloaded, Loaded}
 use Rattle.drive_core.specs.Space.{is_over_nothing}
 use Rattle.drive_core.specs.State.{Machine, medium_in}
 
@@ -46,7 +46,14 @@ abbrev pub Acknowledges : Reply → Type 0
 Acknowledges reply =
     (reply.status ≡ Good) ⊎ ((reply.status ≡ Check) × IsSomeAnd reply.sense IsEarlyWarning)
 
--- the medium in the drive, if there is one, has not failed, and has nothing pending (own)
-abbrev pub NothingPending : Machine → Type 0
-NothingPending machine =
+-- of a medium that is not loaded, where it is honest, no frame is under way: what its side gives is sure (own)
+abbrev pub IsSureOnSide : Type 0 → Bay MediumState → Type 0
+IsSureOnSide honest (Unloaded medium) = honest → medium.torn ≡ []
+IsSureOnSide honest _ = Unit {0}
+
+-- the medium in the drive, if there is one, has not failed, and has nothing pending; and of one that is not loaded it
+-- is sure what its side gives (own)
+abbrev pub NothingPending : Type 0 → Machine → Type 0
+NothingPending honest machine =
     IfSome (medium_in machine.bay) (λ medium. (medium.failed ≡ false) × (medium.pending ≡ []))
+    × IsSureOnSide honest machine.bay

@@ -151,7 +151,8 @@ impl<M: Medium, K: Keeper> Drive<M, K> {
 
         // All is stored before a synchronizing command is acknowledged.
         ensures settled { IsSynchronizing (machine_of M.state K.kept self.old) cdb.now
-            → Acknowledges result → NothingPending (machine_of M.state K.kept self.new) }
+            → Acknowledges result → NothingPending (HonestIn M.below (medium_in self.old.bay))
+            (machine_of M.state K.kept self.new) }
     {
         let alloc = self.alloc;
         match self.check(nexus, cdb, sent) {

@@ -1,6 +1,6 @@
 -- A change more is pending.
-use Rattle.std.specs.Prelude.{◌≡◌, ◌⊎◌, ◌+◌, ◌++◌, ◌≤◌, ◌<◌, ℕ, List, [], ◌∷◌, Bool, true, false, Option, None, Some, Ok, IsTrue, length, sum_by, slice_get, not, if◌then◌else◌, refl}
-use Rattle.std.proofs.Common.{inl, inr, sym, ◌∙◌, ap, subst, arith, append_assoc}
+use Rattle.std.specs.Prelude.{◌≡◌, ◌+◌, ◌++◌, ◌≤◌, ◌<◌, List, [], ◌∷◌, Bool, true, false, Option, None, Some, Ok, IsTrue, length, sum_by, slice_get, not, if◌then◌else◌, refl}
+use Rattle.std.proofs.Common.{inl, sym, ◌∙◌, ap, subst, arith, append_assoc}
 use Rattle.std.proofs.lemmas.Bool.{and_parts, leb-true}
 use Rattle.std.proofs.lemmas.List.{append-nil}
 use Rattle.std.proofs.lemmas.List.Sums.{sum_by-append, sum_by-take-le}
@@ -17,7 +17,7 @@ use Rattle.volume_core.specs.Stores.{Stores, after_append, stores_on}
 use Rattle.volume_core.specs.Plain.{moves_on_by_changes}
 use Rattle.record_index.specs.Records.{spell_all}
 use Rattle.cartridge.specs.Contents.{IsContents, changes_in, changes_of, volume_made}
-use Rattle.cartridge.specs.State.{OpenCartridge, Reserved}
+use Rattle.cartridge.specs.State.{OpenCartridge}
 use Rattle.accepting.specs.Core.{Core, with_item}
 use Rattle.accepting.specs.Events.{CoreMoves, moves_accepting}
 use Rattle.tape_buffer.specs.Limits.{FitsBuffer, block_bytes}
@@ -99,26 +99,30 @@ way_after c c' pending pending' change alone room stores empty = (
   ),
 )
 
+unless : (past room well : Bool)
+    → (if past then Some PastEnd else (if not room then Some NoRoom else (if not well then Some TooLong else None)))
+    ≡ None → well ≡ true
+unless true room well e = absurd (cc)
+unless false false well e = absurd (cc)
+unless false true false e = absurd (cc)
+unless false true true e = refl
+
+-- a change that is not refused is well-formed
+pub well_formed : (volume : List Part) (change : Change) → refusal_of volume change ≡ None
+    → is_well_formed change ≡ true
+well_formed volume change none =
+    let found = there (slice_get volume (part_of change)) change none in
+    fine found.0 (subst (λ (f : Option Part). refusal_in f change ≡ None) found.1 none)
+  where
+    fine : (part : Part) → refusal_in (Some part) change ≡ None → is_well_formed change ≡ true
+    fine part none = unless _ _ _ none
+
 -- a change that is not refused may be pending alone
 pub alone_fits : (volume : List Part) (change : Change) → refusal_of volume change ≡ None → FitsBuffer (change ∷ [])
-alone_fits volume change none =
-    let found = there (slice_get volume (part_of change)) change none in
-    record { few = omega arith; short = short change (fine found.0 change (subst (λ (f : Option Part). refusal_in f change ≡ None) found.1 none)) }
+alone_fits volume change none = record { few = omega arith; short = short change (well_formed volume change none) }
   where
-    unless : (past room well : Bool)
-        → (if past then Some PastEnd else (if not room then Some NoRoom else (if not well then Some TooLong else None)))
-        ≡ None → well ≡ true
-    unless true room well e = absurd (cc)
-    unless false false well e = absurd (cc)
-    unless false true false e = absurd (cc)
-    unless false true true e = refl
-
-    fine : (part : Part) (change : Change) → refusal_in (Some part) change ≡ None → is_well_formed change ≡ true
-    fine part change none = unless _ _ _ none
-
     short : (change : Change) → is_well_formed change ≡ true → sum_by block_bytes (change ∷ []) ≤ 4194304
-    short (Put part at block) well =
-        omega (arith, leb-true (length block) 1048576 (and_parts _ _ well).1)
+    short (Put part at block) well = omega (arith, leb-true (length block) 1048576 (and_parts _ _ well).1)
     short (Marks part at count) well = omega arith
     short (Erase part at) well = omega arith
 
@@ -146,13 +150,13 @@ module _ {D : Type 0} (c m c' : OpenCartridge D) (pending between pending' : Lis
       none,
       works,
       subst (λ (s : MediumState). Works (changed (volume_of (open_state c pending)) change) s) (sym new_state)
-      (record {
-        volume_is =
-            after_append (volume_made m.contents) between (change ∷ [])
-            ∙ ap (λ (v : List Part). changed v change) ready.volume_is;
-        works = ready.works;
-        awake = refl;
-      }),
+          (record {
+            volume_is =
+                after_append (volume_made m.contents) between (change ∷ [])
+                ∙ ap (λ (v : List Part). changed v change) ready.volume_is;
+            works = ready.works;
+            awake = refl;
+          }),
     )
 
     pub stores_more : Stores (open_state c pending) (change ∷ []) (open_state c' pending')
@@ -161,6 +165,7 @@ module _ {D : Type 0} (c m c' : OpenCartridge D) (pending between pending' : Lis
         (stores_on (open_state c pending) (open_state m between) (open_state m (between ++ change ∷ [])) [] (change ∷ [])
         stores
         (record { count = 0; fits = omega arith; stored = refl; pending = refl; room = omega arith }))
+
   module _ (state : D → DiskState) (is_disk : (disk : D) → (state disk).honest → IsDisk (state disk))
       (advances : Advances (buffer_below state) (open_buffer c pending) [] false (open_buffer m between)) where
     pub advances_nothing_more : pending' ≡ between

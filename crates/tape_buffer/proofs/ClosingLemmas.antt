@@ -1,21 +1,20 @@
 -- A medium is parked: what its cartridge's side then gives.
-use Rattle.std.specs.Prelude.{◌≡◌, ◌⊎◌, ◌+◌, ◌++◌, ◌≤◌, ℕ, List, [], ◌∷◌, Bool, true, false, Option, None, Some, Ok, Err, length, take, drop, sum_by, refl}
-use Rattle.std.proofs.Common.{inl, inr, sym, ◌∙◌, ap, subst, arith}
+use Rattle.std.specs.Prelude.{◌≡◌, ◌⊎◌, ◌+◌, ◌++◌, List, [], ◌∷◌, Bool, true, false, Some, Ok, length, sum_by, refl}
+use Rattle.std.proofs.Common.{sym, ◌∙◌, ap, subst, arith}
 use Rattle.std.proofs.lemmas.List.{append-nil}
 use Rattle.std.proofs.lemmas.List.Sums.{sum_by-take-le}
 use Rattle.vtl_base.specs.Below.{Advances, advances_on}
 use Rattle.tape_disk.specs.Disk.{DiskState, IsDisk}
 use Rattle.volume_core.specs.declared.changes.Change.{Change}
-use Rattle.volume_core.specs.Volume.{Part}
-use Rattle.volume_core.specs.Medium.{IsParked, IsParkedFrom, LeavesRoom, MediumState, Settles, frame_size, volume_of}
+use Rattle.volume_core.specs.Medium.{IsParkedFrom, Settles, frame_size}
 use Rattle.volume_core.specs.Stores.{Stores}
 use Rattle.cartridge.specs.Contents.{changes_in, changes_of}
 use Rattle.cartridge.specs.State.{ClosedCartridge, OpenCartridge}
 use Rattle.accepting.specs.Core.{Core, stopped}
-use Rattle.accepting.specs.Events.{CoreMoves, keeps_nowhere, moves_stopping}
-use Rattle.tape_buffer.specs.Moves.{MediumMoves, buffer_below, medium_moves_on}
+use Rattle.accepting.specs.Events.{CoreMoves, moves_stopping}
+use Rattle.tape_buffer.specs.Moves.{buffer_below, medium_moves_on}
 use Rattle.tape_buffer.specs.Rules.{medium_rules}
-use Rattle.tape_buffer.specs.State.{IsPendingOver, closed_buffer, closed_state, found_core, found_in, open_buffer, open_core, open_state, torn_in}
+use Rattle.tape_buffer.specs.State.{closed_buffer, closed_state, found_core, open_buffer, open_core, open_state}
 use Rattle.tape_buffer.proofs.CoreLemmas.{open_is_core, stored_front}
 
 module _ {D : Type 0} (state : D → DiskState) (is_disk : (disk : D) → (state disk).honest → IsDisk (state disk)) where

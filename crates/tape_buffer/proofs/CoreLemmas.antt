@@ -1,24 +1,23 @@
 -- What was accepted, stored and safe, before and after each call over an open cartridge.
-use Rattle.std.specs.Prelude.{◌≡◌, ◌⊎◌, ◌+◌, ◌++◌, ◌≤◌, ◌<◌, ℕ, List, [], ◌∷◌, Bool, true, false, length, take, refl}
-use Rattle.std.proofs.Common.{inl, inr, sym, ◌∙◌, ap, subst, arith, ⊎_elim, append_assoc, length-append}
+use Rattle.std.specs.Prelude.{◌≡◌, ◌⊎◌, ◌+◌, ◌++◌, ◌≤◌, ◌<◌, ℕ, List, [], ◌∷◌, true, false, length, take, refl}
+use Rattle.std.proofs.Common.{inl, inr, sym, ◌∙◌, ap, subst, arith, ⊎_elim, length-append}
 use Rattle.std.proofs.lemmas.Grind.{flat_map-append}
 use Rattle.std.proofs.lemmas.List.{append-nil, take_at, take_all}
-use Rattle.vtl_base.specs.Below.{Advances}
+use Rattle.vtl_base.specs.Below.{Advances, advances_nowhere}
 use Rattle.tape_disk.specs.Disk.{DiskState, Each, IsDisk, Keeps}
 use Rattle.tape_disk.specs.Moments.{LeavesOnly, weakened}
 use Rattle.volume_core.specs.declared.changes.Change.{Change}
-use Rattle.volume_core.specs.Volume.{empty_volume}
 use Rattle.gate_journal.specs.Answers.{NoneFailed}
 use Rattle.gate_journal.specs.Side.{Heading}
 use Rattle.cartridge.specs.Answers.{HasBroken, HasStored}
 use Rattle.cartridge.specs.Contents.{Contents, GivesContents, IsContents, ShowsContents, changes_in, changes_of, contents_from, with_frames}
 use Rattle.cartridge.specs.Extending.{changes_more}
 use Rattle.cartridge.specs.State.{OpenCartridge}
-use Rattle.accepting.specs.Core.{Core, IsCore, broken_in, settled, stopped, with_item}
-use Rattle.accepting.specs.Events.{CoreMoves, GivesSoMany, ShowsCore, moves_failing, moves_stopping, moves_storing}
+use Rattle.accepting.specs.Core.{Core, IsCore, broken_in, settled}
+use Rattle.accepting.specs.Events.{CoreMoves, GivesSoMany, ShowsCore, moves_failing, moves_storing}
 use Rattle.tape_buffer.specs.Rules.{GivesChanges, medium_rules}
-use Rattle.tape_buffer.specs.Moves.{buffer_below}
-use Rattle.tape_buffer.specs.State.{found_core, open_buffer, open_core}
+use Rattle.tape_buffer.specs.Moves.{buffer_below, medium_moves_nowhere}
+use Rattle.tape_buffer.specs.State.{BufferState, open_buffer, open_core}
 
 -- the changes of one frame
 one_frame : (changes : List Change) → changes_of (changes ∷ []) ≡ changes
@@ -241,3 +240,8 @@ module _ {D : Type 0} (c : OpenCartridge D) (pending : List Change) where
           counted = rose;
           honesty = (keeps.stays_honest, keeps.was_honest);
         }
+
+-- nothing is done
+pub rests : {D : Type 0} (state : D → DiskState) → ((disk : D) → (state disk).honest → IsDisk (state disk))
+    → (buffer : BufferState D) → Advances (buffer_below state) buffer [] false buffer
+rests state is_disk buffer = advances_nowhere (buffer_below state) (medium_moves_nowhere state is_disk) buffer

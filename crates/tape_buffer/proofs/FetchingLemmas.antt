@@ -1,1 +1,123 @@
--- A block is read.
+-- A block is read: from a pending change, or from the disk.
+use Rattle.std.specs.Prelude.{◌≡◌, ◌<◌, ◌≤◌, ℕ, zero, suc, List, [], ◌∷◌, true, false, Some, Result, Ok, Err, OnOk, length, slice_get, slice_index_or, refl}
+use Rattle.std.proofs.Common.{sym, ◌∙◌, ap, subst, arith}
+use Rattle.std.proofs.lemmas.Bool.{and_parts, leb-true}
+use Rattle.std.proofs.lemmas.Option.{get_or_from_slice_get, slice_get_within}
+use Rattle.vtl_base.specs.Below.{Advances}
+use Rattle.vtl_base.specs.declared.limits.TheConstants.{MAX_BLOCK}
+use Rattle.tape_disk.specs.Disk.{DiskState, IsDisk, Keeps}
+use Rattle.gate_journal.specs.Crash.{Unwritten}
+use Rattle.volume_core.specs.declared.changes.Change.{Change}
+use Rattle.volume_core.specs.declared.changes.Change.TheVariants.{Put}
+use Rattle.volume_core.specs.declared.media.MediumError.{MediumError}
+use Rattle.volume_core.specs.declared.media.MediumError.TheVariants.{Refused, NoMemory, SideFull, Device, Failed, Unreadable}
+use Rattle.volume_core.specs.Volume.{AllApply, Part, after, block_at, block_in, changed}
+use Rattle.volume_core.specs.Medium.{met_fault}
+use Rattle.cartridge.specs.State.{OpenCartridge}
+use Rattle.accepting.specs.Events.{moves_faulting, moves_resting}
+use Rattle.tape_buffer.specs.declared.overlay.Seen.TheVariants as Places
+use Rattle.tape_buffer.specs.Inner.Fetching.{IsCopied, IsFetched, IsPut}
+use Rattle.tape_buffer.specs.Moves.{buffer_below}
+use Rattle.tape_buffer.specs.Overlay.{IsSeenOn}
+use Rattle.tape_buffer.specs.Rules.{medium_rules}
+use Rattle.tape_buffer.specs.State.{open_buffer, open_core}
+use Rattle.tape_buffer.proofs.AddingLemmas.{well_formed}
+
+-- the block of a change that applies is no longer than a block
+pub short_block : (volume : List Part) (changes : List Change) (i part kept : ℕ) (block : List ℕ)
+    → AllApply volume changes → slice_get changes i ≡ Some (Put part kept block) → length block ≤ MAX_BLOCK
+short_block volume [] i part kept block all at = absurd (cc)
+short_block volume (change ∷ changes) zero part kept block all at =
+    let is : change ≡ Put part kept block = cc in
+    let well = well_formed volume (Put part kept block) (rw is at all.0) in
+    leb-true (length block) 1048576 (and_parts _ _ well).1
+short_block volume (change ∷ changes) (suc i) part kept block all at =
+    short_block (changed volume change) changes i part kept block all.1 at
+
+-- a block that is seen in a pending change
+module _ (volume : List Part) (pending : List Change) (part at i : ℕ) (all : AllApply volume pending)
+    (seen : IsSeenOn volume pending part at (Places.Block i)) where
+  pub block_inside : i < length pending
+  block_inside = slice_get_within pending i (Put part seen.0 seen.1) seen.2
+
+  module _ (change : Change) (is : change ≡ slice_index_or pending i change) where
+    is_put : change ≡ Put part seen.0 seen.1
+    is_put = is ∙ get_or_from_slice_get pending i (Put part seen.0 seen.1) change seen.2
+
+    pub can_copy : IsPut change
+    can_copy = subst IsPut (sym is_put) tt
+
+    pub copied_block : (result : Result Unit MediumError) (bytes : List ℕ) → IsCopied change result bytes
+        → OnOk result (block_at (after volume pending) part at ≡ Some bytes)
+    copied_block result bytes copied = by result (subst (λ (c : Change). IsCopied c result bytes) is_put copied)
+      where
+        by : (result : Result Unit MediumError) → IsCopied (Put part seen.0 seen.1) result bytes
+            → OnOk result (block_at (after volume pending) part at ≡ Some bytes)
+        by (Ok done) same = ap block_in seen.3 ∙ ap Some (sym same)
+        by (Err error) same = tt
+
+    pub copied_short : (result : Result Unit MediumError) (bytes : List ℕ) → IsCopied change result bytes
+        → OnOk result (length bytes ≤ MAX_BLOCK)
+    copied_short result bytes copied = by result (subst (λ (c : Change). IsCopied c result bytes) is_put copied)
+      where
+        by : (result : Result Unit MediumError) → IsCopied (Put part seen.0 seen.1) result bytes
+            → OnOk result (length bytes ≤ MAX_BLOCK)
+        by (Ok done) same =
+            omega (arith, ap length same, short_block volume pending i part seen.0 seen.1 all seen.2)
+        by (Err error) same = tt
+
+    pub copied_well : (result : Result Unit MediumError) (bytes : List ℕ) → IsCopied change result bytes
+        → met_fault result ≡ false
+    copied_well result bytes copied = by result (subst (λ (c : Change). IsCopied c result bytes) is_put copied)
+      where
+        by : (result : Result Unit MediumError) → IsCopied (Put part seen.0 seen.1) result bytes
+            → met_fault result ≡ false
+        by (Ok done) same = refl
+        by (Err NoMemory) same = refl
+        by (Err (Refused cause)) same = refl
+        by (Err SideFull) same = refl
+        by (Err Failed) same = refl
+        by (Err Unreadable) same = refl
+        by (Err Device) same = absurd same
+
+module _ {D : Type 0} (state : D → DiskState) (is_disk : (disk : D) → (state disk).honest → IsDisk (state disk))
+    (c c' : OpenCartridge D) (pending : List Change) (works : c.failed ≡ false)
+    (same : c' ≡ record c { disk = c'.disk; failed = c'.failed }) (keeps : Keeps (state c.disk) (state c'.disk))
+    (quiet : (state c.disk).honest → Unwritten (state c.disk) (state c'.disk)) where
+  -- nothing failed
+  fetched_well : c'.failed ≡ false → (state c'.disk).failures ≡ (state c.disk).failures
+      → Advances (buffer_below state) (open_buffer c pending) [] false (open_buffer c' pending)
+  fetched_well fine counted =
+      subst (λ (k : OpenCartridge D). Advances (buffer_below state) (open_buffer c pending) [] false (open_buffer k pending))
+      (sym (same ∙ (λ i. record c { disk = c'.disk; failed = (fine ∙ sym works) i })))
+      (record {
+        moved =
+            moves_resting medium_rules (state c.disk) (state c'.disk) (open_core c pending) (is_disk c'.disk) keeps
+            (λ honest. (quiet honest).moments);
+        counted = counted;
+        honesty = (keeps.stays_honest, keeps.was_honest);
+      })
+
+  -- the disk failed
+  fetched_badly : c'.failed ≡ true → (state c.disk).failures < (state c'.disk).failures
+      → Advances (buffer_below state) (open_buffer c pending) [] true (open_buffer c' pending)
+  fetched_badly failed counted =
+      subst (λ (k : OpenCartridge D). Advances (buffer_below state) (open_buffer c pending) [] true (open_buffer k pending))
+      (sym (same ∙ (λ i. record c { disk = c'.disk; failed = failed i })))
+      (record {
+        moved =
+            moves_faulting medium_rules (state c.disk) (state c'.disk) (open_core c pending) (is_disk c'.disk) keeps
+            (λ honest. (quiet honest).moments);
+        counted = counted;
+        honesty = (keeps.stays_honest, keeps.was_honest);
+      })
+
+  pub fetched : (result : Result Unit MediumError) → IsFetched result c'.failed (state c.disk) (state c'.disk)
+      → Advances (buffer_below state) (open_buffer c pending) [] (met_fault result) (open_buffer c' pending)
+  fetched (Ok done) told = fetched_well told.0 told.1
+  fetched (Err NoMemory) told = fetched_well told.0 told.1
+  fetched (Err Device) told = fetched_badly told.0 told.1
+  fetched (Err (Refused cause)) told = absurd told
+  fetched (Err SideFull) told = absurd told
+  fetched (Err Failed) told = absurd told
+  fetched (Err Unreadable) told = absurd told

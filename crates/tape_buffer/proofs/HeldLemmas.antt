@@ -1,21 +1,23 @@
 -- What is known of a cartridge that is held, open or closed.
-use Rattle.std.specs.Prelude.{◌≡◌, ◌⊎◌, ◌+◌, ◌++◌, ◌≤◌, ℕ, List, [], ◌∷◌, Bool, true, false, Option, None, Some, length, take, option_map, if◌then◌else◌, refl}
+use Rattle.std.specs.Prelude.{◌≡◌, ◌+◌, ◌++◌, ℕ, List, [], Bool, true, false, Option, None, Some, length, option_map, if◌then◌else◌, refl}
 use Rattle.std.proofs.Common.{inl, inr, sym, ◌∙◌, ap, subst, arith, ⊎_elim, length-append}
-use Rattle.std.proofs.lemmas.List.{append-nil, take_at, take_all}
+use Rattle.std.proofs.lemmas.List.{take_at, take_all}
 use Rattle.tape_disk.specs.Disk.{DiskState, Each, IsDisk}
 use Rattle.volume_core.specs.declared.changes.Change.{Change}
-use Rattle.volume_core.specs.Volume.{Part}
+use Rattle.volume_core.specs.Volume.{Part, capacity_of}
+use Rattle.volume_core.specs.Medium.{volume_of}
 use Rattle.cartridge.specs.Contents.{Contents, GivesContents, ShowsContents, changes_in, changes_of, volume_made}
 use Rattle.cartridge.specs.ContentsOn.{contents_on, contents_on_gives}
 use Rattle.cartridge.specs.State.{ClosedCartridge, OpenCartridge}
-use Rattle.accepting.specs.Core.{Core, IsCore}
+use Rattle.accepting.specs.Core.{IsCore}
 use Rattle.accepting.specs.Events.{ShowsCore}
 use Rattle.tape_buffer.specs.declared.holding.Holding.{Holding}
 use Rattle.tape_buffer.specs.declared.holding.Holding.TheVariants.{Open, Closed, Between}
 use Rattle.tape_buffer.specs.Invariants.{IsHeld}
 use Rattle.tape_buffer.specs.Moves.{ShowsOn}
 use Rattle.tape_buffer.specs.Rules.{GivesChanges, medium_rules}
-use Rattle.tape_buffer.specs.State.{IsSettledOn, closed_state, core_held, disk_in, found_core, found_in, state_held, torn_in}
+use Rattle.tape_buffer.specs.State.{IsPendingOver, IsSettledOn, closed_state, core_held, disk_in, found_core, found_in, state_held, torn_in}
+use Rattle.tape_buffer.proofs.VolumeLemmas.{stays_so}
 use Rattle.tape_buffer.proofs.CoreLemmas.{gives_changes, gives_more, open_is_core, open_shows}
 
 -- a closed cartridge's core is one
@@ -97,3 +99,21 @@ module _ {D : Type 0} (state : D → DiskState) (is_disk : (disk : D) → (state
         subst (λ (h : Holding (OpenCartridge D) (ClosedCartridge D)).
         ShowsOn state (disk_in h) (core_held state h pending)) (sym same)
         (closed_shows c over.1 shows volume gives)
+
+-- the partitions and capacities of a medium that is open are its cartridge's
+module _ {D : Type 0} (state : D → DiskState) (held : Holding (OpenCartridge D) (ClosedCartridge D))
+    (pending : List Change) (is : IsHeld state held pending) (c : OpenCartridge D) (same : held ≡ Open c) where
+  over : IsPendingOver c pending
+  over = subst (λ (h : Holding (OpenCartridge D) (ClosedCartridge D)). IsHeld state h pending) same is
+
+  pub parts_held : length (volume_of (state_held state held pending)) ≡ length (volume_made c.contents)
+  parts_held =
+      ap (λ (h : Holding (OpenCartridge D) (ClosedCartridge D)). length (volume_of (state_held state h pending))) same
+      ∙ (stays_so (volume_made c.contents) pending over.apply).parts
+
+  pub capacity_held : (part : ℕ)
+      → capacity_of (volume_of (state_held state held pending)) part ≡ capacity_of (volume_made c.contents) part
+  capacity_held part =
+      ap (λ (h : Holding (OpenCartridge D) (ClosedCartridge D)).
+      capacity_of (volume_of (state_held state h pending)) part) same
+      ∙ (stays_so (volume_made c.contents) pending over.apply).capacities part

@@ -1,17 +1,16 @@
 -- A medium's answers, by what its cartridge answered.
-use Rattle.std.specs.Prelude.{◌≡◌, ◌⊎◌, ◌+◌, ◌++◌, ◌≤◌, ◌<◌, ℕ, List, [], ◌∷◌, Bool, true, false, Some, Ok, Err, length, take, drop, sum_by, refl}
-use Rattle.std.proofs.Common.{inl, inr, sym, ◌∙◌, ap, subst, arith}
+use Rattle.std.specs.Prelude.{◌≡◌, ◌++◌, ◌≤◌, List, [], Some, Ok, length, take, drop, sum_by, refl}
+use Rattle.std.proofs.Common.{sym, ◌∙◌, ap, subst, arith}
 use Rattle.std.proofs.lemmas.List.{append-nil, drop_all, take_all}
 use Rattle.volume_core.specs.declared.changes.Change.{Change}
-use Rattle.volume_core.specs.Volume.{Part, after}
-use Rattle.volume_core.specs.Medium.{Breaks, Settles, Works, frame_size, volume_of}
+use Rattle.volume_core.specs.Volume.{after}
+use Rattle.volume_core.specs.Medium.{Settles, frame_size}
 use Rattle.volume_core.specs.Stores.{Stores}
-use Rattle.cartridge.specs.Answers.{HasBroken, HasStored}
-use Rattle.cartridge.specs.Contents.{Contents, changes_of, volume_made}
+use Rattle.cartridge.specs.Answers.{HasStored}
+use Rattle.cartridge.specs.Contents.{volume_made}
 use Rattle.cartridge.specs.Extending.{volume_more}
 use Rattle.cartridge.specs.State.{OpenCartridge}
-use Rattle.record_index.specs.Records.{spell_all}
-use Rattle.tape_buffer.specs.State.{IsPendingOver, open_state}
+use Rattle.tape_buffer.specs.State.{open_state}
 use Rattle.tape_buffer.proofs.RoomLemmas.{one_frame_fits}
 
 module _ {D : Type 0} (c c' : OpenCartridge D) (pending changes pending' : List Change) (some : 1 ≤ length pending)

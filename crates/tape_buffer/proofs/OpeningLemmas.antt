@@ -1,5 +1,5 @@
 -- A closed cartridge is opened: what its side gave is found, and made sure.
-use Rattle.std.specs.Prelude.{◌≡◌, ◌⊎◌, ◌+◌, ◌-◌, ◌++◌, ◌≤◌, ◌<◌, ℕ, List, [], ◌∷◌, Bool, true, false, Option, None, Some, Result, Ok, Err, length, take, map, sum_by, option_map, if◌then◌else◌, refl}
+use Rattle.std.specs.Prelude.{◌≡◌, ◌⊎◌, ◌+◌, ◌++◌, ◌≤◌, ℕ, List, [], ◌∷◌, Bool, true, false, Some, length, take, sum_by, option_map, refl}
 use Rattle.std.specs.List.{All, flat_map}
 use Rattle.std.proofs.Common.{inl, inr, sym, ◌∙◌, ap, subst, arith, ⊎_elim, length-append, append_assoc}
 use Rattle.std.proofs.lemmas.Grind.{flat_map-append}
@@ -7,24 +7,23 @@ use Rattle.std.proofs.lemmas.List.{append-nil, map-append, length-take-le}
 use Rattle.std.proofs.lemmas.List.Elements.{All-head, All-tail}
 use Rattle.std.proofs.lemmas.List.Sums.{sum_by-append}
 use Rattle.vtl_base.specs.Below.{Advances}
-use Rattle.vtl_base.specs.declared.limits.TheConstants.{MAX_SIDE}
-use Rattle.tape_disk.specs.Disk.{DiskState, Each, IsDisk, Keeps, Only}
+use Rattle.tape_disk.specs.Disk.{DiskState, IsDisk, Keeps, Only}
 use Rattle.tape_disk.specs.Moments.{LeavesOnly}
 use Rattle.volume_core.specs.declared.changes.Change.{Change}
-use Rattle.volume_core.specs.Volume.{Part, after}
-use Rattle.volume_core.specs.Medium.{GivenBy, LeavesRoom, Opens, frame_size}
+use Rattle.volume_core.specs.Volume.{after}
+use Rattle.volume_core.specs.Medium.{Opens, frame_size}
 use Rattle.volume_core.specs.Stores.{after_append}
 use Rattle.gate_journal.specs.Side.{Heading, IsBody, frame, spell, spell_heading}
 use Rattle.gate_journal.specs.State.{room_behind}
 use Rattle.record_index.specs.Records.{spell_all}
-use Rattle.cartridge.specs.Contents.{Contents, GivesContents, IsContents, ShowsContents, bodies_of, changes_in, changes_of, contents_from, volume_made, with_frames}
-use Rattle.cartridge.specs.ContentsOn.{contents_on, contents_on_is}
+use Rattle.cartridge.specs.Contents.{Contents, GivesContents, ShowsContents, bodies_of, changes_in, changes_of, contents_from, volume_made, with_frames}
+use Rattle.cartridge.specs.ContentsOn.{contents_on_is}
 use Rattle.cartridge.specs.State.{ClosedCartridge, OpenCartridge}
 use Rattle.accepting.specs.Core.{Core, IsCore, recovered}
-use Rattle.accepting.specs.Events.{CoreMoves, ShowsCore, moves_recovering}
+use Rattle.accepting.specs.Events.{ShowsCore, moves_recovering}
 use Rattle.tape_buffer.specs.Moves.{buffer_below}
 use Rattle.tape_buffer.specs.Rules.{GivesChanges, medium_rules}
-use Rattle.tape_buffer.specs.State.{IsPendingOver, IsSettledOn, closed_buffer, closed_state, found_core, found_in, open_buffer, open_core, open_state, room_found, room_of, torn_in}
+use Rattle.tape_buffer.specs.State.{IsPendingOver, closed_buffer, closed_state, found_core, found_in, open_buffer, open_core, open_state, room_found, room_of, torn_in}
 use Rattle.tape_buffer.proofs.CoreLemmas.{gives_changes}
 use Rattle.tape_buffer.proofs.HeldLemmas.{found_is_core}
 use Rattle.tape_buffer.proofs.RoomLemmas.{one_frame_fits}
@@ -92,16 +91,15 @@ module _ {D : Type 0} (state : D → DiskState) (is_disk : (disk : D) → (state
             (λ honest shows.
             let given = gives honest in
             let back = recovers one old_core (found_is_core (found_in state old) (torn_in state old)) c.contents
-            (state old.disk).seen given.0 (shows (state old.disk).seen (is_disk old.disk honest).reads) in
-            (
+            (state old.disk).seen given.0 (shows (state old.disk).seen (is_disk old.disk honest).reads) in (
               back.0,
               back.1,
               opened_core back.0 back.2 back.3 back.4,
               λ image left.
-              subst (λ (x : List ℕ). GivesChanges old_core.base (take back.0 old_core.accepted) x)
-              (sym (given.1 image left))
-              (subst (λ (p : Heading × List Change). GivesChanges p.0 p.1 (state old.disk).seen)
-              (λ i. (back.3 i, back.4 i)) (gives_changes c.contents (state old.disk).seen given.0)),
+                  subst (λ (x : List ℕ). GivesChanges old_core.base (take back.0 old_core.accepted) x)
+                  (sym (given.1 image left))
+                  (subst (λ (p : Heading × List Change). GivesChanges p.0 p.1 (state old.disk).seen)
+                  (λ i. (back.3 i, back.4 i)) (gives_changes c.contents (state old.disk).seen given.0)),
             ));
         counted = same;
         honesty = (keeps.stays_honest, keeps.was_honest);
@@ -187,8 +185,8 @@ module _ (one : GivesOne) (contents : Contents) (torn : List (List Change)) (fou
         arith,
         ap room_of (one seen found (with_frames contents torn) gives g),
         room_with contents torn
-        (last_part (bodies_of contents.frames) (bodies_of torn)
-        (subst (All IsBody) (map-append spell_all contents.frames torn) g.1.0.holds)),
+            (last_part (bodies_of contents.frames) (bodies_of torn)
+            (subst (All IsBody) (map-append spell_all contents.frames torn) g.1.0.holds)),
       )
 
 module _ {D : Type 0} (state : D → DiskState) (one : GivesOne) (old : ClosedCartridge D) (c : OpenCartridge D)

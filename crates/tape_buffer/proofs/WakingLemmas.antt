@@ -1,8 +1,7 @@
 -- A closed cartridge that is not opened stays closed, and what its side gives stays.
-use Rattle.std.specs.Prelude.{◌≡◌, ◌⊎◌, ◌<◌, ◌≤◌, ℕ, List, [], ◌∷◌, Bool, true, false, Option, None, Some, Result, Ok, Err, option_map, if◌then◌else◌, refl}
-use Rattle.std.proofs.Common.{inl, inr, sym, ◌∙◌, ap, subst, arith, ⊎_elim}
+use Rattle.std.specs.Prelude.{◌≡◌, ℕ, List, [], Bool, true, false, Option, None, Some, Err, option_map, if◌then◌else◌, refl}
+use Rattle.std.proofs.Common.{sym, ◌∙◌, ap, subst, arith, ⊎_elim}
 use Rattle.vtl_base.specs.Below.{Advances}
-use Rattle.vtl_base.specs.declared.faults.DevFault.{DevFault}
 use Rattle.tape_disk.specs.Disk.{DiskState, Each, IsDisk, Keeps}
 use Rattle.tape_disk.specs.Moments.{LeavesOnly, holds_now}
 use Rattle.volume_core.specs.declared.changes.Change.{Change}
@@ -12,7 +11,7 @@ use Rattle.gate_journal.specs.Side.{Heading, IsDamagedOf}
 use Rattle.cartridge.specs.declared.error.CartridgeError.{CartridgeError}
 use Rattle.cartridge.specs.declared.error.CartridgeError.TheVariants.{NotOurs, Damaged, BadRecord, SideFull, Device, Failed, NoMemory}
 use Rattle.cartridge.specs.Answers.{IsNotOpened}
-use Rattle.cartridge.specs.Contents.{Contents, GivesContents, IsBadFrameAt, IsNoCartridge, ShowsContents, changes_of, volume_made, with_frames}
+use Rattle.cartridge.specs.Contents.{Contents, GivesContents, IsBadFrameAt, IsNoCartridge, ShowsContents, volume_made, with_frames}
 use Rattle.cartridge.specs.ContentsOn.{contents_on, contents_on_none}
 use Rattle.cartridge.specs.State.{ClosedCartridge}
 use Rattle.accepting.specs.Core.{Core}
@@ -95,56 +94,56 @@ module _ {D : Type 0} (state : D → DiskState) (is_disk : (disk : D) → (state
 
   module _ (no_cause : HasNoCause)
       (known : old.known ≡ true → (state old.disk).honest → Each (state old.disk) (ShowsContents old.contents old.torn))
-      where
-    -- where nothing is found on the disk, its side gives no volume
-    gives_none : (state old.disk).honest → ((contents : Contents) → GivesContents contents (state old.disk).seen → ⊥)
-        → (closed_state state old).stored ≡ None
-    gives_none honest never = by old.known refl
-      where
-        by : (k : Bool) → old.known ≡ k → (closed_state state old).stored ≡ None
-        by true is =
-            absurd (⊎_elim (never old.contents) (never (with_frames old.contents old.torn))
-            (known is honest (state old.disk).seen (is_disk old.disk honest).reads))
-        by false is =
-            ap (λ (k : Bool). option_map volume_made (if k then Some old.contents else contents_on (state old.disk).seen))
-            is ∙ ap (option_map volume_made) (contents_on_none (state old.disk).seen never)
+    where
+      -- where nothing is found on the disk, its side gives no volume
+      gives_none : (state old.disk).honest → ((contents : Contents) → GivesContents contents (state old.disk).seen → ⊥)
+          → (closed_state state old).stored ≡ None
+      gives_none honest never = by old.known refl
+        where
+          by : (k : Bool) → old.known ≡ k → (closed_state state old).stored ≡ None
+          by true is =
+              absurd (⊎_elim (never old.contents) (never (with_frames old.contents old.torn))
+              (known is honest (state old.disk).seen (is_disk old.disk honest).reads))
+          by false is =
+              ap (λ (k : Bool). option_map volume_made (if k then Some old.contents else contents_on (state old.disk).seen))
+              is ∙ ap (option_map volume_made) (contents_on_none (state old.disk).seen never)
 
-    pub stays_closed : (error : CartridgeError) → IsNotOpened error (state old.disk) (state disk)
-        → WakesFrom (state old.disk).honest false (closed_state state old) (Err (wake_error_of error))
-        (closed_state state new_closed)
-        × Advances (buffer_below state) (closed_buffer old) [] (met_fault (Err (wake_error_of error)))
-        (closed_buffer new_closed)
-    stays_closed NotOurs refused = (
-      (
+      pub stays_closed : (error : CartridgeError) → IsNotOpened error (state old.disk) (state disk)
+          → WakesFrom (state old.disk).honest false (closed_state state old) (Err (wake_error_of error))
+          (closed_state state new_closed)
+          × Advances (buffer_below state) (closed_buffer old) [] (met_fault (Err (wake_error_of error)))
+          (closed_buffer new_closed)
+      stays_closed NotOurs refused = (
+        (
+          still_parked,
+          λ honest. gives_none honest
+              (λ contents gives. no_cause.ours (state old.disk).seen contents gives (refused.1 honest).0),
+        ),
+        record { moved = moves_closed; counted = refused.0; honesty = (keeps.stays_honest, keeps.was_honest) },
+      )
+      stays_closed (Damaged at) refused = (
+        (
+          still_parked,
+          λ honest. gives_none honest
+              (λ contents gives. no_cause.whole (state old.disk).seen contents at gives (refused.1 honest).0),
+        ),
+        record { moved = moves_closed; counted = refused.0; honesty = (keeps.stays_honest, keeps.was_honest) },
+      )
+      stays_closed (BadRecord at) refused = (
+        (
+          still_parked,
+          λ honest. gives_none honest
+              (λ contents gives. no_cause.bad (state old.disk).seen contents at gives (refused.1 honest).0),
+        ),
+        record { moved = moves_closed; counted = refused.0; honesty = (keeps.stays_honest, keeps.was_honest) },
+      )
+      stays_closed (Device fault) refused = (
         still_parked,
-        λ honest. gives_none honest
-            (λ contents gives. no_cause.ours (state old.disk).seen contents gives (refused.1 honest).0),
-      ),
-      record { moved = moves_closed; counted = refused.0; honesty = (keeps.stays_honest, keeps.was_honest) },
-    )
-    stays_closed (Damaged at) refused = (
-      (
+        record { moved = moves_closed; counted = refused.cause; honesty = (keeps.stays_honest, keeps.was_honest) },
+      )
+      stays_closed NoMemory refused = (
         still_parked,
-        λ honest. gives_none honest
-            (λ contents gives. no_cause.whole (state old.disk).seen contents at gives (refused.1 honest).0),
-      ),
-      record { moved = moves_closed; counted = refused.0; honesty = (keeps.stays_honest, keeps.was_honest) },
-    )
-    stays_closed (BadRecord at) refused = (
-      (
-        still_parked,
-        λ honest. gives_none honest
-            (λ contents gives. no_cause.bad (state old.disk).seen contents at gives (refused.1 honest).0),
-      ),
-      record { moved = moves_closed; counted = refused.0; honesty = (keeps.stays_honest, keeps.was_honest) },
-    )
-    stays_closed (Device fault) refused = (
-      still_parked,
-      record { moved = moves_closed; counted = refused.cause; honesty = (keeps.stays_honest, keeps.was_honest) },
-    )
-    stays_closed NoMemory refused = (
-      still_parked,
-      record { moved = moves_closed; counted = refused.0; honesty = (keeps.stays_honest, keeps.was_honest) },
-    )
-    stays_closed SideFull refused = absurd refused
-    stays_closed Failed refused = absurd refused
+        record { moved = moves_closed; counted = refused.0; honesty = (keeps.stays_honest, keeps.was_honest) },
+      )
+      stays_closed SideFull refused = absurd refused
+      stays_closed Failed refused = absurd refused

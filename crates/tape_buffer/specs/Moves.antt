@@ -1,14 +1,12 @@
 -- What a contract sees below a buffered medium: the disk, and by which steps it went on.
 use Rattle.std.specs.Prelude.{◌≡◌, ◌++◌, ℕ, List, [], Option, None, Some, refl}
-use Rattle.std.proofs.Common.{ap, ◌∙◌}
+use Rattle.std.proofs.Common.{◌∙◌}
 use Rattle.vtl_base.specs.Below.{Below}
 use Rattle.tape_disk.specs.Disk.{DiskState, IsDisk, Each}
 use Rattle.volume_core.specs.declared.changes.Change.{Change}
 use Rattle.gate_journal.specs.Side.{Heading}
-use Rattle.cartridge.specs.State.{ClosedCartridge, OpenCartridge}
 use Rattle.accepting.specs.Core.{Core}
 use Rattle.accepting.specs.Events.{CoreMoves, ShowsCore, core_moves_nowhere, core_moves_on}
-use Rattle.tape_buffer.specs.declared.holding.Holding.{Holding}
 use Rattle.tape_buffer.specs.Rules.{medium_rules}
 use Rattle.tape_buffer.specs.State.{BufferState, core_held, disk_in}
 

@@ -1,5 +1,5 @@
 -- The volume that is seen: what pending changes make of another.
-use Rattle.std.specs.Prelude.{◌≡◌, ℕ, List, Option, None, Some, slice_get}
+use Rattle.std.specs.Prelude.{◌≡◌, ℕ, List, None, Some, slice_get}
 use Rattle.volume_core.specs.declared.changes.Change.{Change}
 use Rattle.volume_core.specs.declared.changes.Change.TheVariants.{Put}
 use Rattle.volume_core.specs.declared.objects.Object.TheVariants.{Block, Mark}

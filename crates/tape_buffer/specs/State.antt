@@ -1,5 +1,5 @@
 -- What contracts see of a buffered medium.
-use Rattle.std.specs.Prelude.{◌≡◌, ◌⊎◌, ◌+◌, ◌++◌, ◌≤◌, ℕ, List, [], ◌∷◌, Option, None, Some, Bool, true, false, length, sum_by, slice_index_or, if◌then◌else◌, option_map}
+use Rattle.std.specs.Prelude.{◌≡◌, ◌⊎◌, ◌+◌, ◌++◌, ◌≤◌, ℕ, List, [], ◌∷◌, Option, None, Some, true, false, length, sum_by, slice_index_or, if◌then◌else◌, option_map}
 use Rattle.tape_disk.specs.Disk.{DiskState, Only}
 use Rattle.volume_core.specs.declared.changes.Change.{Change}
 use Rattle.volume_core.specs.Volume.{AllApply}

@@ -4,7 +4,7 @@ use crate::buffered::Buffered;
 use crate::closing::{park_over, wake_closed};
 use crate::fetching::fetch_over;
 use crate::holding::{Holding, hold};
-use crate::storing::settle_over;
+use crate::storing::{settle_over, turn_over};
 use std::mem;
 use tape_disk::Disk;
 use volume_core::{Change, Medium, MediumError, Turn};
@@ -45,16 +45,10 @@ impl<D: Disk> Medium for Buffered<D> {
     }
 
     fn flush_turn(&mut self) -> Turn {
-        let count = self.pending.len();
-        let Holding::Open(cartridge) = &mut self.held else {
-            unreachable!()
-        };
-        if count == 0 || cartridge.has_failed() {
-            return Turn::Idle;
-        }
-        match settle_over(cartridge, &mut self.pending) {
-            Ok(()) => Turn::Stored(count),
-            Err(_) => Turn::Faulted,
+        match &mut self.held {
+            Holding::Open(cartridge) => turn_over(cartridge, &mut self.pending),
+            Holding::Closed(_) => unreachable!(),
+            Holding::Between => unreachable!(),
         }
     }
 
@@ -77,11 +71,10 @@ impl<D: Disk> Medium for Buffered<D> {
 
     fn wake(&mut self) -> Result<(), MediumError> {
         if let Holding::Open(cartridge) = &self.held {
-            return if cartridge.has_failed() {
-                Err(MediumError::Failed)
-            } else {
-                Ok(())
-            };
+            if cartridge.has_failed() {
+                return Err(MediumError::Failed);
+            }
+            return Ok(());
         }
         match mem::replace(&mut self.held, Holding::Between) {
             Holding::Closed(shelved) => match wake_closed(self.alloc, shelved) {

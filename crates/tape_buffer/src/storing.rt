@@ -2,7 +2,7 @@
 ghost use Rattle.std.specs.Prelude.{◌≡◌, ◌<◌, ◌++◌, [], ◌∷◌, OnOk, length};
 ghost use Rattle.vtl_base.specs.Below.{Advances};
 ghost use Rattle.volume_core.specs.Volume.{part_of};
-ghost use Rattle.volume_core.specs.Medium.{Settles, met_fault};
+ghost use Rattle.volume_core.specs.Medium.{Settles, Turns, met_fault, turn_met_fault};
 ghost use Rattle.volume_core.specs.Stores.{Stores};
 ghost use Rattle.tape_buffer.specs.Limits.{FitsBuffer};
 ghost use Rattle.tape_buffer.specs.State.{IsPendingOver, IsReservedFor, open_buffer, open_state};
@@ -11,7 +11,7 @@ ghost use Rattle.tape_buffer.specs.Moves.{buffer_below};
 use crate::pending::Pending;
 use cartridge::{Cartridge, CartridgeError};
 use tape_disk::Disk;
-use volume_core::{Change, MediumError};
+use volume_core::{Change, MediumError, Turn};
 use vtl_base::NoMemory;
 
 // Stores all that is pending over an open cartridge. It takes no memory.
@@ -47,6 +47,28 @@ pub(crate) fn settle_over<D: Disk>(
         Err(CartridgeError::NotOurs) => unreachable!(),
         Err(CartridgeError::Damaged { .. }) => unreachable!(),
         Err(CartridgeError::BadRecord { .. }) => unreachable!(),
+    }
+}
+
+// A flusher's turn over an open cartridge. It takes no memory.
+pub(crate) fn turn_over<D: Disk>(cartridge: &mut Cartridge<D>, pending: &mut Pending) -> Turn
+    requires { IsPendingOver cartridge.old pending.old }
+    ensures held { IsPendingOver cartridge.new pending.new }
+    ensures answer { Turns (open_state cartridge.old pending.old) result (open_state cartridge.new pending.new) }
+    ensures stores { Stores (open_state cartridge.old pending.old) [] (open_state cartridge.new pending.new) }
+    ensures advances { Advances (buffer_below D.state) (open_buffer cartridge.old pending.old) []
+        (turn_met_fault result) (open_buffer cartridge.new pending.new) }
+{
+    if cartridge.has_failed() {
+        return Turn::Idle;
+    }
+    if pending.is_empty() {
+        return Turn::Idle;
+    }
+    let count = pending.len();
+    match settle_over(cartridge, pending) {
+        Ok(()) => Turn::Stored(count),
+        Err(_) => Turn::Faulted,
     }
 }
 

@@ -1,5 +1,4 @@
 -- What a medium answers whose cartridge was not opened.
-use Rattle.vtl_base.specs.declared.faults.DevFault.{DevFault}
 use Rattle.volume_core.specs.declared.media.MediumError.{MediumError}
 use Rattle.volume_core.specs.declared.media.MediumError.TheVariants as Media
 use Rattle.cartridge.specs.declared.error.CartridgeError.{CartridgeError}

@@ -1,29 +1,28 @@
-use Rattle.std.proofs.Common.{◌≡◌, List, [], None, ap, sym, ◌∙◌}
-use Rattle.vtl_base.specs.Below.{advances_nowhere}
+use Rattle.std.proofs.Common.{◌≡◌, List, None, ap, sym, ◌∙◌}
 use Rattle.volume_core.specs.declared.changes.Change.{Change}
 use Rattle.volume_core.specs.Volume.{Part, after, refusal_of}
 use Rattle.volume_core.specs.Medium.{volume_of}
 use Rattle.cartridge.specs.Contents.{volume_made}
 use Rattle.tape_buffer.specs.State.{open_buffer, open_state}
-use Rattle.tape_buffer.specs.Moves.{buffer_below, medium_moves_nowhere}
+use Rattle.tape_buffer.proofs.CoreLemmas.{rests}
 use Rattle.tape_buffer.proofs.AddingLemmas.{accepts_more, advances_more}
 use Rattle.tape_buffer.proofs.adding.accept_over.Given.{Over}
 use Rattle.tape_buffer.proofs.adding.accept_over.Goals as goal
 
 pub returns-then-has_failed-clause-advances : goal.returns-then-has_failed-clause-advances
 returns-then-has_failed-clause-advances g c =
-    advances_nowhere (buffer_below g.D.Disk.state) (medium_moves_nowhere g.D.Disk.state g.met.D.Disk.is_disk)
+    rests g.D.Disk.state g.met.D.Disk.is_disk
     (open_buffer c.args.cartridge.now c.args.pending.now)
 
 pub returns-in-Some-clause-advances : goal.returns-in-Some-clause-advances
 returns-in-Some-clause-advances g c =
-    advances_nowhere (buffer_below g.D.Disk.state) (medium_moves_nowhere g.D.Disk.state g.met.D.Disk.is_disk)
+    rests g.D.Disk.state g.met.D.Disk.is_disk
     (open_buffer c.args.cartridge.now c.args.pending.now)
 
 pub returns-then-frame_size-room-clause-advances :
     goal.returns-then-frame_size-room-clause-advances
 returns-then-frame_size-room-clause-advances g c =
-    advances_nowhere (buffer_below g.D.Disk.state) (medium_moves_nowhere g.D.Disk.state g.met.D.Disk.is_disk)
+    rests g.D.Disk.state g.met.D.Disk.is_disk
     (open_buffer c.args.cartridge.now c.args.pending.now)
 
 unrefused : (g : Over) (c : goal.In-Ok g)

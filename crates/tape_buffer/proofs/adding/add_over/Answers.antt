@@ -1,7 +1,7 @@
-use Rattle.std.proofs.Common.{length, ap, arith}
+use Rattle.std.proofs.Common.{arith}
 use Rattle.cartridge.specs.Contents.{volume_made}
 use Rattle.volume_core.specs.Volume.{after}
-use Rattle.tape_buffer.proofs.AddingLemmas.{inside_of, pending_more, pending_still}
+use Rattle.tape_buffer.proofs.AddingLemmas.{inside_of, pending_more}
 use Rattle.tape_buffer.proofs.VolumeLemmas.{stays_so}
 use Rattle.tape_buffer.proofs.adding.add_over.Goals as goal
 
@@ -13,7 +13,7 @@ reserve_over-requires-clause-part g c =
       c.parts.ensures.entries,
       (stays_so (volume_made c.args.cartridge.now.contents) c.args.pending.now c.requires.held.apply).parts,
       inside_of (after (volume_made c.args.cartridge.now.contents) c.args.pending.now) c.args.change
-      c.requires.unrefused,
+          c.requires.unrefused,
     )
 
 pub returns-clause-held : goal.returns-clause-held

@@ -25,7 +25,7 @@ returns-in-Ok-clause-ok g c =
             (told.gives honest).0 (c.known-in-Ok.ensures.room (told.disk.stays_honest honest)),
       ),
       advances_opened disk g.met.D.Disk.is_disk one old new told.disk told.ok.0 told.ok.1 told.gives told.any_moment
-      told.ok.2,
+          told.ok.2,
     )
 
 pub returns-in-Err-clause-err : goal.returns-in-Err-clause-err

@@ -3,9 +3,8 @@ use Rattle.tape_disk.specs.Moments.{LeavesOnly}
 use Rattle.volume_core.specs.declared.changes.Change.{Change}
 use Rattle.record_index.specs.Records.{spell_all}
 use Rattle.cartridge.specs.Contents.{ShowsContents}
-use Rattle.vtl_base.specs.Below.{advances_nowhere}
 use Rattle.tape_buffer.specs.State.{open_buffer}
-use Rattle.tape_buffer.specs.Moves.{buffer_below, medium_moves_nowhere}
+use Rattle.tape_buffer.proofs.CoreLemmas.{rests}
 use Rattle.tape_buffer.proofs.CoreLemmas.{advances_broken, advances_stored}
 use Rattle.tape_buffer.proofs.MediumLemmas.{settles_stored, stores_stored}
 use Rattle.tape_buffer.proofs.RoomLemmas.{not_empty, one_frame_fits}
@@ -13,14 +12,12 @@ use Rattle.tape_buffer.proofs.storing.settle_over.Goals as goal
 
 pub returns-then-has_failed-clause-advances : goal.returns-then-has_failed-clause-advances
 returns-then-has_failed-clause-advances g c =
-    advances_nowhere (buffer_below g.D.Disk.state)
-    (medium_moves_nowhere g.D.Disk.state (λ disk honest. g.met.D.Disk.is_disk disk honest))
+    rests g.D.Disk.state g.met.D.Disk.is_disk
     (open_buffer c.args.cartridge.now c.args.pending.now)
 
 pub returns-then-is_empty-clause-advances : goal.returns-then-is_empty-clause-advances
 returns-then-is_empty-clause-advances g c =
-    advances_nowhere (buffer_below g.D.Disk.state)
-    (medium_moves_nowhere g.D.Disk.state (λ disk honest. g.met.D.Disk.is_disk disk honest))
+    rests g.D.Disk.state g.met.D.Disk.is_disk
     (open_buffer c.args.cartridge.now c.args.pending.now)
 
 pub unreachable-requires-in-Err-SideFull : goal.unreachable-requires-in-Err-SideFull

@@ -1,4 +1,4 @@
-use Rattle.tape_buffer.proofs.HeldLemmas.{held_is_core, shows_closed, shows_open}
+use Rattle.tape_buffer.proofs.HeldLemmas.{shows_closed, shows_open}
 use Rattle.tape_buffer.proofs.buffered.Buffered.known.Goals as goal
 
 pub returns-in-Open-clause-shows : goal.returns-in-Open-clause-shows
