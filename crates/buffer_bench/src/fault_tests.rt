@@ -137,25 +137,26 @@ const TOLD_TO_AN_UNLOADING: [Row<'static>; 2] = [
     (2, TEST_UNIT_READY, NONE, FAILED),
 ];
 
+// A turn fails at its call behind so many, hosts are told of it, and the tape is found again.
+fn turns(rt: &impl Abort, alloc: Global, at: u64, told: &[Row]) -> Result<(), Fail> {
+    let mut drive = failing(rt, alloc, &EMPTY, 9 + at)?;
+    asks(rt, &mut drive, &ONE_WAITS);
+    assert_eq!(rt; drive.turn(), Turn::Faulted);
+    assert_eq!(rt; drive.turn(), Turn::Idle);
+    asks(rt, &mut drive, told);
+    asks(rt, &mut drive, &FOUND_AGAIN);
+    reads(rt, &mut drive, if at == 3 { b"ab".as_slice() } else { b"a" });
+    Ok(())
+}
+
 #[test]
 fn a_fault_at_each_call_of_a_turn(rt: HostRuntime) -> Result<(), Fail> {
     let alloc = rt.alloc();
-    let tellings: [&[Row]; 4] = [
-        &TOLD_ONCE,
-        &TOLD_TO_A_READ,
-        &TOLD_AS_DATA,
-        &TOLD_TO_AN_UNLOADING,
-    ];
-    for (at, rows) in (0u64..4).zip(tellings) {
-        for told in [rows, &TOLD_ONCE] {
-            let mut drive = failing(&rt, alloc, &EMPTY, 9 + at)?;
-            asks(&rt, &mut drive, &ONE_WAITS);
-            assert_eq!(&rt; drive.turn(), Turn::Faulted);
-            assert_eq!(&rt; drive.turn(), Turn::Idle);
-            asks(&rt, &mut drive, told);
-            asks(&rt, &mut drive, &FOUND_AGAIN);
-            reads(&rt, &mut drive, if at == 3 { b"ab".as_slice() } else { b"a" });
-        }
+    for at in 0..4 {
+        turns(&rt, alloc, at, &TOLD_ONCE)?;
+        turns(&rt, alloc, at, &TOLD_TO_A_READ)?;
+        turns(&rt, alloc, at, &TOLD_AS_DATA)?;
+        turns(&rt, alloc, at, &TOLD_TO_AN_UNLOADING)?;
     }
     Ok(())
 }

@@ -6,6 +6,8 @@ mod drives;
 #[cfg(test)]
 mod fault_tests;
 #[cfg(test)]
+mod medium_tests;
+#[cfg(test)]
 mod mode_tests;
 #[cfg(test)]
 mod row_tests;

@@ -43,7 +43,7 @@ fn left(rt: &impl Abort, alloc: Global, drive: &Tape<MemDisk>, wanted: &[u8]) ->
 fn ten_writes_wait_for_one_frame(rt: HostRuntime) -> Result<(), Fail> {
     let alloc = rt.alloc();
     let mut drive = empty(&rt, alloc)?;
-    assert_eq!(&rt; syncs_of(&rt, &mut drive, (1, WRITE_1, b"x", GOOD), 10), 0);
+    assert_eq!(&rt; syncs_of(&rt, &mut drive, BYTE, 10), 0);
     left(&rt, alloc, &drive, b"")?;
     assert_eq!(&rt; syncs_of(&rt, &mut drive, (1, WRITE_OUT, NONE, GOOD), 1), 2);
     left(&rt, alloc, &drive, b"xxxxxxxxxx")?;
@@ -58,7 +58,7 @@ fn a_turn_tells_how_many_waited(rt: HostRuntime) -> Result<(), Fail> {
     let alloc = rt.alloc();
     let mut drive = empty(&rt, alloc)?;
     for count in [1, 10, 64] {
-        assert_eq!(&rt; syncs_of(&rt, &mut drive, (1, WRITE_1, b"x", GOOD), count), 0);
+        assert_eq!(&rt; syncs_of(&rt, &mut drive, BYTE, count), 0);
         let before = syncs(&drive);
         assert_eq!(&rt; drive.turn(), Turn::Stored(count as usize));
         assert_eq!(&rt; syncs(&drive), before + 2);
@@ -67,43 +67,52 @@ fn a_turn_tells_how_many_waited(rt: HostRuntime) -> Result<(), Fail> {
     Ok(())
 }
 
-// So many rows of one kind, which cost no sync; then a row, which is preceded by a settle.
-type Limit<'a> = (Row<'a>, u32, Row<'a>);
+// WRITE of 1,048,576, of 65,536 and of 1,048,575 bytes.
+const WRITE_LONGEST: &'static [u8] = &[0x0a, 0, 0x10, 0, 0, 0];
+
+const WRITE_64TH: &'static [u8] = &[0x0a, 0, 1, 0, 0, 0];
+
+const WRITE_SHORTER: &'static [u8] = &[0x0a, 0, 0x0f, 0xff, 0xff, 0];
+
+const BYTE: Row<'static> = (1, WRITE_1, b"x", GOOD);
+
+const MARKED: Row<'static> = (1, MARK_AT_ONCE, NONE, GOOD);
+
+// A command that is given so many times to a new drive costs no sync; then another is preceded by a settle, and waits
+// alone.
+fn limit(rt: &impl Abort, alloc: Global, row: Row, times: u32, next: Row) -> Result<(), Fail> {
+    let mut drive = empty(rt, alloc)?;
+    assert_eq!(rt; syncs_of(rt, &mut drive, row, times), 0);
+    assert_eq!(rt; syncs_of(rt, &mut drive, next, 1), 2);
+    assert_eq!(rt; drive.turn(), Turn::Stored(1));
+    Ok(())
+}
 
 #[test]
 fn a_change_too_many_is_preceded_by_a_settle(rt: HostRuntime) -> Result<(), Fail> {
     let alloc = rt.alloc();
+    limit(&rt, alloc, BYTE, 64, BYTE)?;
+    limit(&rt, alloc, MARKED, 64, MARKED)?;
+    limit(&rt, alloc, MARKED, 64, BYTE)?;
     let long = vec![in alloc; 0x5a; 1_048_576]?;
-    let short = vec![in alloc; 0x5a; 65_536]?;
-    let longest: Row = (1, &[0x0a, 0, 0x10, 0, 0, 0], long.as_slice(), GOOD);
-    let shorter: Row = (1, &[0x0a, 0, 1, 0, 0, 0], short.as_slice(), GOOD);
-    let byte: Row = (1, WRITE_1, b"x", GOOD);
-    let mark: Row = (1, MARK_AT_ONCE, NONE, GOOD);
-    let limits: [Limit; 5] = [
-        (byte, 64, byte),
-        (mark, 64, mark),
-        (mark, 64, byte),
-        (longest, 4, byte),
-        (shorter, 64, mark),
-    ];
-    for (row, times, next) in limits {
-        let mut drive = empty(&rt, alloc)?;
-        assert_eq!(&rt; syncs_of(&rt, &mut drive, row, times), 0);
-        assert_eq!(&rt; syncs_of(&rt, &mut drive, next, 1), 2);
-        // The one that came last waits alone.
-        assert_eq!(&rt; drive.turn(), Turn::Stored(1));
-    }
-    // Marks take no bytes of blocks: behind four of the longest blocks 60 of them find room.
+    limit(&rt, alloc, (1, WRITE_LONGEST, &long, GOOD), 4, BYTE)?;
+    limit(&rt, alloc, (1, WRITE_64TH, &long[..65_536], GOOD), 64, MARKED)
+}
+
+#[test]
+fn a_byte_too_many_is_preceded_by_a_settle(rt: HostRuntime) -> Result<(), Fail> {
+    let alloc = rt.alloc();
+    let long = vec![in alloc; 0x5a; 1_048_576]?;
     let mut drive = empty(&rt, alloc)?;
-    assert_eq!(&rt; syncs_of(&rt, &mut drive, longest, 4), 0);
-    assert_eq!(&rt; syncs_of(&rt, &mut drive, mark, 60), 0);
+    // Marks take no bytes of blocks: behind four of the longest blocks 60 of them find room.
+    assert_eq!(&rt; syncs_of(&rt, &mut drive, (1, WRITE_LONGEST, &long, GOOD), 4), 0);
+    assert_eq!(&rt; syncs_of(&rt, &mut drive, MARKED, 60), 0);
     assert_eq!(&rt; drive.turn(), Turn::Stored(64));
     // One byte less leaves room for one byte more.
-    assert_eq!(&rt; syncs_of(&rt, &mut drive, longest, 3), 0);
-    let row: Row = (1, &[0x0a, 0, 0x0f, 0xff, 0xff, 0], &long[..1_048_575], GOOD);
-    assert_eq!(&rt; syncs_of(&rt, &mut drive, row, 1), 0);
-    assert_eq!(&rt; syncs_of(&rt, &mut drive, byte, 1), 0);
-    assert_eq!(&rt; syncs_of(&rt, &mut drive, byte, 1), 2);
+    assert_eq!(&rt; syncs_of(&rt, &mut drive, (1, WRITE_LONGEST, &long, GOOD), 3), 0);
+    assert_eq!(&rt; syncs_of(&rt, &mut drive, (1, WRITE_SHORTER, &long[..1_048_575], GOOD), 1), 0);
+    assert_eq!(&rt; syncs_of(&rt, &mut drive, BYTE, 1), 0);
+    assert_eq!(&rt; syncs_of(&rt, &mut drive, BYTE, 1), 2);
     assert_eq!(&rt; drive.turn(), Turn::Stored(1));
     Ok(())
 }
