@@ -49,4 +49,5 @@ module _ (contents : Contents) (changes : List Change) where
 
     pub is_bodies_more : bodies ++ body ∷ [] ≡ bodies_of (with_frames contents (changes ∷ [])).frames
     is_bodies_more =
-        ap (λ (b : List (List ℕ) × List ℕ). b.0 ++ b.1 ∷ []) (λ k. (bodies_are k, body_is k)) ∙ sym (bodies_more contents changes)
+        ap (λ (b : List (List ℕ) × List ℕ). b.0 ++ b.1 ∷ []) (λ k. (bodies_are k, body_is k)) ∙ sym
+        (bodies_more contents changes)

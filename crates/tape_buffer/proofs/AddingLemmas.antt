@@ -162,7 +162,8 @@ module _ {D : Type 0} (c m c' : OpenCartridge D) (pending between pending' : Lis
     pub stores_more : Stores (open_state c pending) (change ∷ []) (open_state c' pending')
     stores_more =
         subst (λ (s : MediumState). Stores (open_state c pending) (change ∷ []) s) (sym new_state)
-        (stores_on (open_state c pending) (open_state m between) (open_state m (between ++ change ∷ [])) [] (change ∷ [])
+        (stores_on (open_state c pending) (open_state m between) (open_state m (between ++ change ∷ [])) []
+        (change ∷ [])
         stores
         (record { count = 0; fits = omega arith; stored = refl; pending = refl; room = omega arith }))
 

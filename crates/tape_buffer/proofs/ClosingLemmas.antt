@@ -40,11 +40,13 @@ module _ {D : Type 0} (state : D → DiskState) (is_disk : (disk : D) → (state
     pub advances_shelved : (shelved : ClosedCartridge D) → shelved ≡ shelved_of c
         → Advances (buffer_below state) (open_buffer c pending) [] false (closed_buffer shelved)
     advances_shelved shelved is =
-        subst (λ (s : ClosedCartridge D). Advances (buffer_below state) (open_buffer c pending) [] false (closed_buffer s))
+        subst (λ (s : ClosedCartridge D). Advances (buffer_below state) (open_buffer c pending) [] false
+        (closed_buffer s))
         (sym is)
         (record {
           moved =
-              subst (λ (new : Core _ Change). CoreMoves medium_rules (state c.disk) (state c.disk) (open_core c pending) new [])
+              subst (λ (new : Core _ Change). CoreMoves medium_rules (state c.disk) (state c.disk) (open_core c pending)
+              new [])
               (sym shelved_core)
               (moves_stopping medium_rules (state c.disk) (open_core c pending) (is_disk c.disk)
               (open_is_core c pending torn));

@@ -122,11 +122,13 @@ module _ {D : Type 0} (c : OpenCartridge D) (pending : List Change) where
 
   module _ (c' : OpenCartridge D) where
     -- all that was pending is stored and safe
-    stored_core : c.torn ≡ [] → HasStored c pending c' → open_core c' [] ≡ settled (length pending) (open_core c pending)
+    stored_core : c.torn ≡ [] → HasStored c pending c' → open_core c' [] ≡ settled (length pending)
+        (open_core c pending)
     stored_core none stored =
         let more : changes_in c'.contents ≡ stored_changes ++ pending =
         ap changes_in stored.contents ∙ changes_more c.contents pending in
-        let accepted : changes_in c'.contents ++ [] ≡ stored_changes ++ pending = append-nil (changes_in c'.contents) ∙ more in
+        let accepted : changes_in c'.contents ++ [] ≡ stored_changes ++ pending = append-nil (changes_in c'.contents) ∙
+        more in
         let long : length (changes_in c'.contents) ≡ length stored_changes + length pending =
         ap length more ∙ length-append stored_changes pending in
         let rest : length (changes_of c'.torn) ≡ 0 =
@@ -197,7 +199,8 @@ module _ {D : Type 0} (c : OpenCartridge D) (pending : List Change) where
         subst (λ (new : Core Heading Change).
         CoreMoves medium_rules (state c.disk) (state c'.disk) old_core new [])
         (sym (stored_core c' none stored))
-        (moves_storing medium_rules (state c.disk) (state c'.disk) old_core (length pending) keeps (works, refl) same fits
+        (moves_storing medium_rules (state c.disk) (state c'.disk) old_core (length pending) keeps (works, refl) same
+        fits
         leaves
         (λ honest image left.
         subst (λ (heading : Heading). GivesChanges heading

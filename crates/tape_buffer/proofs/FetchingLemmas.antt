@@ -88,7 +88,8 @@ module _ {D : Type 0} (state : D → DiskState) (is_disk : (disk : D) → (state
   fetched_well : c'.failed ≡ false → (state c'.disk).failures ≡ (state c.disk).failures
       → Advances (buffer_below state) (open_buffer c pending) [] false (open_buffer c' pending)
   fetched_well fine counted =
-      subst (λ (k : OpenCartridge D). Advances (buffer_below state) (open_buffer c pending) [] false (open_buffer k pending))
+      subst (λ (k : OpenCartridge D). Advances (buffer_below state) (open_buffer c pending) [] false
+      (open_buffer k pending))
       (sym (same ∙ (λ i. record c { disk = c'.disk; failed = (fine ∙ sym works) i })))
       (record {
         moved =
@@ -102,7 +103,8 @@ module _ {D : Type 0} (state : D → DiskState) (is_disk : (disk : D) → (state
   fetched_badly : c'.failed ≡ true → (state c.disk).failures < (state c'.disk).failures
       → Advances (buffer_below state) (open_buffer c pending) [] true (open_buffer c' pending)
   fetched_badly failed counted =
-      subst (λ (k : OpenCartridge D). Advances (buffer_below state) (open_buffer c pending) [] true (open_buffer k pending))
+      subst (λ (k : OpenCartridge D). Advances (buffer_below state) (open_buffer c pending) [] true
+      (open_buffer k pending))
       (sym (same ∙ (λ i. record c { disk = c'.disk; failed = failed i })))
       (record {
         moved =

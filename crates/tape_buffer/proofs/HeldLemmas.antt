@@ -44,10 +44,12 @@ module _ {D : Type 0} (state : D → DiskState) (is_disk : (disk : D) → (state
   closed_shows : (c : ClosedCartridge D) → IsSettledOn state c
       → (c.known ≡ true → (state c.disk).honest → Each (state c.disk) (ShowsContents c.contents c.torn))
       → (volume : List Part) → (closed_state state c).stored ≡ Some volume
-      → (state c.disk).honest → Each (state c.disk) (ShowsCore medium_rules (found_core (found_in state c) (torn_in state c)))
+      → (state c.disk).honest → Each (state c.disk)
+      (ShowsCore medium_rules (found_core (found_in state c) (torn_in state c)))
   closed_shows c settled known volume gives honest image left = by c.known refl
     where
-      unknown : (found : Option Contents) → contents_on (state c.disk).seen ≡ found → option_map volume_made found ≡ Some volume
+      unknown : (found : Option Contents) → contents_on (state c.disk).seen ≡ found → option_map volume_made found ≡
+          Some volume
           → image ≡ (state c.disk).seen → ShowsCore medium_rules (found_core found []) image
       unknown None none some seen = absurd (cc)
       unknown (Some contents) is some seen =
@@ -58,22 +60,26 @@ module _ {D : Type 0} (state : D → DiskState) (is_disk : (disk : D) → (state
       by : (k : Bool) → c.known ≡ k
           → ShowsCore medium_rules (found_core (found_in state c) (torn_in state c)) image
       by true is =
-          subst (λ (k : Bool). ShowsCore medium_rules (found_core (if k then Some c.contents else contents_on (state c.disk).seen)
+          subst (λ (k : Bool). ShowsCore medium_rules
+          (found_core (if k then Some c.contents else contents_on (state c.disk).seen)
           (if k then changes_of c.torn else [])) image) (sym is)
           (found_shows c.contents c.torn image (known is honest image left))
       by false is =
-          subst (λ (k : Bool). ShowsCore medium_rules (found_core (if k then Some c.contents else contents_on (state c.disk).seen)
+          subst (λ (k : Bool). ShowsCore medium_rules
+          (found_core (if k then Some c.contents else contents_on (state c.disk).seen)
           (if k then changes_of c.torn else [])) image) (sym is)
           (unknown (contents_on (state c.disk).seen) refl
           (subst (λ (k : Bool). option_map volume_made (if k then Some c.contents else contents_on (state c.disk).seen)
           ≡ Some volume) is gives)
           (settled is honest image left))
 
-  module _ (held : Holding (OpenCartridge D) (ClosedCartridge D)) (pending : List Change) (is : IsHeld state held pending) where
+  module _ (held : Holding (OpenCartridge D) (ClosedCartridge D)) (pending : List Change)
+      (is : IsHeld state held pending) where
     pub held_is_core : IsCore (core_held state held pending)
     held_is_core = by held is
       where
-        by : (h : Holding (OpenCartridge D) (ClosedCartridge D)) → IsHeld state h pending → IsCore (core_held state h pending)
+        by : (h : Holding (OpenCartridge D) (ClosedCartridge D)) → IsHeld state h pending → IsCore
+            (core_held state h pending)
         by (Open c) over = open_is_core c pending over.torn
         by (Closed c) over = found_is_core (found_in state c) (torn_in state c)
         by Between over = absurd over

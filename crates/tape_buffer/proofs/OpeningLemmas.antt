@@ -39,7 +39,8 @@ module _ (one : GivesOne) (old : Core Heading Change) (is : IsCore old) (found :
   found_as : (kept : ℕ) → GivesChanges old.base (take kept old.accepted) seen
       → (found.heading ≡ old.base) × (changes_in found ≡ take kept old.accepted)
   found_as kept given =
-      let same : found ≡ contents_from old.base given.0 = one seen found (contents_from old.base given.0) gives given.1 in
+      let same : found ≡ contents_from old.base given.0 = one seen found (contents_from old.base given.0) gives given.1
+      in
       (ap (λ (k : Contents). k.heading) same, ap changes_in same ∙ given.2)
 
   -- where it was shown
@@ -81,7 +82,8 @@ module _ {D : Type 0} (state : D → DiskState) (is_disk : (disk : D) → (state
         recovering = false;
       }
 
-  pub advances_opened : ((state old.disk).honest → LeavesOnly (state old.disk) (state c.disk) (state old.disk).may_leave)
+  pub advances_opened : ((state old.disk).honest → LeavesOnly (state old.disk) (state c.disk)
+      (state old.disk).may_leave)
       → (state c.disk).failures ≡ (state old.disk).failures
       → Advances (buffer_below state) (closed_buffer old) [] false (open_buffer c [])
   advances_opened moments same =

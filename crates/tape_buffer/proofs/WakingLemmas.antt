@@ -88,7 +88,8 @@ module _ {D : Type 0} (state : D → DiskState) (is_disk : (disk : D) → (state
         goes = λ honest shows.
             (subst (λ (new : Core Heading Change). CoreMoves medium_rules (state old.disk) (state disk) old_core new [])
             (sym (same_core honest))
-            (moves_resting medium_rules (state old.disk) (state disk) old_core (is_disk disk) keeps moments)).goes honest
+            (moves_resting medium_rules (state old.disk) (state disk) old_core (is_disk disk) keeps moments)).goes
+            honest
             shows;
       }
 
@@ -105,7 +106,8 @@ module _ {D : Type 0} (state : D → DiskState) (is_disk : (disk : D) → (state
               absurd (⊎_elim (never old.contents) (never (with_frames old.contents old.torn))
               (known is honest (state old.disk).seen (is_disk old.disk honest).reads))
           by false is =
-              ap (λ (k : Bool). option_map volume_made (if k then Some old.contents else contents_on (state old.disk).seen))
+              ap (λ (k : Bool). option_map volume_made
+              (if k then Some old.contents else contents_on (state old.disk).seen))
               is ∙ ap (option_map volume_made) (contents_on_none (state old.disk).seen never)
 
       pub stays_closed : (error : CartridgeError) → IsNotOpened error (state old.disk) (state disk)

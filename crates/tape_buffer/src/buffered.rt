@@ -9,6 +9,7 @@ ghost use Rattle.tape_buffer.specs.declared.holding.Holding.TheVariants as Holdi
 
 use crate::holding::Holding;
 use crate::pending::Pending;
+use accepting::Accepting;
 use cartridge::{Cartridge, Shelved};
 use std::alloc::Global;
 use std::marker::Model;
@@ -33,6 +34,12 @@ impl<D: Disk> Model for Buffered<D> {
     ghost view = { λ b. record { held = b.held; pending = b.pending } };
 
     ghost invariant = { λ b. IsHeld D.state b.held b.pending };
+}
+
+impl<D: Disk> Accepting for Buffered<D> {
+    ghost use Rattle.tape_buffer.specs.Rules.{medium_rules};
+
+    ghost rules = { medium_rules };
 }
 
 impl<D: Disk> Buffered<D> {

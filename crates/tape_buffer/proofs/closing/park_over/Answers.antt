@@ -10,7 +10,8 @@ returns-in-Ok-clause-ok g c =
       shelved.ensures.known,
       parks_after disk g.met.D.Disk.is_disk c.args.cartridge c.settle_over.new.cartridge c.args.pending.now
           c.settle_over.new.pending (disk c.args.cartridge.disk).honest
-          (disk c.settle_over.new.cartridge.disk).honest shelved.result stored.advances.honesty.0 stored.answer stored.stores
+          (disk c.settle_over.new.cartridge.disk).honest shelved.result stored.advances.honesty.0 stored.answer
+          stored.stores
           shelved.ensures.parks,
       advances_after disk g.met.D.Disk.is_disk c.args.cartridge c.settle_over.new.cartridge c.args.pending.now
           c.settle_over.new.pending shelved.result stored.advances shelved.ensures.advances,

@@ -26,7 +26,8 @@ unreachable-requires-in-Err-SideFull g c =
       arith,
       (rw c.in-Err-SideFull.field-0-is at c.in-Err-SideFull.ensures.answer).1,
       ap (λ (l : List Change). length (spell_all l)) c.as_slice.ensures,
-      one_frame_fits c.args.pending.now (not_empty c.args.pending.now c.is_empty.result c.is_empty.ensures c.if-is_empty.false),
+      one_frame_fits c.args.pending.now (not_empty c.args.pending.now c.is_empty.result c.is_empty.ensures
+          c.if-is_empty.false),
       c.requires.fits,
     )
 

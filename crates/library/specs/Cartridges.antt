@@ -1,0 +1,63 @@
+-- What a stop leaves of the cartridge in a drive.
+use Rattle.std.specs.Prelude.{◌≡◌, List, Option, Some}
+use Rattle.vtl_base.specs.Below.{Below}
+use Rattle.tape_disk.specs.Disk.{DiskState, Each}
+use Rattle.tape_disk.specs.Moments.{LeavesOnly}
+use Rattle.scsi_sense.specs.declared.replies.Reply.{Reply}
+use Rattle.pr_core.specs.declared.states.PrState.{PrState}
+use Rattle.pr_core.specs.Keepers.{KeeperState}
+use Rattle.volume_core.specs.declared.changes.Change.{Change}
+use Rattle.accepting.specs.Core.{CanAcknowledge, IsCore}
+use Rattle.accepting.specs.Events.{GivesAcknowledged, IsEvent, ShowsCore}
+use Rattle.tape_buffer.specs.Rules.{medium_rules}
+use Rattle.tape_buffer.specs.Moves.{buffer_below, core_of}
+use Rattle.tape_buffer.specs.State.{BufferState, disk_in, state_of}
+use Rattle.drive_core.specs.State.{DriveState, IsBayPositioned, machine_of, medium_in}
+use Rattle.drive_core.specs.Relations.{Made}
+use Rattle.drive_core.specs.Work.{Request}
+use Rattle.drive_core.specs.Execute.{Answers, HonestIn}
+use Rattle.drive_core.specs.Synchronize.{Acknowledges, IsSynchronizing, NothingPending}
+use Rattle.library.specs.Doings.{Doing, DoesAll}
+
+module _ {D : Type 0} (state : D → DiskState) where
+  -- what a medium over an honest disk knows of itself: what is safe is stored, what is stored was accepted, and each
+  -- image that a crash now may leave gives what is safe, or what is stored (own)
+  pub record IsKnown (medium : BufferState D) : Type 0 where
+    pub disk : D
+    pub disk_is : disk_in medium.held ≡ Some disk
+    pub honest : (state disk).honest
+    pub core : IsCore (core_of state medium)
+    pub shows : Each (state disk) (ShowsCore medium_rules (core_of state medium))
+
+  -- From one medium to a later one just these changes were accepted. In the first all that was accepted is safe, and at
+  -- each moment since a crash leaves an image that gives all of it, and the first so many of those accepted since
+  -- (own).
+  pub record KeepsAcknowledged (acked last : BufferState D) (made : List Change) : Type 0 where
+    pub before : D
+    pub disk_before : disk_in acked.held ≡ Some before
+    pub after : D
+    pub disk_after : disk_in last.held ≡ Some after
+    pub all_safe : CanAcknowledge (core_of state acked)
+    pub event : IsEvent medium_rules (state before) (state after) (core_of state acked) (core_of state last) made
+    pub moments :
+        LeavesOnly (state before) (state after) (GivesAcknowledged medium_rules (core_of state acked) event.steps)
+
+  -- the same of the media in two bays (own)
+  abbrev pub KeepsIn : Option (BufferState D) → Option (BufferState D) → List Change → Type 0
+  KeepsIn (Some acked) (Some last) made = KeepsAcknowledged acked last made
+  KeepsIn _ _ made = ⊥
+
+module _ {D K : Type 0} (state : D → DiskState) (kept : K → KeeperState) (keeps : Below K PrState) where
+  -- A drive with a known medium in it is asked for a synchronizing command and acknowledges it; then any commands and
+  -- turns follow. What was accepted up to the acknowledgement is kept, whenever it is stopped (own).
+  abbrev pub StopsKeepChanges : Type 0
+  StopsKeepChanges =
+      (old acked new : DriveState (BufferState D) K) (medium : BufferState D)
+      (request : Request) (reply : Reply) (doings : List Doing) (made : Made)
+      → medium_in old.bay ≡ Some medium → IsKnown state medium
+      → Answers (state_of state) (buffer_below state) kept keeps old request reply acked
+      → IsSynchronizing (machine_of (state_of state) kept old) request.cdb → Acknowledges reply
+      → NothingPending (HonestIn (buffer_below state) (medium_in old.bay)) (machine_of (state_of state) kept acked)
+      → IsBayPositioned (state_of state) acked.bay acked.position
+      → DoesAll (state_of state) (buffer_below state) kept keeps acked doings made new
+      → KeepsIn state (medium_in acked.bay) (medium_in new.bay) made.changes

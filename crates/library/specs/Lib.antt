@@ -1,0 +1,2 @@
+pub mod Cartridges
+pub mod Doings
