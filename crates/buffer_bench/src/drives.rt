@@ -14,7 +14,8 @@ pub type Tape<D> = Drive<Buffered<D>, NoKeeper>;
 
 /// A disk after a sync, or as the fault of that left it.
 pub fn sure<D: Disk + Drop>(disk: D) -> Result<D, D>
-    ensures { IfOk result (λ disk. Only (D.state disk).seen (D.state disk).may_leave) }
+    ensures { IfOk result (λ disk.
+        (D.state disk).honest → Only (D.state disk).seen (D.state disk).may_leave) }
 {
     let mut disk = disk;
     match disk.sync() {

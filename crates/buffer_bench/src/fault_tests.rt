@@ -4,7 +4,7 @@ use crate::samples::{
     CHANGED, EMPTY, END, ERASE, FAILED, GOOD, INQUIRED, INQUIRY, LATE_ERROR, LOAD, LOCATE_0, MARK,
     MODE_0, NO_MEDIUM, NONE, ONE, READ_1, READ_ERROR, READ_POSITION, REQUEST_SENSE, REWIND, Row,
     SELECT_4, TEST_UNIT_READY, UNLOAD, WRITE_1, WRITE_ERROR, WRITE_OUT, Wanted, asks, greeted,
-    reads,
+    reads, turned,
 };
 use std::alloc::Global;
 use std::process::Abort;
@@ -36,13 +36,27 @@ const TWO_STAND: [Row<'static>; 4] = [
 
 // What comes before a command, the command, its answer where no call fails, and what the tape then holds without and
 // with the frame that is under way.
-type Case<'a> = (&'a [Row<'a>], &'a [u8], &'a [u8], Wanted<'a>, &'a [u8], &'a [u8]);
+type Case<'a> = (
+    &'a [Row<'a>],
+    &'a [u8],
+    &'a [u8],
+    Wanted<'a>,
+    &'a [u8],
+    &'a [u8],
+);
 
 const CASES: [Case<'static>; 13] = [
     (&ONE_WAITS, WRITE_OUT, NONE, GOOD, b"a", b"ab"),
     (&ONE_WAITS, MARK, NONE, GOOD, b"a", b"ab|"),
     (&ONE_WAITS, REWIND, NONE, GOOD, b"a", b"ab"),
-    (&ONE_WAITS, &[0x11, 0, 0xff, 0xff, 0xff, 0], NONE, GOOD, b"a", b"ab"),
+    (
+        &ONE_WAITS,
+        &[0x11, 0, 0xff, 0xff, 0xff, 0],
+        NONE,
+        GOOD,
+        b"a",
+        b"ab",
+    ),
     (&ONE_WAITS, &[0x11, 3, 0, 0, 0, 0], NONE, GOOD, b"a", b"ab"),
     (&ONE_WAITS, LOCATE_0, NONE, GOOD, b"a", b"ab"),
     (
@@ -69,7 +83,11 @@ fn failing(
     side: &[u8],
     calls: u64,
 ) -> Result<Tape<OnceDisk<MemDisk>>, Fail> {
-    greeted(rt, alloc, OnceDisk::new(MemDisk::from_bytes(alloc, side)?, calls))
+    greeted(
+        rt,
+        alloc,
+        OnceDisk::new(MemDisk::from_bytes(alloc, side)?, calls),
+    )
 }
 
 // The tape has failed; it is unloaded and loaded.
@@ -82,22 +100,27 @@ const FOUND_AGAIN: [Row<'static>; 6] = [
     (1, LOAD, NONE, GOOD),
 ];
 
+// A case at each call of its storing: a write, a sync, the write of the gate and a sync. A call that fails does
+// nothing, so the frame is there where the last one failed.
+fn storing(rt: &impl Abort, alloc: Global, case: &Case) -> Result<(), Fail> {
+    let (before, cdb, sent, wanted, without, with) = *case;
+    for at in 0..4 {
+        let mut drive = failing(rt, alloc, &EMPTY, 9 + at)?;
+        asks(rt, &mut drive, before);
+        asks(rt, &mut drive, &[(1, cdb, sent, WRITE_ERROR)]);
+        asks(rt, &mut drive, &FOUND_AGAIN);
+        reads(rt, &mut drive, if at == 3 { with } else { without });
+    }
+    let mut drive = failing(rt, alloc, &EMPTY, 13)?;
+    asks(rt, &mut drive, before);
+    asks(rt, &mut drive, &[(1, cdb, sent, wanted)]);
+    Ok(())
+}
+
 #[test]
 fn a_fault_at_each_call_of_a_storing(rt: HostRuntime) -> Result<(), Fail> {
-    let alloc = rt.alloc();
-    for (before, cdb, sent, wanted, without, with) in CASES {
-        // A write, a sync, the write of the gate and a sync. A call that fails does nothing, so the frame is there
-        // from the last one on.
-        for at in 0..4 {
-            let mut drive = failing(&rt, alloc, &EMPTY, 9 + at)?;
-            asks(&rt, &mut drive, before);
-            asks(&rt, &mut drive, &[(1, cdb, sent, WRITE_ERROR)]);
-            asks(&rt, &mut drive, &FOUND_AGAIN);
-            reads(&rt, &mut drive, if at == 3 { with } else { without });
-        }
-        let mut drive = failing(&rt, alloc, &EMPTY, 13)?;
-        asks(&rt, &mut drive, before);
-        asks(&rt, &mut drive, &[(1, cdb, sent, wanted)]);
+    for case in &CASES {
+        storing(&rt, rt.alloc(), case)?;
     }
     Ok(())
 }
@@ -141,11 +164,15 @@ const TOLD_TO_AN_UNLOADING: [Row<'static>; 2] = [
 fn turns(rt: &impl Abort, alloc: Global, at: u64, told: &[Row]) -> Result<(), Fail> {
     let mut drive = failing(rt, alloc, &EMPTY, 9 + at)?;
     asks(rt, &mut drive, &ONE_WAITS);
-    assert_eq!(rt; drive.turn(), Turn::Faulted);
-    assert_eq!(rt; drive.turn(), Turn::Idle);
+    assert_eq!(rt; turned(&mut drive), Turn::Faulted);
+    assert_eq!(rt; turned(&mut drive), Turn::Idle);
     asks(rt, &mut drive, told);
     asks(rt, &mut drive, &FOUND_AGAIN);
-    reads(rt, &mut drive, if at == 3 { b"ab".as_slice() } else { b"a" });
+    reads(
+        rt,
+        &mut drive,
+        if at == 3 { b"ab".as_slice() } else { b"a" },
+    );
     Ok(())
 }
 
@@ -187,22 +214,23 @@ const READ_AGAIN: [Row<'static>; 4] = [
     (1, LOAD, NONE, GOOD),
 ];
 
+// A side with one block, of whose disk the call after so many fails: the tape answers so, and has its block then.
+fn loading(rt: &impl Abort, alloc: Global, calls: u64, rows: &[Row]) -> Result<(), Fail> {
+    let mut drive = failing(rt, alloc, &ONE, calls)?;
+    asks(rt, &mut drive, rows);
+    reads(rt, &mut drive, b"a");
+    Ok(())
+}
+
 #[test]
 fn a_fault_at_each_call_of_a_loading(rt: HostRuntime) -> Result<(), Fail> {
     let alloc = rt.alloc();
     // Behind the sync that comes first: a sync, two reads of the header, two of gates and one of the body.
     for calls in 1..7 {
-        let mut drive = failing(&rt, alloc, &ONE, calls)?;
-        asks(&rt, &mut drive, &LOADED_LATE);
-        reads(&rt, &mut drive, b"a");
-        let mut drive = failing(&rt, alloc, &ONE, 6 + calls)?;
-        asks(&rt, &mut drive, &LOADED_AGAIN);
-        reads(&rt, &mut drive, b"a");
+        loading(&rt, alloc, calls, &LOADED_LATE)?;
+        loading(&rt, alloc, 6 + calls, &LOADED_AGAIN)?;
     }
-    let mut drive = failing(&rt, alloc, &ONE, 7)?;
-    asks(&rt, &mut drive, &READ_AGAIN);
-    reads(&rt, &mut drive, b"a");
-    Ok(())
+    loading(&rt, alloc, 7, &READ_AGAIN)
 }
 
 // A side that is refused stands in the drive unloaded, and LOAD tells so; UNLOAD leaves it.

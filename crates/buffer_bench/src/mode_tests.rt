@@ -3,6 +3,8 @@ use crate::samples::{
     BAD_FIELD, BAD_LENGTH, BAD_LIST, CHANGED, EMPTY, GOOD, LOAD, MODE_0, MODE_1, MODE_CHANGED,
     NO_MEDIUM, NONE, READ_1, Row, SELECT_4, TEST_UNIT_READY, UNLOAD, WRITE_1, asks, greeted,
 };
+use std::alloc::Global;
+use std::process::Abort;
 use std::test::Fail;
 use tape_disk::MemDisk;
 
@@ -14,9 +16,19 @@ const SENSE_12: &'static [u8] = &[0x1a, 0, 0, 0, 12, 0];
 const TOLD: [Row<'static>; 12] = [
     (1, SENSE_12, NONE, (None, b"\x0b\0\x10\x08\0\0\0\0\0\0\0\0")),
     (1, &[0x1a, 8, 0, 0, 4, 0], NONE, (None, b"\x03\0\x10\0")),
-    (1, &[0x1a, 8, 0x3f, 0, 255, 0], NONE, (None, b"\x03\0\x10\0")),
+    (
+        1,
+        &[0x1a, 8, 0x3f, 0, 255, 0],
+        NONE,
+        (None, b"\x03\0\x10\0"),
+    ),
     // Saved values, and a field that is not named.
-    (1, &[0x1a, 0, 0xff, 9, 255, 0], NONE, (None, b"\x0b\0\x10\x08\0\0\0\0\0\0\0\0")),
+    (
+        1,
+        &[0x1a, 0, 0xff, 9, 255, 0],
+        NONE,
+        (None, b"\x0b\0\x10\x08\0\0\0\0\0\0\0\0"),
+    ),
     (1, &[0x1a, 0, 0, 0, 3, 0], NONE, (None, b"\x0b\0\x10")),
     (1, &[0x1a, 0, 0, 0, 0, 0], NONE, GOOD),
     (1, &[0x1a, 0, 0x0f, 0, 12, 0], NONE, BAD_FIELD),
@@ -50,7 +62,12 @@ const REFUSED: [Row<'static>; 22] = [
     (1, SELECT_4, MODE_1, GOOD),
     (1, SELECT_12, b"\0\0\x10\x08\0\0\0\0\0\0\0\0", GOOD),
     // Other fields are ignored.
-    (1, &[0x15, 0x1e, 7, 7, 12, 0], b"\xff\xff\x9f\x08\xff\xff\xff\xff\xff\0\0\0", GOOD),
+    (
+        1,
+        &[0x15, 0x1e, 7, 7, 12, 0],
+        b"\xff\xff\x9f\x08\xff\xff\xff\xff\xff\0\0\0",
+        GOOD,
+    ),
     (2, TEST_UNIT_READY, NONE, GOOD),
 ];
 
@@ -95,13 +112,18 @@ const LOADED: [Row<'static>; 20] = [
     (1, LOAD, NONE, GOOD),
 ];
 
+// A new drive is asked so.
+fn asked(rt: &impl Abort, alloc: Global, rows: &[Row]) -> Result<(), Fail> {
+    let mut drive = greeted(rt, alloc, MemDisk::from_bytes(alloc, &EMPTY)?)?;
+    asks(rt, &mut drive, rows);
+    Ok(())
+}
+
 #[test]
 fn lists_of_modes_and_loadings(rt: HostRuntime) -> Result<(), Fail> {
     let alloc = rt.alloc();
-    let runs: [&[Row]; 4] = [&TOLD, &REFUSED, &SET, &LOADED];
-    for rows in runs {
-        let mut drive = greeted(&rt, alloc, MemDisk::from_bytes(alloc, &EMPTY)?)?;
-        asks(&rt, &mut drive, rows);
-    }
-    Ok(())
+    asked(&rt, alloc, &TOLD)?;
+    asked(&rt, alloc, &REFUSED)?;
+    asked(&rt, alloc, &SET)?;
+    asked(&rt, alloc, &LOADED)
 }

@@ -2,7 +2,7 @@
 use crate::drives::Tape;
 use crate::samples::{
     EMPTY, ERASE, GOOD, LOCATE_1, MARK_AT_ONCE, MODE_0, MODE_1, NONE, Row, SELECT_4, WRITE_1,
-    WRITE_OUT, asks, found, greeted, syncs,
+    WRITE_OUT, asks, found, greeted, syncs, turned,
 };
 use std::alloc::Global;
 use std::process::Abort;
@@ -48,7 +48,7 @@ fn ten_writes_wait_for_one_frame(rt: HostRuntime) -> Result<(), Fail> {
     assert_eq!(&rt; syncs_of(&rt, &mut drive, (1, WRITE_OUT, NONE, GOOD), 1), 2);
     left(&rt, alloc, &drive, b"xxxxxxxxxx")?;
     // Nothing is pending: the ten were stored, and a turn finds nothing.
-    assert_eq!(&rt; drive.turn(), Turn::Idle);
+    assert_eq!(&rt; turned(&mut drive), Turn::Idle);
     assert_eq!(&rt; syncs_of(&rt, &mut drive, (1, WRITE_OUT, NONE, GOOD), 1), 0);
     Ok(())
 }
@@ -60,10 +60,10 @@ fn a_turn_tells_how_many_waited(rt: HostRuntime) -> Result<(), Fail> {
     for count in [1, 10, 64] {
         assert_eq!(&rt; syncs_of(&rt, &mut drive, BYTE, count), 0);
         let before = syncs(&drive);
-        assert_eq!(&rt; drive.turn(), Turn::Stored(count as usize));
+        assert_eq!(&rt; turned(&mut drive), Turn::Stored(count as usize));
         assert_eq!(&rt; syncs(&drive), before + 2);
     }
-    assert_eq!(&rt; drive.turn(), Turn::Idle);
+    assert_eq!(&rt; turned(&mut drive), Turn::Idle);
     Ok(())
 }
 
@@ -84,7 +84,7 @@ fn limit(rt: &impl Abort, alloc: Global, row: Row, times: u32, next: Row) -> Res
     let mut drive = empty(rt, alloc)?;
     assert_eq!(rt; syncs_of(rt, &mut drive, row, times), 0);
     assert_eq!(rt; syncs_of(rt, &mut drive, next, 1), 2);
-    assert_eq!(rt; drive.turn(), Turn::Stored(1));
+    assert_eq!(rt; turned(&mut drive), Turn::Stored(1));
     Ok(())
 }
 
@@ -96,7 +96,13 @@ fn a_change_too_many_is_preceded_by_a_settle(rt: HostRuntime) -> Result<(), Fail
     limit(&rt, alloc, MARKED, 64, BYTE)?;
     let long = vec![in alloc; 0x5a; 1_048_576]?;
     limit(&rt, alloc, (1, WRITE_LONGEST, &long, GOOD), 4, BYTE)?;
-    limit(&rt, alloc, (1, WRITE_64TH, &long[..65_536], GOOD), 64, MARKED)
+    limit(
+        &rt,
+        alloc,
+        (1, WRITE_64TH, &long[..65_536], GOOD),
+        64,
+        MARKED,
+    )
 }
 
 #[test]
@@ -105,15 +111,29 @@ fn a_byte_too_many_is_preceded_by_a_settle(rt: HostRuntime) -> Result<(), Fail> 
     let long = vec![in alloc; 0x5a; 1_048_576]?;
     let mut drive = empty(&rt, alloc)?;
     // Marks take no bytes of blocks: behind four of the longest blocks 60 of them find room.
-    assert_eq!(&rt; syncs_of(&rt, &mut drive, (1, WRITE_LONGEST, &long, GOOD), 4), 0);
+    assert_eq!(&rt;
+        syncs_of(&rt, &mut drive, (1, WRITE_LONGEST, &long, GOOD), 4),
+        0
+    );
     assert_eq!(&rt; syncs_of(&rt, &mut drive, MARKED, 60), 0);
-    assert_eq!(&rt; drive.turn(), Turn::Stored(64));
+    assert_eq!(&rt; turned(&mut drive), Turn::Stored(64));
     // One byte less leaves room for one byte more.
-    assert_eq!(&rt; syncs_of(&rt, &mut drive, (1, WRITE_LONGEST, &long, GOOD), 3), 0);
-    assert_eq!(&rt; syncs_of(&rt, &mut drive, (1, WRITE_SHORTER, &long[..1_048_575], GOOD), 1), 0);
+    assert_eq!(&rt;
+        syncs_of(&rt, &mut drive, (1, WRITE_LONGEST, &long, GOOD), 3),
+        0
+    );
+    assert_eq!(&rt;
+        syncs_of(
+            &rt,
+            &mut drive,
+            (1, WRITE_SHORTER, &long[..1_048_575], GOOD),
+            1
+        ),
+        0
+    );
     assert_eq!(&rt; syncs_of(&rt, &mut drive, BYTE, 1), 0);
     assert_eq!(&rt; syncs_of(&rt, &mut drive, BYTE, 1), 2);
-    assert_eq!(&rt; drive.turn(), Turn::Stored(1));
+    assert_eq!(&rt; turned(&mut drive), Turn::Stored(1));
     Ok(())
 }
 
@@ -126,7 +146,7 @@ fn writes_that_do_not_wait_fail_the_row(rt: HostRuntime) -> Result<(), Fail> {
     let before = syncs(&drive);
     for _ in 0..10 {
         asks(&rt, &mut drive, &[(1, WRITE_1, b"x", GOOD)]);
-        assert_eq!(&rt; drive.turn(), Turn::Stored(1));
+        assert_eq!(&rt; turned(&mut drive), Turn::Stored(1));
     }
     assert_eq!(&rt; syncs(&drive), before + 20);
     Ok(())
@@ -136,7 +156,11 @@ fn writes_that_do_not_wait_fail_the_row(rt: HostRuntime) -> Result<(), Fail> {
 fn an_unbuffered_write_is_stored_at_once(rt: HostRuntime) -> Result<(), Fail> {
     let alloc = rt.alloc();
     let mut drive = empty(&rt, alloc)?;
-    asks(&rt, &mut drive, &[(1, WRITE_1, b"a", GOOD), (1, SELECT_4, MODE_0, GOOD)]);
+    asks(
+        &rt,
+        &mut drive,
+        &[(1, WRITE_1, b"a", GOOD), (1, SELECT_4, MODE_0, GOOD)],
+    );
     // The mode alone stores nothing; the write stores what waited with it, as one frame.
     left(&rt, alloc, &drive, b"")?;
     assert_eq!(&rt; syncs_of(&rt, &mut drive, (1, WRITE_1, b"b", GOOD), 1), 2);
@@ -146,9 +170,13 @@ fn an_unbuffered_write_is_stored_at_once(rt: HostRuntime) -> Result<(), Fail> {
     assert_eq!(&rt; syncs_of(&rt, &mut drive, (1, ERASE, NONE, GOOD), 1), 2);
     left(&rt, alloc, &drive, b"a")?;
     // Buffered, an erase stores what waits, and waits itself.
-    asks(&rt, &mut drive, &[(1, SELECT_4, MODE_1, GOOD), (1, WRITE_1, b"d", GOOD)]);
+    asks(
+        &rt,
+        &mut drive,
+        &[(1, SELECT_4, MODE_1, GOOD), (1, WRITE_1, b"d", GOOD)],
+    );
     assert_eq!(&rt; syncs_of(&rt, &mut drive, (1, ERASE, NONE, GOOD), 1), 2);
-    assert_eq!(&rt; drive.turn(), Turn::Stored(1));
+    assert_eq!(&rt; turned(&mut drive), Turn::Stored(1));
     left(&rt, alloc, &drive, b"ad")?;
     Ok(())
 }

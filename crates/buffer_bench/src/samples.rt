@@ -6,7 +6,7 @@ use std::alloc::Global;
 use std::process::Abort;
 use std::test::Fail;
 use tape_disk::{Disk, MemDisk};
-use volume_core::Kind;
+use volume_core::{Kind, Turn};
 use vtl_base::Nexus;
 
 // What a reply is wanted to be: its sense data, if any, by bytes 0 and 2, INFORMATION, additional
@@ -17,8 +17,7 @@ pub type Wanted<'a> = (Option<(u8, u8, u32, u8, u8)>, &'a [u8]);
 pub type Row<'a> = (u8, &'a [u8], &'a [u8], Wanted<'a>);
 
 /// A cartridge `T00001L6` of one partition of 16,777,216 bytes, with no frames.
-pub const EMPTY: [u8; 36] =
-    *b"\xa5VTLCART1\0\x01T00001L6        \0\0\0\0\x01\0\0\0\0";
+pub const EMPTY: [u8; 36] = *b"\xa5VTLCART1\0\x01T00001L6        \0\0\0\0\x01\0\0\0\0";
 
 /// The same with one frame: the block `a`.
 pub const ONE: [u8; 52] = *b"\xa5VTLCART1\0\x01T00001L6        \0\0\0\0\x01\0\0\0\
@@ -92,8 +91,10 @@ pub const END: Wanted<'static> = (Some((0xf0, 8, 1, 0, 5)), &[]);
 // A filemark, where one byte was asked for.
 pub const AT_MARK: Wanted<'static> = (Some((0xf0, 0x80, 1, 0, 1)), &[]);
 
-pub const INQUIRED: Wanted<'static> =
-    (None, b"\x01\x80\x06\x02\x1f\0\0\0VTLIB   TAPE DRIVE      0001");
+pub const INQUIRED: Wanted<'static> = (
+    None,
+    b"\x01\x80\x06\x02\x1f\0\0\0VTLIB   TAPE DRIVE      0001",
+);
 
 // The status, the 18 bytes of sense data and the bytes that are wanted.
 type Told<'a> = (Status, Option<[u8; 18]>, &'a [u8]);
@@ -114,9 +115,17 @@ fn told(wanted: Wanted) -> Told {
 }
 
 pub fn assert_reply(rt: &impl Abort, reply: &Reply, wanted: Wanted, at: usize) {
-    let Reply { status, sense, bytes } = reply;
+    let Reply {
+        status,
+        sense,
+        bytes,
+    } = reply;
     let sense = sense.map(|sense| sense.bytes());
-    assert_eq!(rt; (*status, sense, bytes.as_slice()), told(wanted), "reply to {at}");
+    assert_eq!(rt;
+        (*status, sense, bytes.as_slice()),
+        told(wanted),
+        "reply to {at}"
+    );
 }
 
 pub fn asks<D: Disk + Drop>(rt: &impl Abort, drive: &mut Tape<D>, rows: &[Row]) {
@@ -132,7 +141,11 @@ pub fn answered<D: Disk + Drop>(drive: &mut Tape<D>, rows: &[Row]) -> bool {
         let Some(nexus) = Nexus::new(*host) else {
             return false;
         };
-        let Reply { status, sense, bytes } = drive.execute(nexus, cdb, sent);
+        let Reply {
+            status,
+            sense,
+            bytes,
+        } = drive.execute(nexus, cdb, sent);
         let sense = sense.map(|sense| sense.bytes());
         if (status, sense, bytes.as_slice()) != told(*wanted) {
             return false;
@@ -155,6 +168,11 @@ pub fn greeted<D: Disk + Drop>(rt: &impl Abort, alloc: Global, disk: D) -> Resul
     ];
     asks(rt, &mut drive, &rows);
     Ok(drive)
+}
+
+/// A flusher's turn.
+pub fn turned<D: Disk + Drop>(drive: &mut Tape<D>) -> Turn {
+    drive.turn()
 }
 
 /// The tape has these objects from the position on, blocks of one byte and `|` for a filemark, and

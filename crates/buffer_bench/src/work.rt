@@ -53,7 +53,13 @@ fn syncs(drive: &Tape<MemDisk>) -> u64 {
 }
 
 // So many writes of a block, with a filemark behind each group of them, if any: the time, and how many syncs it took.
-fn written(rt: &HostRuntime, count: u32, cdb: &[u8], block: &[u8], group: Option<u32>) -> Option<Timed> {
+fn written(
+    rt: &HostRuntime,
+    count: u32,
+    cdb: &[u8],
+    block: &[u8],
+    group: Option<u32>,
+) -> Option<Timed> {
     let (mut drive, host) = new_drive(rt.alloc())?;
     let before = syncs(&drive);
     let start = Instant::now(rt).ok()?;
