@@ -69,11 +69,7 @@ WORDS = {
     "disk model": ["DiskState", "Writes", "Cuts", "Syncs", "IsDisk"],
     "drive": ["DriveState", "Machine", "Step"],
     "early warning": ["is_in_early_zone", "early_warning", "is_warned", "made_reply", "IsEarlyWarning"],
-<<<<<<< HEAD
-    "element address": ["is_slot", "held_at", "FIRST_SLOT", "SLOTS"],
-=======
-    "element address": ["FIRST_SLOT", "SLOTS", "IsAddress"],
->>>>>>> 76f1186161bb7e7aa2812afe22e6f01bc584f4c3
+    "element address": ["is_slot", "held_at", "FIRST_SLOT", "SLOTS", "IsAddress"],
     "EOD, end of data": ["end_of_data", "object_at", "SpacesTo", "LocatesTo"],
     "EOM, end of medium": ["key_byte"],
     "EOP, end of partition": ["is_near_end", "has_room", "volume_overflow"],
@@ -97,12 +93,8 @@ WORDS = {
     "gate": ["OPEN", "CLOSED"],
     "GOOD": ["good_with"],
     "header": ["Heading", "IsHeading", "spell_heading"],
-<<<<<<< HEAD
-    "honest": ["Below", "HonestIn", "HonestStepsAreSteps", "DiskState", "IsAsHonest"],
-=======
     "home of a cartridge": ["IsAtHome", "IsAddress"],
-    "honest": ["Below", "HonestIn", "HonestStepsAreSteps", "DiskState"],
->>>>>>> 76f1186161bb7e7aa2812afe22e6f01bc584f4c3
+    "honest": ["Below", "HonestIn", "HonestStepsAreSteps", "DiskState", "IsAsHonest"],
     "host": ["host_of", "NEXUSES"],
     "ILI, incorrect length": ["incorrect_length", "block_reply"],
     "image": ["DiskState", "Each", "StandsFor"],
