@@ -1,0 +1,2 @@
+//! Laws of what is left of a drive. Each is a function whose contract is the law.
+pub mod reservations;

@@ -1,0 +1,4 @@
+//! Drives over disks: what is left of them wherever they are stopped.
+#![tactic(auto)]
+
+pub mod laws;
