@@ -9,8 +9,8 @@ use Rattle.gate_journal.specs.declared.header.SideKind.TheVariants.{Cartridge, S
 use Rattle.gate_journal.specs.Side.{BeginsAs, Heading, IsDamagedAt, StandsFor, spell}
 use Rattle.gate_journal.specs.Inner.Sides.{decided}
 use Rattle.pr_core.specs.declared.states.PrState.{PrState}
-use Rattle.aptpl_store.specs.Contents.{IsAnswered, IsBadFrame, bodies_of}
-use Rattle.aptpl_store.specs.Spelling.{IsSavable, Spells, spell_state}
+use Rattle.aptpl_store.specs.Contents.{IsStoreAnswered, IsBadState, state_bodies}
+use Rattle.aptpl_store.specs.Spelling.{IsSavable, SpellsState, spell_state}
 use Rattle.aptpl_store.proofs.ContentsLemmas.{bodies_more}
 use Rattle.aptpl_store.proofs.DecidingLemmas.{spelled_or_not}
 use Rattle.aptpl_store.proofs.UniqueLemmas.{begins_so, damaged_begins}
@@ -18,50 +18,50 @@ use Rattle.aptpl_store.proofs.UniqueLemmas.{begins_so, damaged_begins}
 -- the bodies spell states, or there is a first one that does not (own)
 abbrev Found : Heading → List (List ℕ) → Type 0
 Found h bodies =
-    ((states : List PrState) × All IsSavable states × (bodies_of states ≡ bodies))
-    ⊎ ((good : List PrState) × (at : ℕ) × IsBadFrame h bodies good at)
+    ((states : List PrState) × All IsSavable states × (state_bodies states ≡ bodies))
+    ⊎ ((good : List PrState) × (at : ℕ) × IsBadState h bodies good at)
 
 -- a body that spells no state, behind some that do
 bad_here : (h : Heading) → h.kind ≡ Store → (bodies : List (List ℕ)) (good : List PrState) (body : List ℕ)
-    (rest : List (List ℕ)) → All IsSavable good → bodies ≡ bodies_of good ++ body ∷ rest
-    → ((state : PrState) → Spells state body → ⊥) → Found h bodies
+    (rest : List (List ℕ)) → All IsSavable good → bodies ≡ state_bodies good ++ body ∷ rest
+    → ((state : PrState) → SpellsState state body → ⊥) → Found h bodies
 bad_here h kind bodies good body rest all split never =
-    let counted : length (bodies_of good) ≡ length good = length-map good spell_state in
+    let counted : length (state_bodies good) ≡ length good = length-map good spell_state in
     let body_is : get_or bodies (length good) [] ≡ body =
-    (λ i. get_or (split i) (sym counted i) []) ∙ get_or-append_seam (bodies_of good) body rest [] in
+    (λ i. get_or (split i) (sym counted i) []) ∙ get_or-append_seam (state_bodies good) body rest [] in
     inr (
       good,
-      length (spell h (bodies_of good)),
+      length (spell h (state_bodies good)),
       record {
         kind = kind;
         inside = omega (
           arith,
           counted,
           ap (λ (b : List (List ℕ)). length b) split,
-          length-append (bodies_of good) (body ∷ rest),
+          length-append (state_bodies good) (body ∷ rest),
         );
         before = all;
-        spelled = sym (ap (take (length good)) split ∙ take_at (bodies_of good) (body ∷ rest) (length good) counted);
+        spelled = sym (ap (take (length good)) split ∙ take_at (state_bodies good) (body ∷ rest) (length good) counted);
         gate = refl;
-        bad = λ state spells. never state (subst (Spells state) body_is spells);
+        bad = λ state spells. never state (subst (SpellsState state) body_is spells);
       },
     )
 
 -- from good frames on through the bodies that are left
 walked : (h : Heading) → h.kind ≡ Store → (bodies : List (List ℕ)) (good : List PrState) (rest : List (List ℕ))
-    → All IsSavable good → bodies ≡ bodies_of good ++ rest → Found h bodies
-walked h kind bodies good [] all split = inl (good, all, sym (split ∙ append-nil (bodies_of good)))
+    → All IsSavable good → bodies ≡ state_bodies good ++ rest → Found h bodies
+walked h kind bodies good [] all split = inl (good, all, sym (split ∙ append-nil (state_bodies good)))
 walked h kind bodies good (body ∷ rest) all split = elim (spelled_or_not body) [
   | inr never ↦ bad_here h kind bodies good body rest all split never
   | inl spells ↦
       walked h kind bodies (good ++ spells.0 ∷ []) rest (All-push IsSavable good spells.0 all spells.1.savable)
-      (split ∙ ap (λ (b : List ℕ). bodies_of good ++ b ∷ rest) spells.1.bytes
-      ∙ sym (append_assoc (bodies_of good) (spell_state spells.0 ∷ []) rest)
+      (split ∙ ap (λ (b : List ℕ). state_bodies good ++ b ∷ rest) spells.1.bytes
+      ∙ sym (append_assoc (state_bodies good) (spell_state spells.0 ∷ []) rest)
       ∙ ap (λ (b : List (List ℕ)). b ++ rest) (sym (bodies_more good spells.0)))
 ]
 
 side_answered : (image : List ℕ) (h : Heading) (bodies : List (List ℕ)) → StandsFor h bodies image
-    → (kind : SideKind) → h.kind ≡ kind → IsAnswered image
+    → (kind : SideKind) → h.kind ≡ kind → IsStoreAnswered image
 side_answered image h bodies s Cartridge is =
     inr (inl (inr (subst (λ (k : SideKind). BeginsAs k image) is (begins_so image h bodies s))))
 side_answered image h bodies s Store is = elim (walked h is bodies [] bodies (All-nil IsSavable) refl) [
@@ -74,11 +74,11 @@ side_answered image h bodies s Store is = elim (walked h is bodies [] bodies (Al
 ]
 
 damaged_answered : (image : List ℕ) (at : ℕ) (damage : IsDamagedAt image at) (kind : SideKind)
-    → BeginsAs kind image → IsAnswered image
+    → BeginsAs kind image → IsStoreAnswered image
 damaged_answered image at damage Cartridge begins = inr (inl (inr begins))
 damaged_answered image at damage Store begins = inr (inr (inl (at, (begins, damage))))
 
-pub answered : (image : List ℕ) → IsAnswered image
+pub answered : (image : List ℕ) → IsStoreAnswered image
 answered image = elim (decided image) [
   | inl side ↦ side_answered image side.0 side.1 side.2 side.0.kind refl
   | inr (inl never) ↦ inr (inl (inl never))

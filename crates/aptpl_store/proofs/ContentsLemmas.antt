@@ -10,11 +10,12 @@ use Rattle.gate_journal.specs.Side.{Heading, StandsFor}
 use Rattle.pr_core.specs.declared.states.PrState.{PrState}
 use Rattle.pr_core.specs.Staged.{last_saved}
 use Rattle.pr_core.specs.States.{empty_state, power_loss}
-use Rattle.aptpl_store.specs.Contents.{GivesStates, OpensAsEither, ShowsStates, bodies_of, latest}
+use Rattle.aptpl_store.specs.Contents.{GivesStates, OpensAsEither, ShowsStates, state_bodies, latest}
 use Rattle.aptpl_store.specs.Spelling.{IsSavable, spell_state}
 
 -- the last of states with one more is that one
-last_more : (first : PrState) (states : List PrState) (state : PrState) → last_saved first (states ++ state ∷ []) ≡ state
+last_more : (first : PrState) (states : List PrState) (state : PrState)
+    → last_saved first (states ++ state ∷ []) ≡ state
 last_more first [] state = refl
 last_more first (next ∷ later) state = last_more next later state
 
@@ -22,7 +23,7 @@ pub latest_more : (states : List PrState) (state : PrState) → latest (states +
 latest_more states state = last_more empty_state states state
 
 pub bodies_more : (states : List PrState) (state : PrState)
-    → bodies_of (states ++ state ∷ []) ≡ bodies_of states ++ spell_state state ∷ []
+    → state_bodies (states ++ state ∷ []) ≡ state_bodies states ++ spell_state state ∷ []
 bodies_more states state = map-append spell_state states (state ∷ [])
 
 -- nothing is under way
@@ -49,9 +50,9 @@ sure_at_rest heading states torn image none (inr gives) =
     (ap (λ (t : Option PrState). states ++ option_to_list t) none ∙ append-nil states) gives
 
 module _ (heading : Heading) (kind : heading.kind ≡ Store) (states : List PrState) (all : All IsSavable states)
-    (state : PrState) (savable : IsSavable state) (bodies : List (List ℕ)) (bodies_are : bodies ≡ bodies_of states)
+    (state : PrState) (savable : IsSavable state) (bodies : List (List ℕ)) (bodies_are : bodies ≡ state_bodies states)
     (body : List ℕ) (body_is : body ≡ spell_state state) where
-  pub with_body : bodies ++ body ∷ [] ≡ bodies_of (states ++ state ∷ [])
+  pub with_body : bodies ++ body ∷ [] ≡ state_bodies (states ++ state ∷ [])
   with_body = (λ i. bodies_are i ++ body_is i ∷ []) ∙ sym (bodies_more states state)
 
   -- an image with the body gives the states with one more

@@ -9,7 +9,7 @@ use Rattle.pr_core.specs.declared.states.PrState.{PrState}
 use Rattle.pr_core.specs.Sets.{is_some_in}
 use Rattle.pr_core.specs.Sound.{is_held_rightly}
 use Rattle.pr_core.specs.States.{has_key}
-use Rattle.aptpl_store.specs.Spelling.{IsKey, IsSavable, Spells, spell_state}
+use Rattle.aptpl_store.specs.Spelling.{IsKey, IsSavable, SpellsState, spell_state}
 use Rattle.aptpl_store.specs.Inner.Told.{state_told}
 use Rattle.aptpl_store.proofs.TellingLemmas.{told_again, told_sound, told_spelled}
 
@@ -67,18 +67,19 @@ is_savable state =
     by (inl all) (inr none) (inl held) (inr never) = inr (λ is. never is.keys)
 
 -- the state that bytes tell is the one that they spell, if they spell any
-told_savable : (state : PrState) (body : List ℕ) → Spells state body → IsSavable (state_told body)
+told_savable : (state : PrState) (body : List ℕ) → SpellsState state body → IsSavable (state_told body)
 told_savable state body spells = record {
   sound = told_sound state body spells;
   keys =
       subst (λ (s : PrState). All IsKey s.keys) (sym (told_again state body spells)) spells.savable.keys;
 }
 
-pub spelled_or_not : (body : List ℕ) → ((state : PrState) × Spells state body) ⊎ ((state : PrState) → Spells state body → ⊥)
+pub spelled_or_not : (body : List ℕ)
+    → ((state : PrState) × SpellsState state body) ⊎ ((state : PrState) → SpellsState state body → ⊥)
 spelled_or_not body = by (is_savable (state_told body)) (same_bytes body (spell_state (state_told body)))
   where
     by : Decided (IsSavable (state_told body)) → Decided (body ≡ spell_state (state_told body))
-        → ((state : PrState) × Spells state body) ⊎ ((state : PrState) → Spells state body → ⊥)
+        → ((state : PrState) × SpellsState state body) ⊎ ((state : PrState) → SpellsState state body → ⊥)
     by (inl savable) (inl bytes) = inl (state_told body, record { savable = savable; bytes = bytes })
     by (inr never) same = inr (λ state spells. never (told_savable state body spells))
     by (inl savable) (inr never) = inr (λ state spells. never (sym (told_spelled state body spells)))

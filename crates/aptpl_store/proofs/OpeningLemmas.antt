@@ -16,12 +16,12 @@ use Rattle.gate_journal.specs.Side.{Heading, IsNotOf, StandsFor, frame, spell, s
 use Rattle.pr_core.specs.declared.states.PrState.{PrState}
 use Rattle.aptpl_store.specs.declared.error.StoreError.{StoreError}
 use Rattle.aptpl_store.specs.declared.error.StoreError.TheVariants.{NotOurs, Damaged, BadRecord, Device, NoMemory}
-use Rattle.aptpl_store.specs.Answers.{IsNotOpened}
-use Rattle.aptpl_store.specs.Contents.{GivesStates, IsBadFrame, IsNoStore, bodies_of}
+use Rattle.aptpl_store.specs.Answers.{IsStoreNotOpened}
+use Rattle.aptpl_store.specs.Contents.{GivesStates, IsBadState, IsNoStore, state_bodies}
 use Rattle.aptpl_store.specs.Inner.Open.{IsOpen, StoresStates}
 use Rattle.aptpl_store.specs.Inner.Reading.{IsReadUpTo, NotRecovered}
-use Rattle.aptpl_store.specs.Notes.{Notes, with_state}
-use Rattle.aptpl_store.specs.Spelling.{IsSavable, Spells}
+use Rattle.aptpl_store.specs.NotedStates.{NotedStates, with_state}
+use Rattle.aptpl_store.specs.Spelling.{IsSavable, SpellsState}
 use Rattle.aptpl_store.proofs.ContentsLemmas.{bodies_more, latest_more}
 use Rattle.aptpl_store.proofs.SpellingLemmas.{spelling_short}
 
@@ -42,7 +42,7 @@ unwritten_then a b c one two = record {
 }
 
 -- a body that is too long spells nothing
-pub too_long : (body : List ℕ) → 580 < length body → (state : PrState) → Spells state body → ⊥
+pub too_long : (body : List ℕ) → 580 < length body → (state : PrState) → SpellsState state body → ⊥
 too_long body long state spells =
     omega (
       arith,
@@ -51,13 +51,14 @@ too_long body long state spells =
       spelling_short state spells.savable.sound.all,
     )
 
-module _ (frame : ℕ) (notes : Notes) (last : PrState) (so_far : IsReadUpTo frame notes last) (bodies : List (List ℕ))
-    (inside : frame < length bodies) (spelled : bodies_of notes.states ≡ take frame bodies) where
+module _ (frame : ℕ) (notes : NotedStates) (last : PrState) (so_far : IsReadUpTo frame notes last)
+    (bodies : List (List ℕ))
+    (inside : frame < length bodies) (spelled : state_bodies notes.states ≡ take frame bodies) where
   -- a body that spells no state is bad
   pub bad_frame : (heading : Heading) (at : ℕ) → heading.kind ≡ Store
       → at ≡ length (spell heading (take frame bodies)) + 5
-      → ((state : PrState) → Spells state (slice_index_or bodies frame []) → ⊥)
-      → IsBadFrame heading bodies notes.states (at - 5)
+      → ((state : PrState) → SpellsState state (slice_index_or bodies frame []) → ⊥)
+      → IsBadState heading bodies notes.states (at - 5)
   bad_frame heading at kind at_is never = record {
     kind = kind;
     inside = omega (arith, inside, so_far.counted);
@@ -66,25 +67,26 @@ module _ (frame : ℕ) (notes : Notes) (last : PrState) (so_far : IsReadUpTo fra
     gate =
         omega (arith, at_is, ap (λ (b : List (List ℕ)). length (spell heading b)) spelled);
     bad = λ state spells.
-        never state (subst (λ (n : ℕ). Spells state (slice_index_or bodies n [])) so_far.counted spells);
+        never state (subst (λ (n : ℕ). SpellsState state (slice_index_or bodies n [])) so_far.counted spells);
   }
 
   -- one that spells a state comes next
-  pub spelled_next : (state : PrState) (body : List ℕ) → Spells state body → (notes' : Notes)
+  pub spelled_next : (state : PrState) (body : List ℕ) → SpellsState state body → (notes' : NotedStates)
       → notes' ≡ with_state notes state → body ≡ slice_index_or bodies frame []
-      → bodies_of notes'.states ≡ take (frame + 1) bodies
+      → state_bodies notes'.states ≡ take (frame + 1) bodies
   spelled_next state body spells notes' notes_are is =
-      ap (λ (n : Notes). bodies_of n.states) notes_are
+      ap (λ (n : NotedStates). state_bodies n.states) notes_are
       ∙ bodies_more notes.states state
       ∙ (λ i. spelled i ++ (sym spells.bytes ∙ is) i ∷ [])
       ∙ sym (ap (λ (n : ℕ). take n bodies) (add-one frame) ∙ take-suc bodies frame [] inside)
 
 -- one that spells a state is noted
-pub read_next : (frame : ℕ) (notes : Notes) (last : PrState) → IsReadUpTo frame notes last
-    → (state : PrState) (body : List ℕ) → Spells state body → (notes' : Notes) → notes' ≡ with_state notes state
+pub read_next : (frame : ℕ) (notes : NotedStates) (last : PrState) → IsReadUpTo frame notes last
+    → (state : PrState) (body : List ℕ) → SpellsState state body → (notes' : NotedStates)
+    → notes' ≡ with_state notes state
     → IsReadUpTo (frame + 1) notes' state
 read_next frame notes last so_far state body spells notes' notes_are =
-    subst (λ (n : Notes). IsReadUpTo (frame + 1) n state) (sym notes_are) (record {
+    subst (λ (n : NotedStates). IsReadUpTo (frame + 1) n state) (sym notes_are) (record {
       states = All-push IsSavable notes.states state so_far.states spells.savable;
       none_torn = so_far.none_torn;
       counted = omega (arith, so_far.counted, length-append notes.states (state ∷ []));
@@ -109,7 +111,7 @@ pub not_opened : (old mid new : DiskState) (error : StoreError) (heading : Headi
     → NoneFailed old mid
     → (old.honest → StandsFor heading bodies old.seen × Only old.seen mid.may_leave)
     → (old.honest → Unwritten mid new)
-    → NotRecovered error heading bodies mid new → IsNotOpened error old new
+    → NotRecovered error heading bodies mid new → IsStoreNotOpened error old new
 not_opened old mid new NotOurs heading bodies honest none found unwritten why = absurd why
 not_opened old mid new (BadRecord at) heading bodies honest none found unwritten why = (
   why.0 ∙ none,
@@ -145,8 +147,8 @@ old_images old mid new is run unwritten =
 -- what was read is what the store gives
 module _ (old mid new : DiskState) (heading : Heading) (bodies : List (List ℕ)) (kind : heading.kind ≡ Store)
     (stands : StandsFor heading bodies old.seen) (only : Only old.seen mid.may_leave) (unwritten : Unwritten mid new)
-    (frame : ℕ) (notes : Notes) (last : PrState) (read : IsReadUpTo frame notes last)
-    (spelled : bodies ≡ bodies_of notes.states) where
+    (frame : ℕ) (notes : NotedStates) (last : PrState) (read : IsReadUpTo frame notes last)
+    (spelled : bodies ≡ state_bodies notes.states) where
   pub only_still : Only old.seen new.may_leave
   only_still image may = only image (unwritten.images image may)
 
@@ -163,7 +165,8 @@ module _ (old mid new : DiskState) (heading : Heading) (bodies : List (List ℕ)
   }
 
 -- all frames were read
-pub read_all : (heading : Heading) (extents extents' : List (ℕ × ℕ)) (capacity : ℕ) (notes : Notes) (last : PrState)
+pub read_all : (heading : Heading) (extents extents' : List (ℕ × ℕ)) (capacity : ℕ) (notes : NotedStates)
+    (last : PrState)
     (heading' : Heading) (failed : Bool)
     → heading.kind ≡ Store → heading' ≡ heading → extents' ≡ extents → failed ≡ false
     → IsReadUpTo (length extents) notes last

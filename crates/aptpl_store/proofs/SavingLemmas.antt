@@ -19,14 +19,14 @@ use Rattle.aptpl_store.specs.Answers.{SavesState}
 use Rattle.aptpl_store.specs.Contents.{GivesStates, OpensAs, OpensAsEither, ShowsStates, latest}
 use Rattle.aptpl_store.specs.Inner.Open.{IsOpen, StoresStates}
 use Rattle.aptpl_store.specs.Kept.{core_of, core_with, store_below, store_kept, store_rules}
-use Rattle.aptpl_store.specs.Notes.{Notes, with_state, with_torn}
+use Rattle.aptpl_store.specs.NotedStates.{NotedStates, with_state, with_torn_state}
 use Rattle.aptpl_store.specs.Spelling.{IsSavable, spell_state}
 use Rattle.aptpl_store.specs.State.{OpenStore}
 use Rattle.aptpl_store.proofs.ContentsLemmas.{gives_more, with_body, latest_more, none_torn, opens_either, shows_more}
 use Rattle.aptpl_store.proofs.SpellingLemmas.{spelling_frame, spelling_short}
 
 -- an open store over this side
-abbrev pub store_on : {D : Type 0} → OpenSide D → Notes → OpenStore D
+abbrev pub store_on : {D : Type 0} → OpenSide D → NotedStates → OpenStore D
 store_on side notes =
     record {
       disk = side.disk;
@@ -114,7 +114,7 @@ module _ (disk disk' : DiskState) (is_disk : disk.honest → IsDisk disk) (keeps
 
 module _ {D : Type 0} (state : D → DiskState) (is_disk : (d : D) → (state d).honest → IsDisk (state d)) where
   -- a store that is the same
-  pub rests : (old new : OpenSide D) (notes : Notes) → new ≡ old
+  pub rests : (old new : OpenSide D) (notes : NotedStates) → new ≡ old
       → Advances (store_below state) (store_on old notes) [] false (store_on new notes)
   rests old new notes same =
       subst (λ (side : OpenSide D). Advances (store_below state) (store_on old notes) [] false (store_on side notes))
@@ -123,7 +123,7 @@ module _ {D : Type 0} (state : D → DiskState) (is_disk : (d : D) → (state d)
       (λ (value : OpenStore D). core_moves_nowhere store_rules (state value.disk) (core_of value) (is_disk value.disk))
       (store_on old notes))
 
-  module _ (old new : OpenSide D) (capacity capacity' : ℕ) (notes : Notes)
+  module _ (old new : OpenSide D) (capacity capacity' : ℕ) (notes : NotedStates)
       (is : IsOpen old.heading old.extents old.failed capacity notes)
       (stores : (state old.disk).honest → StoresStates (state old.disk) old.heading old.bodies notes)
       (room : STATE_BYTES ≤ capacity') (saved : PrState) (savable : IsSavable saved) (body : List ℕ)
@@ -156,7 +156,7 @@ module _ {D : Type 0} (state : D → DiskState) (is_disk : (d : D) → (state d)
       -- the disk failed
       module _ (broke : Broke old new (length body))
           (bodies_are : (state old.disk).honest → new.bodies ≡ old.bodies)
-          (notes' : Notes) (notes_are : notes' ≡ with_torn notes saved) where
+          (notes' : NotedStates) (notes_are : notes' ≡ with_torn_state notes saved) where
         pub broken_open : IsOpen new.heading new.extents new.failed capacity' notes'
         broken_open = subst (IsOpen new.heading new.extents new.failed capacity') (sym notes_are) (record {
           kind = ap (λ (h : Heading). h.kind) heading_is ∙ is.kind;
@@ -170,7 +170,7 @@ module _ {D : Type 0} (state : D → DiskState) (is_disk : (d : D) → (state d)
             → StoresStates (state new.disk) new.heading new.bodies notes'
         broken_stores h' =
             let h = keeps.was_honest h' in
-            subst (λ (x : Heading × Notes). StoresStates (state new.disk) x.0 new.bodies x.1)
+            subst (λ (x : Heading × NotedStates). StoresStates (state new.disk) x.0 new.bodies x.1)
             (λ i. (sym heading_is i, sym notes_are i)) (record {
               bodies_are = bodies_are h ∙ (stores h).bodies_are;
               shows =
@@ -182,7 +182,7 @@ module _ {D : Type 0} (state : D → DiskState) (is_disk : (d : D) → (state d)
             → Advances (store_below state) (store_on old notes) (saved ∷ []) true (store_on new notes')
         broken_advances cause = record {
           moved =
-              subst (λ (x : (Heading × Notes) × Option PrState).
+              subst (λ (x : (Heading × NotedStates) × Option PrState).
               CoreMoves store_rules (state old.disk) (state new.disk) (core_with old.heading notes.states x.1)
               (core_with x.0.0 x.0.1.states x.0.1.torn) (saved ∷ []))
               (λ i. ((sym heading_is i, sym notes_are i), sym at_rest i))
@@ -194,8 +194,8 @@ module _ {D : Type 0} (state : D → DiskState) (is_disk : (d : D) → (state d)
 
         pub broken_kept : Broken (store_kept (store_on old notes)) saved (store_kept (store_on new notes'))
         broken_kept = record {
-          saved = ap (λ (n : Notes). Some (latest n.states)) notes_are;
-          torn = ap (λ (n : Notes). n.torn) notes_are;
+          saved = ap (λ (n : NotedStates). Some (latest n.states)) notes_are;
+          torn = ap (λ (n : NotedStates). n.torn) notes_are;
           failed = broke.failed;
           fitted = λ full. omega (arith, full, frame_is, broke.fitted);
           room = ap (λ (n : ℕ). Some (room_behind n)) broke.end;
@@ -205,7 +205,7 @@ module _ {D : Type 0} (state : D → DiskState) (is_disk : (d : D) → (state d)
       module _ (appended : Appended old new (length body))
           (bodies_are : (state old.disk).honest → new.bodies ≡ old.bodies ++ body ∷ [])
           (sure : (state old.disk).honest → Each (state new.disk) (StandsFor new.heading new.bodies))
-          (notes' : Notes) (notes_are : notes' ≡ with_state notes saved) where
+          (notes' : NotedStates) (notes_are : notes' ≡ with_state notes saved) where
         pub saved_open : IsOpen new.heading new.extents new.failed capacity' notes'
         saved_open = subst (IsOpen new.heading new.extents new.failed capacity') (sym notes_are) (record {
           kind = ap (λ (h : Heading). h.kind) heading_is ∙ is.kind;
@@ -233,7 +233,7 @@ module _ {D : Type 0} (state : D → DiskState) (is_disk : (d : D) → (state d)
         pub saved_stores : (state new.disk).honest → StoresStates (state new.disk) new.heading new.bodies notes'
         saved_stores h' =
             let h = keeps.was_honest h' in
-            subst (λ (x : Heading × Notes). StoresStates (state new.disk) x.0 new.bodies x.1)
+            subst (λ (x : Heading × NotedStates). StoresStates (state new.disk) x.0 new.bodies x.1)
             (λ i. (sym heading_is i, sym notes_are i)) (record {
               bodies_are =
                   bodies_are h
@@ -246,7 +246,7 @@ module _ {D : Type 0} (state : D → DiskState) (is_disk : (d : D) → (state d)
             → Advances (store_below state) (store_on old notes) (saved ∷ []) false (store_on new notes')
         saved_advances none = record {
           moved =
-              subst (λ (x : (Heading × Notes) × Option PrState).
+              subst (λ (x : (Heading × NotedStates) × Option PrState).
               CoreMoves store_rules (state old.disk) (state new.disk) (core_with old.heading notes.states x.1)
               (core_with x.0.0 x.0.1.states x.0.1.torn) (saved ∷ []))
               (λ i. (
@@ -268,8 +268,8 @@ module _ {D : Type 0} (state : D → DiskState) (is_disk : (d : D) → (state d)
         pub saved_kept : Stored (store_kept (store_on old notes)) saved (store_kept (store_on new notes'))
         saved_kept = record {
           saved =
-              ap Some (ap (λ (n : Notes). latest n.states) notes_are ∙ latest_more notes.states saved);
-          whole = ap (λ (n : Notes). n.torn) notes_are ∙ at_rest;
+              ap Some (ap (λ (n : NotedStates). latest n.states) notes_are ∙ latest_more notes.states saved);
+          whole = ap (λ (n : NotedStates). n.torn) notes_are ∙ at_rest;
           works = appended.is_fine;
           room = omega (arith, appended.end, appended.fitted, frame_is);
         }

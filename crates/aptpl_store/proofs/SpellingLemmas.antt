@@ -110,7 +110,8 @@ counted_of state (nexus ∷ later) =
         let here : length ((nexus ∷ to_be_bytes w64 key) ++ registrations_of state later)
         ≡ 9 + length (registrations_of state later) =
         length-append (nexus ∷ to_be_bytes w64 key) (registrations_of state later) in
-        let one : count_by is_some (Some key ∷ map (key_of state) later) ≡ 1 + count_by is_some (map (key_of state) later) =
+        let one : count_by is_some (Some key ∷ map (key_of state) later)
+        ≡ 1 + count_by is_some (map (key_of state) later) =
         sum_by-cons (λ (k : Option ℕ). if is_some k then 1 else 0) (Some key) (map (key_of state) later) in
         omega (arith, here, rest, one)
 

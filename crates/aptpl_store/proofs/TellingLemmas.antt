@@ -22,7 +22,7 @@ use Rattle.pr_core.specs.Saves.{AreSavedAlike}
 use Rattle.pr_core.specs.Sets.{is_named_in, is_some_in}
 use Rattle.pr_core.specs.Sound.{IsSound, is_held_rightly}
 use Rattle.pr_core.specs.States.{is_for_all, is_registered, key_of}
-use Rattle.aptpl_store.specs.Spelling.{IsKey, IsSavable, Spells, aptpl_byte, holder_byte, registration, registrations, spell_state, type_byte}
+use Rattle.aptpl_store.specs.Spelling.{IsKey, IsSavable, SpellsState, aptpl_byte, holder_byte, registration, registrations, spell_state, type_byte}
 use Rattle.aptpl_store.specs.Inner.Told.{begins_with, behind, held_told, key_told, keys_told, nexus_told, nexuses_from, registrations_of, state_told}
 use Rattle.aptpl_store.proofs.SpellingLemmas.{keys_are, keys_fit, nexuses_more, registrations_alike, registrations_all, registrations_more, registrations_none}
 
@@ -94,7 +94,8 @@ told_none nexus later bytes not =
 not_begun : (nexus : ℕ) (bytes : List ℕ) → (bytes ≡ []) ⊎ (nexus < slice_index bytes 0)
     → begins_with nexus bytes ≡ false
 not_begun nexus bytes (inl none) = ap (begins_with nexus) none
-not_begun nexus bytes (inr above) = by (leb 9 (length bytes)) (ne_eqb (slice_index bytes 0) nexus (λ e. omega (arith, e, above)))
+not_begun nexus bytes (inr above) =
+    by (leb 9 (length bytes)) (ne_eqb (slice_index bytes 0) nexus (λ e. omega (arith, e, above)))
   where
     by : (long : Bool) → eqb (slice_index bytes 0) nexus ≡ false → (long && eqb (slice_index bytes 0) nexus) ≡ false
     by true other = other
@@ -192,7 +193,7 @@ aptpl_told true = refl
 aptpl_told false = refl
 
 -- what the spelling of a state tells is the state, but for the generation
-pub told_again : (state : PrState) (body : List ℕ) → Spells state body
+pub told_again : (state : PrState) (body : List ℕ) → SpellsState state body
     → state_told body ≡ record state { generation = 0 }
 told_again state body spells =
     let is = spells.savable in
@@ -205,7 +206,8 @@ told_again state body spells =
     })
 
 -- bytes spell one state at most, but for the generation
-pub one_state : (body : List ℕ) (one other : PrState) → Spells one body → Spells other body → AreSavedAlike one other
+pub one_state : (body : List ℕ) (one other : PrState) → SpellsState one body → SpellsState other body
+    → AreSavedAlike one other
 one_state body one other first second =
     let same : record one { generation = 0 } ≡ record other { generation = 0 } =
     sym (told_again one body first) ∙ told_again other body second in
@@ -223,7 +225,7 @@ held_alike state generation None right = right
 held_alike state generation (Some held) right = right
 
 -- what is spelled keeps the rules
-pub told_sound : (state : PrState) (body : List ℕ) → Spells state body → IsSound (state_told body)
+pub told_sound : (state : PrState) (body : List ℕ) → SpellsState state body → IsSound (state_told body)
 told_sound state body spells =
     let is = spells.savable.sound in
     subst IsSound (sym (told_again state body spells)) (record {
@@ -233,7 +235,7 @@ told_sound state body spells =
     })
 
 -- and is spelled so again
-pub told_spelled : (state : PrState) (body : List ℕ) → Spells state body → spell_state (state_told body) ≡ body
+pub told_spelled : (state : PrState) (body : List ℕ) → SpellsState state body → spell_state (state_told body) ≡ body
 told_spelled state body spells =
     ap spell_state (told_again state body spells)
     ∙ ap (λ (l : List ℕ). aptpl_byte state.aptpl ∷ type_byte state.reservation ∷ holder_byte state.reservation
@@ -274,7 +276,8 @@ pub keys_below : (keys all : List (Option ℕ)) (nexus : ℕ) (key : Option ℕ)
     → (k : ℕ) → k < nexus + 1 - 1 → get_or (set keys (nexus - 1) key) k None ≡ get_or all k None
 keys_below keys all nexus key some few long is below k less =
     elim (cases_lt k (nexus - 1)) [
-      | inl earlier ↦ get_or-set_other keys (nexus - 1) k key None (λ same. omega (arith, same, earlier)) ∙ below k earlier
+      | inl earlier ↦
+          get_or-set_other keys (nexus - 1) k key None (λ same. omega (arith, same, earlier)) ∙ below k earlier
       | inr here ↦
           let at : k ≡ nexus - 1 = omega arith in
           ap (λ (n : ℕ). get_or (set keys (nexus - 1) key) n None) at

@@ -14,19 +14,19 @@ use Rattle.pr_core.specs.declared.states.PrState.{PrState}
 use Rattle.pr_core.specs.Saves.{AreSavedAlike}
 use Rattle.pr_core.specs.Staged.{last_saved}
 use Rattle.pr_core.specs.States.{empty_state, power_loss}
-use Rattle.aptpl_store.specs.Contents.{AreAllSavedAlike, GivesStates, IsBadFrame, IsBadFrameAt, IsNoStore, OpensAs, bodies_of}
+use Rattle.aptpl_store.specs.Contents.{AreAllSavedAlike, GivesStates, IsBadState, IsBadStateAt, IsNoStore, OpensAs, state_bodies}
 use Rattle.aptpl_store.specs.Spelling.{IsSavable, spell_state}
 use Rattle.aptpl_store.proofs.TellingLemmas.{one_state}
 
 -- states that are spelled alike are saved alike
 same_states : (states others : List PrState) → All IsSavable states → All IsSavable others
-    → bodies_of states ≡ bodies_of others → AreAllSavedAlike states others
+    → state_bodies states ≡ state_bodies others → AreAllSavedAlike states others
 same_states [] [] a b e = tt
 same_states (s ∷ ss) [] a b e = absurd (cc)
 same_states [] (o ∷ os) a b e = absurd (cc)
 same_states (s ∷ ss) (o ∷ os) a b e =
     let first : spell_state s ≡ spell_state o = cc in
-    let rest : bodies_of ss ≡ bodies_of os = cc in (
+    let rest : state_bodies ss ≡ state_bodies os = cc in (
       one_state (spell_state s) s o (record { savable = All-head IsSavable s ss a; bytes = refl }) (record {
         savable = All-head IsSavable o os b;
         bytes = first;
@@ -37,7 +37,7 @@ same_states (s ∷ ss) (o ∷ os) a b e =
 pub gives_one : (image : List ℕ) (h k : Heading) (states others : List PrState) → GivesStates h states image
     → GivesStates k others image → (h ≡ k) × AreAllSavedAlike states others
 gives_one image h k states others one two =
-    let side = one_side image h k (bodies_of states) (bodies_of others) one.2 two.2 in
+    let side = one_side image h k (state_bodies states) (state_bodies others) one.2 two.2 in
     (side.0, same_states states others one.1 two.1 side.1)
 
 -- what is saved alike is lost alike
@@ -106,16 +106,16 @@ pub gives_ours : (image : List ℕ) (h : Heading) (states : List PrState) → Gi
     → IsNoStore image → ⊥
 gives_ours image h states gives none =
     no_store_begins image none
-    (subst (λ (k : SideKind). BeginsAs k image) gives.0 (begins_so image h (bodies_of states) gives.2))
+    (subst (λ (k : SideKind). BeginsAs k image) gives.0 (begins_so image h (state_bodies states) gives.2))
 
 -- and whole
 pub gives_whole : (image : List ℕ) (h : Heading) (states : List PrState) (at : ℕ) → GivesStates h states image
     → IsDamagedOf Store image at → ⊥
-gives_whole image h states at gives damage = sound image h (bodies_of states) at gives.2 damage.1
+gives_whole image h states at gives damage = sound image h (state_bodies states) at gives.2 damage.1
 
 -- states that a side begins with reach no further than its first bad frame
-no_further : (h : Heading) (bodies : List (List ℕ)) (good : List PrState) (at : ℕ) → IsBadFrame h bodies good at
-    → (states : List PrState) → All IsSavable states → bodies_of states ≡ take (length states) bodies
+no_further : (h : Heading) (bodies : List (List ℕ)) (good : List PrState) (at : ℕ) → IsBadState h bodies good at
+    → (states : List PrState) → All IsSavable states → state_bodies states ≡ take (length states) bodies
     → length good < length states → ⊥
 no_further h bodies good at bad states all spelled further =
     let there : get_or bodies (length good) [] ≡ spell_state (get_or states (length good) empty_state) =
@@ -129,9 +129,9 @@ no_further h bodies good at bad states all spelled further =
 
 -- what gives states has no bad frame
 pub gives_good : (image : List ℕ) (k : Heading) (states : List PrState) (at : ℕ) → GivesStates k states image
-    → IsBadFrameAt image at → ⊥
+    → IsBadStateAt image at → ⊥
 gives_good image k states at gives (h, bodies, good, s, bad) =
-    let side = one_side image k h (bodies_of states) bodies gives.2 s in
+    let side = one_side image k h (state_bodies states) bodies gives.2 s in
     let long : length bodies ≡ length states =
     ap (λ (b : List (List ℕ)). length b) (sym side.1) ∙ length-map states spell_state in
     no_further h bodies good at bad states gives.1
@@ -139,7 +139,7 @@ gives_good image k states at gives (h, bodies, good, s, bad) =
 
 -- the first bad frame of a side is one
 one_bad : (h : Heading) (bodies : List (List ℕ)) (good others : List PrState) (a b : ℕ)
-    → IsBadFrame h bodies good a → IsBadFrame h bodies others b → a ≡ b
+    → IsBadState h bodies good a → IsBadState h bodies others b → a ≡ b
 one_bad h bodies good others a b one two = by (cases_lt (length good) (length others))
   where
     by : (length good < length others) ⊎ (length others ≤ length good) → a ≡ b
@@ -155,20 +155,20 @@ one_bad h bodies good others a b one two = by (cases_lt (length good) (length ot
             (one.spelled ∙ ap (λ (k : ℕ). take k bodies) same ∙ sym two.spelled)
             ∙ sym two.gate
 
-pub bad_once : (image : List ℕ) (a b : ℕ) → IsBadFrameAt image a → IsBadFrameAt image b → a ≡ b
+pub bad_once : (image : List ℕ) (a b : ℕ) → IsBadStateAt image a → IsBadStateAt image b → a ≡ b
 bad_once image a b (h, bodies, good, s, one) (k, others, found, t, two) =
     let side = one_side image k h others bodies t s in
     one_bad h bodies good found a b one
-    (subst (λ (x : Heading × List (List ℕ)). IsBadFrame x.0 x.1 found b) (λ i. (side.0 i, side.1 i)) two)
+    (subst (λ (x : Heading × List (List ℕ)). IsBadState x.0 x.1 found b) (λ i. (side.0 i, side.1 i)) two)
 
 -- a side with a bad frame is a store's
-pub bad_ours : (image : List ℕ) (at : ℕ) → IsNoStore image → IsBadFrameAt image at → ⊥
+pub bad_ours : (image : List ℕ) (at : ℕ) → IsNoStore image → IsBadStateAt image at → ⊥
 bad_ours image at none (h, bodies, good, s, bad) =
     no_store_begins image none
     (subst (λ (k : SideKind). BeginsAs k image) bad.kind (begins_so image h bodies s))
 
 -- and whole
-pub bad_whole : (image : List ℕ) (a b : ℕ) → IsDamagedOf Store image a → IsBadFrameAt image b → ⊥
+pub bad_whole : (image : List ℕ) (a b : ℕ) → IsDamagedOf Store image a → IsBadStateAt image b → ⊥
 bad_whole image a b damage (h, bodies, good, s, bad) = sound image h bodies a s damage.1
 
 -- a damaged store is a store, and damaged at one place

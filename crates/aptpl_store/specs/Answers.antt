@@ -12,7 +12,7 @@ use Rattle.pr_core.specs.Keepers.{state_frame_size}
 use Rattle.aptpl_store.specs.declared.error.StoreError.{StoreError}
 use Rattle.aptpl_store.specs.declared.error.StoreError.TheVariants.{NotOurs, Damaged, BadRecord, Device, NoMemory}
 use Rattle.aptpl_store.specs.declared.error.StoreRefused.{StoreRefused}
-use Rattle.aptpl_store.specs.Contents.{IsBadFrameAt, IsNoStore}
+use Rattle.aptpl_store.specs.Contents.{IsBadStateAt, IsNoStore}
 use Rattle.aptpl_store.specs.State.{OpenStore}
 
 module _ {D : Type 0} where
@@ -35,31 +35,31 @@ module _ {D : Type 0} where
   SavesState old state (Err save.Failed) new = new ≡ old
 
   -- the disk that a creation gives back, in the store or beside its refusal (own)
-  abbrev pub disk_created : Result (OpenStore D) (StoreRefused D) → D
-  disk_created (Ok store) = store.disk
-  disk_created (Err refused) = refused.disk
+  abbrev pub disk_of_new : Result (OpenStore D) (StoreRefused D) → D
+  disk_of_new (Ok store) = store.disk
+  disk_of_new (Err refused) = refused.disk
 
   -- the disk that an opening gives back, in the store or beside its refusal (own)
-  abbrev pub disk_opened : {R : Type 0} → Result (OpenStore D × R) (StoreRefused D) → D
-  disk_opened (Ok opened) = opened.0.disk
-  disk_opened (Err refused) = refused.disk
+  abbrev pub disk_of_opened : {R : Type 0} → Result (OpenStore D × R) (StoreRefused D) → D
+  disk_of_opened (Ok opened) = opened.0.disk
+  disk_of_opened (Err refused) = refused.disk
 
 -- why a store is not made: memory ran out, or a fault (own)
-abbrev pub IsNotCreated : StoreError → Type 0 → (DevFault → Type 0) → Type 0
-IsNotCreated NoMemory memory device = memory
-IsNotCreated (Device fault) memory device = device fault
-IsNotCreated NotOurs memory device = ⊥
-IsNotCreated (Damaged at) memory device = ⊥
-IsNotCreated (BadRecord at) memory device = ⊥
+abbrev pub IsStoreNotMade : StoreError → Type 0 → (DevFault → Type 0) → Type 0
+IsStoreNotMade NoMemory memory device = memory
+IsStoreNotMade (Device fault) memory device = device fault
+IsStoreNotMade NotOurs memory device = ⊥
+IsStoreNotMade (Damaged at) memory device = ⊥
+IsStoreNotMade (BadRecord at) memory device = ⊥
 
 -- Why a store is not opened: what the old bytes are; a fault; or want of memory, where there are the 27 bytes of a
 -- heading. But for a fault no call failed, and what stands is sure (own).
-abbrev pub IsNotOpened : StoreError → DiskState → DiskState → Type 0
-IsNotOpened NotOurs old new = NoneFailed old new × (old.honest → IsNoStore old.seen × Only old.seen new.may_leave)
-IsNotOpened (Damaged at) old new =
+abbrev pub IsStoreNotOpened : StoreError → DiskState → DiskState → Type 0
+IsStoreNotOpened NotOurs old new = NoneFailed old new × (old.honest → IsNoStore old.seen × Only old.seen new.may_leave)
+IsStoreNotOpened (Damaged at) old new =
     NoneFailed old new × (old.honest → IsDamagedOf Store old.seen at × Only old.seen new.may_leave)
-IsNotOpened (BadRecord at) old new =
-    NoneFailed old new × (old.honest → IsBadFrameAt old.seen at × Only old.seen new.may_leave)
-IsNotOpened (Device fault) old new = IsFault fault old new
-IsNotOpened NoMemory old new =
+IsStoreNotOpened (BadRecord at) old new =
+    NoneFailed old new × (old.honest → IsBadStateAt old.seen at × Only old.seen new.may_leave)
+IsStoreNotOpened (Device fault) old new = IsFault fault old new
+IsStoreNotOpened NoMemory old new =
     NoneFailed old new × (old.honest → (27 ≤ length old.seen) × Only old.seen new.may_leave)

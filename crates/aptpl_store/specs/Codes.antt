@@ -6,7 +6,7 @@ use Rattle.scsi_lists.specs.declared.actions.PrType.TheVariants.{WriteExclusive,
 use Rattle.scsi_lists.specs.Actions.{type_number, type_of}
 use Rattle.pr_core.specs.declared.states.Reservation.{Reservation}
 use Rattle.pr_core.specs.declared.states.PrState.{PrState}
-use Rattle.aptpl_store.specs.Notes.{Notes}
+use Rattle.aptpl_store.specs.NotedStates.{NotedStates}
 
 -- the type of a number that is one's (own)
 abbrev type_again : ℕ → PrType
@@ -37,7 +37,7 @@ state_code =
     (λ p. record { keys = p.0; reservation = p.1.0; aptpl = p.1.1.0; generation = p.1.1.1 }) (λ _. refl)
 
 -- what is noted of a side as plain data (own)
-abbrev pub notes_code : Coded Notes
-notes_code =
+abbrev pub noted_states_code : Coded NotedStates
+noted_states_code =
     code_by (List PrState × Option PrState) (coded× (coded_list state_code) (coded_option state_code))
     (λ n. (n.states, n.torn)) (λ p. record { states = p.0; torn = p.1 }) (λ _. refl)

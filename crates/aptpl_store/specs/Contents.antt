@@ -7,20 +7,20 @@ use Rattle.pr_core.specs.declared.states.PrState.{PrState}
 use Rattle.pr_core.specs.Saves.{AreSavedAlike}
 use Rattle.pr_core.specs.Staged.{last_saved}
 use Rattle.pr_core.specs.States.{empty_state, power_loss}
-use Rattle.aptpl_store.specs.Spelling.{IsSavable, Spells, spell_state}
+use Rattle.aptpl_store.specs.Spelling.{IsSavable, SpellsState, spell_state}
 
 -- the heading of a drive's store (own)
 abbrev pub heading_for : ℕ → Heading
 heading_for drive = record { kind = Store; name = drive_name drive; capacities = [] }
 
 -- the bodies of frames that spell these states, in order (own)
-abbrev pub bodies_of : List PrState → List (List ℕ)
-bodies_of states = map spell_state states
+abbrev pub state_bodies : List PrState → List (List ℕ)
+state_bodies states = map spell_state states
 
 -- what is found on the image is a store's side with this heading, and a frame for each of just these states (own)
 abbrev pub GivesStates : Heading → List PrState → List ℕ → Type 0
 GivesStates heading states image =
-    (heading.kind ≡ Store) × All IsSavable states × StandsFor heading (bodies_of states) image
+    (heading.kind ≡ Store) × All IsSavable states × StandsFor heading (state_bodies states) image
 
 -- the image gives the states, or these with the one whose save was under way (own)
 abbrev pub ShowsStates : Heading → List PrState → Option PrState → List ℕ → Type 0
@@ -55,23 +55,23 @@ IsNoStore image = IsNotOurs image ⊎ BeginsAs Cartridge image
 
 -- These bodies begin with some that spell states, and the body behind those spells none; the gate of its frame has that
 -- place (own).
-pub record IsBadFrame (heading : Heading) (bodies : List (List ℕ)) (good : List PrState) (at : ℕ) : Type 0 where
+pub record IsBadState (heading : Heading) (bodies : List (List ℕ)) (good : List PrState) (at : ℕ) : Type 0 where
   pub kind : heading.kind ≡ Store
   pub inside : length good < length bodies
   pub before : All IsSavable good
-  pub spelled : bodies_of good ≡ take (length good) bodies
-  pub gate : at ≡ length (spell heading (bodies_of good))
-  pub bad : (state : PrState) → Spells state (slice_index_or bodies (length good) []) → ⊥
+  pub spelled : state_bodies good ≡ take (length good) bodies
+  pub gate : at ≡ length (spell heading (state_bodies good))
+  pub bad : (state : PrState) → SpellsState state (slice_index_or bodies (length good) []) → ⊥
 
 -- the image stands for a side whose first bad frame has its gate at that place (own)
-abbrev pub IsBadFrameAt : List ℕ → ℕ → Type 0
-IsBadFrameAt image at =
+abbrev pub IsBadStateAt : List ℕ → ℕ → Type 0
+IsBadStateAt image at =
     (heading : Heading) × (bodies : List (List ℕ)) × (good : List PrState)
-    × StandsFor heading bodies image × IsBadFrame heading bodies good at
+    × StandsFor heading bodies image × IsBadState heading bodies good at
 
 -- the image gives states, is no store's, is a damaged store's, or has a first bad frame (own)
-abbrev pub IsAnswered : List ℕ → Type 0
-IsAnswered image =
+abbrev pub IsStoreAnswered : List ℕ → Type 0
+IsStoreAnswered image =
     ((heading : Heading) × (states : List PrState) × GivesStates heading states image)
     ⊎ (IsNoStore image
-    ⊎ (((at : ℕ) × IsDamagedOf Store image at) ⊎ ((at : ℕ) × IsBadFrameAt image at)))
+    ⊎ (((at : ℕ) × IsDamagedOf Store image at) ⊎ ((at : ℕ) × IsBadStateAt image at)))

@@ -3,6 +3,6 @@ pub mod Codes
 pub mod Contents
 pub mod Inner
 pub mod Kept
-pub mod Notes
+pub mod NotedStates
 pub mod Spelling
 pub mod State

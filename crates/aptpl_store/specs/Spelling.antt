@@ -51,6 +51,6 @@ pub record IsSavable (state : PrState) : Type 0 where
   pub keys : All IsKey state.keys
 
 -- the bytes are the spelling of the state (own)
-pub record Spells (state : PrState) (body : List ℕ) : Type 0 where
+pub record SpellsState (state : PrState) (body : List ℕ) : Type 0 where
   pub savable : IsSavable state
   pub bytes : body ≡ spell_state state

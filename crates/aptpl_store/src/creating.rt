@@ -3,7 +3,7 @@ ghost use Rattle.std.specs.Prelude.{◌≡◌, ◌⊎◌, ◌≤◌, ◌<◌, �
 ghost use Rattle.tape_disk.specs.Disk.{Each, Keeps};
 ghost use Rattle.gate_journal.specs.Answers.{IsFault, NoneFailed};
 ghost use Rattle.gate_journal.specs.Side.{CLOSED, drive_name, spell};
-ghost use Rattle.aptpl_store.specs.Answers.{IsNotCreated, disk_created};
+ghost use Rattle.aptpl_store.specs.Answers.{IsStoreNotMade, disk_of_new};
 ghost use Rattle.aptpl_store.specs.Contents.{GivesStates, heading_for};
 
 use crate::error::{StoreError, StoreRefused};
@@ -23,7 +23,7 @@ impl<D: Disk> AptplStore<D> {
     /// Makes the store of a drive, whatever the disk held: nothing is registered or reserved. After a device
     /// fault anything may stand on the disk. After `NoMemory` it was not touched, or it is the new store.
     pub fn create(alloc: Global, disk: D, drive: DriveNo) -> Result<AptplStore<D>, StoreRefused<D>>
-        ensures disk { Keeps (D.state disk) (D.state (disk_created result)) }
+        ensures disk { Keeps (D.state disk) (D.state (disk_of_new result)) }
         ensures ok { IfOk result (λ store. (store.heading ≡ heading_for drive) × (store.states ≡ [])
             × (store.torn ≡ None) × (store.failed ≡ false) × (RESERVED_SAVES ≤ store.reserved)
             × NoneFailed (D.state disk) (D.state store.disk)) }
@@ -31,7 +31,7 @@ impl<D: Disk> AptplStore<D> {
             (D.state store.disk).seen ≡ spell store.heading [] ++ CLOSED ∷ []) }
         ensures sure { IfOk result (λ store. (D.state disk).honest →
             Each (D.state store.disk) (GivesStates store.heading [])) }
-        ensures refused { IfErr result (λ refused. IsNotCreated refused.error
+        ensures refused { IfErr result (λ refused. IsStoreNotMade refused.error
             ((refused.disk ≡ disk) ⊎ (NoneFailed (D.state disk) (D.state refused.disk)
             × ((D.state disk).honest →
             Each (D.state refused.disk) (GivesStates (heading_for drive) []))))

@@ -6,19 +6,19 @@ ghost use Rattle.pr_core.specs.declared.states.PrState.{PrState};
 ghost use Rattle.pr_core.specs.Keepers.{state_frame_size};
 ghost use Rattle.pr_core.specs.Saves.{AreSavedAlike};
 ghost use Rattle.aptpl_store.specs.declared.creating.TheConstants.{RESERVED_SAVES};
-ghost use Rattle.aptpl_store.specs.Contents.{AreAllSavedAlike, GivesStates, IsAnswered, IsBadFrameAt, IsNoStore, OpensAs};
-ghost use Rattle.aptpl_store.specs.Spelling.{Spells};
+ghost use Rattle.aptpl_store.specs.Contents.{AreAllSavedAlike, GivesStates, IsStoreAnswered, IsBadStateAt, IsNoStore, OpensAs};
+ghost use Rattle.aptpl_store.specs.Spelling.{SpellsState};
 
 /// Bytes spell at most one state, but for the generation, which is not saved; a state has one row of bytes,
 /// 580 at most, and takes 5 more as a frame.
 pub fn bytes_spell_one_state()
     ensures one_state { (body : List ℕ) (one other : PrState) →
-        Spells one body → Spells other body → AreSavedAlike one other }
+        SpellsState one body → SpellsState other body → AreSavedAlike one other }
     ensures one_spelling { (state : PrState) (one other : List ℕ) →
-        Spells state one → Spells state other → one ≡ other }
-    ensures short { (state : PrState) (body : List ℕ) → Spells state body → length body ≤ 580 }
+        SpellsState state one → SpellsState state other → one ≡ other }
+    ensures short { (state : PrState) (body : List ℕ) → SpellsState state body → length body ≤ 580 }
     ensures frame { (state : PrState) (body : List ℕ) →
-        Spells state body → length body + 5 ≡ state_frame_size state }
+        SpellsState state body → length body + 5 ≡ state_frame_size state }
 {}
 
 /// An image gives at most one store's states, but for their generations, and opens as at most one state;
@@ -34,25 +34,25 @@ pub fn an_image_gives_one_store()
     ensures whole { (image : List ℕ) (h : Heading) (states : List PrState) (at : ℕ) →
         GivesStates h states image → IsDamagedOf Store image at → ⊥ }
     ensures bad { (image : List ℕ) (h : Heading) (states : List PrState) (at : ℕ) →
-        GivesStates h states image → IsBadFrameAt image at → ⊥ }
+        GivesStates h states image → IsBadStateAt image at → ⊥ }
     ensures one_place { (image : List ℕ) (a b : ℕ) →
-        IsBadFrameAt image a → IsBadFrameAt image b → a ≡ b }
+        IsBadStateAt image a → IsBadStateAt image b → a ≡ b }
 {}
 
 /// What gives no states does so for one cause, at one place.
 pub fn a_refusal_has_one_cause()
     ensures none_damaged { (image : List ℕ) (at : ℕ) →
         IsNoStore image → IsDamagedOf Store image at → ⊥ }
-    ensures none_bad { (image : List ℕ) (at : ℕ) → IsNoStore image → IsBadFrameAt image at → ⊥ }
+    ensures none_bad { (image : List ℕ) (at : ℕ) → IsNoStore image → IsBadStateAt image at → ⊥ }
     ensures damaged_bad { (image : List ℕ) (a b : ℕ) →
-        IsDamagedOf Store image a → IsBadFrameAt image b → ⊥ }
+        IsDamagedOf Store image a → IsBadStateAt image b → ⊥ }
     ensures one_place { (image : List ℕ) (a b : ℕ) →
         IsDamagedOf Store image a → IsDamagedOf Store image b → a ≡ b }
 {}
 
 /// Each image gives states, is no store's, is a damaged store's, or has a first bad frame.
 pub fn each_image_is_answered()
-    ensures { (image : List ℕ) → IsAnswered image }
+    ensures { (image : List ℕ) → IsStoreAnswered image }
 {}
 
 /// The number that this crate names itself.

@@ -1,7 +1,7 @@
 //! What proofs alone note of a side, which takes no bytes: the states that were saved stay on the disk.
 ghost use Rattle.std.specs.Prelude.{◌≡◌};
-ghost use Rattle.aptpl_store.specs.Notes.{Notes, no_notes, with_state, with_torn};
-ghost use Rattle.aptpl_store.specs.Codes.{notes_code};
+ghost use Rattle.aptpl_store.specs.NotedStates.{NotedStates, no_notes, with_state, with_torn_state};
+ghost use Rattle.aptpl_store.specs.Codes.{noted_states_code};
 
 use pr_core::Reservations;
 use std::marker::{Model, PhantomData};
@@ -10,13 +10,13 @@ use std::marker::{Model, PhantomData};
 #[derive(Drop)]
 pub(crate) struct Noted {
     marker: PhantomData<()>,
-    pub ghost notes: { Notes } by { notes_code },
+    pub ghost notes: { NotedStates } by { noted_states_code },
 }
 
 impl Model for Noted {
     ghost use base.Fml.{ftrue};
-    ghost use Rattle.aptpl_store.specs.Notes.{Notes};
-    ghost use Rattle.aptpl_store.specs.Codes.{notes_code};
+    ghost use Rattle.aptpl_store.specs.NotedStates.{NotedStates};
+    ghost use Rattle.aptpl_store.specs.Codes.{noted_states_code};
 
     ghost also_owns = { λ _. ftrue };
 }
@@ -37,8 +37,8 @@ impl Noted {
     }
 
     /// With this state under way.
-    pub(crate) fn with_torn(&self, state: &Reservations) -> Noted
-        ensures { result.notes ≡ with_torn self.now.notes state.now }
+    pub(crate) fn with_torn_state(&self, state: &Reservations) -> Noted
+        ensures { result.notes ≡ with_torn_state self.now.notes state.now }
     {
         by_state(self, state)
     }
@@ -46,7 +46,7 @@ impl Noted {
 
 // What the caller names, which may speak of what was noted and of a state.
 fn by_state(_noted: &Noted, _state: &Reservations) -> Noted
-    ghost notes: { Notes }
+    ghost notes: { NotedStates }
     ensures { result.notes ≡ notes }
 {
     made(&0)
@@ -54,7 +54,7 @@ fn by_state(_noted: &Noted, _state: &Reservations) -> Noted
 
 // What the caller names.
 fn made(_any: &u64) -> Noted
-    ghost notes: { Notes }
+    ghost notes: { NotedStates }
     ensures { result.notes ≡ notes }
 {
     Noted {

@@ -5,8 +5,8 @@ ghost use Rattle.tape_disk.specs.Moments.{LeavesOnly};
 ghost use Rattle.gate_journal.specs.Answers.{NoneFailed};
 ghost use Rattle.gate_journal.specs.Crash.{Unwritten};
 ghost use Rattle.pr_core.specs.States.{power_loss};
-ghost use Rattle.aptpl_store.specs.Answers.{IsNotOpened, disk_opened};
-ghost use Rattle.aptpl_store.specs.Contents.{GivesStates, bodies_of, latest};
+ghost use Rattle.aptpl_store.specs.Answers.{IsStoreNotOpened, disk_of_opened};
+ghost use Rattle.aptpl_store.specs.Contents.{GivesStates, state_bodies, latest};
 ghost use Rattle.aptpl_store.specs.Inner.Reading.{IsNotRead, IsReadUpTo, NotRecovered};
 
 use crate::creating::{RESERVED_SAVES, make_room};
@@ -27,7 +27,7 @@ impl<D: Disk> AptplStore<D> {
     /// each but `Device` that is sure too. A cartridge's side is `NotOurs`, also where it is damaged: the
     /// header is read first. The first frame that spells no state is `BadRecord`, also where later ones do.
     pub fn open(alloc: Global, disk: D) -> Result<(AptplStore<D>, Reservations), StoreRefused<D>>
-        ensures disk { Keeps (D.state disk) (D.state (disk_opened result)) }
+        ensures disk { Keeps (D.state disk) (D.state (disk_of_opened result)) }
         ensures ok { IfOk result (λ opened. (opened.0.torn ≡ None) × (opened.0.failed ≡ false)
             × (RESERVED_SAVES ≤ opened.0.reserved)
             × (opened.1 ≡ power_loss (latest opened.0.states))
@@ -36,9 +36,9 @@ impl<D: Disk> AptplStore<D> {
             GivesStates opened.0.heading opened.0.states (D.state disk).seen
             × Only (D.state disk).seen (D.state opened.0.disk).may_leave) }
         ensures refused { IfErr result (λ refused.
-            IsNotOpened refused.error (D.state disk) (D.state refused.disk)) }
+            IsStoreNotOpened refused.error (D.state disk) (D.state refused.disk)) }
         ensures any_moment { (D.state disk).honest →
-            LeavesOnly (D.state disk) (D.state (disk_opened result)) (D.state disk).may_leave }
+            LeavesOnly (D.state disk) (D.state (disk_of_opened result)) (D.state disk).may_leave }
     {
         match Journal::open_as(alloc, disk, SideKind::Store) {
             Ok(journal) => {
@@ -92,7 +92,7 @@ fn recover<D: Disk>(
         × (STATE_BYTES ≤ vec_capacity found.0) × (RESERVED_SAVES ≤ journal.new.reserved)
         × IsReadUpTo (length journal.old.extents) found.1.notes found.2) }
     ensures spelled { IfOk result (λ found. (D.state journal.old.disk).honest →
-        journal.old.bodies ≡ bodies_of found.1.notes.states) }
+        journal.old.bodies ≡ state_bodies found.1.notes.states) }
     ensures refused { IfErr result (λ error. NotRecovered error journal.old.heading
         journal.old.bodies (D.state journal.old.disk) (D.state journal.new.disk)) }
 {

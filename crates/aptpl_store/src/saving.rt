@@ -46,7 +46,7 @@ impl<D: Disk> Keeper for AptplStore<D> {
                 Ok(())
             }
             Err(JournalError::Device(_)) => {
-                self.noted = self.noted.with_torn(reservations);
+                self.noted = self.noted.with_torn_state(reservations);
                 Err(KeeperError::Device)
             }
             Err(JournalError::NoMemory) => Err(KeeperError::NoMemory),
@@ -62,7 +62,8 @@ impl<D: Disk> Keeper for AptplStore<D> {
     }
 
     ghost advances_nowhere = { λ store. advances_nowhere (store_below D.state)
-        (λ (value : OpenStore D). core_moves_nowhere store_rules (D.state value.disk) (core_of value) (D.is_disk value.disk))
+        (λ (value : OpenStore D).
+        core_moves_nowhere store_rules (D.state value.disk) (core_of value) (D.is_disk value.disk))
         store };
 
     ghost moves_on = { λ a b c first second one two.

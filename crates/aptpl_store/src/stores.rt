@@ -4,7 +4,7 @@ ghost use Rattle.tape_disk.specs.Disk.{Each};
 ghost use Rattle.gate_journal.specs.declared.header.SideKind.TheVariants as Kinds;
 ghost use Rattle.gate_journal.specs.State.{room_behind};
 ghost use Rattle.gate_journal.specs.Side.{spell};
-ghost use Rattle.aptpl_store.specs.Contents.{GivesStates, OpensAs, OpensAsEither, ShowsStates, bodies_of, latest};
+ghost use Rattle.aptpl_store.specs.Contents.{GivesStates, OpensAs, OpensAsEither, ShowsStates, state_bodies, latest};
 ghost use Rattle.pr_core.specs.States.{power_loss};
 
 use crate::noted::Noted;
@@ -66,7 +66,7 @@ impl<D: Disk> AptplStore<D> {
         ensures sure { (D.state self.now.disk).honest → self.now.failed ≡ false →
             Each (D.state self.now.disk) (GivesStates self.now.heading self.now.states) }
         ensures room { (D.state self.now.disk).honest → self.now.room
-            ≡ room_behind (length (spell self.now.heading (bodies_of self.now.states))) }
+            ≡ room_behind (length (spell self.now.heading (state_bodies self.now.states))) }
     {
         // Looked at for the proof's sake: the facts are the type's.
         self.journal.known();

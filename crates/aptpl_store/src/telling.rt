@@ -1,7 +1,7 @@
 //! The state that a body spells, if it spells one.
 ghost use Rattle.std.specs.Prelude.{◌≡◌, ◌≤◌, length, vec_capacity, IfSome, IfNone};
 ghost use Rattle.pr_core.specs.declared.states.PrState.{PrState};
-ghost use Rattle.aptpl_store.specs.Spelling.{Spells};
+ghost use Rattle.aptpl_store.specs.Spelling.{SpellsState};
 ghost use Rattle.aptpl_store.specs.Inner.Told.{begins_with, behind, held_told, key_told, keys_told, nexus_told, nexuses_from, state_told};
 ghost use Rattle.scsi_lists.specs.Actions.{type_of};
 
@@ -75,8 +75,8 @@ fn state_told(body: &[u8]) -> PrState
 // is the body itself.
 pub(crate) fn decode(body: &[u8], spelled: &mut Vec<u8>) -> Option<Reservations>
     requires room { STATE_BYTES ≤ vec_capacity spelled.old }
-    ensures some { IfSome result (λ reservations. Spells reservations body.now) }
-    ensures none { IfNone result ((state : PrState) → Spells state body.now → ⊥) }
+    ensures some { IfSome result (λ reservations. SpellsState reservations body.now) }
+    ensures none { IfNone result ((state : PrState) → SpellsState state body.now → ⊥) }
     ensures room { STATE_BYTES ≤ vec_capacity spelled.new }
 {
     if body.len() < HEAD_BYTES {

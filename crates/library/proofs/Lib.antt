@@ -1,1 +1,4 @@
 pub mod CartridgeLemmas
+pub mod CoreLemmas
+pub mod MachineLemmas
+pub mod StopLemmas

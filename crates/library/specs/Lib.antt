@@ -1,2 +1,3 @@
 pub mod Cartridges
 pub mod Doings
+pub mod Reservations

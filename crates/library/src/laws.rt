@@ -1,17 +1,3 @@
-//! Laws of a drive over disks. Each is a function that does nothing, and its contract is the law.
-ghost use Rattle.library.specs.Cartridges.{StopsKeepChanges};
-
-use accepting::laws::{a_crash_leaves_what_was_acknowledged, steps_keep_cores};
-use pr_core::Keeper;
-use tape_buffer::Buffered;
-use tape_disk::Disk;
-
-/// Once a synchronizing command was acknowledged, a stop at any moment of whatever commands and
-/// turns come then, inside a call too, leaves the cartridge as a first part of its accepted changes
-/// leaves it, which holds every change that was accepted up to that command.
-pub fn a_stop_keeps_acknowledged_changes<D: Disk, K: Keeper>()
-    ensures { StopsKeepChanges D.state K.kept K.below }
-{
-    a_crash_leaves_what_was_acknowledged::<Buffered<D>, D>();
-    steps_keep_cores::<Buffered<D>>();
-}
+//! Laws of what is left of a drive. Each is a function whose contract is the law.
+pub mod cartridges;
+pub mod reservations;

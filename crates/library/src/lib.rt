@@ -1,4 +1,4 @@
-//! What a stop leaves of a drive over a cartridge on a disk.
+//! Drives over disks: what is left of them wherever they are stopped.
 #![tactic(auto)]
 
 pub mod laws;

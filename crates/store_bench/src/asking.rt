@@ -9,10 +9,9 @@ use pr_core::{Keeper, Reservations};
 use scsi_sense::{Reply, Status};
 use std::alloc::Global;
 use std::process::Abort;
-use std::test::Fail;
 use tape_disk::Disk;
 use volume_core::PlainMedium;
-use vtl_base::Nexus;
+use vtl_base::{Nexus, NoMemory};
 
 /// A drive with no cartridge, over a store.
 pub type Host<D> = Drive<PlainMedium, AptplStore<D>>;
@@ -56,13 +55,11 @@ pub const BY_A: &'static [u8] = b"\0\0\0\0\0\0\0\xa1\0\0\0\0\0\0\0\0\0\0\0\0\0\0
 
 pub const A_OVER_A: &'static [u8] = b"\0\0\0\0\0\0\0\xa1\0\0\0\0\0\0\0\xa1\0\0\0\0\x01\0\0\0";
 
-pub const A_WITHOUT_APTPL: &'static [u8] =
-    b"\0\0\0\0\0\0\0\xa1\0\0\0\0\0\0\0\xa1\0\0\0\0\0\0\0\0";
+pub const A_WITHOUT_APTPL: &'static [u8] = b"\0\0\0\0\0\0\0\xa1\0\0\0\0\0\0\0\xa1\0\0\0\0\0\0\0\0";
 
 pub const KEY_A: &'static [u8] = b"\0\0\0\0\0\0\0\x08\0\0\0\0\0\0\0\xa1";
 
-pub const HELD_BY_A: &'static [u8] =
-    b"\0\0\0\0\0\0\0\x10\0\0\0\0\0\0\0\xa1\0\0\0\0\0\x05\0\0";
+pub const HELD_BY_A: &'static [u8] = b"\0\0\0\0\0\0\0\x10\0\0\0\0\0\0\0\xa1\0\0\0\0\0\x05\0\0";
 
 pub const NO_KEYS: &'static [u8] = &[0; 8];
 
@@ -71,12 +68,12 @@ pub fn switched_on<D: Disk + Drop>(
     alloc: Global,
     store: AptplStore<D>,
     left: Reservations,
-) -> Result<Host<D>, Fail>
+) -> Result<Host<D>, NoMemory>
     requires { left ≡ left_of (store_kept store).saved }
 {
     match Drive::power_on(alloc, store, left, None) {
         Ok(drive) => Ok(drive),
-        Err(_) => Err(Fail::from("not switched on")),
+        Err(_) => Err(NoMemory),
     }
 }
 
@@ -101,12 +98,7 @@ fn assert_answer(rt: &impl Abort, reply: &Reply, wanted: Answer, at: usize) {
 }
 
 /// A host asks, and is answered so.
-pub fn asks<K: Keeper>(
-    rt: &impl Abort,
-    drive: &mut Drive<PlainMedium, K>,
-    row: Row,
-    at: usize,
-) {
+pub fn asks<K: Keeper>(rt: &impl Abort, drive: &mut Drive<PlainMedium, K>, row: Row, at: usize) {
     let (host, cdb, sent, wanted) = row;
     let nexus = Nexus::new(host).expect(rt, "a nexus");
     assert_answer(rt, &drive.execute(nexus, cdb, sent), wanted, at);

@@ -1,7 +1,7 @@
 //! A fault at each call of the disk below a drive.
 use crate::asking::{
-    A_NEW, Answer, BY_A, FAILED, GOOD, NO_KEYS, NONE, POWERED_ON, READ_KEYS, REGISTER,
-    RESERVE_5, Row, TEST_UNIT_READY, ask_all, switched_on,
+    A_NEW, Answer, BY_A, FAILED, GOOD, NO_KEYS, NONE, POWERED_ON, READ_KEYS, REGISTER, RESERVE_5,
+    Row, TEST_UNIT_READY, ask_all, switched_on,
 };
 use crate::samples::{FAULT, found, made, opened};
 use pr_core::{Keeper, Reservations};
@@ -36,9 +36,19 @@ fn a_fault_at_each_call_of_a_save(rt: HostRuntime) -> Result<(), Fail> {
         let reached = drive.keeper().disk().inner();
         let before = Ok((0, 0, None, None, false));
         let after = Ok((1, 1, None, None, true));
-        for (keep, fill) in [(0, 0u8), (0, 0xa5), (0, 0xff), (1, 0), (1, 0xa5), (u64::MAX, 0)] {
+        for (keep, fill) in [
+            (0, 0u8),
+            (0, 0xa5),
+            (0, 0xff),
+            (1, 0),
+            (1, 0xa5),
+            (u64::MAX, 0),
+        ] {
             let left = found(alloc, reached.copy()?.crash(keep, fill)?);
-            assert!(rt; left == before || left == after, "{left:?} after {calls} calls");
+            assert!(rt;
+                left == before || left == after,
+                "{left:?} after {calls} calls"
+            );
         }
         // Opened again, it works.
         let Ok((store, left)) = opened(alloc, reached.copy()?) else {

@@ -1,8 +1,8 @@
 //! Orders to a drive over a store, and what is on the disk at each.
 use crate::asking::{
-    A_NEW, A_OVER_A, A_WITHOUT_APTPL, Answer, BY_A, CONFLICT, GOOD, HELD_BY_A, Host, KEY_A, NO_KEYS,
-    NONE, POWERED_ON, READ_KEYS, READ_RESERVATION, REGISTER, RESERVE_5, Row, TEST_UNIT_READY,
-    ask_all, asks, switched_on,
+    A_NEW, A_OVER_A, A_WITHOUT_APTPL, Answer, BY_A, CONFLICT, GOOD, HELD_BY_A, Host, KEY_A,
+    NO_KEYS, NONE, POWERED_ON, READ_KEYS, READ_RESERVATION, REGISTER, RESERVE_5, Row,
+    TEST_UNIT_READY, ask_all, asks, switched_on,
 };
 use crate::samples::{NEW_SIDE, SIDE, SIDE_WITHOUT_APTPL, found, made, opened};
 use pr_core::Reservations;
@@ -21,7 +21,7 @@ fn switched_off_and_on(alloc: Global, drive: &Host<MemDisk>) -> Result<Host<MemD
     let Ok((store, left)) = opened(alloc, disk) else {
         return Err(not_opened());
     };
-    switched_on(alloc, store, left)
+    Ok(switched_on(alloc, store, left)?)
 }
 
 fn holds(rt: &impl Abort, drive: &Host<MemDisk>, bytes: &[u8]) {
@@ -46,7 +46,7 @@ fn reservations_outlive_a_loss_of_power(rt: HostRuntime) -> Result<(), Fail> {
     let syncs = drive.keeper().disk().syncs();
     asks(&rt, &mut drive, (1, RESERVE_5, BY_A, GOOD), 2);
     holds(&rt, &drive, &SIDE);
-    assert_eq!(rt; drive.keeper().disk().syncs(), syncs + 2);
+    assert_eq!(rt; drive.keeper().disk().syncs().checked_sub(syncs), Some(2));
 
     // An order that changes nothing, and one that changes the generation alone, save nothing.
     let raised = b"\0\0\0\x02\0\0\0\x08\0\0\0\0\0\0\0\xa1";
@@ -66,7 +66,12 @@ fn reservations_outlive_a_loss_of_power(rt: HostRuntime) -> Result<(), Fail> {
         (1, READ_RESERVATION, NONE, Answer::Good(HELD_BY_A)),
         (2, &[1, 0, 0, 0, 0, 0], NONE, CONFLICT),
         (1, REGISTER, A_WITHOUT_APTPL, GOOD),
-        (1, READ_RESERVATION, NONE, Answer::Good(b"\0\0\0\x01\0\0\0\x10\0\0\0\0\0\0\0\xa1\0\0\0\0\0\x05\0\0")),
+        (
+            1,
+            READ_RESERVATION,
+            NONE,
+            Answer::Good(b"\0\0\0\x01\0\0\0\x10\0\0\0\0\0\0\0\xa1\0\0\0\0\0\x05\0\0"),
+        ),
     ];
     ask_all(&rt, &mut drive, &rows);
     holds(&rt, &drive, &SIDE_WITHOUT_APTPL);

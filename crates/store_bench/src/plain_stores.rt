@@ -31,13 +31,19 @@ fn byte(bytes: &[u8], at: usize) -> u8 {
 fn is_header(bytes: &[u8]) -> bool {
     bytes.len() >= 27
         && bytes.starts_with(b"\xa5VTLRESV1\0\0")
-        && NAMES.iter().any(|name| bytes[11..27] == **name)
+        && NAMES
+            .iter()
+            .any(|name| bytes[11..27].starts_with(name.as_slice()))
 }
 
 // What a body says of registrations, reservation and APTPL, if it is a state.
 fn judged_body(body: &[u8]) -> Option<(usize, Option<u8>, Option<u8>, bool)> {
-    let (aptpl, kind, holder, count) =
-        (byte(body, 0), byte(body, 1), byte(body, 2), byte(body, 3) as usize);
+    let (aptpl, kind, holder, count) = (
+        byte(body, 0),
+        byte(body, 1),
+        byte(body, 2),
+        byte(body, 3) as usize,
+    );
     if body.len() < 4 || count > 64 || body.len() != 4 + 9 * count || aptpl > 1 {
         return None;
     }

@@ -1,4 +1,8 @@
 //! Stores, and what tests do with them.
+ghost use Rattle.std.specs.Prelude.{◌≡◌, [], IfOk};
+ghost use Rattle.aptpl_store.specs.Kept.{store_kept};
+ghost use Rattle.drive_core.specs.State.{left_of};
+
 use aptpl_store::{AptplStore, StoreError};
 use pr_core::Reservations;
 use std::alloc::Global;
@@ -43,7 +47,9 @@ pub const FAULT: StoreError = StoreError::Device(DevFault { failures: 1 });
 pub fn opened<D: Disk + Drop>(
     alloc: Global,
     disk: D,
-) -> Result<(AptplStore<D>, Reservations), StoreError> {
+) -> Result<(AptplStore<D>, Reservations), StoreError>
+    ensures { IfOk result (λ opened. opened.1 ≡ left_of (store_kept opened.0).saved) }
+{
     match AptplStore::open(alloc, disk) {
         Ok(opened) => Ok(opened),
         Err(refused) => Err(refused.error),
@@ -51,7 +57,9 @@ pub fn opened<D: Disk + Drop>(
 }
 
 /// A new store of drive 1, or why there is none.
-pub fn made<D: Disk + Drop>(alloc: Global, disk: D) -> Result<AptplStore<D>, StoreError> {
+pub fn made<D: Disk + Drop>(alloc: Global, disk: D) -> Result<AptplStore<D>, StoreError>
+    ensures { IfOk result (λ store. store.states ≡ []) }
+{
     let Some(drive) = DriveNo::new(1) else {
         return Err(StoreError::NotOurs);
     };

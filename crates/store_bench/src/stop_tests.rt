@@ -21,7 +21,11 @@ fn ordered(drive: &mut Host<FuseDisk<MemDisk>>) -> bool {
         return false;
     };
     let _ = drive.execute(host, TEST_UNIT_READY, NONE);
-    for (cdb, sent) in [(REGISTER, A_NEW), (RESERVE_5, BY_A), (REGISTER, A_WITHOUT_APTPL)] {
+    for (cdb, sent) in [
+        (REGISTER, A_NEW),
+        (RESERVE_5, BY_A),
+        (REGISTER, A_WITHOUT_APTPL),
+    ] {
         if drive.execute(host, cdb, sent).status != Status::Good {
             return false;
         }

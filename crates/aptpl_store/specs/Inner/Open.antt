@@ -5,13 +5,13 @@ use Rattle.tape_disk.specs.Disk.{DiskState, Each}
 use Rattle.gate_journal.specs.declared.header.SideKind.TheVariants.{Store}
 use Rattle.gate_journal.specs.Side.{Heading}
 use Rattle.aptpl_store.specs.declared.spelling.TheConstants.{STATE_BYTES}
-use Rattle.aptpl_store.specs.Contents.{ShowsStates, bodies_of}
-use Rattle.aptpl_store.specs.Notes.{Notes}
+use Rattle.aptpl_store.specs.Contents.{ShowsStates, state_bodies}
+use Rattle.aptpl_store.specs.NotedStates.{NotedStates}
 use Rattle.aptpl_store.specs.Spelling.{IsSavable}
 
 -- What holds of an open store over any disk: what is noted can be spelled, there are as many frames, it has failed just
 -- where a state is under way, and there is room in memory for the longest body (own).
-pub record IsOpen (heading : Heading) (extents : List (ℕ × ℕ)) (failed : Bool) (capacity : ℕ) (notes : Notes)
+pub record IsOpen (heading : Heading) (extents : List (ℕ × ℕ)) (failed : Bool) (capacity : ℕ) (notes : NotedStates)
     : Type 0 where
   pub kind : heading.kind ≡ Store
   pub states : All IsSavable notes.states
@@ -20,7 +20,7 @@ pub record IsOpen (heading : Heading) (extents : List (ℕ × ℕ)) (failed : Bo
   pub body : STATE_BYTES ≤ capacity
 
 -- What holds where the disk is honest: the bodies spell what is noted, and each image shows it (own).
-pub record StoresStates (disk : DiskState) (heading : Heading) (bodies : List (List ℕ)) (notes : Notes)
+pub record StoresStates (disk : DiskState) (heading : Heading) (bodies : List (List ℕ)) (notes : NotedStates)
     : Type 0 where
-  pub bodies_are : bodies ≡ bodies_of notes.states
+  pub bodies_are : bodies ≡ state_bodies notes.states
   pub shows : Each disk (ShowsStates heading notes.states notes.torn)

@@ -3,7 +3,7 @@ use Rattle.std.specs.Prelude.{slice_index_or}
 use Rattle.std.proofs.Common.{take}
 use Rattle.gate_journal.specs.Side.{Heading, spell}
 use Rattle.gate_journal.specs.State.{OpenSide}
-use Rattle.aptpl_store.specs.Spelling.{Spells}
+use Rattle.aptpl_store.specs.Spelling.{SpellsState}
 use Rattle.aptpl_store.proofs.OpeningLemmas.{bad_frame, read_next, spelled_next, too_long, unwritten_then}
 use Rattle.aptpl_store.proofs.opening.recover.Goals as goal
 
@@ -27,7 +27,8 @@ returns-then-size-gt-STATE_BYTES-clause-refused g c =
             c.loop-frame.noted.notes.states,
             bad_frame frame c.loop-frame.noted.notes c.loop-frame.last inv.read start.bodies inside (inv.spelled h)
                 start.heading c.body_at-at.result.0 c.requires.kind
-                (subst (λ (x : Heading × List (List ℕ)). c.body_at-at.result.0 ≡ length (spell x.0 (take frame x.1)) + 5)
+                (subst
+                (λ (x : Heading × List (List ℕ)). c.body_at-at.result.0 ≡ length (spell x.0 (take frame x.1)) + 5)
                 (λ i. (inv.heading i, bodies_are i)) there.gate)
                 (too_long (slice_index_or start.bodies frame [])
                 (omega (
@@ -50,7 +51,7 @@ loop-frame-preserved g c =
     let mid = g.D.Disk.state c.loop-frame.journal.disk in
     let new = g.D.Disk.state c.read_frame.new.journal.disk in
     let state = c.in-Some.state in
-    let spells : Spells state body = c.in-Some.ensures.some in
+    let spells : SpellsState state body = c.in-Some.ensures.some in
     record {
       fine = c.in_ok-body.ensures.ok.0;
       heading = c.read_frame.ensures.same.1 ∙ inv.heading;

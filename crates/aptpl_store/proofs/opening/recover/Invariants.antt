@@ -5,7 +5,7 @@ use Rattle.gate_journal.specs.Answers.{NoneFailed}
 use Rattle.gate_journal.specs.Crash.{Unwritten}
 use Rattle.aptpl_store.specs.declared.creating.TheConstants.{RESERVED_SAVES}
 use Rattle.aptpl_store.specs.declared.spelling.TheConstants.{STATE_BYTES}
-use Rattle.aptpl_store.specs.Contents.{bodies_of}
+use Rattle.aptpl_store.specs.Contents.{state_bodies}
 use Rattle.aptpl_store.specs.Inner.Reading.{IsReadUpTo}
 use Rattle.aptpl_store.proofs.opening.recover.Given as goal
 
@@ -24,5 +24,5 @@ invariant-loop-frame g l =
       read : IsReadUpTo l.frame l.noted.notes l.last;
       unwritten : old.honest → Unwritten old new;
       bodies : old.honest → l.journal.bodies ≡ l.fn.journal.bodies;
-      spelled : old.honest → bodies_of l.noted.notes.states ≡ take l.frame l.fn.journal.bodies;
+      spelled : old.honest → state_bodies l.noted.notes.states ≡ take l.frame l.fn.journal.bodies;
     }

@@ -1,4 +1,4 @@
-use Rattle.aptpl_store.specs.Notes.{with_state}
+use Rattle.aptpl_store.specs.NotedStates.{with_state}
 use Rattle.aptpl_store.proofs.noted.Noted.with_state.Given as goal
 
 abbrev pub ghost-by_state : goal.ghost-by_state

@@ -52,11 +52,11 @@ invariant_of-self-in-Err-Device g c =
       broken_open g.D.Disk.state g.met.D.Disk.is_disk old new _ _ notes c.self.invariant.0 c.self.invariant.1
           c.fill_body.ensures.room state savable body body_is said.disk said.heading broke.0.was_fine
           (λ h. said.any_moment h broke.0.was_fine)
-          broke.0 said.bodies c.with_torn-self-inside.result.notes c.with_torn-self-inside.ensures,
+          broke.0 said.bodies c.with_torn_state-self-inside.result.notes c.with_torn_state-self-inside.ensures,
       broken_stores g.D.Disk.state g.met.D.Disk.is_disk old new _ _ notes c.self.invariant.0 c.self.invariant.1
           c.fill_body.ensures.room state savable body body_is said.disk said.heading broke.0.was_fine
           (λ h. said.any_moment h broke.0.was_fine)
-          broke.0 said.bodies c.with_torn-self-inside.result.notes c.with_torn-self-inside.ensures,
+          broke.0 said.bodies c.with_torn_state-self-inside.result.notes c.with_torn_state-self-inside.ensures,
     )
 
 pub returns-in-Ok-clause-answer : goal.returns-in-Ok-clause-answer
@@ -95,7 +95,8 @@ returns-in-Ok-clause-advances g c =
     saved_advances g.D.Disk.state g.met.D.Disk.is_disk old new _ _ notes c.self.invariant.0 c.self.invariant.1
     c.fill_body.ensures.room state savable body body_is said.disk said.heading said.answer.0.was_fine
     (λ h. said.any_moment h said.answer.0.was_fine)
-    said.answer.0 said.bodies said.sure c.with_state-self-inside.result.notes c.with_state-self-inside.ensures said.answer.1)
+    said.answer.0 said.bodies said.sure c.with_state-self-inside.result.notes
+    c.with_state-self-inside.ensures said.answer.1)
 
 pub returns-in-Ok-clause-saves : goal.returns-in-Ok-clause-saves
 returns-in-Ok-clause-saves g c =
@@ -169,7 +170,7 @@ returns-in-Err-Device-clause-answer g c =
       broken_kept g.D.Disk.state g.met.D.Disk.is_disk old new _ _ notes c.self.invariant.0 c.self.invariant.1
           c.fill_body.ensures.room state savable body body_is said.disk said.heading broke.0.was_fine
           (λ h. said.any_moment h broke.0.was_fine)
-          broke.0 said.bodies c.with_torn-self-inside.result.notes c.with_torn-self-inside.ensures,
+          broke.0 said.bodies c.with_torn_state-self-inside.result.notes c.with_torn_state-self-inside.ensures,
     ))
 
 pub returns-in-Err-Device-clause-advances : goal.returns-in-Err-Device-clause-advances
@@ -189,7 +190,7 @@ returns-in-Err-Device-clause-advances g c =
     broken_advances g.D.Disk.state g.met.D.Disk.is_disk old new _ _ notes c.self.invariant.0 c.self.invariant.1
     c.fill_body.ensures.room state savable body body_is said.disk said.heading broke.0.was_fine
     (λ h. said.any_moment h broke.0.was_fine)
-    broke.0 said.bodies c.with_torn-self-inside.result.notes c.with_torn-self-inside.ensures broke.1.cause)
+    broke.0 said.bodies c.with_torn_state-self-inside.result.notes c.with_torn_state-self-inside.ensures broke.1.cause)
 
 pub returns-in-Err-Device-clause-any_moment : goal.returns-in-Err-Device-clause-any_moment
 returns-in-Err-Device-clause-any_moment g c =

@@ -1,5 +1,5 @@
 use Rattle.library.proofs.CartridgeLemmas.{stops_keep_changes}
-use Rattle.library.proofs.laws.a_stop_keeps_acknowledged_changes.Goals as goal
+use Rattle.library.proofs.laws.cartridges.a_stop_keeps_acknowledged_changes.Goals as goal
 
 pub returns : goal.returns
 returns g c =

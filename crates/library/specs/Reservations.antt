@@ -1,0 +1,94 @@
+-- What a drive over a store of reservations leaves on the store's disk, wherever it is stopped.
+use Rattle.std.specs.Prelude.{◌≡◌, ◌⊎◌, ℕ, List, [], ◌∷◌, Some, is_some, Ok}
+use Rattle.vtl_base.specs.Below.{Below}
+use Rattle.scsi_sense.specs.declared.replies.Reply.{Reply}
+use Rattle.scsi_attention.specs.AttentionSets.{AttentionSet}
+use Rattle.scsi_lists.specs.declared.actions.PrAction.{PrAction}
+use Rattle.scsi_lists.specs.declared.pr_lists.PrOut.{PrOut}
+use Rattle.scsi_lists.specs.PrLists.{list_decoded}
+use Rattle.scsi_wire.specs.declared.commands.Command.TheVariants.{PersistentReserveOut}
+use Rattle.pr_core.specs.declared.states.PrState.{PrState}
+use Rattle.pr_core.specs.declared.states.PrAnswer.{PrAnswer}
+use Rattle.pr_core.specs.Orders.{Orders}
+use Rattle.pr_core.specs.Sound.{IsSound}
+use Rattle.pr_core.specs.States.{power_loss}
+use Rattle.volume_core.specs.declared.changes.Change.{Change}
+use Rattle.volume_core.specs.declared.media.Turn.{Turn}
+use Rattle.volume_core.specs.Medium.{MediumState}
+use Rattle.tape_disk.specs.Disk.{DiskState, Each}
+use Rattle.tape_disk.specs.Moments.{LeavesOnly}
+use Rattle.drive_core.specs.Checks.{verdict}
+use Rattle.drive_core.specs.Execute.{Answers}
+use Rattle.drive_core.specs.Media.{TakesTurn}
+use Rattle.drive_core.specs.State.{DriveState, Machine, machine_of}
+use Rattle.drive_core.specs.Work.{Request}
+use Rattle.aptpl_store.specs.Contents.{OpensAs, ShowsStates, latest}
+use Rattle.aptpl_store.specs.Kept.{store_below, store_kept}
+use Rattle.aptpl_store.specs.State.{OpenStore}
+
+-- what a drive is given: a host's request, with the reply that it had; or a flusher's turn, with what came of it (own)
+pub data Call : Type 0 where
+  Asked : (request : Request) → (reply : Reply) → Call
+  Turned : (turn : Turn) → Call
+
+-- the state that an order makes which a request asks for, once it has passed all checks (SPC-4, PERSISTENT RESERVE OUT)
+pub record IsOrdered (machine : Machine) (request : Request) (state : PrState) : Type 0 where
+  pub action : PrAction
+  pub bytes : ℕ
+  pub order : PrOut
+  pub answer : PrAnswer
+  pub told : List AttentionSet
+  pub command : verdict machine request ≡ Ok (PersistentReserveOut action bytes)
+  pub list : list_decoded action request.sent ≡ Ok order
+  pub ordered : Orders machine.reservations request.nexus order answer told state
+
+-- the state that the order of a call makes, where it is one (own)
+abbrev pub IsOrderedIn : Machine → Call → PrState → Type 0
+IsOrderedIn machine (Asked request reply) state = IsOrdered machine request state
+IsOrderedIn machine (Turned turn) state = ⊥
+
+module _ {M D : Type 0} (medium : M → MediumState) (below : Below M Change) (disk : D → DiskState) where
+  -- a drive was given this, and it came to that (own)
+  abbrev pub CallDoes : DriveState M (OpenStore D) → Call → DriveState M (OpenStore D) → Type 0
+  CallDoes old (Asked request reply) new = Answers medium below store_kept (store_below disk) old request reply new
+  CallDoes old (Turned turn) new = TakesTurn medium below store_kept old turn new
+
+  -- calls one after another, each from where the one before left the drive (own)
+  abbrev pub Calls : DriveState M (OpenStore D) → List Call → DriveState M (OpenStore D) → Type 0
+  Calls old [] new = new ≡ old
+  Calls old (call ∷ calls) new = (mid : DriveState M (OpenStore D)) × CallDoes old call mid × Calls mid calls new
+
+  -- the disk of a drive's store (own)
+  abbrev pub disk_of : DriveState M (OpenStore D) → DiskState
+  disk_of drive = disk drive.keeper.disk
+
+  -- A drive and its store: the reservations keep the rules, what was saved last is lost as they are, the store has
+  -- failed just where a state is under way, and each image that a crash may leave shows what was saved (own).
+  pub record IsHolding (drive : DriveState M (OpenStore D)) : Type 0 where
+    pub sound : IsSound drive.reservations
+    pub saved : power_loss (latest drive.keeper.states) ≡ power_loss drive.reservations
+    pub at_rest : drive.keeper.failed ≡ is_some drive.keeper.torn
+    pub shows :
+        Each (disk_of drive) (ShowsStates drive.keeper.heading drive.keeper.states drive.keeper.torn)
+
+  -- a state that may be found in the place of the one held: that whose save failed, or that which the order of this
+  -- call makes (own)
+  abbrev pub MayStand : DriveState M (OpenStore D) → Call → PrState → Type 0
+  MayStand drive call state =
+      (drive.keeper.torn ≡ Some state) ⊎ IsOrderedIn (machine_of medium store_kept drive) call state
+
+  -- the image opens as what a loss of power leaves of the reservations that the drive held before this call, or of a
+  -- state that may stand in their place (own)
+  abbrev pub LeavesHeld : DriveState M (OpenStore D) → Call → List ℕ → Type 0
+  LeavesHeld drive call image =
+      OpensAs drive.keeper.heading (power_loss drive.reservations) image
+      ⊎ ((state : PrState) × MayStand drive call state × OpensAs drive.keeper.heading (power_loss state) image)
+
+  -- Whatever a drive was given, and wherever it is stopped, inside the last call too: each image that a crash may leave
+  -- opens as what a loss of power leaves of what was held before that call, or of a state that may stand in its place;
+  -- and the drive goes on so (own).
+  abbrev pub ReservationsOutlive : Type 0
+  ReservationsOutlive =
+      (old mid new : DriveState M (OpenStore D)) (calls : List Call) (last : Call)
+      → (disk_of old).honest → IsHolding old → Calls old calls mid → CallDoes mid last new
+      → LeavesOnly (disk_of mid) (disk_of new) (LeavesHeld mid last) × IsHolding new
