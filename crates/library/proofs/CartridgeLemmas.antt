@@ -18,7 +18,7 @@ use Rattle.accepting.specs.Laws.{CrashesKeepAcknowledged, StepsKeepCores}
 use Rattle.tape_buffer.specs.declared.holding.Holding.{Holding}
 use Rattle.tape_buffer.specs.declared.holding.Holding.TheVariants.{Open, Closed, Between}
 use Rattle.tape_buffer.specs.Rules.{medium_rules}
-use Rattle.tape_buffer.specs.Moves.{HonestOn, MediumMoves, MovesOn, buffer_below, core_of, medium_moves_nowhere, medium_moves_on}
+use Rattle.tape_buffer.specs.Moves.{HonestOn, MediumMoves, MovesOn, buffer_below, medium_core, medium_moves_nowhere, medium_moves_on}
 use Rattle.tape_buffer.specs.State.{BufferState, core_held, disk_in, found_core, found_in, state_held, state_of, torn_in}
 use Rattle.drive_core.specs.declared.bays.Bay.{Bay}
 use Rattle.drive_core.specs.declared.bays.Bay.TheVariants.{Empty, Unloaded, Loaded}
@@ -121,15 +121,15 @@ module _ {D : Type 0} (state : D → DiskState) (is_disk : (disk : D) → (state
         → drive.bay ≡ bay → medium_in bay ≡ Some medium → honest
         → IsBayPositioned (state_of state) bay drive.position
         → NothingPending honest (machine_of (state_of state) kept (record drive { bay = bay }))
-        → CanAcknowledge (core_of state medium)
+        → CanAcknowledge (medium_core state medium)
     safe_in drive Empty medium same is h on nothing = absurd (cc)
     safe_in drive (Loaded m) medium same is h on nothing =
         let e : m ≡ medium = cc in
-        subst (λ (x : BufferState D). CanAcknowledge (core_of state x)) e
+        subst (λ (x : BufferState D). CanAcknowledge (medium_core state x)) e
         (safe_loaded m.held m.pending on.awake nothing.0.0 nothing.0.1)
     safe_in drive (Unloaded m) medium same is h on nothing =
         let e : m ≡ medium = cc in
-        subst (λ (x : BufferState D). CanAcknowledge (core_of state x)) e
+        subst (λ (x : BufferState D). CanAcknowledge (medium_core state x)) e
         (safe_parked m.held m.pending on (nothing.1 h))
 
   module _ (crash : CrashesKeepAcknowledged medium_rules state) (cores : StepsKeepCores medium_rules) where
@@ -154,7 +154,7 @@ module _ {D : Type 0} (state : D → DiskState) (is_disk : (disk : D) → (state
 
     keep_media : (a b c : Option (BufferState D)) (medium : BufferState D) (made more : List Change) → a ≡ Some medium
         → IsKnown state medium → Moved a b made → Moved b c more
-        → ((left : BufferState D) → b ≡ Some left → CanAcknowledge (core_of state left))
+        → ((left : BufferState D) → b ≡ Some left → CanAcknowledge (medium_core state left))
         → KeepsIn state b c more
     keep_media None b c medium made more is known one two safe = absurd (cc)
     keep_media (Some a) None c medium made more is known one two safe = absurd one
@@ -162,8 +162,9 @@ module _ {D : Type 0} (state : D → DiskState) (is_disk : (disk : D) → (state
     keep_media (Some a) (Some b) (Some c) medium made more is known one two safe =
         let same : a ≡ medium = cc in
         let known_a = subst (IsKnown state) (sym same) known in
-        let found = keep_on (disk_in a.held) (disk_in b.held) (disk_in c.held) (core_of state a) (core_of state b)
-        (core_of state c) made more known_a.disk known_a.disk_is known_a.honest known_a.core known_a.shows one two
+        let found = keep_on (disk_in a.held) (disk_in b.held) (disk_in c.held) (medium_core state a)
+            (medium_core state b)
+        (medium_core state c) made more known_a.disk known_a.disk_is known_a.honest known_a.core known_a.shows one two
         (safe b refl) in
         record {
           before = found.0;

@@ -10,7 +10,7 @@ use Rattle.volume_core.specs.declared.changes.Change.{Change}
 use Rattle.accepting.specs.Core.{CanAcknowledge, IsCore}
 use Rattle.accepting.specs.Events.{GivesAcknowledged, IsEvent, ShowsCore}
 use Rattle.tape_buffer.specs.Rules.{medium_rules}
-use Rattle.tape_buffer.specs.Moves.{buffer_below, core_of}
+use Rattle.tape_buffer.specs.Moves.{buffer_below, medium_core}
 use Rattle.tape_buffer.specs.State.{BufferState, disk_in, state_of}
 use Rattle.drive_core.specs.State.{DriveState, IsBayPositioned, machine_of, medium_in}
 use Rattle.drive_core.specs.Relations.{Made}
@@ -26,8 +26,8 @@ module _ {D : Type 0} (state : D → DiskState) where
     pub disk : D
     pub disk_is : disk_in medium.held ≡ Some disk
     pub honest : (state disk).honest
-    pub core : IsCore (core_of state medium)
-    pub shows : Each (state disk) (ShowsCore medium_rules (core_of state medium))
+    pub core : IsCore (medium_core state medium)
+    pub shows : Each (state disk) (ShowsCore medium_rules (medium_core state medium))
 
   -- From one medium to a later one just these changes were accepted. In the first all that was accepted is safe, and at
   -- each moment since a crash leaves an image that gives all of it, and the first so many of those accepted since
@@ -37,10 +37,11 @@ module _ {D : Type 0} (state : D → DiskState) where
     pub disk_before : disk_in acked.held ≡ Some before
     pub after : D
     pub disk_after : disk_in last.held ≡ Some after
-    pub all_safe : CanAcknowledge (core_of state acked)
-    pub event : IsEvent medium_rules (state before) (state after) (core_of state acked) (core_of state last) made
+    pub all_safe : CanAcknowledge (medium_core state acked)
+    pub event : IsEvent medium_rules (state before) (state after) (medium_core state acked) (medium_core state last)
+        made
     pub moments :
-        LeavesOnly (state before) (state after) (GivesAcknowledged medium_rules (core_of state acked) event.steps)
+        LeavesOnly (state before) (state after) (GivesAcknowledged medium_rules (medium_core state acked) event.steps)
 
   -- the same of the media in two bays (own)
   abbrev pub KeepsIn : Option (BufferState D) → Option (BufferState D) → List Change → Type 0

@@ -19,8 +19,8 @@ IsSafeOrPending core pending =
 
 module _ {D : Type 0} (state : D → DiskState) where
   -- what a medium has accepted, and how much of it is stored and safe (own)
-  abbrev pub core_of : BufferState D → Core Heading Change
-  core_of buffer = core_held state buffer.held buffer.pending
+  abbrev pub medium_core : BufferState D → Core Heading Change
+  medium_core buffer = core_held state buffer.held buffer.pending
 
   -- how often the disk failed (own)
   abbrev pub failures_on : Option D → ℕ
@@ -40,7 +40,7 @@ module _ {D : Type 0} (state : D → DiskState) where
 
   -- from one medium to the other just these were accepted (own)
   abbrev pub MediumMoves : BufferState D → List Change → BufferState D → Type 0
-  MediumMoves old made new = MovesOn (disk_in old.held) (disk_in new.held) (core_of old) (core_of new) made
+  MediumMoves old made new = MovesOn (disk_in old.held) (disk_in new.held) (medium_core old) (medium_core new) made
 
   -- what is seen below a buffered medium: the failures and the honesty of its disk, and its steps (own)
   abbrev pub buffer_below : Below (BufferState D) Change
@@ -61,22 +61,24 @@ module _ {D : Type 0} (state : D → DiskState) where
       → (buffer : BufferState D) → MediumMoves buffer [] buffer
   medium_moves_nowhere is_disk buffer = by (disk_in buffer.held)
     where
-      by : (disk : Option D) → MovesOn disk disk (core_of buffer) (core_of buffer) []
+      by : (disk : Option D) → MovesOn disk disk (medium_core buffer) (medium_core buffer) []
       by None = refl
-      by (Some disk) = core_moves_nowhere medium_rules (state disk) (core_of buffer) (is_disk disk)
+      by (Some disk) = core_moves_nowhere medium_rules (state disk) (medium_core buffer) (is_disk disk)
 
   -- two in a row append what they accept
   pub medium_moves_on : (a b c : BufferState D) (first second : List Change)
       → MediumMoves a first b → MediumMoves b second c → MediumMoves a (first ++ second) c
   medium_moves_on a b c first second = by (disk_in a.held) (disk_in b.held) (disk_in c.held)
     where
-      by : (x y z : Option D) → MovesOn x y (core_of a) (core_of b) first → MovesOn y z (core_of b) (core_of c) second
-          → MovesOn x z (core_of a) (core_of c) (first ++ second)
+      by : (x y z : Option D) → MovesOn x y (medium_core a) (medium_core b) first → MovesOn y z (medium_core b)
+          (medium_core c) second
+          → MovesOn x z (medium_core a) (medium_core c) (first ++ second)
       by None None None one two = (λ i. one i ++ second) ∙ two
       by None None (Some z) one two = absurd two
       by None (Some y) z one two = absurd one
       by (Some x) None z one two = absurd one
       by (Some x) (Some y) None one two = absurd two
       by (Some x) (Some y) (Some z) one two =
-          core_moves_on medium_rules (state x) (state y) (state z) (core_of a) (core_of b) (core_of c) first second one
+          core_moves_on medium_rules (state x) (state y) (state z) (medium_core a) (medium_core b) (medium_core c) first
+              second one
           two

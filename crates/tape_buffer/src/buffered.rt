@@ -4,7 +4,7 @@ ghost use Rattle.volume_core.specs.Volume.{Part};
 ghost use Rattle.accepting.specs.Core.{IsCore};
 ghost use Rattle.tape_buffer.specs.Rules.{medium_rules};
 ghost use Rattle.tape_buffer.specs.State.{IsSettledOn, closed_buffer, disk_in, state_of};
-ghost use Rattle.tape_buffer.specs.Moves.{IsSafeOrPending, ShowsOn, core_of};
+ghost use Rattle.tape_buffer.specs.Moves.{IsSafeOrPending, ShowsOn, medium_core};
 ghost use Rattle.tape_buffer.specs.declared.holding.Holding.TheVariants as Holdings;
 
 use crate::holding::Holding;
@@ -73,10 +73,10 @@ impl<D: Disk> Buffered<D> {
     /// all that is stored is safe, and the rest is pending. Each image that a crash now may leave
     /// gives what is safe, or what is stored; of a parked medium where its side gives a volume.
     pub fn known(&self)
-        ensures core { IsCore (core_of D.state self.now) }
-        ensures whole { IsSafeOrPending (core_of D.state self.now) self.now.pending }
+        ensures core { IsCore (medium_core D.state self.now) }
+        ensures whole { IsSafeOrPending (medium_core D.state self.now) self.now.pending }
         ensures shows { (volume : List Part) → (state_of D.state self.now).stored ≡ Some volume →
-            ShowsOn D.state (disk_in self.now.held) (core_of D.state self.now) }
+            ShowsOn D.state (disk_in self.now.held) (medium_core D.state self.now) }
     {
         match &self.held {
             Holding::Open(cartridge) => cartridge.known(),
