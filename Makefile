@@ -1,11 +1,12 @@
 # demo: runs the stored script, unproved    vtl: proves and builds the program    check: the gate
 # wrong: the edits of wrong/, which the prover must refuse too (CRATE=name, EDIT=name: of one crate, that one)
+# rows: bodies that the contracts allow, which a test must refuse
 # faults: refuses each growth in turn       endings: the built program at each of its endings
 # bench: measures speed and memory          gate: what each crate costs the gate
 # definitions: writes docs/DEFINITIONS.md
 RT := $(shell command -v rt)
 
-.PHONY: demo vtl check wrong faults endings bench gate definitions need-rt
+.PHONY: demo vtl check wrong rows faults endings bench gate definitions need-rt
 .DEFAULT_GOAL := demo
 
 need-rt:
@@ -29,6 +30,9 @@ check: need-rt
 wrong: need-rt
 	python3 bench/wrong.py $(CRATE) $(EDIT)
 
+rows: need-rt
+	python3 bench/rows.py
+
 faults: need-rt
 	python3 bench/faults.py
 
@@ -39,6 +43,7 @@ bench: need-rt
 	python3 bench/script.py
 	python3 bench/journal.py
 	python3 bench/cartridge.py
+	python3 bench/buffer.py
 
 gate: need-rt
 	python3 bench/gate.py

@@ -1,10 +1,10 @@
 #!/usr/bin/env python3
-"""Refuses each growth of the stored run, and of runs of the journal and of a cartridge, in turn, on the toolchain's
-unproved run.
+"""Refuses each growth of the stored run, and of runs of the journal, of a cartridge and of a drive in buffered mode, in turn, on the
+toolchain's unproved run.
 
 The stored run: its answers are the stored ones, or it ends with 'out of memory' and status 3, or one line is answered ABORTED
 COMMAND. In the last case the line is given twice: the second time it has its stored answer, and so have all lines behind it.
-The journal and the cartridge: their answers are the stored ones, or it ends with status 1 (its words) or 2 behind some
+The others: their answers are the stored ones, or it ends with status 1 (its words) or 2 behind some
 of them."""
 import os
 import re
@@ -13,8 +13,8 @@ import sys
 from concurrent.futures import ThreadPoolExecutor
 
 TOP = os.path.dirname(os.path.dirname(os.path.abspath(__file__)))
-# by valgrind's count the run of the journal has 144 growths, that of a cartridge 113
-GROWTHS = {"journal_bench": 150, "cartridge_bench": 120}
+# by valgrind's count the run of the journal has 144 growths, that of a cartridge 113; of that of a drive all behind the last are alike
+GROWTHS = {"journal_bench": 150, "cartridge_bench": 120, "buffer_bench": 120}
 ABORTED = "CHECK 70000b000000000a00000000550300000000"
 
 
@@ -76,3 +76,4 @@ def work(crate):
 script()
 work("journal_bench")
 work("cartridge_bench")
+work("buffer_bench")

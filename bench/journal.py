@@ -1,32 +1,10 @@
 #!/usr/bin/env python3
 """Speed and memory of the journal over a disk in memory. Best of five runs."""
-import os
-import subprocess
-import sys
-
-TOP = os.path.dirname(os.path.dirname(os.path.abspath(__file__)))
-PROGRAM = os.path.join(TOP, "crates", "journal_bench", "out", "journal_bench")
-MIB = 1024 * 1024
-
-
-def run(word, count):
-    """Microseconds, what came of it, greatest memory in bytes."""
-    child = subprocess.Popen([PROGRAM, word, str(count)], stdout=subprocess.PIPE)
-    told = child.stdout.read().split()
-    _, status, usage = os.wait4(child.pid, 0)
-    if status:
-        sys.exit(f"{word} {count} ended with status {os.waitstatus_to_exitcode(status)}")
-    return int(told[0]), int(told[1]), usage.ru_maxrss * 1024
-
-
-def best(word, count):
-    runs = [run(word, count) for _ in range(5)]
-    return min(time for time, _, _ in runs) / 1e6, runs[0][1], min(memory for _, _, memory in runs)
+from timed import MIB, Program
 
 
 def main():
-    if not os.path.exists(PROGRAM):
-        sys.exit("build the program first: cd crates/journal_bench && rt run")
+    best = Program("journal_bench", 1_000_000).best
     count = 400
     for word in ("append", "copy"):
         seconds, _, memory = best(word, count)

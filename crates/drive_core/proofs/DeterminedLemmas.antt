@@ -12,7 +12,7 @@ use Rattle.drive_core.specs.State.{DriveState, Machine, bay_of}
 use Rattle.drive_core.specs.Relations.{Made, made_nothing}
 use Rattle.drive_core.specs.Work.{Request}
 use Rattle.drive_core.specs.Turn.{TurnsIn, after_turn, turn_outcome}
-use Rattle.drive_core.specs.Step.{Execute, FlushTurn, Load, Unload, PowerOn, Output, Answered, Unanswered, Step}
+use Rattle.drive_core.specs.Step.{Execute, FlushTurn, Insert, Load, Unload, PowerOn, Output, Answered, Unanswered, Step}
 use Rattle.drive_core.specs.Determined.{IsSureDrive, Sight, sight_of, side_sight, seen_of, without_room, IsCalm, AreSureAlike, AreAllSureAlike, AreAlike, StepsAreDetermined}
 use Rattle.drive_core.proofs.CommandLemmas.{works_sight}
 use Rattle.drive_core.specs.LoadUnload.{emptied}
@@ -108,6 +108,21 @@ module _ (spaces : NoSpaceEndsTwice) (locates : NoLocateEndsTwice) (orders : NoO
   power_on_determined medium other keeper keeper' (Unanswered outcome) (Answered answer) asks kept calm calm' h k =
       absurd k
   power_on_determined medium other keeper keeper' (Answered answer) output' asks kept calm calm' h k = absurd h
+
+  insert_determined : (medium other : MediumState) (output output' : Output) → AreSureAlike medium other
+      → Step (Unit {0}) old (Insert medium) output made new → Step (Unit {0}) beside (Insert other) output' made' new'
+      → AreAlike output output' made made' new new'
+  insert_determined medium other (Unanswered outcome) (Unanswered outcome') asks h k =
+      let seen : seen_of (record old { bay = Unloaded medium }) ≡ seen_of (record beside { bay = Unloaded other }) =
+      λ i. record (e i) { bay = Unloaded (asks.1 i) } in
+      record {
+        outputs = ap Unanswered (h.2 ∙ sym k.2);
+        changes = h.3 ∙ sym k.3;
+        drives = ap seen_of h.4 ∙ seen ∙ ap seen_of (sym k.4);
+        sure = subst (λ (m : Machine). IsSureDrive (seen_of m)) (sym h.4) asks.0;
+      }
+  insert_determined medium other (Unanswered outcome) (Answered answer) asks h k = absurd k
+  insert_determined medium other (Answered answer) output' asks h k = absurd h
 
   unload_determined : (output output' : Output) → IsCalm output → IsCalm output'
       → Step (Unit {0}) old Unload output made new → Step (Unit {0}) beside Unload output' made' new'
@@ -220,4 +235,40 @@ steps_determined spaces locates orders old beside Unload (PowerOn other kept) o 
     c' h k =
     absurd asks
 steps_determined spaces locates orders old beside Unload FlushTurn o o' made made' new new' e sure asks c c' h k =
+    absurd asks
+steps_determined spaces locates orders old beside (Insert medium) (Insert other) output output' made made' new new' e
+    sure asks calm calm' h k =
+    insert_determined spaces locates orders old beside made made' new new' e sure medium other output output' asks h k
+steps_determined spaces locates orders old beside (Execute request) (Insert inserted) o o' made made' new new' e sure
+    asks c c' h
+    k =
+    absurd asks
+steps_determined spaces locates orders old beside (Load medium) (Insert inserted) o o' made made' new new' e sure asks c
+    c' h
+    k =
+    absurd asks
+steps_determined spaces locates orders old beside (PowerOn medium kept) (Insert inserted) o o' made made' new new' e
+    sure asks c c' h
+    k =
+    absurd asks
+steps_determined spaces locates orders old beside FlushTurn (Insert inserted) o o' made made' new new' e sure asks c c'
+    h
+    k =
+    absurd asks
+steps_determined spaces locates orders old beside Unload (Insert inserted) o o' made made' new new' e sure asks c c' h
+    k =
+    absurd asks
+steps_determined spaces locates orders old beside (Insert medium) (Execute other) o o' made made' new new' e sure asks c
+    c' h k =
+    absurd asks
+steps_determined spaces locates orders old beside (Insert medium) (Load other) o o' made made' new new' e sure asks c c'
+    h k =
+    absurd asks
+steps_determined spaces locates orders old beside (Insert medium) (PowerOn other kept) o o' made made' new new' e sure
+    asks c c' h k =
+    absurd asks
+steps_determined spaces locates orders old beside (Insert medium) FlushTurn o o' made made' new new' e sure asks c c' h
+    k =
+    absurd asks
+steps_determined spaces locates orders old beside (Insert medium) Unload o o' made made' new new' e sure asks c c' h k =
     absurd asks

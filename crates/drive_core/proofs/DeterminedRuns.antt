@@ -6,7 +6,7 @@ use Rattle.std.proofs.lemmas.List.Elements.{All-head, All-tail}
 use Rattle.scsi_sense.specs.declared.replies.Reply.{Reply}
 use Rattle.drive_core.specs.State.{Machine}
 use Rattle.drive_core.specs.Relations.{Made, made_nothing, made_after}
-use Rattle.drive_core.specs.Step.{Input, Execute, FlushTurn, Load, Unload, PowerOn, Output, Step, reply_in, replies_of}
+use Rattle.drive_core.specs.Step.{Input, Execute, FlushTurn, Insert, Load, Unload, PowerOn, Output, Step, reply_in, replies_of}
 use Rattle.drive_core.specs.Run.{Run}
 use Rattle.drive_core.specs.Determined.{IsSureDrive, seen_of, AllAskAlike, without_turns, IsCalm, AreAlike, RunsAreDetermined, StepsAreDetermined}
 use Rattle.drive_core.proofs.DeterminedLemmas.{turn_unseen}
@@ -110,6 +110,9 @@ untimed old (Execute request ∷ is) (o ∷ os) made new calm h =
     (untimed h.0 is os h.2 new (All-tail IsCalm o os calm) h.4)
 untimed old (Load medium ∷ is) (o ∷ os) made new calm h =
     untimed_step old h.0 new (Load medium) (without_turns is) o os made h.1 h.2 (All-head IsCalm o os calm) h.3 h.5
+    (untimed h.0 is os h.2 new (All-tail IsCalm o os calm) h.4)
+untimed old (Insert medium ∷ is) (o ∷ os) made new calm h =
+    untimed_step old h.0 new (Insert medium) (without_turns is) o os made h.1 h.2 (All-head IsCalm o os calm) h.3 h.5
     (untimed h.0 is os h.2 new (All-tail IsCalm o os calm) h.4)
 untimed old (Unload ∷ is) (o ∷ os) made new calm h =
     untimed_step old h.0 new Unload (without_turns is) o os made h.1 h.2 (All-head IsCalm o os calm) h.3 h.5

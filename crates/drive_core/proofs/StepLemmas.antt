@@ -22,7 +22,7 @@ use Rattle.drive_core.specs.OnMedium.{OnMediumIn}
 use Rattle.drive_core.specs.LoadUnload.{LoadUnloadWork, LoadsIn, UnloadsInto, emptied, unloaded}
 use Rattle.drive_core.specs.Checks.{ExecutesAs, verdict}
 use Rattle.drive_core.specs.Load.{LoadsInto, PowersOn}
-use Rattle.drive_core.specs.Step.{Input, Execute, FlushTurn, Load, Unload, PowerOn, Output, Answered, Unanswered, Step}
+use Rattle.drive_core.specs.Step.{Input, Execute, FlushTurn, Insert, Load, Unload, PowerOn, Output, Answered, Unanswered, Step}
 use Rattle.drive_core.proofs.ReadLemmas.{read_where}
 
 module _ (H H' : Type 0) (so : H → H') where
@@ -180,11 +180,13 @@ module _ (H H' : Type 0) (so : H → H') where
       executes_where old answer made new (verdict old request) request h
   step_where old FlushTurn (Unanswered outcome) made new h = h
   step_where old (Load medium) (Answered answer) made new h = loads_where old.bay medium old answer made new h
+  step_where old (Insert medium) (Unanswered outcome) made new h = h
   step_where old Unload (Answered answer) made new h = unloads_where emptied old.bay old answer made new h
   step_where old (PowerOn medium keeper) (Unanswered outcome) made new h =
       powers_where medium keeper outcome made new h
   step_where old (Execute request) (Unanswered outcome) made new h = absurd h
   step_where old FlushTurn (Answered answer) made new h = absurd h
   step_where old (Load medium) (Unanswered outcome) made new h = absurd h
+  step_where old (Insert medium) (Answered answer) made new h = absurd h
   step_where old (PowerOn medium keeper) (Answered answer) made new h = absurd h
   step_where old Unload (Unanswered outcome) made new h = absurd h

@@ -6,7 +6,7 @@ use Rattle.volume_core.specs.Medium.{MediumState, volume_of}
 use Rattle.pr_core.specs.Keepers.{KeeperState}
 use Rattle.drive_core.specs.State.{Machine, DriveState, bay_of, medium_in}
 use Rattle.drive_core.specs.Relations.{Made}
-use Rattle.drive_core.specs.Step.{Input, Execute, FlushTurn, Load, Unload, PowerOn, Output, Answered, Unanswered, Step, replies_of}
+use Rattle.drive_core.specs.Step.{Input, Execute, FlushTurn, Insert, Load, Unload, PowerOn, Output, Answered, Unanswered, Step, replies_of}
 use Rattle.drive_core.specs.Run.{Run}
 
 -- over an honest medium, a step that hangs on its honesty is a step of the machine (own)
@@ -94,6 +94,7 @@ AreAllSureAlike _ _ = ⊥
 abbrev pub AskAlike : Input → Input → Type 0
 AskAlike (Execute request) (Execute other) = request ≡ other
 AskAlike (Load medium) (Load other) = AreSureAlike medium other
+AskAlike (Insert medium) (Insert other) = AreSureAlike medium other
 AskAlike (PowerOn medium keeper) (PowerOn other beside) =
     AreAllSureAlike medium other × (without_room keeper ≡ without_room beside)
 AskAlike FlushTurn FlushTurn = Unit {0}

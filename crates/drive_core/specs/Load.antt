@@ -1,5 +1,5 @@
 -- The loading of a medium into an empty drive, and the power on.
-use Rattle.std.specs.Prelude.{◌≡◌, [], Option, None, Some, Result, Ok, Err}
+use Rattle.std.specs.Prelude.{◌≡◌, [], false, Option, None, Some, Result, Ok, Err}
 use Rattle.scsi_sense.specs.declared.replies.Reply.{Reply}
 use Rattle.scsi_sense.specs.Replies.{good_with, check_with}
 use Rattle.scsi_sense.specs.Senses.{medium_failed, read_error}
@@ -38,6 +38,13 @@ LoadsInto honest _ medium old answer made new = ⊥
 -- known where it is honest (SSC-4, SMC-3; honesty own).
 abbrev pub Loads : Type 0 → MediumState → MachineRelation
 Loads honest medium old answer made new = LoadsInto honest old.bay medium old answer made new
+
+-- A parked medium is put into an empty drive, and into no other: it stands there, not loaded, and no host is told
+-- (SMC-3; that no host is told, own).
+abbrev pub Inserts : MediumState → Machine → Result Unit Fault → Made → Machine → Type 0
+Inserts medium old outcome made new =
+    (old.bay ≡ Empty) × (medium.awake ≡ false) × (outcome ≡ Ok tt) × (made ≡ made_nothing)
+    × (new ≡ record old { bay = Unloaded medium })
 
 -- Where a medium stands that was asked to open when the power came on: loaded where it is awake, one that has failed
 -- too, else unloaded. Only where memory runs out the drive is not switched on (own).

@@ -22,7 +22,7 @@ use Rattle.drive_core.specs.State.{Machine, DriveState, machine_of, medium_in, l
 use Rattle.drive_core.specs.Faults.{fault_reply, reply_of}
 use Rattle.drive_core.specs.Relations.{made_nothing}
 use Rattle.drive_core.specs.Load.{wake_answer, bay_when_on}
-use Rattle.drive_core.specs.Step.{FlushTurn, Load, Unload, PowerOn, Answered, Unanswered, Step}
+use Rattle.drive_core.specs.Step.{FlushTurn, Insert, Load, Unload, PowerOn, Answered, Unanswered, Step}
 use Rattle.drive_core.specs.Turn.{turn_outcome}
 use Rattle.drive_core.specs.Execute.{AdvancesIn, StoresIn, HonestIn}
 
@@ -105,6 +105,12 @@ module _ {M : Type 0} (state : M → MediumState) (below : Below M Change) where
         pub step :
             Step (below.honest given) (machine_of state kept old)
             (Load (state given)) (Answered answer) made_nothing (machine_of state kept new)
+
+      -- that a parked medium is put into a drive is a step of the machine (own)
+      abbrev pub InsertSteps : DriveState M K → M → DriveState M K → Type 0
+      InsertSteps old given new =
+          Step (below.honest given) (machine_of state kept old)
+          (Insert (state given)) (Unanswered (Ok tt)) made_nothing (machine_of state kept new)
 
       -- what an unloading does is a step of the machine (own)
       pub record UnloadSteps (old : DriveState M K) (result : Result M Reply) (new : DriveState M K) : Type 0 where

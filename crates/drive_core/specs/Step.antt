@@ -10,15 +10,18 @@ use Rattle.drive_core.specs.Relations.{Made}
 use Rattle.drive_core.specs.Work.{Request}
 use Rattle.drive_core.specs.Checks.{Executes}
 use Rattle.drive_core.specs.Turn.{FlushTurns}
-use Rattle.drive_core.specs.Load.{Loads, PowersOn}
+use Rattle.drive_core.specs.Load.{Inserts, Loads, PowersOn}
 use Rattle.drive_core.specs.LoadUnload.{TakesOut}
 
--- what a drive is asked: to carry a command out, to take a flusher's turn, to take a medium in, to give its medium out,
--- to switch on with this medium in it, if any, and with this keeper (SAM-5; SMC-3; SPC-4; turn and keeper own)
+-- what a drive is asked: to carry a command out, to take a flusher's turn, to take a medium in, to have a parked one
+-- put
+-- into it, to give its medium out, to switch on with this medium in it, if any, and with this keeper (SAM-5; SMC-3;
+-- SPC-4; turn and keeper own)
 pub data Input : Type 0 where
   Execute : (request : Request) → Input
   FlushTurn : Input
   Load : (medium : MediumState) → Input
+  Insert : (medium : MediumState) → Input
   Unload : Input
   PowerOn : (medium : Option MediumState) → (keeper : KeeperState) → Input
 
@@ -35,6 +38,7 @@ abbrev pub Step : Type 0 → Machine → Input → Output → Made → Machine �
 Step honest old (Execute request) (Answered answer) made new = Executes honest request old answer made new
 Step honest old FlushTurn (Unanswered outcome) made new = FlushTurns old outcome made new
 Step honest old (Load medium) (Answered answer) made new = Loads honest medium old answer made new
+Step honest old (Insert medium) (Unanswered outcome) made new = Inserts medium old outcome made new
 Step honest old Unload (Answered answer) made new = TakesOut honest old answer made new
 Step honest old (PowerOn medium keeper) (Unanswered outcome) made new = PowersOn honest medium keeper outcome made new
 Step honest old _ _ made new = ⊥

@@ -1,12 +1,12 @@
 //! Drives.
-ghost use Rattle.std.specs.Prelude.{◌≡◌, ◌↔◌, IsTrue, IfOk, option_copied};
+ghost use Rattle.std.specs.Prelude.{◌≡◌, ◌↔◌, IsTrue, IfOk, false, is_some, option_copied};
 ghost use Rattle.drive_core.specs.declared.bays.Bay.TheVariants as Bays;
 ghost use Rattle.drive_core.specs.State.{machine_of, medium_in, left_of, IsBayPositioned};
 ghost use Rattle.drive_core.specs.Conditions.{denial_reply, denied, without_condition};
 ghost use Rattle.drive_core.specs.Checks.{Executes};
 ghost use Rattle.drive_core.specs.Synchronize.{IsSynchronizing, Acknowledges, NothingPending};
 ghost use Rattle.drive_core.specs.Execute.{Answers, Takes, HonestIn, asked};
-ghost use Rattle.drive_core.specs.Media.{TakesTurn, TakesIn, LoadSteps, GoesOut, UnloadSteps, SwitchesOn, PowerOnSteps};
+ghost use Rattle.drive_core.specs.Media.{TakesTurn, TakesIn, InsertSteps, LoadSteps, GoesOut, UnloadSteps, SwitchesOn, PowerOnSteps};
 
 mod loading;
 mod modes;
@@ -122,11 +122,31 @@ impl<M: Medium, K: Keeper> Drive<M, K> {
         self.take_in(medium)
     }
 
+    /// Puts a parked medium into an empty drive: it is there, not loaded, and no host is told. It takes
+    /// no memory.
+    pub fn insert(&mut self, medium: M)
+        requires empty { self.old.bay ≡ Bays.Empty }
+        requires parked { (M.state medium).awake ≡ false }
+        ensures inserted { self.new ≡ record self.old { bay = Bays.Unloaded medium } }
+        ensures step { InsertSteps M.state M.below K.kept self.old medium self.new }
+    {
+        fill(&mut self.bay, Bay::Unloaded(medium));
+    }
+
+    /// Whether a reservation is held at the drive.
+    pub fn held(&self) -> bool
+        ensures { result ≡ is_some self.now.reservations.reservation }
+    {
+        self.reservations.is_held()
+    }
+
     /// Unloads what is in the drive, as UNLOAD does, and gives it out, parked. Where there is nothing
     /// (2, 3A/00), or the device fails (3, 0C/00), nothing comes out, and the reply says so; in the
     /// second case the medium stays loaded, and has failed.
     pub fn unload(&mut self) -> Result<M, Reply>
         ensures out { GoesOut M.state M.below self.old result self.new }
+        ensures parked { IfOk result (λ medium.
+            ((M.state medium).awake ≡ false) × (self.new.bay ≡ Bays.Empty)) }
         ensures step { UnloadSteps M.state M.below K.kept self.old result self.new }
     {
         self.give_out()
@@ -185,7 +205,9 @@ impl<M: Medium, K: Keeper> Drive<M, K> {
 
     // Parks what is loaded, and gives out what is in the drive.
     fn give_out(&mut self) -> Result<M, Reply>
-        ensures { GoesOut M.state M.below self.old result self.new }
+        ensures out { GoesOut M.state M.below self.old result self.new }
+        ensures parked { IfOk result (λ medium.
+            ((M.state medium).awake ≡ false) × (self.new.bay ≡ Bays.Empty)) }
     {
         match mem::replace(&mut self.bay, Bay::Empty) {
             Bay::Empty => Err(check(self.alloc, Sense::medium_not_present())),

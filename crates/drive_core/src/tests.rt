@@ -9,8 +9,8 @@ mod tables;
 use crate::laws::{answers_are_determined, honest_steps, runs_append, served_hosts_run};
 use crate::{Drive, Fault};
 use motions::{
-    AFTER_A_FAULT, AFTER_A_LATE_FAULT, AFTER_ANOTHER, ASKED, ASKED_EMPTY, ASKED_LOADED,
-    BEFORE_A_FAULT, ERASURES, MOVES, NO_ERASURE, STORED_FIRST,
+    AFTER_A_FAULT, AFTER_A_LATE_FAULT, AFTER_A_MOVE, AFTER_AN_UNLOADING, AFTER_ANOTHER, ASKED,
+    ASKED_EMPTY, ASKED_LOADED, BEFORE_A_FAULT, ERASURES, MOVES, NO_ERASURE, STORED_FIRST,
 };
 use pr_core::{NoKeeper, Reservations};
 use scsi_sense::{Reply, Status};
@@ -214,6 +214,38 @@ fn what_is_pending_is_stored_first(rt: HostRuntime) -> Result<(), Fail> {
         let mut drive = powered(alloc, 1_000, Some(0))?;
         assert_rows(&rt, &mut drive, &BEFORE_A_FAULT);
         assert_eq!(&rt; drive.turn(), Turn::Faulted);
+        assert_rows(&rt, &mut drive, rows);
+    }
+    Ok(())
+}
+
+// The cartridge goes out of the drive, and comes back.
+fn move_out_and_in(rt: &impl Abort, drive: &mut Drive<StagedMedium, NoKeeper>) {
+    let Ok(medium) = drive.unload() else {
+        assert!(rt; false, "nothing came out");
+        return;
+    };
+    if !drive.is_empty() {
+        assert!(rt; false, "not empty");
+        return;
+    }
+    assert!(rt; drive.load(medium).is_ok());
+}
+
+// A deferred error is the drive's: it stays while the cartridge moves.
+#[test]
+fn a_deferred_error_outlives_a_cartridge(rt: HostRuntime) -> Result<(), Fail> {
+    let alloc = rt.alloc();
+    for (moves, rows) in [
+        (false, AFTER_AN_UNLOADING.as_slice()),
+        (true, AFTER_A_MOVE.as_slice()),
+    ] {
+        let mut drive = powered(alloc, 1_000, Some(0))?;
+        assert_rows(&rt, &mut drive, &BEFORE_A_FAULT);
+        assert_eq!(&rt; drive.turn(), Turn::Faulted);
+        if moves {
+            move_out_and_in(&rt, &mut drive);
+        }
         assert_rows(&rt, &mut drive, rows);
     }
     Ok(())

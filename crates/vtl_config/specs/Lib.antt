@@ -4,4 +4,5 @@ pub mod Capacities
 pub mod Entries
 pub mod Rules
 pub mod Configs
+pub mod Laws
 pub mod Inner

@@ -7,6 +7,7 @@ mod doubles;
 mod drive_entries;
 pub mod entries;
 pub mod keys;
+pub mod laws;
 mod reading;
 pub mod rules;
 #[cfg(test)]

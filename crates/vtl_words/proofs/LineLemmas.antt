@@ -1,11 +1,11 @@
 -- The command line is one whose matches are known.
-use Rattle.std.proofs.Common.{◌≡◌, ◌⊎◌, inl, inr, ℕ, true, List, Option, Some, None, option_map, Box, refl, subst}
+use Rattle.std.proofs.Common.{◌≡◌, ◌⊎◌, inl, inr, ℕ, true, List, Option, Some, None, option_map, Box, refl, sym, subst, ◌∙◌}
 use Rattle.std.proofs.lemmas.Option.{same_Some}
 use Rattle.std.specs.Box.{box_value}
 use Rattle.clap.specs.Faults.{fault_of, is_simple_and_free}
 use Rattle.clap.specs.Kinds.{IsAmong}
 use Rattle.clap.specs.Matches.{found_of}
-use Rattle.clap.specs.Simple.{is_simple, subcommand_rows}
+use Rattle.clap.specs.Simple.{is_simple, subcommand_of, subcommand_rows}
 use Rattle.clap.specs.Walk.{Row, rows_of}
 use Rattle.clap.specs.declared.parser.matches.SubCommand.{SubCommand}
 use Rattle.clap.specs.declared.parser.matches.ArgMatches.TheViews.{out-SubCommand}
@@ -13,8 +13,8 @@ use Rattle.clap.proofs.OnLiterals.{clap_on_literals}
 use Rattle.clap.specs.declared.error.kind.ErrorKind.{ErrorKind}
 use Rattle.clap.specs.declared.error.kind.ErrorKind.TheVariants.{OutOfMemory}
 use Rattle.vtl_words.specs.Commands.{vtl_command}
-use Rattle.vtl_words.specs.Inner.Told.{Tells}
-use Rattle.vtl_words.specs.Orders.{RefusesWords}
+use Rattle.vtl_words.specs.Inner.Told.{Tells, AsksNothing}
+use Rattle.vtl_words.specs.Orders.{Asked, order_from, RefusesWords}
 use Rattle.vtl_words.specs.declared.orders.WordsError.{WordsError}
 use Rattle.vtl_words.specs.declared.orders.WordsError.TheVariants.{Help, Refused, NoMemory}
 
@@ -48,3 +48,11 @@ told_refused words kind (Help text) tells (inr among) =
 told_refused words kind Refused tells (inl memory) = absurd (tells.1 memory)
 told_refused words kind Refused tells (inr among) = inl (kind, tells.0, among)
 told_refused words kind NoMemory tells has = tt
+
+-- matches that ask for nothing refuse the words
+pub nothing_refused :
+    (words : List (List ℕ)) (asked : Option Asked) (error : WordsError)
+    → asked ≡ order_from (subcommand_of vtl_command words) → AsksNothing asked error → RefusesWords words error
+nothing_refused words asked (Help text) same nothing = absurd nothing
+nothing_refused words asked Refused same nothing = inr (sym same ∙ nothing)
+nothing_refused words asked NoMemory same nothing = tt

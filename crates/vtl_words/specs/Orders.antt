@@ -41,9 +41,9 @@ asked_by word rows =
     else None
 
 -- what matches ask for
-abbrev pub asked_from : Option (List ℕ × List Row) → Option Asked
-asked_from None = None
-asked_from (Some matches) = asked_by matches.0 matches.1
+abbrev pub order_from : Option (List ℕ × List Row) → Option Asked
+order_from None = None
+order_from (Some matches) = asked_by matches.0 matches.1
 
 -- words as bytes
 abbrev pub texts_of : List (String Global) → List (List ℕ)
@@ -52,13 +52,13 @@ texts_of words = map (λ word. string_bytes word) words
 -- the words ask for this: the parser finds no fault in them, and its matches ask for it (own)
 pub record Asks (words : List (List ℕ)) (asked : Asked) : Type 0 where
   pub no_fault : fault_of vtl_command words ≡ []
-  pub matches : asked_from (subcommand_of vtl_command words) ≡ Some asked
+  pub matches : order_from (subcommand_of vtl_command words) ≡ Some asked
 
 -- the parser finds such a fault in the words, or its matches ask for nothing (own)
 abbrev pub AreRefused : List (List ℕ) → Type 0
 AreRefused words =
     ((kind : ErrorKind) × (kind ≢ DisplayHelp) × IsAmong kind (fault_of vtl_command words))
-    ⊎ (asked_from (subcommand_of vtl_command words) ≡ None)
+    ⊎ (order_from (subcommand_of vtl_command words) ≡ None)
 
 -- why words give no order; memory may run out at any (own)
 abbrev pub RefusesWords : List (List ℕ) → WordsError → Type 0

@@ -87,7 +87,8 @@ fn with<'a>(command: Command<'a>, arg: Arg<'a>) -> Result<Command<'a>, AllocErro
     ensures app { IfOk result (λ r. app_of r ≡ with_rule (app_of command.entry) (rule_of arg.entry)) }
     ensures local { IfOk result (λ r. (out-Command r).has_globals ≡ false) }
 {
-    command.arg(arg)
+    let added = command.arg(arg)?;
+    Ok(added)
 }
 
 // The command with one word more.
@@ -97,29 +98,33 @@ fn with_word<'a>(command: Command<'a>, word: Command<'a>) -> Result<Command<'a>,
     ensures app { IfOk result (λ r. app_of r ≡ with_subcommand (app_of command.entry) (app_of word.entry).top) }
     ensures local { IfOk result (λ r. (out-Command r).has_globals ≡ false) }
 {
-    command.subcommand(word)
+    let added = command.subcommand(word)?;
+    Ok(added)
 }
 
 fn run_command<'a>(alloc: Global) -> Result<Command<'a>, AllocError>
     ensures app { IfOk result (λ r. app_of r ≡ line.run_command) }
     ensures local { IfOk result (λ r. (out-Command r).has_globals ≡ false) }
 {
-    let command = with(named(alloc, "run", RUN_ABOUT), memory_flag(alloc))?;
-    with(command, config_option(alloc))
+    let flagged = with(named(alloc, "run", RUN_ABOUT), memory_flag(alloc))?;
+    let whole = with(flagged, config_option(alloc))?;
+    Ok(whole)
 }
 
 fn create_command<'a>(alloc: Global) -> Result<Command<'a>, AllocError>
     ensures app { IfOk result (λ r. app_of r ≡ line.create_command) }
     ensures local { IfOk result (λ r. (out-Command r).has_globals ≡ false) }
 {
-    with(named(alloc, "create", CREATE_ABOUT), config_required(alloc))
+    let whole = with(named(alloc, "create", CREATE_ABOUT), config_required(alloc))?;
+    Ok(whole)
 }
 
 fn check_command<'a>(alloc: Global) -> Result<Command<'a>, AllocError>
     ensures app { IfOk result (λ r. app_of r ≡ line.check_command) }
     ensures local { IfOk result (λ r. (out-Command r).has_globals ≡ false) }
 {
-    with(named(alloc, "check", CHECK_ABOUT), file_word(alloc))
+    let whole = with(named(alloc, "check", CHECK_ABOUT), file_word(alloc))?;
+    Ok(whole)
 }
 
 // `vtl` before its words.
@@ -135,7 +140,11 @@ fn program<'a>(alloc: Global) -> Command<'a>
 pub(crate) fn vtl_command<'a>(alloc: Global) -> Result<Command<'a>, AllocError>
     ensures { IfOk result (λ r. app_of r ≡ line.vtl_command) }
 {
-    let command = with_word(program(alloc), run_command(alloc)?)?;
-    let command = with_word(command, create_command(alloc)?)?;
-    with_word(command, check_command(alloc)?)
+    let run = run_command(alloc)?;
+    let create = create_command(alloc)?;
+    let check = check_command(alloc)?;
+    let one = with_word(program(alloc), run)?;
+    let two = with_word(one, create)?;
+    let three = with_word(two, check)?;
+    Ok(three)
 }

@@ -6,7 +6,7 @@ ghost use Rattle.clap.specs.Simple.{subcommand_of, subcommand_rows_of};
 ghost use Rattle.clap.specs.Values.{kind_of};
 ghost use Rattle.clap.specs.Walk.{first_of, rows_of};
 ghost use Rattle.vtl_words.specs.Commands.{vtl_command};
-ghost use Rattle.vtl_words.specs.Orders.{asked_of, asked_by, asked_from, is_set, texts_of, Asks, RefusesWords};
+ghost use Rattle.vtl_words.specs.Orders.{asked_of, asked_by, order_from, is_set, texts_of, Asks, RefusesWords};
 ghost use Rattle.vtl_words.specs.Inner.Told.{Tells, AsksNothing};
 
 use crate::commands::vtl_command;
@@ -14,6 +14,7 @@ use crate::orders::{Order, WordsError};
 use clap::ArgMatches;
 use clap::error::ErrorKind;
 use std::alloc::Global;
+use vtl_base::NoMemory;
 
 // What an error of the parser is told as.
 fn told(alloc: Global, error: &clap::Error) -> WordsError
@@ -59,28 +60,26 @@ fn is_set(value: Option<&str>) -> bool
     }
 }
 
-fn copied(alloc: Global, value: Option<&str>) -> Result<Option<String>, WordsError>
-    ensures ok { IfOk result (λ copy. option_map string_bytes copy ≡ option_map (λ text. text.now) value.entry) }
-    ensures err { IfErr result (λ e. e ≡ WordsError.NoMemory) }
+fn copied(alloc: Global, value: Option<&str>) -> Result<Option<String>, NoMemory>
+    ensures { IfOk result (λ copy. option_map string_bytes copy ≡ option_map (λ text. text.now) value.entry) }
 {
     match value {
         Some(text) => match String::from_str(alloc, text) {
             Ok(copy) => Ok(Some(copy)),
-            Err(_) => Err(WordsError::NoMemory),
+            Err(_) => Err(NoMemory),
         },
         None => Ok(None),
     }
 }
 
-fn run_order(alloc: Global, matches: &ArgMatches<'_>) -> Result<Order, WordsError>
-    ensures ok { IfOk result (λ order.
+fn run_order(alloc: Global, matches: &ArgMatches<'_>) -> Result<Order, NoMemory>
+    ensures { IfOk result (λ order.
         asked_by (codes "run") (rows_of (found_of matches.now)) ≡ Some (asked_of order)) }
-    ensures err { IfErr result (λ e. e ≡ WordsError.NoMemory) }
 {
     let memory = is_set(value_of(matches, "memory"));
     match copied(alloc, value_of(matches, "config")) {
         Ok(config) => Ok(Order::Run { memory, config }),
-        Err(error) => Err(error),
+        Err(_) => Err(NoMemory),
     }
 }
 
@@ -90,9 +89,11 @@ fn create_order(alloc: Global, matches: &ArgMatches<'_>) -> Result<Order, WordsE
     ensures err { IfErr result (AsksNothing (asked_by (codes "create") (rows_of (found_of matches.now)))) }
 {
     match copied(alloc, value_of(matches, "config")) {
-        Ok(Some(config)) => Ok(Order::Create { config }),
-        Ok(None) => Err(WordsError::Refused),
-        Err(error) => Err(error),
+        Ok(value) => match value {
+            Some(config) => Ok(Order::Create { config }),
+            None => Err(WordsError::Refused),
+        },
+        Err(_) => Err(WordsError::NoMemory),
     }
 }
 
@@ -102,9 +103,11 @@ fn check_order(alloc: Global, matches: &ArgMatches<'_>) -> Result<Order, WordsEr
     ensures err { IfErr result (AsksNothing (asked_by (codes "check") (rows_of (found_of matches.now)))) }
 {
     match copied(alloc, value_of(matches, "file")) {
-        Ok(Some(file)) => Ok(Order::Check { file }),
-        Ok(None) => Err(WordsError::Refused),
-        Err(error) => Err(error),
+        Ok(value) => match value {
+            Some(file) => Ok(Order::Check { file }),
+            None => Err(WordsError::Refused),
+        },
+        Err(_) => Err(WordsError::NoMemory),
     }
 }
 
@@ -113,7 +116,10 @@ fn order_by(alloc: Global, word: &str, matches: &ArgMatches<'_>) -> Result<Order
     ensures err { IfErr result (AsksNothing (asked_by word.now (rows_of (found_of matches.now)))) }
 {
     if word == "run" {
-        return run_order(alloc, matches);
+        return match run_order(alloc, matches) {
+            Ok(order) => Ok(order),
+            Err(_) => Err(WordsError::NoMemory),
+        };
     }
     if word == "create" {
         return create_order(alloc, matches);
@@ -125,11 +131,11 @@ fn order_by(alloc: Global, word: &str, matches: &ArgMatches<'_>) -> Result<Order
 }
 
 fn order_in(alloc: Global, matches: &ArgMatches<'_>) -> Result<Order, WordsError>
-    ensures ok { IfOk result (λ order. asked_from (subcommand_rows_of matches.now) ≡ Some (asked_of order)) }
-    ensures err { IfErr result (AsksNothing (asked_from (subcommand_rows_of matches.now))) }
+    ensures ok { IfOk result (λ order. order_from (subcommand_rows_of matches.now) ≡ Some (asked_of order)) }
+    ensures err { IfErr result (AsksNothing (order_from (subcommand_rows_of matches.now))) }
 {
     match matches.subcommand() {
-        Some((word, inner)) => order_by(alloc, word, inner),
+        Some(found) => order_by(alloc, found.0, found.1),
         None => Err(WordsError::Refused),
     }
 }

@@ -13,9 +13,9 @@ use std::test::Fail;
 use volume_core::{FaultPlan, StagedMedium};
 use vtl_base::Nexus;
 
-const LOAD: &'static [u8] = &[0x1b, 0, 0, 0, 1, 0];
+pub const LOAD: &'static [u8] = &[0x1b, 0, 0, 0, 1, 0];
 
-const UNLOAD: &'static [u8] = &[0x1b, 0, 0, 0, 0, 0];
+pub const UNLOAD: &'static [u8] = &[0x1b, 0, 0, 0, 0, 0];
 
 const SENSE_MODE: &'static [u8] = &[0x1a, 0, 0, 0, 12, 0];
 
@@ -23,9 +23,16 @@ const SENSE_MODE_BARE: &'static [u8] = &[0x1a, 8, 0x3f, 0, 255, 0];
 
 const SELECT_4: &'static [u8] = &[0x15, 0, 0, 0, 4, 0];
 
+const SELECT_12: &'static [u8] = &[0x15, 0, 0, 0, 12, 0];
+
 const MODE_0: &'static [u8] = &[0, 0, 0, 0];
 
 const MODE_1: &'static [u8] = &[0, 0, 0x10, 0];
+
+// The lists with a block descriptor, as MODE SENSE gives them.
+const MODE_0_WHOLE: &'static [u8] = b"\x0b\0\0\x08\0\0\0\0\0\0\0\0";
+
+const MODE_1_WHOLE: &'static [u8] = b"\x0b\0\x10\x08\0\0\0\0\0\0\0\0";
 
 const HELLO: Answer<'static> = Answer::Good(b"hello");
 
@@ -127,12 +134,7 @@ fn the_mode_is_set_and_told(rt: HostRuntime) -> Result<(), Fail> {
     let mut drive = with_tape(&rt, alloc, plan)?;
     let immediate: &[u8] = &[0x10, 1, 0, 0, 1, 0];
     let rows: [Row; 16] = [
-        (
-            1,
-            SENSE_MODE,
-            NONE,
-            Answer::Good(b"\x0b\0\x10\x08\0\0\0\0\0\0\0\0"),
-        ),
+        (1, SENSE_MODE, NONE, Answer::Good(MODE_1_WHOLE)),
         (1, SENSE_MODE_BARE, NONE, Answer::Good(b"\x03\0\x10\0")),
         (1, SELECT_4, MODE_1, GOOD),
         (2, TEST_UNIT_READY, NONE, GOOD),
@@ -140,12 +142,7 @@ fn the_mode_is_set_and_told(rt: HostRuntime) -> Result<(), Fail> {
         // The other host is told, once; who sets the mode is not.
         (1, TEST_UNIT_READY, NONE, GOOD),
         (2, TEST_UNIT_READY, NONE, MODE_CHANGED),
-        (
-            2,
-            SENSE_MODE,
-            NONE,
-            Answer::Good(b"\x0b\0\0\x08\0\0\0\0\0\0\0\0"),
-        ),
+        (2, SENSE_MODE, NONE, Answer::Good(MODE_0_WHOLE)),
         (2, SENSE_MODE_BARE, NONE, Answer::Good(b"\x03\0\0\0")),
         (1, &[0x15, 0, 0, 0, 0, 0], NONE, GOOD),
         (1, &[0x15, 0, 0, 0, 5, 0], &[0; 5], BAD_LENGTH),
@@ -155,6 +152,29 @@ fn the_mode_is_set_and_told(rt: HostRuntime) -> Result<(), Fail> {
         // In this mode a write is stored before its answer.
         (1, WRITE_5, b"hello", WRITE_ERROR),
         (1, SENSE_MODE_BARE, NONE, Answer::Good(b"\x03\0\0\0")),
+    ];
+    ask_all(&rt, &mut drive, &rows);
+    Ok(())
+}
+
+#[test]
+fn a_mode_list_has_a_block_descriptor(rt: HostRuntime) -> Result<(), Fail> {
+    let mut drive = with_tape(&rt, rt.alloc(), SOUND)?;
+    let rows: [Row; 12] = [
+        (1, SELECT_12, b"\0\0\0\x08\0\0\0\0\0\0\0\0", GOOD),
+        (1, SENSE_MODE, NONE, Answer::Good(MODE_0_WHOLE)),
+        (2, TEST_UNIT_READY, NONE, MODE_CHANGED),
+        // What MODE SENSE gives may be sent back.
+        (2, SELECT_12, MODE_0_WHOLE, GOOD),
+        (1, TEST_UNIT_READY, NONE, GOOD),
+        (2, SELECT_12, MODE_1_WHOLE, GOOD),
+        (1, TEST_UNIT_READY, NONE, MODE_CHANGED),
+        // Blocks of one length, no descriptor in 12 bytes, and fewer bytes than the block tells.
+        (1, SELECT_12, b"\0\0\0\x08\0\0\0\0\0\0\x02\0", BAD_LIST),
+        (1, SELECT_12, &[0; 12], BAD_LIST),
+        (1, SELECT_12, MODE_0, BAD_FIELD),
+        (2, TEST_UNIT_READY, NONE, GOOD),
+        (2, SENSE_MODE, NONE, Answer::Good(MODE_1_WHOLE)),
     ];
     ask_all(&rt, &mut drive, &rows);
     Ok(())
@@ -205,5 +225,33 @@ fn a_cartridge_goes_out(rt: HostRuntime) -> Result<(), Fail> {
     ask_all(&rt, &mut parked, &rows);
     assert!(&rt; parked.unload().is_ok());
     assert!(&rt; parked.is_empty());
+    Ok(())
+}
+
+#[test]
+fn a_cartridge_is_put_in(rt: HostRuntime) -> Result<(), Fail> {
+    let alloc = rt.alloc();
+    let mut drive = with_tape(&rt, alloc, SOUND)?;
+    let rows: [Row; 1] = [(1, WRITE_5, b"hello", GOOD)];
+    ask_all(&rt, &mut drive, &rows);
+    match drive.unload() {
+        Ok(medium) => drive.insert(medium),
+        Err(_) => assert!(&rt; false, "nothing came out"),
+    }
+    // It is there, not loaded, and nobody is told; then it is loaded.
+    assert!(&rt; !drive.is_empty());
+    let rows: [Row; 5] = [
+        (2, TEST_UNIT_READY, NONE, NO_MEDIUM),
+        (1, TEST_UNIT_READY, NONE, NO_MEDIUM),
+        (1, LOAD, NONE, GOOD),
+        (1, READ_5, NONE, HELLO),
+        (2, TEST_UNIT_READY, NONE, CHANGED),
+    ];
+    ask_all(&rt, &mut drive, &rows);
+    // A reservation is held from its making on.
+    assert!(&rt; !drive.held());
+    let rows: [Row; 2] = [(1, REGISTER, A_NEW, GOOD), (1, RESERVE_5, BY_A, GOOD)];
+    ask_all(&rt, &mut drive, &rows);
+    assert!(&rt; drive.held());
     Ok(())
 }

@@ -1,4 +1,5 @@
 //! Tables of motions, reports and erasing: over two partitions, over a full side, and where the device fails.
+use super::loading::{LOAD, UNLOAD};
 use super::tables::{
     BAD_FIELD, CHANGED, END, FAILED, FULL, GOOD, LATE_ERROR, NO_MEDIUM, NONE, POWERED_ON, READ_5,
     REWIND, Row, TEST_UNIT_READY, UNKNOWN, WRITE_5, WRITE_MARK, Wanted,
@@ -199,4 +200,25 @@ pub const AFTER_A_LATE_FAULT: [Row<'static>; 6] = [
 pub const AFTER_ANOTHER: [Row<'static>; 2] = [
     (2, BLOCK_LIMITS, NONE, LATE_ERROR),
     (2, BLOCK_LIMITS, NONE, POWERED_ON),
+];
+
+// UNLOAD reports it and does nothing else; then LOAD opens what the side gives, without what was pending.
+pub const AFTER_AN_UNLOADING: [Row<'static>; 8] = [
+    (1, UNLOAD, NONE, LATE_ERROR),
+    (1, TEST_UNIT_READY, NONE, FAILED),
+    (1, UNLOAD, NONE, GOOD),
+    (1, LOAD, NONE, GOOD),
+    (1, TEST_UNIT_READY, NONE, GOOD),
+    (1, READ_5, NONE, END),
+    (2, TEST_UNIT_READY, NONE, POWERED_ON),
+    (2, TEST_UNIT_READY, NONE, CHANGED),
+];
+
+// Where the cartridge went out of the drive and came back before any command.
+pub const AFTER_A_MOVE: [Row<'static>; 5] = [
+    (1, TEST_UNIT_READY, NONE, LATE_ERROR),
+    (1, TEST_UNIT_READY, NONE, CHANGED),
+    (1, READ_5, NONE, END),
+    (2, TEST_UNIT_READY, NONE, POWERED_ON),
+    (2, TEST_UNIT_READY, NONE, CHANGED),
 ];

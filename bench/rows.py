@@ -1,0 +1,58 @@
+#!/usr/bin/env python3
+"""Tries bodies that the contracts allow, and that a test has to refuse: on a copy of the repository, by the toolchain's unproved run."""
+import os
+import re
+import shutil
+import subprocess
+import sys
+import tempfile
+
+TOP = os.path.dirname(os.path.dirname(os.path.abspath(__file__)))
+# what the edit makes of a crate, the crate and its file, the old text and the new one, the crate of the tests, the tests that must fail
+EDITS = [
+    ("what waits is stored before each write", "tape_buffer", "src/adding.rt", "    if !pending.is_full_for(change) {",
+     "    if pending.is_empty() {", "buffer_bench", ["ten_writes_wait_for_one_frame", "a_turn_tells_how_many_waited", "what_waits_is_counted"]),
+    ("each write is stored at once", "tape_buffer", "src/adding.rt", "        Ok(()) => Ok(()),\n        Err(NoMemory) => Err(MediumError::NoMemory),",
+     "        Ok(()) => settle_over(cartridge, pending),\n        Err(NoMemory) => Err(MediumError::NoMemory),", "buffer_bench",
+     ["ten_writes_wait_for_one_frame", "a_turn_tells_how_many_waited", "what_waits_is_counted"]),
+    ("a change is stored one change early", "tape_buffer", "src/adding.rt", "    if !pending.is_full_for(change) {",
+     "    if pending.len() < 63 && !pending.is_full_for(change) {", "buffer_bench", ["a_turn_tells_how_many_waited", "what_waits_is_counted"]),
+]
+
+
+def tried(room, edit):
+    """What the tests of the crate that the edit concerns say: those that passed, and those that failed."""
+    what, crate, file, old, new, tests, _ = edit
+    path = os.path.join(room, "crates", crate, file)
+    with open(path, encoding="utf-8") as lines:
+        text = lines.read()
+    if text.count(old) != 1:
+        sys.exit(f"{what}: its old text stands in {crate}/{file} {text.count(old)} times")
+    with open(path, "w", encoding="utf-8") as lines:
+        lines.write(text.replace(old, new))
+    done = subprocess.run(["rt", "try", "--test"], cwd=os.path.join(room, "crates", tests), capture_output=True, text=True)
+    with open(path, "w", encoding="utf-8") as lines:
+        lines.write(text)
+    said = re.findall(r"^test (?:\w+::)*(\w+) \.\.\. (\w+)", done.stdout, re.MULTILINE)
+    if not said:
+        sys.exit(f"{what}: no test ran\n{done.stdout}{done.stderr}")
+    return {name for name, end in said if end == "ok"}, {name for name, end in said if end != "ok"}
+
+
+def main():
+    wrong = 0
+    with tempfile.TemporaryDirectory() as room:
+        shutil.copy(os.path.join(TOP, "crates.txt"), room)
+        shutil.copy(os.path.join(TOP, "HANDLES"), room)
+        shutil.copytree(os.path.join(TOP, "crates"), os.path.join(room, "crates"), ignore=shutil.ignore_patterns("must-fail", "wrong"))
+        subprocess.run(["git", "init", "-q", room], check=True)
+        for edit in EDITS:
+            _, failed = tried(room, edit)
+            missed = [name for name in edit[-1] if name not in failed]
+            wrong += len(missed)
+            print(f"{edit[0]}: {', '.join(sorted(failed)) or 'no test'} failed" + (f"; NOT {', '.join(missed)}" if missed else ""), flush=True)
+    print(f"rows: {len(EDITS)} bodies tried, {wrong} tests passed that must fail")
+    return 1 if wrong else 0
+
+
+sys.exit(main())

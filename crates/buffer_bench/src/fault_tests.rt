@@ -1,0 +1,258 @@
+//! A fault at each call of the disk: in a turn, in a storing and in a loading.
+use crate::drives::Tape;
+use crate::samples::{
+    CHANGED, EMPTY, END, ERASE, FAILED, GOOD, INQUIRED, INQUIRY, LATE_ERROR, LOAD, LOCATE_0, MARK,
+    MODE_0, NO_MEDIUM, NONE, ONE, READ_1, READ_ERROR, READ_POSITION, REQUEST_SENSE, REWIND, Row,
+    SELECT_4, TEST_UNIT_READY, UNLOAD, WRITE_1, WRITE_ERROR, WRITE_OUT, Wanted, asks, greeted,
+    reads, turned,
+};
+use std::alloc::Global;
+use std::process::Abort;
+use std::test::Fail;
+use tape_disk::{MemDisk, OnceDisk};
+use volume_core::Turn;
+
+// A block is stored, and another waits.
+const ONE_WAITS: [Row<'static>; 3] = [
+    (1, WRITE_1, b"a", GOOD),
+    (1, WRITE_OUT, NONE, GOOD),
+    (1, WRITE_1, b"b", GOOD),
+];
+
+// A block is stored, and the next is not to wait.
+const NONE_WAITS: [Row<'static>; 3] = [
+    (1, WRITE_1, b"a", GOOD),
+    (1, WRITE_OUT, NONE, GOOD),
+    (1, SELECT_4, MODE_0, GOOD),
+];
+
+// Two blocks are stored, and the tape stands before them.
+const TWO_STAND: [Row<'static>; 4] = [
+    (1, WRITE_1, b"a", GOOD),
+    (1, WRITE_1, b"b", GOOD),
+    (1, REWIND, NONE, GOOD),
+    (1, SELECT_4, MODE_0, GOOD),
+];
+
+// What comes before a command, the command, its answer where no call fails, and what the tape then holds without and
+// with the frame that is under way.
+type Case<'a> = (
+    &'a [Row<'a>],
+    &'a [u8],
+    &'a [u8],
+    Wanted<'a>,
+    &'a [u8],
+    &'a [u8],
+);
+
+const CASES: [Case<'static>; 13] = [
+    (&ONE_WAITS, WRITE_OUT, NONE, GOOD, b"a", b"ab"),
+    (&ONE_WAITS, MARK, NONE, GOOD, b"a", b"ab|"),
+    (&ONE_WAITS, REWIND, NONE, GOOD, b"a", b"ab"),
+    (
+        &ONE_WAITS,
+        &[0x11, 0, 0xff, 0xff, 0xff, 0],
+        NONE,
+        GOOD,
+        b"a",
+        b"ab",
+    ),
+    (&ONE_WAITS, &[0x11, 3, 0, 0, 0, 0], NONE, GOOD, b"a", b"ab"),
+    (&ONE_WAITS, LOCATE_0, NONE, GOOD, b"a", b"ab"),
+    (
+        &ONE_WAITS,
+        READ_POSITION,
+        NONE,
+        (None, b"\0\0\0\0\0\0\0\x02\0\0\0\x02\0\0\0\0\0\0\0\0"),
+        b"a",
+        b"ab",
+    ),
+    (&ONE_WAITS, READ_1, NONE, END, b"a", b"ab"),
+    (&ONE_WAITS, ERASE, NONE, GOOD, b"a", b"ab"),
+    (&ONE_WAITS, LOAD, NONE, GOOD, b"a", b"ab"),
+    (&ONE_WAITS, UNLOAD, NONE, GOOD, b"a", b"ab"),
+    (&NONE_WAITS, WRITE_1, b"b", GOOD, b"a", b"ab"),
+    (&TWO_STAND, ERASE, NONE, GOOD, b"ab", b""),
+];
+
+// A drive with an empty tape, of whose disk the call after so many fails. Five calls switch it on, and four store
+// what stands before a case's command.
+fn failing(
+    rt: &impl Abort,
+    alloc: Global,
+    side: &[u8],
+    calls: u64,
+) -> Result<Tape<OnceDisk<MemDisk>>, Fail> {
+    greeted(
+        rt,
+        alloc,
+        OnceDisk::new(MemDisk::from_bytes(alloc, side)?, calls),
+    )
+}
+
+// The tape has failed; it is unloaded and loaded.
+const FOUND_AGAIN: [Row<'static>; 6] = [
+    (1, TEST_UNIT_READY, NONE, FAILED),
+    (1, READ_1, NONE, FAILED),
+    (1, LOAD, NONE, FAILED),
+    (1, UNLOAD, NONE, GOOD),
+    (1, TEST_UNIT_READY, NONE, NO_MEDIUM),
+    (1, LOAD, NONE, GOOD),
+];
+
+// A case at each call of its storing: a write, a sync, the write of the gate and a sync. A call that fails does
+// nothing, so the frame is there where the last one failed.
+fn storing(rt: &impl Abort, alloc: Global, case: &Case) -> Result<(), Fail> {
+    let (before, cdb, sent, wanted, without, with) = *case;
+    for at in 0..4 {
+        let mut drive = failing(rt, alloc, &EMPTY, 9 + at)?;
+        asks(rt, &mut drive, before);
+        asks(rt, &mut drive, &[(1, cdb, sent, WRITE_ERROR)]);
+        asks(rt, &mut drive, &FOUND_AGAIN);
+        reads(rt, &mut drive, if at == 3 { with } else { without });
+    }
+    let mut drive = failing(rt, alloc, &EMPTY, 13)?;
+    asks(rt, &mut drive, before);
+    asks(rt, &mut drive, &[(1, cdb, sent, wanted)]);
+    Ok(())
+}
+
+#[test]
+fn a_fault_at_each_call_of_a_storing(rt: HostRuntime) -> Result<(), Fail> {
+    for case in &CASES {
+        storing(&rt, rt.alloc(), case)?;
+    }
+    Ok(())
+}
+
+// A turn failed: a host is told of it in the place of its command, and then nobody.
+const TOLD_ONCE: [Row<'static>; 5] = [
+    (1, INQUIRY, NONE, INQUIRED),
+    (2, TEST_UNIT_READY, NONE, LATE_ERROR),
+    (1, TEST_UNIT_READY, NONE, FAILED),
+    (2, TEST_UNIT_READY, NONE, FAILED),
+    (2, INQUIRY, NONE, INQUIRED),
+];
+
+// The same, told by a command that would clear it all: one that is refused as unknown comes first and takes nothing.
+const TOLD_TO_A_READ: [Row<'static>; 4] = [
+    (1, &[0xa5; 12], NONE, (Some((0x70, 5, 0, 0x20, 0)), &[])),
+    (1, READ_1, NONE, LATE_ERROR),
+    (1, WRITE_1, b"c", FAILED),
+    (2, WRITE_OUT, NONE, FAILED),
+];
+
+// The same, given as data.
+const TOLD_AS_DATA: [Row<'static>; 3] = [
+    (
+        2,
+        REQUEST_SENSE,
+        NONE,
+        (None, b"\x71\0\x03\0\0\0\0\x0a\0\0\0\0\x0c\0\0\0\0\0"),
+    ),
+    (2, TEST_UNIT_READY, NONE, FAILED),
+    (1, TEST_UNIT_READY, NONE, FAILED),
+];
+
+// The same, told to UNLOAD, which is then asked again.
+const TOLD_TO_AN_UNLOADING: [Row<'static>; 2] = [
+    (1, UNLOAD, NONE, LATE_ERROR),
+    (2, TEST_UNIT_READY, NONE, FAILED),
+];
+
+// A turn fails at its call behind so many, hosts are told of it, and the tape is found again.
+fn turns(rt: &impl Abort, alloc: Global, at: u64, told: &[Row]) -> Result<(), Fail> {
+    let mut drive = failing(rt, alloc, &EMPTY, 9 + at)?;
+    asks(rt, &mut drive, &ONE_WAITS);
+    assert_eq!(rt; turned(&mut drive), Turn::Faulted);
+    assert_eq!(rt; turned(&mut drive), Turn::Idle);
+    asks(rt, &mut drive, told);
+    asks(rt, &mut drive, &FOUND_AGAIN);
+    reads(
+        rt,
+        &mut drive,
+        if at == 3 { b"ab".as_slice() } else { b"a" },
+    );
+    Ok(())
+}
+
+#[test]
+fn a_fault_at_each_call_of_a_turn(rt: HostRuntime) -> Result<(), Fail> {
+    let alloc = rt.alloc();
+    for at in 0..4 {
+        turns(&rt, alloc, at, &TOLD_ONCE)?;
+        turns(&rt, alloc, at, &TOLD_TO_A_READ)?;
+        turns(&rt, alloc, at, &TOLD_AS_DATA)?;
+        turns(&rt, alloc, at, &TOLD_TO_AN_UNLOADING)?;
+    }
+    Ok(())
+}
+
+// The tape was not loaded at power on, and is at the second asking.
+const LOADED_LATE: [Row<'static>; 4] = [
+    (1, TEST_UNIT_READY, NONE, NO_MEDIUM),
+    (1, LOAD, NONE, GOOD),
+    (2, TEST_UNIT_READY, NONE, CHANGED),
+    (2, TEST_UNIT_READY, NONE, GOOD),
+];
+
+// The tape is unloaded, and loaded at the second asking alone; the other host is told once.
+const LOADED_AGAIN: [Row<'static>; 6] = [
+    (1, UNLOAD, NONE, GOOD),
+    (1, LOAD, NONE, READ_ERROR),
+    (1, TEST_UNIT_READY, NONE, NO_MEDIUM),
+    (1, LOAD, NONE, GOOD),
+    (2, TEST_UNIT_READY, NONE, CHANGED),
+    (2, TEST_UNIT_READY, NONE, GOOD),
+];
+
+// A block could not be read.
+const READ_AGAIN: [Row<'static>; 4] = [
+    (1, READ_1, NONE, READ_ERROR),
+    (2, TEST_UNIT_READY, NONE, FAILED),
+    (1, UNLOAD, NONE, GOOD),
+    (1, LOAD, NONE, GOOD),
+];
+
+// A side with one block, of whose disk the call after so many fails: the tape answers so, and has its block then.
+fn loading(rt: &impl Abort, alloc: Global, calls: u64, rows: &[Row]) -> Result<(), Fail> {
+    let mut drive = failing(rt, alloc, &ONE, calls)?;
+    asks(rt, &mut drive, rows);
+    reads(rt, &mut drive, b"a");
+    Ok(())
+}
+
+#[test]
+fn a_fault_at_each_call_of_a_loading(rt: HostRuntime) -> Result<(), Fail> {
+    let alloc = rt.alloc();
+    // Behind the sync that comes first: a sync, two reads of the header, two of gates and one of the body.
+    for calls in 1..7 {
+        loading(&rt, alloc, calls, &LOADED_LATE)?;
+        loading(&rt, alloc, 6 + calls, &LOADED_AGAIN)?;
+    }
+    loading(&rt, alloc, 7, &READ_AGAIN)
+}
+
+// A side that is refused stands in the drive unloaded, and LOAD tells so; UNLOAD leaves it.
+const UNREADABLE: [Row<'static>; 5] = [
+    (1, TEST_UNIT_READY, NONE, NO_MEDIUM),
+    (1, LOAD, NONE, READ_ERROR),
+    (1, UNLOAD, NONE, GOOD),
+    (1, LOAD, NONE, READ_ERROR),
+    (2, TEST_UNIT_READY, NONE, NO_MEDIUM),
+];
+
+#[test]
+fn a_side_that_is_refused(rt: HostRuntime) -> Result<(), Fail> {
+    let alloc = rt.alloc();
+    // No cartridge's side, a partition too many, a record of no kind, and a last gate that is open.
+    for (place, value) in [(0, 0x00), (10, 0x05), (40, 0x04), (51, 0xa5)] {
+        let mut side = ONE;
+        if place < side.len() {
+            side[place] = value;
+        }
+        let mut drive = greeted(&rt, alloc, MemDisk::from_bytes(alloc, &side)?)?;
+        asks(&rt, &mut drive, &UNREADABLE);
+    }
+    Ok(())
+}

@@ -1,0 +1,63 @@
+//! Work for a clock: a drive writes to a cartridge in memory, and as many bytes are copied. The tests of tape_buffer
+//! stand here too.
+#![tactic(auto)]
+
+mod drives;
+#[cfg(test)]
+mod fault_tests;
+#[cfg(test)]
+mod medium_tests;
+#[cfg(test)]
+mod mode_tests;
+#[cfg(test)]
+mod row_tests;
+#[cfg(test)]
+mod samples;
+#[cfg(test)]
+mod stop_tests;
+mod work;
+
+use std::env;
+use std::process::ExitCode;
+use work::{Timed, blocks, bytes, copied, marks};
+
+// The nanoseconds that the work of a word took, done so often, and what came of it.
+fn timed(rt: &HostRuntime, word: &str, count: u32) -> Option<Timed> {
+    match word {
+        "blocks" => blocks(rt, count),
+        "bytes" => bytes(rt, count),
+        "marks" => marks(rt, count),
+        "copy" => copied(rt, count),
+        _ => None,
+    }
+}
+
+/// With `blocks N`, `bytes N`, `marks N` or `copy N` it tells the nanoseconds and what came of it; with no words it
+/// does a little of each, and tells that alone.
+fn main(rt: HostRuntime) -> ExitCode {
+    let Ok(words) = env::args(&rt) else {
+        return ExitCode::from(1);
+    };
+    let mut words = words.skip(1);
+    let (Some(word), Some(count)) = (words.next(), words.next()) else {
+        for (word, count) in [("blocks", 2), ("bytes", 3), ("marks", 2), ("copy", 1)] {
+            match timed(&rt, word, count) {
+                Some((_, count)) => {
+                    let _ = println!(rt; "{word} {count}");
+                }
+                None => return ExitCode::from(2),
+            }
+        }
+        return ExitCode::from(0);
+    };
+    let Ok(count) = count.parse::<u32>() else {
+        return ExitCode::from(1);
+    };
+    match timed(&rt, word.as_str(), count) {
+        Some((time, count)) => {
+            let _ = println!(rt; "{time} {count}");
+            ExitCode::from(0)
+        }
+        None => ExitCode::from(2),
+    }
+}

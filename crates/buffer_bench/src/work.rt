@@ -1,0 +1,107 @@
+//! What is timed.
+use crate::drives::{Tape, sure, switched_on};
+use scsi_sense::{Reply, Sense, Status};
+use std::alloc::Global;
+use std::time::Instant;
+use tape_disk::MemDisk;
+use vtl_base::Nexus;
+
+const BLOCK: usize = 65_536;
+
+// As many of them as 64 MiB.
+const BLOCKS_A_MARK: u32 = 1_024;
+
+// WRITE of 65,536 bytes and of one byte, WRITE FILEMARKS of one, stored before its answer.
+const WRITE_BLOCK: [u8; 6] = [0x0a, 0, 1, 0, 0, 0];
+
+const WRITE_BYTE: [u8; 6] = [0x0a, 0, 0, 0, 1, 0];
+
+const MARK: [u8; 6] = [0x10, 0, 0, 0, 1, 0];
+
+const TEST_UNIT_READY: [u8; 6] = [0; 6];
+
+// The side of a cartridge of one partition of 1,099,511,627,776 bytes, with no frames.
+const SIDE: [u8; 36] = *b"\xa5VTLCART1\0\x01T00001L6        \0\0\x01\0\0\0\0\0\0";
+
+/// Nanoseconds, and what came of the work.
+pub type Timed = (u128, u64);
+
+// A drive with an empty cartridge in memory, and a host that took its power on.
+fn new_drive(alloc: Global) -> Option<(Tape<MemDisk>, Nexus)> {
+    let disk = sure(MemDisk::from_bytes(alloc, &SIDE).ok()?).ok()?;
+    let mut drive = switched_on(alloc, disk)?;
+    let host = Nexus::new(1)?;
+    let _ = drive.execute(host, &TEST_UNIT_READY, &[]);
+    Some((drive, host))
+}
+
+// Asks a command, and once more where memory runs out: whether it is GOOD.
+fn ask(drive: &mut Tape<MemDisk>, host: Nexus, cdb: &[u8], sent: &[u8]) -> bool {
+    let mut reply = drive.execute(host, cdb, sent);
+    if reply.sense == Some(Sense::insufficient_resources()) {
+        reply = drive.execute(host, cdb, sent);
+    }
+    reply.status == Status::Good
+}
+
+// The syncs of a drive's disk.
+fn syncs(drive: &Tape<MemDisk>) -> u64 {
+    match drive.medium() {
+        Some(medium) => medium.disk().syncs(),
+        None => 0,
+    }
+}
+
+// So many writes of a block, with a filemark behind each group of them, if any: the time, and how many syncs it took.
+fn written(
+    rt: &HostRuntime,
+    count: u32,
+    cdb: &[u8],
+    block: &[u8],
+    group: Option<u32>,
+) -> Option<Timed> {
+    let (mut drive, host) = new_drive(rt.alloc())?;
+    let before = syncs(&drive);
+    let start = Instant::now(rt).ok()?;
+    for i in 0..count {
+        if !ask(&mut drive, host, cdb, block) {
+            return None;
+        }
+        let marked = match group {
+            Some(group) => i % group == group - 1,
+            None => false,
+        };
+        if marked && !ask(&mut drive, host, &MARK, &[]) {
+            return None;
+        }
+    }
+    let time = start.elapsed(rt).ok()?.as_nanos();
+    Some((time, syncs(&drive).saturating_sub(before)))
+}
+
+/// Buffered writes of 65,536 bytes, with a filemark behind each 1,024 of them: how many syncs they take.
+pub fn blocks(rt: &HostRuntime, count: u32) -> Option<Timed> {
+    let block = vec![in rt.alloc(); 90u8; BLOCK].ok()?;
+    written(rt, count, &WRITE_BLOCK, &block, Some(BLOCKS_A_MARK))
+}
+
+/// Buffered writes of one byte: how many syncs they take.
+pub fn bytes(rt: &HostRuntime, count: u32) -> Option<Timed> {
+    written(rt, count, &WRITE_BYTE, b"x", None)
+}
+
+/// Buffered writes of one byte, with a filemark behind each: how many syncs they take.
+pub fn marks(rt: &HostRuntime, count: u32) -> Option<Timed> {
+    written(rt, count, &WRITE_BYTE, b"x", Some(1))
+}
+
+/// Copies as many blocks of 65,536 bytes into one row: how many bytes it has.
+pub fn copied(rt: &HostRuntime, count: u32) -> Option<Timed> {
+    let block = vec![in rt.alloc(); 90u8; BLOCK].ok()?;
+    let mut row = Vec::new(rt.alloc());
+    let start = Instant::now(rt).ok()?;
+    for _ in 0..count {
+        row.extend_from_slice(&block).ok()?;
+    }
+    Some((start.elapsed(rt).ok()?.as_nanos(), row.len() as u64))
+}

@@ -1,0 +1,7 @@
+//! What holds of the rules of a configuration: a law, which no code calls.
+ghost use Rattle.vtl_config.specs.Laws.{NothingIsBroken};
+
+/// A table that says a configuration breaks no rule: what is taken could not have been refused.
+pub fn a_configuration_breaks_no_rule()
+    ensures { NothingIsBroken }
+{}
