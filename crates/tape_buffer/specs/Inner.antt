@@ -1,4 +1,5 @@
 -- What only private contracts use.
 pub mod Adding
 pub mod Fetching
+pub mod Storing
 pub mod Waking

@@ -1,8 +1,8 @@
 -- How much may be pending.
 use Rattle.std.specs.Prelude.{◌≤◌, ℕ, List, length, sum_by}
+use Rattle.vtl_base.specs.declared.limits.TheConstants.{BUFFER_BYTES, BUFFER_RECORDS}
 use Rattle.volume_core.specs.declared.changes.Change.{Change}
 use Rattle.volume_core.specs.declared.changes.Change.TheVariants.{Put, Marks, Erase}
-use Rattle.tape_buffer.specs.declared.pending.TheConstants.{MAX_PENDING, MAX_PENDING_BYTES}
 
 -- the bytes of a change's block (own)
 abbrev pub block_bytes : Change → ℕ
@@ -12,5 +12,5 @@ block_bytes (Erase part at) = 0
 
 -- so many changes with such blocks may be pending: 64, with 4,194,304 bytes (own)
 pub record FitsBuffer (changes : List Change) : Type 0 where
-  pub few : length changes ≤ MAX_PENDING
-  pub short : sum_by block_bytes changes ≤ MAX_PENDING_BYTES
+  pub few : length changes ≤ BUFFER_RECORDS
+  pub short : sum_by block_bytes changes ≤ BUFFER_BYTES

@@ -80,5 +80,5 @@ module _ {D : Type 0} (state : D → DiskState) where
       by (Some x) (Some y) None one two = absurd two
       by (Some x) (Some y) (Some z) one two =
           core_moves_on medium_rules (state x) (state y) (state z) (medium_core a) (medium_core b) (medium_core c) first
-              second one
+          second one
           two

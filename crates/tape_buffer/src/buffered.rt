@@ -2,6 +2,7 @@
 ghost use Rattle.std.specs.Prelude.{◌≡◌, List, Some, true, false};
 ghost use Rattle.volume_core.specs.Volume.{Part};
 ghost use Rattle.accepting.specs.Core.{IsCore};
+ghost use Rattle.tape_buffer.specs.Limits.{FitsBuffer};
 ghost use Rattle.tape_buffer.specs.Rules.{medium_rules};
 ghost use Rattle.tape_buffer.specs.State.{IsSettledOn, closed_buffer, disk_in, state_of};
 ghost use Rattle.tape_buffer.specs.Moves.{IsSafeOrPending, ShowsOn, medium_core};
@@ -56,10 +57,11 @@ impl<D: Disk> Buffered<D> {
         }
     }
 
-    /// Gives the closed cartridge of a parked medium.
+    /// Gives the closed cartridge of a parked medium, which may be parked again as it is.
     pub fn into_shelved(self) -> Shelved<D>
         requires { (state_of D.state self).awake ≡ false }
-        ensures { self.held ≡ Holdings.Closed result }
+        ensures held { self.held ≡ Holdings.Closed result }
+        ensures settled { IsSettledOn D.state result }
     {
         let Buffered { held, .. } = self;
         match held {
@@ -75,9 +77,11 @@ impl<D: Disk> Buffered<D> {
     pub fn known(&self)
         ensures core { IsCore (medium_core D.state self.now) }
         ensures whole { IsSafeOrPending (medium_core D.state self.now) self.now.pending }
+        ensures fits { FitsBuffer self.now.pending }
         ensures shows { (volume : List Part) → (state_of D.state self.now).stored ≡ Some volume →
             ShowsOn D.state (disk_in self.now.held) (medium_core D.state self.now) }
     {
+        self.pending.within();
         match &self.held {
             Holding::Open(cartridge) => cartridge.known(),
             Holding::Closed(shelved) => shelved.known(),

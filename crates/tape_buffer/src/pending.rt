@@ -9,12 +9,7 @@ use std::alloc::Global;
 use std::marker::Model;
 use volume_core::Change;
 use vtl_base::NoMemory;
-
-/// The most changes that are pending (own).
-pub const MAX_PENDING: usize = 64;
-
-/// The most bytes of blocks that are pending, all together (own).
-pub const MAX_PENDING_BYTES: u64 = 4_194_304;
+use vtl_base::limits::{BUFFER_BYTES, BUFFER_RECORDS};
 
 // Changes that are pending, in order: 64 at most, with 4,194,304 bytes of blocks at most.
 #[derive(Drop)]
@@ -61,6 +56,14 @@ impl Pending {
         self.changes.len()
     }
 
+    // No more is pending than may be.
+    pub(crate) fn within(&self)
+        ensures { FitsBuffer self.now }
+    {
+        // Looked at for the proof's sake: the fact is the type's.
+        let _ = &self.bytes;
+    }
+
     pub(crate) fn is_empty(&self) -> bool
         ensures { IsTrue result ↔ (self.now ≡ []) }
     {
@@ -77,7 +80,8 @@ impl Pending {
     pub(crate) fn is_full_for(&self, change: &Change) -> bool
         ensures { IsTrue result ↔ (FitsBuffer (self.now ++ change.now ∷ []) → ⊥) }
     {
-        self.changes.len() >= MAX_PENDING || block_bytes(change) > MAX_PENDING_BYTES - self.bytes
+        self.changes.len() >= BUFFER_RECORDS
+            || block_bytes(change) > BUFFER_BYTES as u64 - self.bytes
     }
 
     // What they take of a side, each as a frame of its own, in bytes.

@@ -7,6 +7,7 @@ ghost use Rattle.volume_core.specs.Stores.{Stores};
 ghost use Rattle.tape_buffer.specs.Limits.{FitsBuffer};
 ghost use Rattle.tape_buffer.specs.State.{IsPendingOver, IsReservedFor, open_buffer, open_state};
 ghost use Rattle.tape_buffer.specs.Moves.{buffer_below};
+ghost use Rattle.tape_buffer.specs.Inner.Storing.{IsOneFrame, IsOneFrameIn};
 
 use crate::pending::Pending;
 use cartridge::{Cartridge, CartridgeError};
@@ -22,6 +23,7 @@ pub(crate) fn settle_over<D: Disk>(
     requires { IsPendingOver cartridge.old pending.old }
     ensures held { IsPendingOver cartridge.new pending.new }
     ensures answer { Settles (open_state cartridge.old pending.old) result (open_state cartridge.new pending.new) }
+    ensures frame { IsOneFrame result cartridge.old.contents.frames pending.old cartridge.new.contents.frames }
     ensures stores { Stores (open_state cartridge.old pending.old) [] (open_state cartridge.new pending.new) }
     ensures advances { Advances (buffer_below D.state) (open_buffer cartridge.old pending.old) [] (met_fault result)
         (open_buffer cartridge.new pending.new) }
@@ -55,6 +57,7 @@ pub(crate) fn turn_over<D: Disk>(cartridge: &mut Cartridge<D>, pending: &mut Pen
     requires { IsPendingOver cartridge.old pending.old }
     ensures held { IsPendingOver cartridge.new pending.new }
     ensures answer { Turns (open_state cartridge.old pending.old) result (open_state cartridge.new pending.new) }
+    ensures frame { IsOneFrameIn result cartridge.old.contents.frames pending.old cartridge.new.contents.frames }
     ensures stores { Stores (open_state cartridge.old pending.old) [] (open_state cartridge.new pending.new) }
     ensures advances { Advances (buffer_below D.state) (open_buffer cartridge.old pending.old) []
         (turn_met_fault result) (open_buffer cartridge.new pending.new) }

@@ -6,7 +6,7 @@ use Rattle.cartridge.specs.Contents.{ShowsContents}
 use Rattle.tape_buffer.specs.State.{open_buffer}
 use Rattle.tape_buffer.proofs.CoreLemmas.{rests}
 use Rattle.tape_buffer.proofs.CoreLemmas.{advances_broken, advances_stored}
-use Rattle.tape_buffer.proofs.MediumLemmas.{settles_stored, stores_stored}
+use Rattle.tape_buffer.proofs.MediumLemmas.{frames_stored, settles_stored, stores_stored}
 use Rattle.tape_buffer.proofs.RoomLemmas.{not_empty, one_frame_fits}
 use Rattle.tape_buffer.proofs.storing.settle_over.Goals as goal
 
@@ -34,6 +34,12 @@ unreachable-requires-in-Err-SideFull g c =
 pub returns-in-Ok-clause-answer : goal.returns-in-Ok-clause-answer
 returns-in-Ok-clause-answer g c =
     settles_stored c.args.cartridge.now c.store.new.self c.args.pending.now c.as_slice.result.now c.clear.new.self
+    (not_empty c.args.pending.now c.is_empty.result c.is_empty.ensures c.if-is_empty.false) c.as_slice.ensures
+    c.clear.ensures c.in-Ok.ensures.answer.0
+
+pub returns-in-Ok-clause-frame : goal.returns-in-Ok-clause-frame
+returns-in-Ok-clause-frame g c =
+    frames_stored c.args.cartridge.now c.store.new.self c.args.pending.now c.as_slice.result.now c.clear.new.self
     (not_empty c.args.pending.now c.is_empty.result c.is_empty.ensures c.if-is_empty.false) c.as_slice.ensures
     c.clear.ensures c.in-Ok.ensures.answer.0
 
