@@ -104,12 +104,12 @@ const FOUND_AGAIN: [Row<'static>; 6] = [
 // nothing, so the frame is there where the last one failed.
 fn storing(rt: &impl Abort, alloc: Global, case: &Case) -> Result<(), Fail> {
     let (before, cdb, sent, wanted, without, with) = *case;
-    for at in 0..4 {
-        let mut drive = failing(rt, alloc, &EMPTY, 9 + at)?;
+    for calls in 9..13 {
+        let mut drive = failing(rt, alloc, &EMPTY, calls)?;
         asks(rt, &mut drive, before);
         asks(rt, &mut drive, &[(1, cdb, sent, WRITE_ERROR)]);
         asks(rt, &mut drive, &FOUND_AGAIN);
-        reads(rt, &mut drive, if at == 3 { with } else { without });
+        reads(rt, &mut drive, if calls == 12 { with } else { without });
     }
     let mut drive = failing(rt, alloc, &EMPTY, 13)?;
     asks(rt, &mut drive, before);
@@ -160,9 +160,9 @@ const TOLD_TO_AN_UNLOADING: [Row<'static>; 2] = [
     (2, TEST_UNIT_READY, NONE, FAILED),
 ];
 
-// A turn fails at its call behind so many, hosts are told of it, and the tape is found again.
-fn turns(rt: &impl Abort, alloc: Global, at: u64, told: &[Row]) -> Result<(), Fail> {
-    let mut drive = failing(rt, alloc, &EMPTY, 9 + at)?;
+// A turn fails, hosts are told of it, and the tape is found again.
+fn turns(rt: &impl Abort, alloc: Global, calls: u64, told: &[Row]) -> Result<(), Fail> {
+    let mut drive = failing(rt, alloc, &EMPTY, calls)?;
     asks(rt, &mut drive, &ONE_WAITS);
     assert_eq!(rt; turned(&mut drive), Turn::Faulted);
     assert_eq!(rt; turned(&mut drive), Turn::Idle);
@@ -171,7 +171,7 @@ fn turns(rt: &impl Abort, alloc: Global, at: u64, told: &[Row]) -> Result<(), Fa
     reads(
         rt,
         &mut drive,
-        if at == 3 { b"ab".as_slice() } else { b"a" },
+        if calls == 12 { b"ab".as_slice() } else { b"a" },
     );
     Ok(())
 }
@@ -179,11 +179,11 @@ fn turns(rt: &impl Abort, alloc: Global, at: u64, told: &[Row]) -> Result<(), Fa
 #[test]
 fn a_fault_at_each_call_of_a_turn(rt: HostRuntime) -> Result<(), Fail> {
     let alloc = rt.alloc();
-    for at in 0..4 {
-        turns(&rt, alloc, at, &TOLD_ONCE)?;
-        turns(&rt, alloc, at, &TOLD_TO_A_READ)?;
-        turns(&rt, alloc, at, &TOLD_AS_DATA)?;
-        turns(&rt, alloc, at, &TOLD_TO_AN_UNLOADING)?;
+    for calls in 9..13 {
+        turns(&rt, alloc, calls, &TOLD_ONCE)?;
+        turns(&rt, alloc, calls, &TOLD_TO_A_READ)?;
+        turns(&rt, alloc, calls, &TOLD_AS_DATA)?;
+        turns(&rt, alloc, calls, &TOLD_TO_AN_UNLOADING)?;
     }
     Ok(())
 }
@@ -228,7 +228,9 @@ fn a_fault_at_each_call_of_a_loading(rt: HostRuntime) -> Result<(), Fail> {
     // Behind the sync that comes first: a sync, two reads of the header, two of gates and one of the body.
     for calls in 1..7 {
         loading(&rt, alloc, calls, &LOADED_LATE)?;
-        loading(&rt, alloc, 6 + calls, &LOADED_AGAIN)?;
+    }
+    for calls in 7..13 {
+        loading(&rt, alloc, calls, &LOADED_AGAIN)?;
     }
     loading(&rt, alloc, 7, &READ_AGAIN)
 }
