@@ -52,23 +52,49 @@ fn syncs(drive: &Tape<MemDisk>) -> u64 {
     }
 }
 
-// So many writes of a block, with a filemark behind each group of so many, if any: the time, and how many syncs they
-// took.
-fn written(rt: &HostRuntime, count: u32, cdb: &[u8], block: &[u8], group: u32) -> Option<Timed> {
-    let (mut drive, host) = new_drive(rt.alloc())?;
-    let before = syncs(&drive);
-    let start = Instant::now(rt).ok()?;
+// So many writes of a block, with a filemark behind each group of so many, if any: whether all are GOOD.
+fn writes(
+    drive: &mut Tape<MemDisk>,
+    host: Nexus,
+    count: u32,
+    cdb: &[u8],
+    block: &[u8],
+    group: u32,
+) -> bool {
     for i in 0..count {
-        if !ask(&mut drive, host, cdb, block) {
-            return None;
+        if !ask(drive, host, cdb, block) {
+            return false;
         }
         let marked = group > 0 && i % group == group - 1;
-        if marked && !ask(&mut drive, host, &MARK, &[]) {
-            return None;
+        if marked && !ask(drive, host, &MARK, &[]) {
+            return false;
         }
     }
+    true
+}
+
+// The same on a new drive: the time, and how many syncs they took.
+fn written(rt: &HostRuntime, count: u32, cdb: &[u8], block: &[u8], group: u32) -> Option<Timed> {
+    let (mut drive, host) = new_drive(rt.alloc())?;
+    timed_writes(rt, &mut drive, host, count, cdb, block, group)
+}
+
+fn timed_writes(
+    rt: &HostRuntime,
+    drive: &mut Tape<MemDisk>,
+    host: Nexus,
+    count: u32,
+    cdb: &[u8],
+    block: &[u8],
+    group: u32,
+) -> Option<Timed> {
+    let before = syncs(drive);
+    let start = Instant::now(rt).ok()?;
+    if !writes(drive, host, count, cdb, block, group) {
+        return None;
+    }
     let time = start.elapsed(rt).ok()?.as_nanos();
-    Some((time, syncs(&drive).saturating_sub(before)))
+    Some((time, syncs(drive).saturating_sub(before)))
 }
 
 /// Buffered writes of 65,536 bytes, with a filemark behind each 1,024 of them: how many syncs they take.
