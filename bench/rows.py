@@ -11,10 +11,10 @@ TOP = os.path.dirname(os.path.dirname(os.path.abspath(__file__)))
 # what the edit makes of a crate, the crate and its file, the old text and the new one, the crate of the tests, the tests that must fail
 EDITS = [
     ("what waits is stored before each write", "tape_buffer", "src/adding.rt", "    if !pending.is_full_for(change) {",
-     "    if pending.is_empty() {", "buffer_bench", ["ten_writes_wait_for_one_frame", "a_turn_tells_how_many_waited", "what_waits_is_counted"]),
+     "    if pending.is_empty() {", "buffer_bench", ["writes_wait_for_one_frame", "a_turn_tells_how_many_waited", "what_waits_is_counted"]),
     ("each write is stored at once", "tape_buffer", "src/adding.rt", "        Ok(()) => Ok(()),\n        Err(NoMemory) => Err(MediumError::NoMemory),",
      "        Ok(()) => settle_over(cartridge, pending),\n        Err(NoMemory) => Err(MediumError::NoMemory),", "buffer_bench",
-     ["ten_writes_wait_for_one_frame", "a_turn_tells_how_many_waited", "what_waits_is_counted"]),
+     ["writes_wait_for_one_frame", "a_turn_tells_how_many_waited", "what_waits_is_counted"]),
     ("a change is stored one change early", "tape_buffer", "src/adding.rt", "    if !pending.is_full_for(change) {",
      "    if pending.len() < 63 && !pending.is_full_for(change) {", "buffer_bench", ["a_turn_tells_how_many_waited", "what_waits_is_counted"]),
 ]

@@ -3,13 +3,13 @@ use crate::drives::Tape;
 use crate::samples::{
     CHANGED, EMPTY, END, ERASE, FAILED, GOOD, INQUIRED, INQUIRY, LATE_ERROR, LOAD, LOCATE_0, MARK,
     MODE_0, NO_MEDIUM, NONE, ONE, READ_1, READ_ERROR, READ_POSITION, REQUEST_SENSE, REWIND, Row,
-    SELECT_4, TEST_UNIT_READY, UNLOAD, WRITE_1, WRITE_ERROR, WRITE_OUT, Wanted, asks, greeted,
-    reads, turned,
+    SELECT_4, TEST_UNIT_READY, UNLOAD, WRITE_1, WRITE_ERROR, WRITE_OUT, Wanted, asks, assert_turn,
+    greeted, reads,
 };
 use std::alloc::Global;
 use std::process::Abort;
 use std::test::Fail;
-use tape_disk::{MemDisk, OnceDisk};
+use tape_disk::{Disk, MemDisk, OnceDisk};
 use volume_core::Turn;
 
 // A block is stored, and another waits.
@@ -100,27 +100,41 @@ const FOUND_AGAIN: [Row<'static>; 6] = [
     (1, LOAD, NONE, GOOD),
 ];
 
-// A case at each call of its storing: a write, a sync, the write of the gate and a sync. A call that fails does
-// nothing, so the frame is there where the last one failed.
-fn storing(rt: &impl Abort, alloc: Global, case: &Case) -> Result<(), Fail> {
-    let (before, cdb, sent, wanted, without, with) = *case;
-    for at in 0..4 {
-        let mut drive = failing(rt, alloc, &EMPTY, 9 + at)?;
-        asks(rt, &mut drive, before);
-        asks(rt, &mut drive, &[(1, cdb, sent, WRITE_ERROR)]);
-        asks(rt, &mut drive, &FOUND_AGAIN);
-        reads(rt, &mut drive, if at == 3 { with } else { without });
+// A command meets the fault, and the tape is then found to hold this.
+fn fails<D: Disk + Drop>(rt: &impl Abort, drive: &mut Tape<D>, case: &Case, holds: &[u8]) {
+    let (before, cdb, sent, _, _, _) = *case;
+    asks(rt, drive, before);
+    asks(rt, drive, &[(1, cdb, sent, WRITE_ERROR)]);
+    asks(rt, drive, &FOUND_AGAIN);
+    reads(rt, drive, holds);
+}
+
+// A command meets no fault.
+fn passes<D: Disk + Drop>(rt: &impl Abort, drive: &mut Tape<D>, case: &Case) {
+    let (before, cdb, sent, wanted, _, _) = *case;
+    asks(rt, drive, before);
+    asks(rt, drive, &[(1, cdb, sent, wanted)]);
+}
+
+// A case at one call of its disk. A write, a sync, the write of the gate and a sync store. A call that fails does
+// nothing, so the frame is there where the last one failed; the call behind them is none of the case's.
+fn storing(rt: &impl Abort, alloc: Global, case: &Case, calls: u64) -> Result<(), Fail> {
+    let (_, _, _, _, without, with) = *case;
+    let mut drive = failing(rt, alloc, &EMPTY, calls)?;
+    match calls {
+        13 => passes(rt, &mut drive, case),
+        12 => fails(rt, &mut drive, case, with),
+        _ => fails(rt, &mut drive, case, without),
     }
-    let mut drive = failing(rt, alloc, &EMPTY, 13)?;
-    asks(rt, &mut drive, before);
-    asks(rt, &mut drive, &[(1, cdb, sent, wanted)]);
     Ok(())
 }
 
 #[test]
 fn a_fault_at_each_call_of_a_storing(rt: HostRuntime) -> Result<(), Fail> {
     for case in &CASES {
-        storing(&rt, rt.alloc(), case)?;
+        for calls in 9..14 {
+            storing(&rt, rt.alloc(), case, calls)?;
+        }
     }
     Ok(())
 }
@@ -160,30 +174,31 @@ const TOLD_TO_AN_UNLOADING: [Row<'static>; 2] = [
     (2, TEST_UNIT_READY, NONE, FAILED),
 ];
 
-// A turn fails at its call behind so many, hosts are told of it, and the tape is found again.
-fn turns(rt: &impl Abort, alloc: Global, at: u64, told: &[Row]) -> Result<(), Fail> {
-    let mut drive = failing(rt, alloc, &EMPTY, 9 + at)?;
-    asks(rt, &mut drive, &ONE_WAITS);
-    assert_eq!(rt; turned(&mut drive), Turn::Faulted);
-    assert_eq!(rt; turned(&mut drive), Turn::Idle);
-    asks(rt, &mut drive, told);
-    asks(rt, &mut drive, &FOUND_AGAIN);
-    reads(
-        rt,
-        &mut drive,
-        if at == 3 { b"ab".as_slice() } else { b"a" },
-    );
+// A turn fails, hosts are told of it, and the tape is found to hold this.
+fn turn_fails<D: Disk + Drop>(rt: &impl Abort, drive: &mut Tape<D>, told: &[Row], holds: &[u8]) {
+    asks(rt, drive, &ONE_WAITS);
+    assert_turn(rt, drive, Turn::Faulted);
+    assert_turn(rt, drive, Turn::Idle);
+    asks(rt, drive, told);
+    asks(rt, drive, &FOUND_AGAIN);
+    reads(rt, drive, holds);
+}
+
+fn turns(rt: &impl Abort, alloc: Global, calls: u64, told: &[Row]) -> Result<(), Fail> {
+    let mut drive = failing(rt, alloc, &EMPTY, calls)?;
+    let holds: &[u8] = if calls == 12 { b"ab" } else { b"a" };
+    turn_fails(rt, &mut drive, told, holds);
     Ok(())
 }
 
 #[test]
 fn a_fault_at_each_call_of_a_turn(rt: HostRuntime) -> Result<(), Fail> {
     let alloc = rt.alloc();
-    for at in 0..4 {
-        turns(&rt, alloc, at, &TOLD_ONCE)?;
-        turns(&rt, alloc, at, &TOLD_TO_A_READ)?;
-        turns(&rt, alloc, at, &TOLD_AS_DATA)?;
-        turns(&rt, alloc, at, &TOLD_TO_AN_UNLOADING)?;
+    for calls in 9..13 {
+        turns(&rt, alloc, calls, &TOLD_ONCE)?;
+        turns(&rt, alloc, calls, &TOLD_TO_A_READ)?;
+        turns(&rt, alloc, calls, &TOLD_AS_DATA)?;
+        turns(&rt, alloc, calls, &TOLD_TO_AN_UNLOADING)?;
     }
     Ok(())
 }
@@ -228,7 +243,9 @@ fn a_fault_at_each_call_of_a_loading(rt: HostRuntime) -> Result<(), Fail> {
     // Behind the sync that comes first: a sync, two reads of the header, two of gates and one of the body.
     for calls in 1..7 {
         loading(&rt, alloc, calls, &LOADED_LATE)?;
-        loading(&rt, alloc, 6 + calls, &LOADED_AGAIN)?;
+    }
+    for calls in 7..13 {
+        loading(&rt, alloc, calls, &LOADED_AGAIN)?;
     }
     loading(&rt, alloc, 7, &READ_AGAIN)
 }

@@ -3,6 +3,7 @@ use crate::drives::sure;
 use crate::samples::{EMPTY, ONE};
 use cartridge::Shelved;
 use std::alloc::Global;
+use std::process::Abort;
 use std::test::Fail;
 use tape_buffer::Buffered;
 use tape_disk::MemDisk;
@@ -19,14 +20,18 @@ fn parked(alloc: Global, side: &[u8]) -> Result<Buffered<MemDisk>, Fail> {
 
 // How many changes wait after so many blocks of one size, and how many syncs these took.
 #[tactic(auto, using(crate::proofs::TestLemmas::opened_is_awake))]
-fn waiting(alloc: Global, count: u32, size: usize) -> Result<(usize, u64), Fail> {
-    let mut medium = parked(alloc, &EMPTY)?;
+fn filled(
+    alloc: Global,
+    medium: &mut Buffered<MemDisk>,
+    count: u32,
+    size: usize,
+) -> Result<(usize, u64), Fail> {
     medium.wake()?;
     let before = medium.disk().syncs();
     for at in 0..count {
+        let block = Bytes::from_vec(vec![in alloc; 0x5a; size]?);
         // One that is awake stays as it is.
         medium.wake()?;
-        let block = Bytes::from_vec(vec![in alloc; 0x5a; size]?);
         medium.put(0, at, block)?;
     }
     medium.wake()?;
@@ -34,6 +39,11 @@ fn waiting(alloc: Global, count: u32, size: usize) -> Result<(usize, u64), Fail>
         medium.pending(),
         medium.disk().syncs().saturating_sub(before),
     ))
+}
+
+fn waiting(alloc: Global, count: u32, size: usize) -> Result<(usize, u64), Fail> {
+    let mut medium = parked(alloc, &EMPTY)?;
+    filled(alloc, &mut medium, count, size)
 }
 
 #[test]
@@ -121,6 +131,25 @@ fn stores(medium: &mut Buffered<MemDisk>, parks: bool) -> Result<(), Fail> {
     Ok(())
 }
 
+// All changes, with a storing behind the one of this number.
+fn sees(
+    rt: &impl Abort,
+    alloc: Global,
+    medium: &mut Buffered<MemDisk>,
+    behind: usize,
+    parks: bool,
+) -> Result<(), Fail> {
+    for (i, (block, at, count, text, used)) in CHANGES.iter().enumerate() {
+        takes(alloc, medium, *block, *at, *count)?;
+        if i == behind {
+            stores(medium, parks)?;
+        }
+        let (found, all) = seen(alloc, medium)?;
+        assert_eq!(rt; (found.as_slice(), all), (*text, *used), "change {i}");
+    }
+    Ok(())
+}
+
 #[test]
 fn what_waits_is_seen(rt: HostRuntime) -> Result<(), Fail> {
     let alloc = rt.alloc();
@@ -128,14 +157,7 @@ fn what_waits_is_seen(rt: HostRuntime) -> Result<(), Fail> {
     for behind in 0..8 {
         for parks in [false, true] {
             let mut medium = parked(alloc, &ONE)?;
-            for (i, (block, at, count, text, used)) in CHANGES.iter().enumerate() {
-                takes(alloc, &mut medium, *block, *at, *count)?;
-                if i == behind {
-                    stores(&mut medium, parks)?;
-                }
-                let (found, all) = seen(alloc, &mut medium)?;
-                assert_eq!(rt; (found.as_slice(), all), (*text, *used), "change {i}");
-            }
+            sees(&rt, alloc, &mut medium, behind, parks)?;
         }
     }
     Ok(())

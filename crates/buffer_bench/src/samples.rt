@@ -170,9 +170,21 @@ pub fn greeted<D: Disk + Drop>(rt: &impl Abort, alloc: Global, disk: D) -> Resul
     Ok(drive)
 }
 
-/// A flusher's turn.
-pub fn turned<D: Disk + Drop>(drive: &mut Tape<D>) -> Turn {
-    drive.turn()
+/// A flusher's turn answers so.
+pub fn assert_turn<D: Disk + Drop>(rt: &impl Abort, drive: &mut Tape<D>, wanted: Turn) {
+    let turn = drive.turn();
+    assert_eq!(rt; turn, wanted);
+}
+
+/// Host 1 writes a block of so many bytes, which is GOOD.
+pub fn write<D: Disk + Drop>(rt: &impl Abort, alloc: Global, drive: &mut Tape<D>, size: usize) {
+    let [_, high, middle, low] = (size as u32).to_be_bytes();
+    let block = vec![in alloc; 0x5a; size].expect(rt, "memory");
+    asks(
+        rt,
+        drive,
+        &[(1, &[0x0a, 0, high, middle, low, 0], &block, GOOD)],
+    );
 }
 
 /// The tape has these objects from the position on, blocks of one byte and `|` for a filemark, and

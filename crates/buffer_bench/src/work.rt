@@ -52,47 +52,65 @@ fn syncs(drive: &Tape<MemDisk>) -> u64 {
     }
 }
 
-// So many writes of a block, with a filemark behind each group of them, if any: the time, and how many syncs it took.
-fn written(
-    rt: &HostRuntime,
+// So many writes of a block, with a filemark behind each group of so many, if any: whether all are GOOD.
+fn writes(
+    drive: &mut Tape<MemDisk>,
+    host: Nexus,
     count: u32,
     cdb: &[u8],
     block: &[u8],
-    group: Option<u32>,
-) -> Option<Timed> {
-    let (mut drive, host) = new_drive(rt.alloc())?;
-    let before = syncs(&drive);
-    let start = Instant::now(rt).ok()?;
+    group: u32,
+) -> bool {
     for i in 0..count {
-        if !ask(&mut drive, host, cdb, block) {
-            return None;
+        if !ask(drive, host, cdb, block) {
+            return false;
         }
-        let marked = match group {
-            Some(group) => i % group == group - 1,
-            None => false,
-        };
-        if marked && !ask(&mut drive, host, &MARK, &[]) {
-            return None;
+        let marked = group > 0 && i % group == group - 1;
+        if marked && !ask(drive, host, &MARK, &[]) {
+            return false;
         }
     }
+    true
+}
+
+// The same on a new drive: the time, and how many syncs they took.
+fn written(rt: &HostRuntime, count: u32, cdb: &[u8], block: &[u8], group: u32) -> Option<Timed> {
+    let (mut drive, host) = new_drive(rt.alloc())?;
+    timed_writes(rt, &mut drive, host, count, cdb, block, group)
+}
+
+fn timed_writes(
+    rt: &HostRuntime,
+    drive: &mut Tape<MemDisk>,
+    host: Nexus,
+    count: u32,
+    cdb: &[u8],
+    block: &[u8],
+    group: u32,
+) -> Option<Timed> {
+    let before = syncs(drive);
+    let start = Instant::now(rt).ok()?;
+    if !writes(drive, host, count, cdb, block, group) {
+        return None;
+    }
     let time = start.elapsed(rt).ok()?.as_nanos();
-    Some((time, syncs(&drive).saturating_sub(before)))
+    Some((time, syncs(drive).saturating_sub(before)))
 }
 
 /// Buffered writes of 65,536 bytes, with a filemark behind each 1,024 of them: how many syncs they take.
 pub fn blocks(rt: &HostRuntime, count: u32) -> Option<Timed> {
     let block = vec![in rt.alloc(); 90u8; BLOCK].ok()?;
-    written(rt, count, &WRITE_BLOCK, &block, Some(BLOCKS_A_MARK))
+    written(rt, count, &WRITE_BLOCK, &block, BLOCKS_A_MARK)
 }
 
 /// Buffered writes of one byte: how many syncs they take.
 pub fn bytes(rt: &HostRuntime, count: u32) -> Option<Timed> {
-    written(rt, count, &WRITE_BYTE, b"x", None)
+    written(rt, count, &WRITE_BYTE, b"x", 0)
 }
 
 /// Buffered writes of one byte, with a filemark behind each: how many syncs they take.
 pub fn marks(rt: &HostRuntime, count: u32) -> Option<Timed> {
-    written(rt, count, &WRITE_BYTE, b"x", Some(1))
+    written(rt, count, &WRITE_BYTE, b"x", 1)
 }
 
 /// Copies as many blocks of 65,536 bytes into one row: how many bytes it has.
