@@ -1,9 +1,9 @@
 //! Configurations that are taken, and each refusal once. What is expected was worked out by hand.
+mod cartridges;
+
 use crate::{Address, Config, ConfigError, Key, Place, Rule, read_config};
 use std::alloc::Global;
 use std::test::Fail;
-
-mod cartridges;
 
 const TWO_DRIVES: &str = r#"
 # two drives, four cartridges
