@@ -71,20 +71,20 @@ no_drive_broken :
     → BrokenAt AreDrives DriveTableBreaks Drive entries place rule → ⊥
 no_drive_broken entries drives place rule are broken =
     let each : Paired IsDrive (broken.heads ++ broken.value ∷ broken.rest) drives =
-        subst (λ (vs : List Data). Paired IsDrive vs drives) broken.all are.each in
+    subst (λ (vs : List Data). Paired IsDrive vs drives) broken.all are.each in
     let split = paired_split IsDrive broken.heads broken.value broken.rest drives each in
     let same = drives_same broken.heads broken.before split.before broken.right.each split.first in
     let here = is_drive_table broken.value split.entry split.here in
     let numbers : AreDistinct (numbers_of split.before ++ split.entry.number ∷ numbers_of split.behind) =
-        subst (λ (ns : List ℕ). AreDistinct ns)
-        (ap numbers_of split.all
-        ∙ map-append (λ (d : DriveEntry). d.number) split.before (split.entry ∷ split.behind)) are.numbers in
+    subst (λ (ns : List ℕ). AreDistinct ns)
+    (ap numbers_of split.all
+    ∙ map-append (λ (d : DriveEntry). d.number) split.before (split.entry ∷ split.behind)) are.numbers in
     let files : AreDistinct
-        (drive_files split.before ++ string_bytes split.entry.reservations ∷ drive_files split.behind) =
-        subst (λ (fs : List (List ℕ)). AreDistinct fs)
-        (ap drive_files split.all
-        ∙ map-append (λ (d : DriveEntry). string_bytes d.reservations) split.before (split.entry ∷ split.behind))
-        are.files in
+    (drive_files split.before ++ string_bytes split.entry.reservations ∷ drive_files split.behind) =
+    subst (λ (fs : List (List ℕ)). AreDistinct fs)
+    (ap drive_files split.all
+    ∙ map-append (λ (d : DriveEntry). string_bytes d.reservations) split.before (split.entry ∷ split.behind))
+    are.files in
     entry_right (DriveTableBreaks broken.before) broken.value here.0 here.1
     (drive_right broken.before here.0 split.entry.number (string_bytes split.entry.reservations) here.2
     (rw same.numbers (distinct_split (numbers_of split.before) split.entry.number (numbers_of split.behind) numbers))
@@ -99,36 +99,36 @@ no_cartridge_broken :
     → BrokenAt (AreCartridges others) (CartridgeTableBreaks others) Cartridge entries place rule → ⊥
 no_cartridge_broken drives others entries cartridges place rule one are broken =
     let each : Paired IsCartridge (broken.heads ++ broken.value ∷ broken.rest) cartridges =
-        subst (λ (vs : List Data). Paired IsCartridge vs cartridges) broken.all are.each in
+    subst (λ (vs : List Data). Paired IsCartridge vs cartridges) broken.all are.each in
     let split = paired_split IsCartridge broken.heads broken.value broken.rest cartridges each in
     let same = cartridges_same broken.heads broken.before split.before broken.right.each split.first in
     let here = is_cartridge_table broken.value split.entry split.here in
     let barcodes : AreDistinct (barcodes_of split.before ++ split.entry.barcode ∷ barcodes_of split.behind) =
-        subst (λ (bs : List (List ℕ)). AreDistinct bs)
-        (ap barcodes_of split.all
-        ∙ map-append (λ (c : CartridgeEntry). c.barcode) split.before (split.entry ∷ split.behind)) are.barcodes in
+    subst (λ (bs : List (List ℕ)). AreDistinct bs)
+    (ap barcodes_of split.all
+    ∙ map-append (λ (c : CartridgeEntry). c.barcode) split.before (split.entry ∷ split.behind)) are.barcodes in
     let files : AreDistinct
-        ((drive_files drives ++ cartridge_files split.before)
-        ++ string_bytes split.entry.file ∷ cartridge_files split.behind) =
-        subst (λ (fs : List (List ℕ)). AreDistinct fs)
-        (ap (λ (fs : List (List ℕ)). drive_files drives ++ fs)
-        (ap cartridge_files split.all
-        ∙ map-append (λ (c : CartridgeEntry). string_bytes c.file) split.before (split.entry ∷ split.behind))
-        ∙ sym (append_assoc (drive_files drives) (cartridge_files split.before)
-        (string_bytes split.entry.file ∷ cartridge_files split.behind)))
-        are.files in
+    ((drive_files drives ++ cartridge_files split.before)
+    ++ string_bytes split.entry.file ∷ cartridge_files split.behind) =
+    subst (λ (fs : List (List ℕ)). AreDistinct fs)
+    (ap (λ (fs : List (List ℕ)). drive_files drives ++ fs)
+    (ap cartridge_files split.all
+    ∙ map-append (λ (c : CartridgeEntry). string_bytes c.file) split.before (split.entry ∷ split.behind))
+    ∙ sym (append_assoc (drive_files drives) (cartridge_files split.before)
+    (string_bytes split.entry.file ∷ cartridge_files split.behind)))
+    are.files in
     let homes_are : homes_of cartridges ≡ homes_of split.before ++ address_of split.entry.home ∷ homes_of split.behind =
-        ap homes_of split.all
-        ∙ map-append (λ (c : CartridgeEntry). address_of c.home) split.before (split.entry ∷ split.behind) in
+    ap homes_of split.all
+    ∙ map-append (λ (c : CartridgeEntry). address_of c.home) split.before (split.entry ∷ split.behind) in
     let homes : AreDistinct (homes_of split.before ++ address_of split.entry.home ∷ homes_of split.behind) =
-        subst (λ (hs : List ℕ). AreDistinct hs) homes_are are.homes in
+    subst (λ (hs : List ℕ). AreDistinct hs) homes_are are.homes in
     let has_home : Contains (homes_of cartridges) (address_of split.entry.home) =
-        subst (λ (hs : List ℕ). Contains hs (address_of split.entry.home)) (sym homes_are)
-        (Contains-append_right (homes_of split.before) (address_of split.entry.home ∷ homes_of split.behind)
-        (address_of split.entry.home) (0, omega arith, refl)) in
+    subst (λ (hs : List ℕ). Contains hs (address_of split.entry.home)) (sym homes_are)
+    (Contains-append_right (homes_of split.before) (address_of split.entry.home ∷ homes_of split.behind)
+    (address_of split.entry.home) (0, omega arith, refl)) in
     let listed : IsAtHome (numbers_of drives) (address_of split.entry.home) =
-        All-contains (IsAtHome (numbers_of drives)) (homes_of cartridges) (address_of split.entry.home) are.listed
-        has_home in
+    All-contains (IsAtHome (numbers_of drives)) (homes_of cartridges) (address_of split.entry.home) are.listed
+    has_home in
     entry_right (CartridgeTableBreaks others broken.before) broken.value here.0 here.1
     (cartridge_right others broken.before here.0 split.entry.barcode (string_bytes split.entry.file)
     split.entry.capacities (address_of split.entry.home)
@@ -185,7 +185,7 @@ nothing_is_broken root config is place rule (at_drive entries there broken) =
 nothing_is_broken root config is place rule (at_cartridge entries more drives there are here broken) =
     let same_entries = entries_same key.Drive root entries is.drives.0 there is.drives.1 in
     let moved : AreDrives is.drives.0 drives =
-        subst (λ (vs : List Data). AreDrives vs drives) same_entries are in
+    subst (λ (vs : List Data). AreDrives vs drives) same_entries are in
     no_cartridge_broken config.drives.items drives is.cartridges.0 config.cartridges.items place rule
     (drives_same is.drives.0 drives config.drives.items moved.each is.drives.2.each) is.cartridges.2
     (subst (λ (vs : List Data). BrokenAt (AreCartridges drives) (CartridgeTableBreaks drives) Cartridge vs place rule)

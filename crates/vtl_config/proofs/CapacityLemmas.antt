@@ -25,7 +25,7 @@ no_capacities [] few = refl
 no_capacities (d ∷ ds) (inl none) = absurd (omega arith)
 no_capacities (d ∷ ds) (inr many) =
     let too_many : nat_le (count_items (items_of (d ∷ ds))) 4 ≡ false =
-        rw (count_items-items_of (d ∷ ds)) (lt-leb (length (d ∷ ds)) 4 many) in
+    rw (count_items-items_of (d ∷ ds)) (lt-leb (length (d ∷ ds)) 4 many) in
     and_left _ _ (and_right _ _ too_many)
 
 -- whether a value is a list of integers

@@ -92,8 +92,8 @@ pub cartridges_push :
     → AreCartridges drives (entries ++ value ∷ []) (cartridges ++ cartridge ∷ [])
 cartridges_push drives entries cartridges value cartridge are fits =
     let found =
-        fits_cartridge_table drives cartridges value cartridge.barcode (string_bytes cartridge.file)
-        cartridge.capacities (address_of cartridge.home) fits in
+    fits_cartridge_table drives cartridges value cartridge.barcode (string_bytes cartridge.file)
+    cartridge.capacities (address_of cartridge.home) fits in
     let here : IsCartridge value cartridge = rw found.1 found.2.is_table in record {
       each = each_push IsCartridge entries cartridges value cartridge are.each here;
       barcodes =

@@ -56,14 +56,14 @@ all_whole (c ∷ cs) = all_whole cs
 held : (capacities : List ℕ) → AreCapacities capacities → hold_capacities (items_of (map whole capacities)) ≡ true
 held capacities are =
     let count : count_items (items_of (map whole capacities)) ≡ length capacities =
-        count_items-items_of (map whole capacities) ∙ length-map capacities whole in
+    count_items-items_of (map whole capacities) ∙ length-map capacities whole in
     let some : nat_le 1 (count_items (items_of (map whole capacities))) ≡ true =
-        rw count (le-leb 1 (length capacities) are.some) in
+    rw count (le-leb 1 (length capacities) are.some) in
     let few : nat_le (count_items (items_of (map whole capacities))) 4 ≡ true =
-        rw count (le-leb (length capacities) 4 are.few) in
+    rw count (le-leb (length capacities) 4 are.few) in
     let each : items_all is_capacity_value (items_of (map whole capacities)) ≡ true =
-        items_all-items_of is_capacity_value (map whole capacities)
-        ∙ (list_all-map is_capacity_value whole capacities ∙ list_all-from_AllPass is_capacity capacities are.each) in
+    items_all-items_of is_capacity_value (map whole capacities)
+    ∙ (list_all-map is_capacity_value whole capacities ∙ list_all-from_AllPass is_capacity capacities are.each) in
     and_from _ _ (and_from _ _ some few) each
 
 cartridge_key_go :

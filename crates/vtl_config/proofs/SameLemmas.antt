@@ -130,7 +130,7 @@ drive_same value x y left right =
     let r = is_drive_table value y right in
     let one : l.0 ≡ r.0 = same_table value l.0 r.0 l.1 r.1 in
     let moved : IsDriveTable r.0 x.number (string_bytes x.reservations) =
-        subst (λ (m : Members). IsDriveTable m x.number (string_bytes x.reservations)) one l.2 in (
+    subst (λ (m : Members). IsDriveTable m x.number (string_bytes x.reservations)) one l.2 in (
       same_whole _ _ _ moved.number_value r.2.number_value,
       same_text _ _ _ moved.file_value r.2.file_value,
     )
@@ -165,9 +165,9 @@ cartridge_same value x y left right =
     let r = is_cartridge_table value y right in
     let one : l.0 ≡ r.0 = same_table value l.0 r.0 l.1 r.1 in
     let moved : IsCartridgeTable r.0 x.barcode (string_bytes x.file) x.capacities (address_of x.home) =
-        subst
-        (λ (m : Members). IsCartridgeTable m x.barcode (string_bytes x.file) x.capacities (address_of x.home))
-        one l.2 in (
+    subst
+    (λ (m : Members). IsCartridgeTable m x.barcode (string_bytes x.file) x.capacities (address_of x.home))
+    one l.2 in (
       same_text _ _ _ moved.barcode_value r.2.barcode_value,
       same_text _ _ _ moved.file_value r.2.file_value,
       same_whole _ _ _ moved.home_value r.2.home_value,

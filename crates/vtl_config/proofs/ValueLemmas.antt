@@ -37,14 +37,14 @@ array_value (array x) items e = ap array (same_Some _ _ e)
 array_value (table x) items e = cc
 
 -- a value that is a table
-pub table_value : (value : Data) (members : Members) → as_table value ≡ Some members → value ≡ table members
-table_value (string x) members e = cc
-table_value (integer x) members e = cc
-table_value (float x) members e = cc
-table_value (boolean x) members e = cc
-table_value (datetime x) members e = cc
-table_value (array x) members e = cc
-table_value (table x) members e = ap table (same_Some _ _ e)
+pub table_value : (value : Data) (inner : Members) → as_table value ≡ Some inner → value ≡ table inner
+table_value (string x) inner e = cc
+table_value (integer x) inner e = cc
+table_value (float x) inner e = cc
+table_value (boolean x) inner e = cc
+table_value (datetime x) inner e = cc
+table_value (array x) inner e = cc
+table_value (table x) inner e = ap table (same_Some _ _ e)
 
 -- a whole number
 pub natural_value : (n : ℤ) (found : ℕ) → natural_of n ≡ Some found → n ≡ pos found

@@ -52,7 +52,9 @@ fn is_barcode_of(cartridge: &CartridgeEntry, barcode: &Barcode) -> bool
 fn any_has_barcode(cartridges: &[CartridgeEntry], barcode: &Barcode) -> bool
     ensures { result ≡ list_any (λ cartridge. bytes_eq cartridge.barcode barcode.now) cartridges.now }
 {
-    cartridges.iter().any(|cartridge| is_barcode_of(cartridge, barcode))
+    cartridges
+        .iter()
+        .any(|cartridge| is_barcode_of(cartridge, barcode))
 }
 
 pub(crate) fn has_barcode(cartridges: &[CartridgeEntry], barcode: &Barcode) -> bool
@@ -70,7 +72,9 @@ fn is_cartridge_file_of(cartridge: &CartridgeEntry, file: &str) -> bool
 fn any_has_cartridge_file(cartridges: &[CartridgeEntry], file: &str) -> bool
     ensures { result ≡ list_any (λ cartridge. bytes_eq (string_bytes cartridge.file) file.now) cartridges.now }
 {
-    cartridges.iter().any(|cartridge| is_cartridge_file_of(cartridge, file))
+    cartridges
+        .iter()
+        .any(|cartridge| is_cartridge_file_of(cartridge, file))
 }
 
 pub(crate) fn has_cartridge_file(cartridges: &[CartridgeEntry], file: &str) -> bool
@@ -88,7 +92,9 @@ fn is_home_of(cartridge: &CartridgeEntry, home: Address) -> bool
 fn any_has_home(cartridges: &[CartridgeEntry], home: Address) -> bool
     ensures { result ≡ list_any (λ cartridge. address_of cartridge.home == address_of home) cartridges.now }
 {
-    cartridges.iter().any(|cartridge| is_home_of(cartridge, home))
+    cartridges
+        .iter()
+        .any(|cartridge| is_home_of(cartridge, home))
 }
 
 pub(crate) fn has_home(cartridges: &[CartridgeEntry], home: Address) -> bool

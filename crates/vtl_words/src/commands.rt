@@ -8,7 +8,8 @@ ghost use Rattle.vtl_words.specs.Commands as line;
 use clap::{Arg, ArgAction, Command};
 use std::alloc::{AllocError, Global};
 
-const ABOUT: &str = "A virtual tape library: runs scripts of drive commands over cartridges in files";
+const ABOUT: &str =
+    "A virtual tape library: runs scripts of drive commands over cartridges in files";
 
 const AFTER_HELP: &str = "\
 Example:
@@ -25,7 +26,8 @@ Statuses:
 
 const RUN_ABOUT: &str = "Runs the script on standard input and prints its answers";
 
-const CREATE_ABOUT: &str = "Makes each missing file of a configuration; a file that is there is kept";
+const CREATE_ABOUT: &str =
+    "Makes each missing file of a configuration; a file that is there is kept";
 
 const CHECK_ABOUT: &str = "Tells what the file of a cartridge or of a drive's reservations holds";
 
@@ -133,7 +135,9 @@ fn program<'a>(alloc: Global) -> Command<'a>
     ensures local { (out-Command result).has_globals ≡ false }
 {
     let command = named(alloc, "vtl", ABOUT).after_help(AFTER_HELP);
-    command.subcommand_required(true).disable_help_subcommand(true)
+    command
+        .subcommand_required(true)
+        .disable_help_subcommand(true)
 }
 
 /// The command line of the program.

@@ -12,9 +12,13 @@ pub enum Order {
         config: Option<String>,
     },
     /// Makes the files of a configuration that are missing.
-    Create { config: String },
+    Create {
+        config: String,
+    },
     /// Tells what a file holds.
-    Check { file: String },
+    Check {
+        file: String,
+    },
 }
 
 /// Why command words give no order.

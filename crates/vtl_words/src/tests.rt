@@ -38,7 +38,10 @@ fn run_has_a_flag_and_an_option(rt: HostRuntime) {
 #[test]
 fn create_and_check_have_a_file(rt: HostRuntime) {
     let alloc = rt.alloc();
-    for line in ["vtl create --config lib.toml", "vtl create --config=lib.toml"] {
+    for line in [
+        "vtl create --config lib.toml",
+        "vtl create --config=lib.toml",
+    ] {
         let Ok(Order::Create { config }) = asked(alloc, line) else {
             assert!(rt; false, "{line}");
             return;
@@ -83,7 +86,10 @@ fn other_words_are_refused(rt: HostRuntime) {
         "vtl check --config a",
         "vtl run run",
     ] {
-        assert!(rt; matches!(asked(alloc, line), Err(WordsError::Refused)), "{line}");
+        assert!(rt;
+            matches!(asked(alloc, line), Err(WordsError::Refused)),
+            "{line}"
+        );
     }
     let none: Vec<String> = Vec::new(alloc);
     assert!(rt; matches!(read_words(alloc, none.as_slice()), Err(WordsError::Refused)));
@@ -93,11 +99,50 @@ fn other_words_are_refused(rt: HostRuntime) {
 fn help_tells_the_words_an_example_and_the_statuses(rt: HostRuntime) -> Result<(), Fail> {
     let alloc = rt.alloc();
     for (line, told) in [
-        ("vtl --help", ["run", "create", "check", "vtl run --config", "out of memory"]),
-        ("vtl -h", ["Usage: vtl", "Example:", "Statuses:", "  0  done", "  2  device"]),
-        ("vtl run --help", ["--memory", "--config <FILE>", "standard input", "TOML", "vtl run"]),
-        ("vtl create -h", ["--config <FILE>", "Makes", "kept", "configuration", "vtl create"]),
-        ("vtl check --help", ["<FILE>", "Tells", "file", "not changed", "vtl check"]),
+        (
+            "vtl --help",
+            [
+                "run",
+                "create",
+                "check",
+                "vtl run --config",
+                "out of memory",
+            ],
+        ),
+        (
+            "vtl -h",
+            [
+                "Usage: vtl",
+                "Example:",
+                "Statuses:",
+                "  0  done",
+                "  2  device",
+            ],
+        ),
+        (
+            "vtl run --help",
+            [
+                "--memory",
+                "--config <FILE>",
+                "standard input",
+                "TOML",
+                "vtl run",
+            ],
+        ),
+        (
+            "vtl create -h",
+            [
+                "--config <FILE>",
+                "Makes",
+                "kept",
+                "configuration",
+                "vtl create",
+            ],
+        ),
+        (
+            "vtl check --help",
+            ["<FILE>", "Tells", "file", "not changed", "vtl check"],
+        ),
     ] {
         let Err(WordsError::Help(text)) = asked(alloc, line) else {
             assert!(rt; false, "{line}");

@@ -10,7 +10,7 @@ returns-then-is_empty c =
     elim c.then-is_empty.either [
       | inl empty ↦
           let none : length c.args.items.now ≡ 0 =
-              eqb-true (length c.args.items.now) 0 (rw (← c.is_empty.ensures) empty) in
+          eqb-true (length c.args.items.now) 0 (rw (← c.is_empty.ensures) empty) in
           no_capacities (map view c.args.items.now) (inl (rw (length-map c.args.items.now view) none))
       | inr long ↦
           no_capacities (map view c.args.items.now) (inr (rw (length-map c.args.items.now view) long.1))

@@ -6,12 +6,12 @@ use Rattle.vtl_config.proofs.doubles.has_barcode.Goals as goal
 pub returns : goal.returns
 returns c = (
   (λ found.
-    any_contains (λ entry. entry.barcode) (λ it. bytes_eq it c.args.barcode.now) c.args.barcode.now
-    (λ it same. (bytes_eq-Decides it c.args.barcode.now).0 same)
-    c.args.cartridges.now (rw (← c.any_has_barcode.ensures) found)),
+      any_contains (λ entry. entry.barcode) (λ it. bytes_eq it c.args.barcode.now) c.args.barcode.now
+      (λ it same. (bytes_eq-Decides it c.args.barcode.now).0 same)
+      c.args.cartridges.now (rw (← c.any_has_barcode.ensures) found)),
   (λ has.
-    rw c.any_has_barcode.ensures
-    (contains_any (λ entry. entry.barcode) (λ it. bytes_eq it c.args.barcode.now) c.args.barcode.now
-    (λ it same. (bytes_eq-Decides it c.args.barcode.now).1 same)
-    c.args.cartridges.now has.0 has.1 has.2)),
+      rw c.any_has_barcode.ensures
+      (contains_any (λ entry. entry.barcode) (λ it. bytes_eq it c.args.barcode.now) c.args.barcode.now
+      (λ it same. (bytes_eq-Decides it c.args.barcode.now).1 same)
+      c.args.cartridges.now has.0 has.1 has.2)),
 )

@@ -7,12 +7,12 @@ use Rattle.vtl_config.proofs.doubles.has_drive_file.Goals as goal
 pub returns : goal.returns
 returns c = (
   (λ found.
-    any_contains (λ entry. string_bytes entry.reservations) (λ it. bytes_eq it c.args.file.now) c.args.file.now
-    (λ it same. (bytes_eq-Decides it c.args.file.now).0 same)
-    c.args.drives.now (rw (← c.any_has_drive_file.ensures) found)),
+      any_contains (λ entry. string_bytes entry.reservations) (λ it. bytes_eq it c.args.file.now) c.args.file.now
+      (λ it same. (bytes_eq-Decides it c.args.file.now).0 same)
+      c.args.drives.now (rw (← c.any_has_drive_file.ensures) found)),
   (λ has.
-    rw c.any_has_drive_file.ensures
-    (contains_any (λ entry. string_bytes entry.reservations) (λ it. bytes_eq it c.args.file.now) c.args.file.now
-    (λ it same. (bytes_eq-Decides it c.args.file.now).1 same)
-    c.args.drives.now has.0 has.1 has.2)),
+      rw c.any_has_drive_file.ensures
+      (contains_any (λ entry. string_bytes entry.reservations) (λ it. bytes_eq it c.args.file.now) c.args.file.now
+      (λ it same. (bytes_eq-Decides it c.args.file.now).1 same)
+      c.args.drives.now has.0 has.1 has.2)),
 )

@@ -7,12 +7,12 @@ use Rattle.vtl_config.proofs.doubles.has_home.Goals as goal
 pub returns : goal.returns
 returns c = (
   (λ found.
-    any_contains (λ entry. address_of entry.home) (λ it. it == (address_of c.args.home)) (address_of c.args.home)
-    (λ it same. eqb-true it (address_of c.args.home) same)
-    c.args.cartridges.now (rw (← c.any_has_home.ensures) found)),
+      any_contains (λ entry. address_of entry.home) (λ it. it == (address_of c.args.home)) (address_of c.args.home)
+      (λ it same. eqb-true it (address_of c.args.home) same)
+      c.args.cartridges.now (rw (← c.any_has_home.ensures) found)),
   (λ has.
-    rw c.any_has_home.ensures
-    (contains_any (λ entry. address_of entry.home) (λ it. it == (address_of c.args.home)) (address_of c.args.home)
-    (λ it same. eq-eqb it (address_of c.args.home) same)
-    c.args.cartridges.now has.0 has.1 has.2)),
+      rw c.any_has_home.ensures
+      (contains_any (λ entry. address_of entry.home) (λ it. it == (address_of c.args.home)) (address_of c.args.home)
+      (λ it same. eq-eqb it (address_of c.args.home) same)
+      c.args.cartridges.now has.0 has.1 has.2)),
 )

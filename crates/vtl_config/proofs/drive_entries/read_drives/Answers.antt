@@ -25,13 +25,13 @@ loop-place-preserved c =
     let place = c.loop-place.place in
     let here = c.index-entries-place.result in
     let taken : map view (take (place + 1) values) ≡ map view (take place values) ++ view here ∷ [] =
-        taken_more view values place here c.loop-place-test.true
-        ∙ ap (λ (v : Value). map view (take place values) ++ view v ∷ []) (sym c.index-entries-place.is) in
+    taken_more view values place here c.loop-place-test.true
+    ∙ ap (λ (v : Value). map view (take place values) ++ view v ∷ []) (sym c.index-entries-place.is) in
     let text : string_bytes c.in_ok-reservations.reservations ≡ c.in-Ok.found.file.now =
-        search (rules, c.in_ok-reservations.ensures.ok) in
+    search (rules, c.in_ok-reservations.ensures.ok) in
     let fits : FitsDrive c.loop-place.drives.items (view here) c.in-Ok.found.number
-        (string_bytes c.in_ok-reservations.reservations) =
-        rw (← c.as_slice.ensures.value, text) c.in-Ok.ensures.ok in
+    (string_bytes c.in_ok-reservations.reservations) =
+    rw (← c.as_slice.ensures.value, text) c.in-Ok.ensures.ok in
     rw (taken, c.in_ok-push.ensures.items) (drives_push _ _ _ _ c.loop-place.invariant fits)
 
 pub returns-clause-ok : goal.returns-clause-ok

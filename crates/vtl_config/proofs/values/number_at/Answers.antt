@@ -8,7 +8,7 @@ use Rattle.vtl_config.proofs.values.number_at.Goals as goal
 pub returns-in-None-natural_of-clause-err : goal.returns-in-None-natural_of-clause-err
 returns-in-None-natural_of-clause-err c =
     let is_integer : view c.in-Some.value.now ≡ integer c.in-Some-as_integer.found =
-        integer_value _ _ (sym c.in-Some-as_integer.ensures) in
+    integer_value _ _ (sym c.in-Some-as_integer.ensures) in
     let below : natural_of c.in-Some-as_integer.found ≡ None = search rules in
     out_of_range (view c.in-Some.value.now) refl (sym c.in-Some.ensures)
     (rw (c.requires, ← c.in-Some-as_integer.ensures) refl)

@@ -14,5 +14,5 @@ returns-in-Err-try_get_matches_from-clause-err c =
     let words = texts_of c.args.words.now in
     let has = c.in-Err-try_get_matches_from.ensures.kinds (ap is_simple_and_free c.in-Ok.ensures ∙ line_is_free) in
     let kinds : HasKind (fault_of vtl_command words) error =
-        subst (λ (app : App). HasKind (fault_of app words) error) c.in-Ok.ensures has in
+    subst (λ (app : App). HasKind (fault_of app words) error) c.in-Ok.ensures has in
     told_refused words (kind_of error) c.told.result c.told.ensures kinds
