@@ -1,4 +1,5 @@
 pub mod Inner
 pub mod OpenFile
+pub mod Opening
 pub mod RawFile
 pub mod Staged

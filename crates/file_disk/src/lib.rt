@@ -2,6 +2,7 @@
 #![tactic(auto)]
 
 pub mod disk;
+pub mod error;
 pub mod opening;
 pub mod raw;
 pub mod staged;
@@ -11,7 +12,8 @@ mod tests;
 mod transfers;
 
 pub use disk::DiskOver;
-pub use opening::{FileError, create, open, open_to_read};
+pub use error::FileError;
+pub use opening::{create, open, open_to_read};
 pub use raw::{CallFailed, RawFile, Stop};
 pub use staged::{StagedFile, Turn};
 pub use system::SystemFile;

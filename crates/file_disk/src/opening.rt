@@ -1,38 +1,18 @@
 //! Making and opening the file of a disk.
 ghost use Rattle.std.specs.Prelude.{◌≡◌, IfOk, IfErr};
-ghost use Rattle.file_disk.specs.declared.opening.FileError.{FileError};
+ghost use Rattle.file_disk.specs.Opening.{IsOneFailure};
+ghost use Rattle.file_disk.specs.declared.error.FileError.{FileError};
 
 use crate::FileDisk;
 use crate::disk::DiskOver;
+use crate::error::FileError;
 use crate::system::SystemFile;
 use std::fs::{File, OpenOptions, TryLockError};
 use std::io::ErrorKind;
 use std::os::fd::AsRawFd;
 use std::path::Path;
 use std::{fs, io};
-use thiserror::Error;
 use vtl_base::DevFault;
-
-/// Why a file was not made or opened.
-#[derive(Clone, Copy, PartialEq, Eq, Debug, Error)]
-pub enum FileError {
-    /// There is a file of this name, or something else. It was not touched.
-    #[error("file exists")]
-    Exists,
-    /// There is no file of this name, or not the folder that it names.
-    #[error("no such file")]
-    Missing,
-    /// What has this name is no regular file. It was not touched.
-    #[error("not a file")]
-    NotAFile,
-    /// Another process has the file open as a disk, or this one.
-    #[error("file in use")]
-    InUse,
-    /// The system reported another error. A file that was made is gone again, where the system
-    /// could take it away.
-    #[error("device fault")]
-    Device(DevFault),
-}
 
 fn device() -> FileError
     ensures { result ≡ FileError.Device (record { failures = 1 }) }
@@ -41,7 +21,9 @@ fn device() -> FileError
 }
 
 // What an error of the system means for a name.
-fn error_of(error: &io::Error) -> FileError {
+fn error_of(error: &io::Error) -> FileError
+    ensures { IsOneFailure result }
+{
     match error.kind() {
         ErrorKind::AlreadyExists => FileError::Exists,
         ErrorKind::NotFound => FileError::Missing,
@@ -54,6 +36,7 @@ fn error_of(error: &io::Error) -> FileError {
 /// that exists is not touched. The name is taken as it stands, from the working directory.
 pub fn create(rt: &HostRuntime, path: &str) -> Result<FileDisk, FileError>
     ensures ok { IfOk result (λ disk. disk.failures ≡ 0) }
+    ensures device { IfErr result IsOneFailure }
 {
     let mut options = OpenOptions::new();
     options.read(true).write(true).create_new(true);
@@ -61,7 +44,7 @@ pub fn create(rt: &HostRuntime, path: &str) -> Result<FileDisk, FileError>
         Ok(file) => file,
         Err(error) => return Err(error_of(&error)),
     };
-    match prepared(file).and_then(|disk| sync_folder(rt, path).map(|_| disk)) {
+    match named(rt, path, file) {
         Ok(disk) => Ok(disk),
         Err(error) => {
             let _ = fs::remove_file(rt, path);
@@ -70,9 +53,25 @@ pub fn create(rt: &HostRuntime, path: &str) -> Result<FileDisk, FileError>
     }
 }
 
+// A disk over a file that was just made, whose name is then sure.
+fn named(rt: &HostRuntime, path: &str, file: File) -> Result<FileDisk, FileError>
+    ensures ok { IfOk result (λ disk. disk.failures ≡ 0) }
+    ensures device { IfErr result IsOneFailure }
+{
+    let disk = match prepared(file) {
+        Ok(disk) => disk,
+        Err(error) => return Err(error),
+    };
+    match sync_folder(rt, path) {
+        Ok(()) => Ok(disk),
+        Err(error) => Err(error),
+    }
+}
+
 /// Opens a file, for this process alone.
 pub fn open(rt: &HostRuntime, path: &str) -> Result<FileDisk, FileError>
     ensures ok { IfOk result (λ disk. disk.failures ≡ 0) }
+    ensures device { IfErr result IsOneFailure }
 {
     let mut options = OpenOptions::new();
     options.read(true).write(true);
@@ -82,6 +81,7 @@ pub fn open(rt: &HostRuntime, path: &str) -> Result<FileDisk, FileError>
 /// Opens a file to be read, for this process alone: each call that would change it fails.
 pub fn open_to_read(rt: &HostRuntime, path: &str) -> Result<FileDisk, FileError>
     ensures ok { IfOk result (λ disk. disk.failures ≡ 0) }
+    ensures device { IfErr result IsOneFailure }
 {
     let mut options = OpenOptions::new();
     options.read(true);
@@ -91,6 +91,7 @@ pub fn open_to_read(rt: &HostRuntime, path: &str) -> Result<FileDisk, FileError>
 // The name is looked at first, since the opening of a pipe may wait for its other end.
 fn open_as(rt: &HostRuntime, path: &str, options: &OpenOptions) -> Result<FileDisk, FileError>
     ensures ok { IfOk result (λ disk. disk.failures ≡ 0) }
+    ensures device { IfErr result IsOneFailure }
 {
     match fs::metadata(rt, path) {
         Ok(found) if found.is_file() => {}
@@ -106,6 +107,7 @@ fn open_as(rt: &HostRuntime, path: &str, options: &OpenOptions) -> Result<FileDi
 // A disk over an open file that is a regular one, above the standard streams, locked and settled.
 fn prepared(file: File) -> Result<FileDisk, FileError>
     ensures ok { IfOk result (λ disk. disk.failures ≡ 0) }
+    ensures device { IfErr result IsOneFailure }
 {
     let Ok(file) = above_streams(file) else {
         return Err(device());
@@ -115,7 +117,9 @@ fn prepared(file: File) -> Result<FileDisk, FileError>
         Ok(_) => return Err(FileError::NotAFile),
         Err(_) => return Err(device()),
     }
-    lock(&file)?;
+    if let Err(error) = lock(&file) {
+        return Err(error);
+    }
     match SystemFile::settled(file) {
         Ok(file) => Ok(DiskOver::new(file)),
         Err(_) => Err(device()),
@@ -133,7 +137,9 @@ fn above_streams(file: File) -> io::Result<File> {
 }
 
 // Where the file system has no locks the file is taken without one.
-fn lock(file: &File) -> Result<(), FileError> {
+fn lock(file: &File) -> Result<(), FileError>
+    ensures { IfErr result IsOneFailure }
+{
     match file.try_lock() {
         Ok(()) => Ok(()),
         Err(TryLockError::WouldBlock) => Err(FileError::InUse),
@@ -143,13 +149,19 @@ fn lock(file: &File) -> Result<(), FileError> {
 }
 
 // Makes the names in the folder of this file sure.
-fn sync_folder(rt: &HostRuntime, path: &str) -> Result<(), FileError> {
+fn sync_folder(rt: &HostRuntime, path: &str) -> Result<(), FileError>
+    ensures { IfErr result IsOneFailure }
+{
     let folder = match Path::new(path).parent() {
         Some(parent) if !parent.as_str().is_empty() => parent.as_str(),
         _ => ".",
     };
-    match File::open(rt, folder) {
-        Ok(folder) => folder.sync_all().map_err(|_| device()),
+    let synced = match File::open(rt, folder) {
+        Ok(folder) => folder.sync_all(),
+        Err(error) => Err(error),
+    };
+    match synced {
+        Ok(()) => Ok(()),
         Err(_) => Err(device()),
     }
 }
