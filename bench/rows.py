@@ -44,7 +44,7 @@ def main():
     with tempfile.TemporaryDirectory() as room:
         shutil.copy(os.path.join(TOP, "crates.txt"), room)
         shutil.copy(os.path.join(TOP, "HANDLES"), room)
-        shutil.copytree(os.path.join(TOP, "crates"), os.path.join(room, "crates"), ignore=shutil.ignore_patterns("must-fail", "wrong"))
+        shutil.copytree(os.path.join(TOP, "crates"), os.path.join(room, "crates"), ignore=shutil.ignore_patterns("out", "must-fail", "wrong"))
         subprocess.run(["git", "init", "-q", room], check=True)
         for edit in EDITS:
             _, failed = tried(room, edit)
