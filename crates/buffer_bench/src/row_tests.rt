@@ -15,7 +15,7 @@ use volume_core::Turn;
 #[derive(Clone, Copy)]
 enum Step<'a> {
     Asks(u32, Row<'a>, u64),
-    Writes(u32, usize, u64),
+    Writes(u32, u32, u64),
     Turns(Turn, u64),
 }
 
@@ -99,7 +99,7 @@ const AT_ONCE: [Step<'static>; 4] = [
     Step::Turns(Turn::Stored(1), 2),
 ];
 
-fn writes(rt: &impl Abort, alloc: Global, drive: &mut Tape<MemDisk>, count: u32, size: usize) {
+fn writes(rt: &impl Abort, alloc: Global, drive: &mut Tape<MemDisk>, count: u32, size: u32) {
     for _ in 0..count {
         write(rt, alloc, drive, size);
     }

@@ -177,9 +177,9 @@ pub fn assert_turn<D: Disk + Drop>(rt: &impl Abort, drive: &mut Tape<D>, wanted:
 }
 
 /// Host 1 writes a block of so many bytes, which is GOOD.
-pub fn write<D: Disk + Drop>(rt: &impl Abort, alloc: Global, drive: &mut Tape<D>, size: usize) {
-    let [_, high, middle, low] = (size as u32).to_be_bytes();
-    let block = vec![in alloc; 0x5a; size].expect(rt, "memory");
+pub fn write<D: Disk + Drop>(rt: &impl Abort, alloc: Global, drive: &mut Tape<D>, size: u32) {
+    let [_, high, middle, low] = size.to_be_bytes();
+    let block = vec![in alloc; 0x5a; size as usize].expect(rt, "memory");
     asks(
         rt,
         drive,
