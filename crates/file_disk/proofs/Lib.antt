@@ -1,4 +1,0 @@
-pub mod RunLemmas
-pub mod SmearLemmas
-pub mod StagedLemmas
-pub mod TransferLemmas

@@ -1,2 +1,0 @@
-pub mod SystemFile
-pub mod Transfers

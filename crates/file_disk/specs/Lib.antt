@@ -1,5 +1,0 @@
-pub mod Inner
-pub mod OpenFile
-pub mod Opening
-pub mod RawFile
-pub mod Staged
