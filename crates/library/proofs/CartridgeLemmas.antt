@@ -163,7 +163,7 @@ module _ {D : Type 0} (state : D → DiskState) (is_disk : (disk : D) → (state
         let same : a ≡ medium = cc in
         let known_a = subst (IsKnown state) (sym same) known in
         let found = keep_on (disk_in a.held) (disk_in b.held) (disk_in c.held) (medium_core state a)
-            (medium_core state b)
+        (medium_core state b)
         (medium_core state c) made more known_a.disk known_a.disk_is known_a.honest known_a.core known_a.shows one two
         (safe b refl) in
         record {
