@@ -162,5 +162,5 @@ module _ {M K : Type 0} (state : M → MediumState) (below : Below M Change) (ke
   one_host_of old left before new now (Ok done) runs =
       let ran = rw (sym runs.ended.3.0) at runs.answered in
       answered_by old.number old.drive left before new.drive now runs.text runs.items runs.replies
-      (list_any is_move (parsed_lines (λ drive. drive == old.number) runs.text)) runs.known runs.ended.1 runs.ended.2 ran
-      runs.ended.3.1 refl
+      (list_any is_move (parsed_lines (λ drive. drive == old.number) runs.text)) runs.known runs.ended.1 runs.ended.2
+      ran runs.ended.3.1 refl

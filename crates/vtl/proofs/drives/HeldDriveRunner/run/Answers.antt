@@ -1,4 +1,4 @@
-use Rattle.std.proofs.Common.{refl, Vec}
+use Rattle.std.proofs.Common.{refl}
 use Rattle.vtl_script.specs.Answered.{none_answered}
 use Rattle.vtl_script.specs.declared.items.Item.TheVariants.{Phase}
 use Rattle.vtl.specs.Inner.HeldRuns.{held_empty, held_ok, held_move, anyway}
@@ -19,7 +19,8 @@ returns-in-Phase-clause-err g c =
 pub returns-in-Move-clause-ok : goal.returns-in-Move-clause-ok
 returns-in-Move-clause-ok g c =
     rw c.in-Move.is (held_move g.M.Catalog.state g.M.Medium.below g.K.Keeper.kept g.K.Keeper.below
-    (λ replies. replies.items) c.args.self.now.drive c.in-Move.from c.in-Move.to c.no_address.result c.no_address.ensures)
+    (λ replies. replies.items) c.args.self.now.drive c.in-Move.from c.in-Move.to c.no_address.result
+    c.no_address.ensures)
 
 pub returns-in-Move-clause-err : goal.returns-in-Move-clause-err
 returns-in-Move-clause-err g c =
