@@ -1,8 +1,10 @@
 pub mod BehindLemmas
+pub mod CheckLemmas
 pub mod HostLemmas
 pub mod ItemLemmas
 pub mod LineLemmas
 pub mod OneHostLemmas
+pub mod OneTextLemmas
 pub mod PartLemmas
 pub mod PhaseLemmas
 pub mod ReadingLemmas
