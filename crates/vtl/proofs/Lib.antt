@@ -1,2 +1,4 @@
+pub mod CheckLemmas
 pub mod OneHostLemmas
+pub mod OneTextLemmas
 pub mod SideTextLemmas

@@ -1,42 +1,85 @@
 -- The lines of a side.
-use Rattle.std.proofs.Common.{◌≡◌, inl, inr, ℕ, ◌+◌, ◌-◌, ◌≤◌, ◌==◌, nat_lt, cond, Bool, true, false, List, [], ◌∷◌, ◌++◌, length, take, replicate, Some, None, flat_map, position, codes, decimal, refl, sym, ap, ◌∙◌, subst, arith, append_assoc, Result, Ok, Err, IfOk, MatchResult, string_bytes, String, Global, zero, suc, add-one}
+use Rattle.std.proofs.Common.{◌≡◌, ◌≢◌, ℕ, ◌+◌, ◌-◌, ◌≤◌, ◌<◌, ◌==◌, nat_lt, cond, Bool, true, false, List, [], ◌∷◌, ◌++◌, length, map, take, replicate, get_or, Option, Some, None, is_some, flat_map, filter, count_by, position, codes, decimal, refl, sym, ap, ◌∙◌, subst, arith, append_assoc, Result, Ok, Err, IfOk, MatchResult, string_bytes, String, Global, zero, suc, add-one}
 use Rattle.std.specs.declared.alloc.AllocError.{AllocError}
 use Rattle.std.specs.Prelude.{IsTrue}
 use Rattle.std.specs.List.{All, position_or_len, range_with_len}
 use Rattle.std.proofs.lemmas.Bool.{false≢true, ne_eqb}
 use Rattle.std.proofs.lemmas.Bool.Decides.{nat_tests}
-use Rattle.std.proofs.lemmas.List.{append-nil, flat_map_more, length-append, take_all}
-use Rattle.std.proofs.lemmas.List.Elements.{All-head, All-tail}
+use Rattle.std.proofs.lemmas.List.{append-nil, ext_get_or, flat_map_more, length-append, take_all}
+use Rattle.std.proofs.lemmas.List.Elements.{All-from_recursion, All-head, All-tail, All-weaker}
+use Rattle.std.proofs.lemmas.List.FromFn.{length-map-range_with_len, get_or-map-range_with_len}
+use Rattle.std.proofs.lemmas.List.Sums.{length-filter, sum_by-cons}
 use Rattle.std.proofs.Math.Seq.{take-append_seam}
 use Rattle.vtl_base.specs.Barcode.{IsBarcode, is_symbol}
-use Rattle.tape_disk.specs.Disk.{DiskState, Only}
+use Rattle.vtl_base.specs.declared.limits.TheConstants.{NEXUSES}
 use Rattle.volume_core.specs.Volume.{Part, count_of, objects_of, used_of, used_up_to}
-use Rattle.cartridge.specs.declared.error.CartridgeError.{CartridgeError}
-use Rattle.cartridge.specs.declared.error.CartridgeError.TheVariants.{NotOurs, Damaged, BadRecord, SideFull, Device, Failed, NoMemory}
-use Rattle.cartridge.specs.Answers.{IsNotOpened}
-use Rattle.cartridge.specs.Contents.{Contents, GivesContents, IsAnswered, IsBadFrameAt, IsNoCartridge, volume_made}
+use Rattle.gate_journal.specs.declared.header.SideKind.TheVariants.{Store}
+use Rattle.gate_journal.specs.Side.{Heading, IsName, digits, padded}
+use Rattle.pr_core.specs.declared.states.PrState.{PrState}
+use Rattle.pr_core.specs.Sets.{nexuses}
+use Rattle.pr_core.specs.States.{key_of, power_loss}
+use Rattle.aptpl_store.specs.Contents.{latest}
 use Rattle.vtl.specs.declared.programs.VtlFault.{VtlFault}
-use Rattle.gate_journal.specs.declared.header.SideKind.{SideKind}
-use Rattle.gate_journal.specs.declared.header.SideKind.TheVariants.{Cartridge}
-use Rattle.gate_journal.specs.Side.{IsDamagedOf, IsName, padded}
-use Rattle.vtl.specs.SideText.{SideText, TellsContents, bad_record_line, cartridge_line, damaged_line, not_a_side_line, partition_line, partition_lines}
+use Rattle.vtl.specs.declared.programs.VtlFault.TheVariants as told
+use Rattle.vtl.specs.SideText.{TellsStates, cartridge_line, partition_line, registrations_in, store_line}
+
+-- a text without spaces
+abbrev pub HasNoSpace : List ℕ → Type 0
+HasNoSpace text = All (λ byte. byte ≢ 32) text
 
 -- no symbol of a barcode is a space
-no_space : (byte : ℕ) → IsTrue (is_symbol byte) → (byte == 32) ≡ false
-no_space byte symbol = ne_eqb byte 32 (λ e. false≢true (sym (ap is_symbol e) ∙ symbol))
+pub symbols_no_space : (barcode : List ℕ) → IsBarcode barcode → HasNoSpace barcode
+symbols_no_space barcode is =
+    All-weaker (λ byte. IsTrue (is_symbol byte)) (λ byte. byte ≢ 32)
+    (λ byte symbol e. false≢true (sym (ap is_symbol e) ∙ symbol)) barcode is.symbols
+
+drive_no_space : (n : ℕ) (few : Bool)
+    → HasNoSpace (codes "DRIVE" ++ cond few ((48 + n) ∷ []) (49 ∷ (38 + n) ∷ []))
+drive_no_space n true =
+    All-from_recursion (λ byte. byte ≢ 32) (codes "DRIVE" ++ (48 + n) ∷ []) (
+      λ e. omega (arith, e),
+      (
+        λ e. omega (arith, e),
+        (
+          λ e. omega (arith, e),
+          (
+            λ e. omega (arith, e),
+            (λ e. omega (arith, e), (λ e. omega (arith, e), tt)),
+          ),
+        ),
+      ),
+    )
+drive_no_space n false =
+    All-from_recursion (λ byte. byte ≢ 32) (codes "DRIVE" ++ 49 ∷ (38 + n) ∷ []) (
+      λ e. omega (arith, e),
+      (
+        λ e. omega (arith, e),
+        (
+          λ e. omega (arith, e),
+          (
+            λ e. omega (arith, e),
+            (λ e. omega (arith, e), (λ e. omega (arith, e), (λ e. omega (arith, e), tt))),
+          ),
+        ),
+      ),
+    )
+
+-- the text of a drive's name has no space
+pub drive_text_no_space : (n : ℕ) → HasNoSpace (codes "DRIVE" ++ digits n)
+drive_text_no_space n = drive_no_space n (nat_lt n 10)
 
 -- the first of some spaces stands at their start
 spaces_first : (n : ℕ) → position_or_len (λ byte. byte == 32) (replicate n 32) ≡ 0
 spaces_first zero = refl
 spaces_first (suc n) = refl
 
--- the first space behind symbols stands at their end
-first_space : (text : List ℕ) (n : ℕ) → All (λ byte. IsTrue (is_symbol byte)) text
+-- the first space behind a text without one stands at its end
+first_space : (text : List ℕ) (n : ℕ) → HasNoSpace text
     → position_or_len (λ byte. byte == 32) (text ++ replicate n 32) ≡ length text
 first_space [] n all = spaces_first n
 first_space (byte ∷ text) n all =
-    let e = no_space byte (All-head (λ byte. IsTrue (is_symbol byte)) byte text all) in
-    let h = first_space text n (All-tail (λ byte. IsTrue (is_symbol byte)) byte text all) in
+    let e = ne_eqb byte 32 (All-head (λ byte. byte ≢ 32) byte text all) in
+    let h = first_space text n (All-tail (λ byte. byte ≢ 32) byte text all) in
     rw e (omega (arith, h))
 
 some_is : (b : Bool) (m n : ℕ) → cond b (Some m) None ≡ Some n → m ≡ n
@@ -51,28 +94,27 @@ no_spaces : (text : List ℕ) (n : ℕ) → length (text ++ replicate n 32) ≤ 
 no_spaces text zero h = append-nil text
 no_spaces text (suc n) h = absurd (omega (arith, h, length-append text (replicate (suc n) 32)))
 
-module _ (name barcode : List ℕ) (is : IsBarcode barcode) (padded_is : name ≡ padded barcode) where
-  at_end : position_or_len (λ byte. byte == 32) name ≡ length barcode
-  at_end = ap (position_or_len (λ byte. byte == 32)) padded_is
-      ∙ first_space barcode (16 - length barcode) is.symbols
+module _ (name text : List ℕ) (is : HasNoSpace text) (padded_is : name ≡ padded text) where
+  pub at_end : position_or_len (λ byte. byte == 32) name ≡ length text
+  at_end = ap (position_or_len (λ byte. byte == 32)) padded_is ∙ first_space text (16 - length text) is
 
-  -- the bytes before the first space of a name are its barcode
-  pub barcode_before : (count : ℕ) → position (λ byte. byte == 32) name ≡ Some count → take count name ≡ barcode
-  barcode_before count h =
+  -- the bytes before the first space of a name are its text
+  pub text_before : (count : ℕ) → position (λ byte. byte == 32) name ≡ Some count → take count name ≡ text
+  text_before count h =
       let at : position_or_len (λ byte. byte == 32) name ≡ count =
       some_is (nat_lt (position_or_len (λ byte. byte == 32) name) (length name))
       (position_or_len (λ byte. byte == 32) name) count h in
-      ap (λ (n : ℕ). take n name) (sym at ∙ at_end) ∙ ap (take (length barcode)) padded_is
-      ∙ take-append_seam barcode (replicate (16 - length barcode) 32)
+      ap (λ (n : ℕ). take n name) (sym at ∙ at_end) ∙ ap (take (length text)) padded_is
+      ∙ take-append_seam text (replicate (16 - length text) 32)
 
-  -- a name with no space is its barcode
-  pub barcode_whole : position (λ byte. byte == 32) name ≡ None → name ≡ barcode
-  barcode_whole h =
+  -- a name with no space is its text
+  pub text_whole : position (λ byte. byte == 32) name ≡ None → name ≡ text
+  text_whole h =
       let past : nat_lt (position_or_len (λ byte. byte == 32) name) (length name) ≡ false =
       none_is (nat_lt (position_or_len (λ byte. byte == 32) name) (length name))
       (position_or_len (λ byte. byte == 32) name) h in
-      let long : length name ≤ length barcode = grind (arith, nat_tests, past, at_end) in
-      padded_is ∙ no_spaces barcode (16 - length barcode) (rw (← padded_is) long)
+      let long : length name ≤ length text = grind (arith, nat_tests, past, at_end) in
+      padded_is ∙ no_spaces text (16 - length text) (rw (← padded_is) long)
 
 -- the line of a cartridge, put together
 pub cartridge_line_is : (old barcode counts : List ℕ) (partitions frames : ℕ)
@@ -122,117 +164,51 @@ line_told (Ok told) (Ok known) text is so = so ∙ is
 line_told (Ok told) (Err error) text is so = absurd so
 line_told (Err fault) line text is so = tt
 
--- the lines that a refusal of an opening has
-abbrev pub TellsRefusal : CartridgeError → Result (List ℕ) VtlFault → Type 0
-TellsRefusal NotOurs lines = IfOk lines (λ text. text ≡ not_a_side_line)
-TellsRefusal (Damaged at) lines = IfOk lines (λ text. text ≡ damaged_line at)
-TellsRefusal (BadRecord at) lines = IfOk lines (λ text. text ≡ bad_record_line at)
-TellsRefusal (Device fault) lines = IfOk lines (λ text. ⊥)
-TellsRefusal NoMemory lines = IfOk lines (λ text. ⊥)
-TellsRefusal SideFull lines = Unit {0}
-TellsRefusal Failed lines = Unit {0}
+-- the line of a store, put together
+pub store_line_is : (old name counts : List ℕ) (frames registrations : ℕ)
+    → counts ≡ codes " frames " ++ (decimal frames ++ (codes " registrations " ++ (decimal registrations ++ 10 ∷ [])))
+    → ((old ++ codes "reservations ") ++ name) ++ counts ≡ old ++ store_line name frames registrations
+store_line_is old name counts frames registrations e = rw e (simp append_assoc)
 
--- they are those of the side that was refused
-pub refusal_told : (error : CartridgeError) (lines : Result (List ℕ) VtlFault) (old new : DiskState)
-    → IsNotOpened error old new → TellsRefusal error lines
-    → IfOk lines (λ text. old.honest → SideText old.seen text × Only old.seen new.may_leave)
-refusal_told NotOurs (Ok text) old new why is = λ honest.
-    (inr (inl ((why.1 honest).0, is)), (why.1 honest).1)
-refusal_told (Damaged at) (Ok text) old new why is = λ honest.
-    (inr (inr (inl (at, (why.1 honest).0, is))), (why.1 honest).1)
-refusal_told (BadRecord at) (Ok text) old new why is = λ honest.
-    (inr (inr (inr (at, (why.1 honest).0, is))), (why.1 honest).1)
-refusal_told (Device fault) (Ok text) old new why is = absurd is
-refusal_told NoMemory (Ok text) old new why is = absurd is
-refusal_told SideFull (Ok text) old new why is = absurd why
-refusal_told Failed (Ok text) old new why is = absurd why
-refusal_told NotOurs (Err fault) old new why is = tt
-refusal_told (Damaged at) (Err fault) old new why is = tt
-refusal_told (BadRecord at) (Err fault) old new why is = tt
-refusal_told (Device other) (Err fault) old new why is = tt
-refusal_told NoMemory (Err fault) old new why is = tt
-refusal_told SideFull (Err fault) old new why is = tt
-refusal_told Failed (Err fault) old new why is = tt
+counted : (entry : ℕ → Option ℕ) (numbers : List ℕ)
+    → count_by is_some (map entry numbers) ≡ count_by (λ number. is_some (entry number)) numbers
+counted entry [] = refl
+counted entry (number ∷ numbers) =
+    sum_by-cons (λ found. cond (is_some found) 1 0) (entry number) (map entry numbers)
+    ∙ ap (λ (n : ℕ). cond (is_some (entry number)) 1 0 + n) (counted entry numbers)
+    ∙ sym (sum_by-cons (λ n. cond (is_some (entry n)) 1 0) number numbers)
 
--- two names that are one have one barcode
-one_barcode : (name a b : List ℕ) → IsBarcode a → IsBarcode b → name ≡ padded a → name ≡ padded b → a ≡ b
-one_barcode name a b is_a is_b e f =
-    sym (take-append_seam a (replicate (16 - length a) 32)) ∙ ap (take (length a)) (sym e ∙ f)
-    ∙ ap (λ (n : ℕ). take n (padded b)) (sym (at_end name a is_a e) ∙ at_end name b is_b f)
-    ∙ take-append_seam b (replicate (16 - length b) 32)
+-- the keys of a state are those of all nexuses
+keys_are : (state : PrState) → length state.keys ≡ NEXUSES → map (key_of state) nexuses ≡ state.keys
+keys_are state long =
+    ext_get_or None (map (key_of state) (range_with_len 1 64)) state.keys
+    (length-map-range_with_len (key_of state) 1 64 ∙ sym long)
+    (λ place within.
+    let inside : place < 64 =
+    subst (λ (n : ℕ). place < n) (length-map-range_with_len (key_of state) 1 64) within in
+    get_or-map-range_with_len (key_of state) 1 64 place (place + 1) None inside (omega arith)
+    ∙ (rw add-one refl))
 
--- one cartridge's contents are told by one text
-told_once : (contents : Contents) (a b : List ℕ) → TellsContents contents a → TellsContents contents b → a ≡ b
-told_once contents a b one other =
-    one.lines
-    ∙ ap (λ (barcode : List ℕ). cartridge_line barcode (length (volume_made contents)) (length contents.frames)
-    ++ partition_lines (volume_made contents))
-    (one_barcode contents.heading.name one.barcode other.barcode one.is_barcode other.is_barcode one.named other.named)
-    ∙ sym other.lines
+-- there are as many keys as registrations
+pub keys_counted : (state : PrState) → length state.keys ≡ NEXUSES
+    → length (filter is_some state.keys) ≡ registrations_in state
+unfolding registrations_in
+keys_counted state long =
+    length-filter is_some state.keys
+    ∙ ap (λ (keys : List (Option ℕ)). count_by is_some keys) (sym (keys_are state long))
+    ∙ counted (key_of state) nexuses
 
--- the cartridge's laws, by which an image has one text
-pub record HaveOneAnswer : Type 0 where
-  pub contents :
-      (image : List ℕ) (a b : Contents) → GivesContents a image → GivesContents b image → a ≡ b
-  pub ours : (image : List ℕ) (contents : Contents) → GivesContents contents image → IsNoCartridge image → ⊥
-  pub whole :
-      (image : List ℕ) (contents : Contents) (at : ℕ) → GivesContents contents image
-      → IsDamagedOf Cartridge image at → ⊥
-  pub bad :
-      (image : List ℕ) (contents : Contents) (at : ℕ) → GivesContents contents image → IsBadFrameAt image at → ⊥
-  pub bad_once : (image : List ℕ) (a b : ℕ) → IsBadFrameAt image a → IsBadFrameAt image b → a ≡ b
-  pub none_damaged : (image : List ℕ) (at : ℕ) → IsNoCartridge image → IsDamagedOf Cartridge image at → ⊥
-  pub none_bad : (image : List ℕ) (at : ℕ) → IsNoCartridge image → IsBadFrameAt image at → ⊥
-  pub damaged_bad : (image : List ℕ) (a b : ℕ) → IsDamagedOf Cartridge image a → IsBadFrameAt image b → ⊥
-  pub damaged_once :
-      (image : List ℕ) (a b : ℕ) → IsDamagedOf Cartridge image a → IsDamagedOf Cartridge image b → a ≡ b
-
-module _ (laws : HaveOneAnswer) (image a b : List ℕ) where
-  pub one_text : SideText image a → SideText image b → a ≡ b
-  one_text (inl (c, gives, tells)) (inl (d, gives', tells')) =
-      told_once d a b
-      (subst (λ (found : Contents). TellsContents found a) (laws.contents image c d gives gives') tells) tells'
-  one_text (inl (c, gives, tells)) (inr (inl (none, is))) = absurd (laws.ours image c gives none)
-  one_text (inl (c, gives, tells)) (inr (inr (inl (at, damaged, is)))) = absurd (laws.whole image c at gives damaged)
-  one_text (inl (c, gives, tells)) (inr (inr (inr (at, bad, is)))) = absurd (laws.bad image c at gives bad)
-  one_text (inr (inl (none, is))) (inl (d, gives, tells)) = absurd (laws.ours image d gives none)
-  one_text (inr (inl (none, is))) (inr (inl (none', is'))) = is ∙ sym is'
-  one_text (inr (inl (none, is))) (inr (inr (inl (at, damaged, is')))) =
-      absurd (laws.none_damaged image at none damaged)
-  one_text (inr (inl (none, is))) (inr (inr (inr (at, bad, is')))) = absurd (laws.none_bad image at none bad)
-  one_text (inr (inr (inl (at, damaged, is)))) (inl (d, gives, tells)) =
-      absurd (laws.whole image d at gives damaged)
-  one_text (inr (inr (inl (at, damaged, is)))) (inr (inl (none, is'))) =
-      absurd (laws.none_damaged image at none damaged)
-  one_text (inr (inr (inl (at, damaged, is)))) (inr (inr (inl (at', damaged', is')))) =
-      is ∙ ap damaged_line (laws.damaged_once image at at' damaged damaged') ∙ sym is'
-  one_text (inr (inr (inl (at, damaged, is)))) (inr (inr (inr (at', bad, is')))) =
-      absurd (laws.damaged_bad image at at' damaged bad)
-  one_text (inr (inr (inr (at, bad, is)))) (inl (d, gives, tells)) = absurd (laws.bad image d at gives bad)
-  one_text (inr (inr (inr (at, bad, is)))) (inr (inl (none, is'))) = absurd (laws.none_bad image at none bad)
-  one_text (inr (inr (inr (at, bad, is)))) (inr (inr (inl (at', damaged, is')))) =
-      absurd (laws.damaged_bad image at' at damaged bad)
-  one_text (inr (inr (inr (at, bad, is)))) (inr (inr (inr (at', bad', is')))) =
-      is ∙ ap bad_record_line (laws.bad_once image at at' bad bad') ∙ sym is'
-
--- contents of a cartridge have their text
-some_lines : (contents : Contents) (image : List ℕ) → GivesContents contents image
-    → (text : List ℕ) × SideText image text
-some_lines contents image gives =
-    let named : IsName Cartridge contents.heading.name =
-    subst (λ (kind : SideKind). IsName kind contents.heading.name) gives.0.kind gives.1.0.begins.name in (
-      cartridge_line named.0 (length (volume_made contents)) (length contents.frames)
-          ++ partition_lines (volume_made contents),
-      inl (
-        contents,
-        gives,
-        record { barcode = named.0; is_barcode = named.1; named = named.2; lines = refl },
-      ),
-    )
-
--- each image has a text
-pub some_text : (image : List ℕ) → IsAnswered image → (text : List ℕ) × SideText image text
-some_text image (inl (contents, gives)) = some_lines contents image gives
-some_text image (inr (inl none)) = (not_a_side_line, inr (inl (none, refl)))
-some_text image (inr (inr (inl (at, damaged)))) = (damaged_line at, inr (inr (inl (at, damaged, refl))))
-some_text image (inr (inr (inr (at, bad)))) = (bad_record_line at, inr (inr (inr (at, bad, refl))))
+-- what is put together of an open store tells its states
+pub states_told : (heading : Heading) (states : List PrState) (left : PrState) (name text : List ℕ)
+    (frames registered : ℕ) → ((found : List ℕ) → HasNoSpace found → heading.name ≡ padded found → name ≡ found)
+    → frames ≡ length states → registered ≡ registrations_in left → text ≡ store_line name frames registered
+    → IsName Store heading.name → left ≡ power_loss (latest states) → TellsStates heading states text
+states_told heading states left name text frames registered trimmed many are is named left_is =
+    let drive = codes "DRIVE" ++ digits named.0 in
+    let no_space = drive_text_no_space named.0 in record {
+      name = drive;
+      has_no_space = no_space;
+      named = named.3;
+      line =
+          is ∙ (λ i. store_line (trimmed drive no_space named.3 i) (many i) ((are ∙ ap registrations_in left_is) i));
+    }

@@ -1,13 +1,16 @@
 -- What `vtl check` tells of a side (own).
-use Rattle.std.specs.Prelude.{◌≡◌, ◌⊎◌, ◌<◌, ℕ, List, [], ◌∷◌, ◌++◌, length, flat_map, codes, decimal}
-use Rattle.std.specs.List.{range_with_len}
+use Rattle.std.specs.Prelude.{◌≡◌, ◌≢◌, ◌⊎◌, ◌<◌, ℕ, List, [], ◌∷◌, ◌++◌, count_by, length, flat_map, codes, decimal}
+use Rattle.std.specs.List.{All, range_with_len}
 use Rattle.vtl_base.specs.Barcode.{IsBarcode}
 use Rattle.volume_core.specs.Volume.{Part, objects_of, used_of}
 use Rattle.tape_disk.specs.Disk.{DiskState, Only}
 use Rattle.gate_journal.specs.Answers.{NoneFailed}
-use Rattle.gate_journal.specs.declared.header.SideKind.TheVariants.{Cartridge}
-use Rattle.gate_journal.specs.Side.{IsDamagedOf, padded}
-use Rattle.cartridge.specs.Contents.{Contents, GivesContents, IsBadFrameAt, IsNoCartridge, volume_made}
+use Rattle.gate_journal.specs.Side.{Heading, IsDamagedAt, IsNotOurs, padded}
+use Rattle.pr_core.specs.declared.states.PrState.{PrState}
+use Rattle.pr_core.specs.Sets.{nexuses}
+use Rattle.pr_core.specs.States.{is_registered, power_loss}
+use Rattle.cartridge.specs.Contents.{Contents, GivesContents, IsBadFrameAt, volume_made}
+use Rattle.aptpl_store.specs.Contents.{GivesStates, IsBadStateAt, latest}
 use Rattle.vtl.specs.declared.programs.VtlFault.{VtlFault}
 use Rattle.vtl.specs.declared.programs.VtlFault.TheVariants.{Words, Config, Script, Device, NoMemory}
 
@@ -36,7 +39,25 @@ pub record TellsContents (contents : Contents) (text : List ℕ) : Type 0 where
       text ≡ cartridge_line barcode (length (volume_made contents)) (length contents.frames)
       ++ partition_lines (volume_made contents)
 
--- the line of an image that is no side of a cartridge (own)
+-- how many nexuses are registered (SPC-4, registrations)
+unfoldable pub registrations_in : PrState → ℕ
+registrations_in state = count_by (is_registered state) nexuses
+
+-- the line of a store: its name, how many frames its side has, how many registrations a loss of power leaves (own)
+abbrev pub store_line : List ℕ → ℕ → ℕ → List ℕ
+store_line name frames registrations =
+    codes "reservations " ++ name ++ codes " frames " ++ decimal frames ++ codes " registrations "
+    ++ decimal registrations ++ 10 ∷ []
+
+-- the line of a side that gives a store's states: its name without the spaces behind it, its frames, and who is
+-- registered after a loss of power of the last state (own)
+pub record TellsStates (heading : Heading) (states : List PrState) (text : List ℕ) : Type 0 where
+  pub name : List ℕ
+  pub has_no_space : All (λ byte. byte ≢ 32) name
+  pub named : heading.name ≡ padded name
+  pub line : text ≡ store_line name (length states) (registrations_in (power_loss (latest states)))
+
+-- the line of an image that is no side: it begins with no header, of a cartridge or of a store (own)
 abbrev pub not_a_side_line : List ℕ
 not_a_side_line = codes "not a side" ++ 10 ∷ []
 
@@ -49,14 +70,17 @@ damaged_line at = codes "damaged at " ++ decimal at ++ 10 ∷ []
 abbrev pub bad_record_line : ℕ → List ℕ
 bad_record_line at = codes "bad record at " ++ decimal at ++ 10 ∷ []
 
--- What `vtl check` prints of the side on an image: the lines of the cartridge whose contents it gives; or one line:
--- that it is no cartridge's side, the gate of its first frame that is not whole, or that of its first bad frame (own).
+-- What `vtl check` prints of the side on an image: the lines of the cartridge whose contents it gives; that of the
+-- store whose states it gives; or one line: that it is no side, the gate of its first frame that is not whole, or that
+-- of its first frame that spells no changes that apply, on a store's side no state (own).
 abbrev pub SideText : List ℕ → List ℕ → Type 0
 SideText image text =
     ((contents : Contents) × GivesContents contents image × TellsContents contents text)
-    ⊎ ((IsNoCartridge image × (text ≡ not_a_side_line))
-    ⊎ (((at : ℕ) × IsDamagedOf Cartridge image at × (text ≡ damaged_line at))
-    ⊎ ((at : ℕ) × IsBadFrameAt image at × (text ≡ bad_record_line at))))
+    ⊎ (((heading : Heading) × (states : List PrState) × GivesStates heading states image
+    × TellsStates heading states text)
+    ⊎ ((IsNotOurs image × (text ≡ not_a_side_line))
+    ⊎ (((at : ℕ) × IsDamagedAt image at × (text ≡ damaged_line at))
+    ⊎ ((at : ℕ) × (IsBadFrameAt image at ⊎ IsBadStateAt image at) × (text ≡ bad_record_line at)))))
 
 -- why the lines of a side are not told: a call of the disk failed; or memory ran out, and none did, and what stands on
 -- the disk is sure (own)

@@ -7,7 +7,9 @@ pub fn each_side_has_one_text()
     ensures some { (image : List ℕ) → (text : List ℕ) × SideText image text }
     ensures one { (image a b : List ℕ) → SideText image a → SideText image b → a ≡ b }
 {
+    gate_journal::laws::no_image_is_decided_twice();
     cartridge::laws::an_image_gives_one_volume();
-    cartridge::laws::a_refusal_has_one_cause();
     cartridge::laws::each_image_is_answered();
+    aptpl_store::laws::an_image_gives_one_store();
+    aptpl_store::laws::each_image_is_answered();
 }

@@ -1,4 +1,4 @@
-//! The lines of a side by a plain program: it reads the bytes as the layout has them.
+//! The lines of a cartridge's side by a plain program: it reads the bytes as the layout has them.
 use std::alloc::{AllocError, Global};
 
 const GATE: u64 = 0xa5;
@@ -178,7 +178,7 @@ fn cartridge(
     Ok(text)
 }
 
-/// The lines of the side with these bytes.
+/// The lines of the side with these bytes, which are no store's.
 pub fn plain_lines(alloc: Global, bytes: &[u8]) -> Result<String, AllocError> {
     let Some(mut partitions) = header(alloc, bytes)? else {
         return format!(in alloc; "not a side\n");

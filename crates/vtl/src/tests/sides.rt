@@ -18,7 +18,19 @@ const SIDE: [u8; 71] = *b"\xa5VTLCART1\0\x01T00001L6        \0\0\0\0\0\0\x10\0\
 // How often the disk is called until its two frames are opened.
 const CALLS: u64 = 8;
 
+// The same of a store with two frames, which is opened as a cartridge before.
+const STORE_CALLS: u64 = 11;
+
 const WHOLE: &str = "cartridge T00001L6 partitions 1 frames 2\npartition 0 objects 2 used 37\n";
+
+// A store `DRIVE1` with two frames, whose gates stand at 27, 45 and 63: host 1 is registered, and has
+// reserved.
+const STORE: [u8; 64] = *b"\xa5VTLRESV1\0\0DRIVE1          \
+    \xa5\0\0\0\x0d\x01\0\0\x01\x01\0\0\0\0\0\0\0\xa1\
+    \xa5\0\0\0\x0d\x01\x05\x01\x01\x01\0\0\0\0\0\0\0\xa1\
+    \0";
+
+const STORED: &str = "reservations DRIVE1 frames 2 registrations 1\n";
 
 // The lines of the side with these bytes, which stay as they are.
 fn told(rt: &impl Abort, alloc: Global, bytes: &[u8]) -> Result<Bytes, Fail> {
@@ -129,16 +141,74 @@ fn a_side_of_many_frames(rt: HostRuntime) -> Result<(), Fail> {
     assert_tells(&rt, alloc, &side, wanted, 12)
 }
 
+// The store with a third frame behind its two.
+fn stored(alloc: Global, frame: &[u8]) -> Result<Vec<u8>, Fail> {
+    let mut bytes = Vec::from_slice(alloc, &STORE[..63])?;
+    bytes.extend_from_slice(frame)?;
+    bytes.push(0)?;
+    Ok(bytes)
+}
+
+fn assert_told(rt: &impl Abort, alloc: Global, bytes: &[u8], wanted: &str) -> Result<(), Fail> {
+    let text = told(rt, alloc, bytes)?;
+    assert_eq!(rt; text.as_slice(), wanted.as_bytes(), "{wanted}");
+    Ok(())
+}
+
 #[test]
-fn stores_are_no_sides(rt: HostRuntime) -> Result<(), Fail> {
-    // Whole with no frame, without its gate, and with a frame that is not whole.
-    let stores: [&[u8]; 3] = [
-        b"\xa5VTLRESV1\0\0DRIVE1          \0",
-        b"\xa5VTLRESV1\0\0DRIVE16         ",
-        b"\xa5VTLRESV1\0\0DRIVE1          \xa5\0\0\0\x04\x01\0",
+fn stores_of_reservations(rt: HostRuntime) -> Result<(), Fail> {
+    let alloc = rt.alloc();
+    // New ones; without a gate, under a name that no drive has, and with a frame that is not whole.
+    let stores: [(&[u8], &str); 6] = [
+        (
+            b"\xa5VTLRESV1\0\0DRIVE1          \0",
+            "reservations DRIVE1 frames 0 registrations 0\n",
+        ),
+        (
+            b"\xa5VTLRESV1\0\0DRIVE16         \0",
+            "reservations DRIVE16 frames 0 registrations 0\n",
+        ),
+        (b"\xa5VTLRESV1\0\0DRIVE16         ", "damaged at 27\n"),
+        (b"\xa5VTLRESV1\0\0DRIVE17         \0", "not a side\n"),
+        (
+            b"\xa5VTLRESV1\0\0DRIVE1          \xa5\0\0\0\x04\x01\0",
+            "damaged at 27\n",
+        ),
+        (&STORE, STORED),
     ];
-    for (at, store) in stores.into_iter().enumerate() {
-        assert_tells(&rt, rt.alloc(), store, "not a side\n", at)?;
+    for (store, wanted) in stores {
+        assert_told(&rt, alloc, store, wanted)?;
+    }
+    Ok(())
+}
+
+#[test]
+fn stores_of_three_frames(rt: HostRuntime) -> Result<(), Fail> {
+    let alloc = rt.alloc();
+    // APTPL is 0; hosts 1 and 3 are registered; nobody is; more is counted than is registered; a state
+    // with a byte too many; a frame that is not whole.
+    let frames: [(&[u8], &str); 6] = [
+        (
+            b"\xa5\0\0\0\x0d\0\x05\x01\x01\x01\0\0\0\0\0\0\0\xa1",
+            "reservations DRIVE1 frames 3 registrations 0\n",
+        ),
+        (
+            b"\xa5\0\0\0\x16\x01\x07\0\x02\x01\0\0\0\0\0\0\0\xa1\x03\0\0\0\0\0\0\0\xa1",
+            "reservations DRIVE1 frames 3 registrations 2\n",
+        ),
+        (
+            b"\xa5\0\0\0\x04\x01\0\0\0",
+            "reservations DRIVE1 frames 3 registrations 0\n",
+        ),
+        (
+            b"\xa5\0\0\0\x0d\x01\0\0\x02\x01\0\0\0\0\0\0\0\xa1",
+            "bad record at 63\n",
+        ),
+        (b"\xa5\0\0\0\x05\x01\0\0\0\0", "bad record at 63\n"),
+        (b"\xa5\0\0\0\x05\x01\0\0\0", "damaged at 63\n"),
+    ];
+    for (frame, wanted) in frames {
+        assert_told(&rt, alloc, &stored(alloc, frame)?, wanted)?;
     }
     Ok(())
 }
@@ -157,27 +227,39 @@ fn each_byte_with_each_value(rt: HostRuntime) -> Result<(), Fail> {
     Ok(())
 }
 
+// The lines come just where the disk stands so many calls.
+fn assert_fails_before(
+    rt: &impl Abort,
+    lines: Result<Bytes, VtlFault>,
+    wanted: &str,
+    stands: bool,
+) {
+    match lines {
+        Ok(text) => {
+            assert!(rt; stands, "told too early");
+            assert_eq!(rt; text.as_slice(), wanted.as_bytes());
+        }
+        Err(fault) => {
+            assert!(rt; !stands, "failed too late");
+            assert_eq!(rt; fault, VtlFault::Device);
+        }
+    }
+}
+
 #[test]
 fn a_disk_that_fails(rt: HostRuntime) -> Result<(), Fail> {
     let alloc = rt.alloc();
-    for calls in 0..20 {
-        let disk = MemDisk::from_bytes(alloc, &SIDE)?;
-        let stopped = check_side(alloc, FuseDisk::new(disk, calls));
-        assert_eq!(rt; stopped.disk.inner().bytes(), SIDE.as_slice());
-        let disk = MemDisk::from_bytes(alloc, &SIDE)?;
-        let failed = check_side(alloc, OnceDisk::new(disk, calls));
-        assert_eq!(rt; failed.disk.inner().bytes(), SIDE.as_slice());
-        for lines in [stopped.lines, failed.lines] {
-            match lines {
-                Ok(text) => {
-                    assert!(rt; calls >= CALLS, "told after {calls} calls");
-                    assert_eq!(rt; text.as_slice(), WHOLE.as_bytes());
-                }
-                Err(fault) => {
-                    assert!(rt; calls < CALLS, "failed after {calls} calls");
-                    assert_eq!(rt; fault, VtlFault::Device);
-                }
-            }
+    let sides: [(&[u8], &str, u64); 2] = [(&SIDE, WHOLE, CALLS), (&STORE, STORED, STORE_CALLS)];
+    for (side, wanted, needed) in sides {
+        for calls in 0..20 {
+            let disk = MemDisk::from_bytes(alloc, side)?;
+            let stopped = check_side(alloc, FuseDisk::new(disk, calls));
+            assert_eq!(rt; stopped.disk.inner().bytes(), side);
+            assert_fails_before(&rt, stopped.lines, wanted, calls >= needed);
+            let disk = MemDisk::from_bytes(alloc, side)?;
+            let failed = check_side(alloc, OnceDisk::new(disk, calls));
+            assert_eq!(rt; failed.disk.inner().bytes(), side);
+            assert_fails_before(&rt, failed.lines, wanted, calls >= needed);
         }
     }
     Ok(())

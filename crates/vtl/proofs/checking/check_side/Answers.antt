@@ -1,22 +1,29 @@
-use Rattle.vtl.specs.SideText.{bad_record_line, damaged_line, not_a_side_line}
-use Rattle.vtl.proofs.SideTextLemmas.{TellsRefusal, line_told, refusal_told}
+use Rattle.std.proofs.Common.{subst}
+use Rattle.tape_disk.specs.Disk.{Keeps}
+use Rattle.cartridge.specs.declared.error.CartridgeError.{CartridgeError}
+use Rattle.cartridge.specs.declared.error.CartridgeError.TheVariants.{NotOurs}
+use Rattle.cartridge.specs.Answers.{IsNotOpened}
+use Rattle.vtl.proofs.CheckLemmas.{TellsRefusal, refusal_told, told_again}
 use Rattle.vtl.proofs.checking.check_side.Goals as goal
-use Rattle.vtl.proofs.checking.check_side.Goals.{in-NotOurs, in-Damaged, in-BadRecord, in-Device, in-NoMemory}
+use Rattle.vtl.proofs.checking.check_side.Goals.{in-Damaged, in-BadRecord, in-Device, in-NoMemory}
+
+pub returns-in-NotOurs-clause-text : goal.returns-in-NotOurs-clause-text
+returns-in-NotOurs-clause-text g c =
+    let old = g.D.Disk.state c.args.disk in
+    let mid = g.D.Disk.state c.into_disk-disk-in-Err.result in
+    let keeps : Keeps old mid = rw (c.into_disk-disk-in-Err.ensures, ← c.of.ensures.disk) c.in-Err.ensures.disk in
+    let why : IsNotOpened NotOurs old mid =
+    subst (λ (error : CartridgeError). IsNotOpened error old mid) c.in-NotOurs.is
+    (rw (c.into_disk-disk-in-Err.ensures, ← c.of.ensures.disk) c.in-Err.ensures.refused) in
+    told_again old mid (g.D.Disk.state c.check_store.result.disk) why keeps
+    (g.met.D.Disk.is_disk c.into_disk-disk-in-Err.result) c.check_store.result.lines c.check_store.ensures.text
 
 pub returns-after-error-clause-text : goal.returns-after-error-clause-text
 returns-after-error-clause-text g c =
     let told : TellsRefusal c.in-Err.refused.error c.match-error.lines =
     elim c.match-error.branch [
-      | in-NotOurs w ↦ rw (w.in-NotOurs.is, w.lines-is)
-          (line_told w.line_text-lines.result w.format.result not_a_side_line w.format.ensures.ok
-          w.line_text-lines.ensures.ok)
-      | in-Damaged w ↦ rw (w.in-Damaged.is, w.lines-is)
-          (line_told w.line_text-lines-in-Damaged.result w.format-in-Damaged.result (damaged_line w.in-Damaged.at)
-          w.format-in-Damaged.ensures.ok w.line_text-lines-in-Damaged.ensures.ok)
-      | in-BadRecord w ↦ rw (w.in-BadRecord.is, w.lines-is)
-          (line_told w.line_text-lines-in-BadRecord.result w.format-in-BadRecord.result
-          (bad_record_line w.in-BadRecord.at) w.format-in-BadRecord.ensures.ok
-          w.line_text-lines-in-BadRecord.ensures.ok)
+      | in-Damaged w ↦ rw (w.in-Damaged.is, w.lines-is) w.damaged_text-lines.ensures.ok
+      | in-BadRecord w ↦ rw (w.in-BadRecord.is, w.lines-is) w.bad_record_text-lines.ensures.ok
       | in-Device w ↦ rw (w.in-Device.is, w.lines-is) tt
       | in-NoMemory w ↦ rw (w.in-NoMemory.is, w.lines-is) tt
     ] in

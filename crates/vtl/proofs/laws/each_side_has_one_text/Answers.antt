@@ -1,18 +1,21 @@
-use Rattle.vtl.proofs.SideTextLemmas.{one_text, some_text}
+use Rattle.vtl.proofs.OneTextLemmas.{one_text, some_text}
 use Rattle.vtl.proofs.laws.each_side_has_one_text.Goals as goal
 
 pub returns : goal.returns
 returns c = record {
-  some = λ image. some_text image (c.each_image_is_answered.ensures image);
+  some = λ image. some_text image (c.each_image_is_answered.ensures image) (c.each_image_is_answered-2.ensures image);
   one = λ image a b first second. one_text (record {
+    one_side = c.no_image_is_decided_twice.ensures.one_side;
+    one_place = c.no_image_is_decided_twice.ensures.one_place;
+    sound = c.no_image_is_decided_twice.ensures.sound;
+    ours = c.no_image_is_decided_twice.ensures.ours;
+    ours_damaged = c.no_image_is_decided_twice.ensures.ours_damaged;
     contents = c.an_image_gives_one_volume.ensures.contents;
-    ours = c.an_image_gives_one_volume.ensures.ours;
-    whole = c.an_image_gives_one_volume.ensures.whole;
-    bad = c.an_image_gives_one_volume.ensures.bad;
-    bad_once = c.an_image_gives_one_volume.ensures.one_place;
-    none_damaged = c.a_refusal_has_one_cause.ensures.none_damaged;
-    none_bad = c.a_refusal_has_one_cause.ensures.none_bad;
-    damaged_bad = c.a_refusal_has_one_cause.ensures.damaged_bad;
-    damaged_once = c.a_refusal_has_one_cause.ensures.one_place;
+    bad_frame = c.an_image_gives_one_volume.ensures.bad;
+    frame_once = c.an_image_gives_one_volume.ensures.one_place;
+    states = c.an_image_gives_one_store.ensures.states;
+    opens = c.an_image_gives_one_store.ensures.opens;
+    bad_state = c.an_image_gives_one_store.ensures.bad;
+    state_once = c.an_image_gives_one_store.ensures.one_place;
   }) image a b first second;
 }
