@@ -1,0 +1,127 @@
+//! Sides byte by byte, and long ones.
+use crate::asking::{NONE, made};
+use crate::plain_stores::judged;
+use crate::samples::{
+    Found, NEW, NEW_SIDE, NO_STORE, RESERVED, SIDE, SIDE_OF_ALL, SIDE_WITHOUT_APTPL, WITHOUT_APTPL,
+    found,
+};
+use aptpl_store::{AptplStore, StoreError};
+use pr_core::{Keeper, Reservations};
+use scsi_lists::PrOut;
+use std::alloc::Global;
+use std::process::Abort;
+use std::test::Fail;
+use tape_disk::MemDisk;
+use vtl_base::{Nexus, NoMemory};
+
+// The side of a cartridge of one partition, with a block and a mark.
+const CARTRIDGE: &'static [u8] = b"\xa5VTLCART1\0\x01T00001L6        \0\0\0\0\0\0\x10\0\
+    \xa5\0\0\0\x0f\x01\0\0\0\0\0\0\0\0\x05hello\
+    \xa5\0\0\0\x0a\x02\0\0\0\0\x01\0\0\0\x01\
+    \0";
+
+// A store whose first frame is bad and its second good.
+const BAD_FIRST: &'static [u8] = b"\xa5VTLRESV1\0\0DRIVE1          \
+    \xa5\0\0\0\x0d\x02\0\0\x01\x01\0\0\0\0\0\0\0\xa1\
+    \xa5\0\0\0\x0d\x01\x05\x01\x01\x01\0\0\0\0\0\0\0\xa1\
+    \0";
+
+// A side, how many of its bytes are on the disk, and what is found.
+const SIDES: [(&'static [u8], usize, Found); 10] = [
+    (NEW_SIDE, 28, NEW),
+    (SIDE, 64, RESERVED),
+    (SIDE_WITHOUT_APTPL, 82, WITHOUT_APTPL),
+    (SIDE_OF_ALL, 64, Ok((2, [1, 7, 0, 2]))),
+    (CARTRIDGE, 71, NO_STORE),
+    (CARTRIDGE, 50, NO_STORE),
+    (SIDE, 26, NO_STORE),
+    (SIDE, 27, Err(StoreError::Damaged { at: 27 })),
+    (SIDE, 63, Err(StoreError::Damaged { at: 45 })),
+    (BAD_FIRST, 64, Err(StoreError::BadRecord { at: 27 })),
+];
+
+// What is found where these bytes are on the disk. The plain program says the same.
+fn agreed(rt: &impl Abort, alloc: Global, bytes: &[u8]) -> Result<Found, NoMemory> {
+    let seen = found(alloc, MemDisk::from_bytes(alloc, bytes)?);
+    assert_eq!(rt; seen, judged(bytes), "{bytes:?}");
+    Ok(seen)
+}
+
+#[test]
+fn sides_are_read(rt: HostRuntime) -> Result<(), Fail> {
+    for (side, size, wanted) in SIDES {
+        let bytes = side.get(..size).unwrap_or(NONE);
+        assert_eq!(rt; agreed(&rt, rt.alloc(), bytes)?, wanted, "{size} bytes");
+    }
+    Ok(())
+}
+
+// How many changed copies of a side have a bad record. Each of its bytes is set to each value.
+fn bad_copies(rt: &impl Abort, alloc: Global, side: &[u8; 64]) -> Result<u32, NoMemory> {
+    let mut bad = 0u32;
+    for at in 0..64 {
+        for value in 0..=255 {
+            let mut bytes = *side;
+            bytes[at] = value;
+            if let Err(StoreError::BadRecord { .. }) = agreed(rt, alloc, &bytes)? {
+                bad = bad.saturating_add(1);
+            }
+        }
+    }
+    Ok(bad)
+}
+
+#[test]
+fn each_byte_set_to_each_value(rt: HostRuntime) -> Result<(), Fail> {
+    for side in [SIDE, SIDE_OF_ALL] {
+        let bad = bad_copies(&rt, rt.alloc(), side)?;
+        assert!(rt; bad > 2_000, "{bad}");
+    }
+    Ok(())
+}
+
+// Host after host is registered and saved: a save takes two syncs, and the room of its frame.
+fn register_all(rt: &impl Abort, store: &mut AptplStore<MemDisk>, state: &mut Reservations) {
+    let mut room = 1_099_511_627_748u64;
+    for number in 1..=64u8 {
+        let host = Nexus::new(number).expect(rt, "a nexus");
+        let order = PrOut::Register {
+            key: 0,
+            new_key: 0xff00_0000_0000_0000 + u64::from(number),
+            aptpl: true,
+        };
+        let _ = state.pr_out(host, &order);
+        let syncs = store.disk().syncs();
+        assert_eq!(rt; store.room(), room);
+        assert_eq!(rt; store.save(state), Ok(()));
+        assert_eq!(rt; store.disk().syncs().saturating_sub(syncs), 2);
+        room = room.saturating_sub(9 + 9 * u64::from(number));
+    }
+    assert_eq!(rt; store.room(), room);
+}
+
+// All 64 hosts are registered, and 300 saves more.
+#[test]
+fn the_longest_state_and_many_saves(rt: HostRuntime) -> Result<(), Fail> {
+    let alloc = rt.alloc();
+    let Ok(mut store) = made(alloc, MemDisk::new(alloc)) else {
+        return Err(Fail::from("not made"));
+    };
+    let mut state = Reservations::empty();
+    register_all(&rt, &mut store, &mut state);
+    for _save in 0..300 {
+        assert_eq!(rt; store.save(&state), Ok(()));
+    }
+    store.known();
+    assert_eq!(rt; (store.frames(), store.name()), (364, b"DRIVE1          "));
+    let Ok((store, left)) = AptplStore::open(alloc, store.close()) else {
+        return Err(Fail::from("not opened"));
+    };
+    let (left, wanted) = (left.state(), state.state());
+    assert_eq!(rt;
+        (store.frames(), left.generation, left.aptpl),
+        (364, 0, true)
+    );
+    assert_eq!(rt; left.keys, wanted.keys);
+    Ok(())
+}
