@@ -118,7 +118,7 @@ fn may_be_found(left: Found, calls: u64, moments: &[Moment]) -> bool {
 }
 
 #[test]
-fn a_stop_at_each_call(rt: HostRuntime) -> Result<(), Fail> {
+fn an_order_is_stopped_at_each_call(rt: HostRuntime) -> Result<(), Fail> {
     let alloc = rt.alloc();
     for (bytes, is_new, orders, total, moments) in RUNS {
         let disk = MemDisk::from_bytes(alloc, bytes)?;
@@ -139,7 +139,7 @@ fn a_stop_at_each_call(rt: HostRuntime) -> Result<(), Fail> {
 }
 
 #[test]
-fn a_stop_of_an_opening(rt: HostRuntime) -> Result<(), Fail> {
+fn an_opening_is_stopped_at_each_call(rt: HostRuntime) -> Result<(), Fail> {
     let alloc = rt.alloc();
     let disk = MemDisk::from_bytes(alloc, SIDE)?;
     let work = Work {
