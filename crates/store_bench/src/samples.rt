@@ -3,27 +3,27 @@ use aptpl_store::{AptplStore, StoreError};
 use pr_core::PrState;
 use std::alloc::Global;
 use tape_disk::MemDisk;
-use vtl_base::{DevFault, Nexus};
+use vtl_base::DevFault;
 
 /// A store of drive 1 with no frames.
-pub const NEW_SIDE: &'static [u8; 28] = b"\xa5VTLRESV1\0\0DRIVE1          \0";
+pub const NEW_SIDE: &'static [u8] = b"\xa5VTLRESV1\0\0DRIVE1          \0";
 
 /// The store of drive 1 once host 1 has registered a1 with APTPL and reserved type 5: its gates stand at 27,
 /// 45 and 63.
-pub const SIDE: &'static [u8; 64] = b"\xa5VTLRESV1\0\0DRIVE1          \
+pub const SIDE: &'static [u8] = b"\xa5VTLRESV1\0\0DRIVE1          \
     \xa5\0\0\0\x0d\x01\0\0\x01\x01\0\0\0\0\0\0\0\xa1\
     \xa5\0\0\0\x0d\x01\x05\x01\x01\x01\0\0\0\0\0\0\0\xa1\
     \0";
 
 /// The same once host 1 has registered a1 over a1 without APTPL.
-pub const SIDE_WITHOUT_APTPL: &'static [u8; 82] = b"\xa5VTLRESV1\0\0DRIVE1          \
+pub const SIDE_WITHOUT_APTPL: &'static [u8] = b"\xa5VTLRESV1\0\0DRIVE1          \
     \xa5\0\0\0\x0d\x01\0\0\x01\x01\0\0\0\0\0\0\0\xa1\
     \xa5\0\0\0\x0d\x01\x05\x01\x01\x01\0\0\0\0\0\0\0\xa1\
     \xa5\0\0\0\x0d\0\x05\x01\x01\x01\0\0\0\0\0\0\0\xa1\
     \0";
 
 /// The store of drive 16: nothing registered, then hosts 2 and 64, who hold a reservation of type 7.
-pub const SIDE_OF_ALL: &'static [u8; 64] = b"\xa5VTLRESV1\0\0DRIVE16         \
+pub const SIDE_OF_ALL: &'static [u8] = b"\xa5VTLRESV1\0\0DRIVE16         \
     \xa5\0\0\0\x04\x01\0\0\0\
     \xa5\0\0\0\x16\x01\x07\0\x02\
     \x02\0\0\0\0\0\0\0\xb2\
@@ -50,18 +50,27 @@ pub const WITHOUT_APTPL: Found = Ok((3, [0, 0, 0, 0]));
 /// The first fault of a disk.
 pub const FAULT: StoreError = StoreError::Device(DevFault { failures: 1 });
 
-fn seen_of(state: &PrState) -> [u8; 4] {
+/// What is seen of a state.
+pub fn seen_of(state: &PrState) -> [u8; 4] {
     let mut registered = 0u8;
     for key in &state.keys {
         if key.is_some() {
             registered = registered.saturating_add(1);
         }
     }
-    let (kind, holder) = match &state.reservation {
-        Some(held) => (held.kind.number(), held.holder.map_or(0, Nexus::number)),
-        None => (0, 0),
+    let Some(held) = &state.reservation else {
+        return [u8::from(state.aptpl), 0, 0, registered];
     };
-    [u8::from(state.aptpl), kind, holder, registered]
+    let holder = match held.holder {
+        Some(nexus) => nexus.number(),
+        None => 0,
+    };
+    [
+        u8::from(state.aptpl),
+        held.kind.number(),
+        holder,
+        registered,
+    ]
 }
 
 /// What is found on a disk.

@@ -3,7 +3,7 @@ use crate::asking::{NONE, made};
 use crate::plain_stores::judged;
 use crate::samples::{
     Found, NEW, NEW_SIDE, NO_STORE, RESERVED, SIDE, SIDE_OF_ALL, SIDE_WITHOUT_APTPL, WITHOUT_APTPL,
-    found,
+    found, seen_of,
 };
 use aptpl_store::{AptplStore, StoreError};
 use pr_core::{Keeper, Reservations};
@@ -57,11 +57,11 @@ fn sides_are_read(rt: HostRuntime) -> Result<(), Fail> {
 }
 
 // How many changed copies of a side have a bad record. Each of its bytes is set to each value.
-fn bad_copies(rt: &impl Abort, alloc: Global, side: &[u8; 64]) -> Result<u32, NoMemory> {
+fn bad_copies(rt: &impl Abort, alloc: Global, side: &[u8]) -> Result<u32, NoMemory> {
     let mut bad = 0u32;
-    for at in 0..64 {
+    for at in 0..side.len() {
+        let mut bytes = Vec::from_slice(alloc, side)?;
         for value in 0..=255 {
-            let mut bytes = *side;
             bytes[at] = value;
             if let Err(StoreError::BadRecord { .. }) = agreed(rt, alloc, &bytes)? {
                 bad = bad.saturating_add(1);
@@ -80,24 +80,39 @@ fn each_byte_set_to_each_value(rt: HostRuntime) -> Result<(), Fail> {
     Ok(())
 }
 
-// Host after host is registered and saved: a save takes two syncs, and the room of its frame.
-fn register_all(rt: &impl Abort, store: &mut AptplStore<MemDisk>, state: &mut Reservations) {
-    let mut room = 1_099_511_627_748u64;
+// Host after host is registered and saved, which takes the room of a frame and two syncs.
+fn save_each(rt: &impl Abort, store: &mut AptplStore<MemDisk>, state: &mut Reservations) {
+    let (mut room, mut syncs) = (1_099_511_627_748u64, 2u64);
+    assert_eq!(rt; (store.room(), store.disk().syncs()), (room, syncs));
     for number in 1..=64u8 {
         let host = Nexus::new(number).expect(rt, "a nexus");
         let order = PrOut::Register {
             key: 0,
-            new_key: 0xff00_0000_0000_0000 + u64::from(number),
+            new_key: u64::MAX - u64::from(number),
             aptpl: true,
         };
         let _ = state.pr_out(host, &order);
-        let syncs = store.disk().syncs();
-        assert_eq!(rt; store.room(), room);
-        assert_eq!(rt; store.save(state), Ok(()));
-        assert_eq!(rt; store.disk().syncs().saturating_sub(syncs), 2);
         room = room.saturating_sub(9 + 9 * u64::from(number));
+        syncs = syncs.saturating_add(2);
+        assert!(rt; store.save(state).is_ok(), "save {number}");
+        assert_eq!(rt; (store.room(), store.disk().syncs()), (room, syncs));
     }
-    assert_eq!(rt; store.room(), room);
+}
+
+// The state is left but for its generation, after so many saves.
+fn is_left(
+    rt: &impl Abort,
+    alloc: Global,
+    disk: MemDisk,
+    state: &Reservations,
+) -> Result<(), Fail> {
+    let Ok((store, left)) = AptplStore::open(alloc, disk) else {
+        return Err(Fail::from("not opened"));
+    };
+    let (left, saved) = (left.state(), state.state());
+    assert_eq!(rt; (store.frames(), seen_of(left)), (364, [1, 0, 0, 64]));
+    assert!(rt; left.keys == saved.keys && left.generation == 0);
+    Ok(())
 }
 
 // All 64 hosts are registered, and 300 saves more.
@@ -108,20 +123,11 @@ fn the_longest_state_and_many_saves(rt: HostRuntime) -> Result<(), Fail> {
         return Err(Fail::from("not made"));
     };
     let mut state = Reservations::empty();
-    register_all(&rt, &mut store, &mut state);
+    save_each(&rt, &mut store, &mut state);
     for _save in 0..300 {
-        assert_eq!(rt; store.save(&state), Ok(()));
+        assert!(rt; store.save(&state).is_ok());
     }
     store.known();
-    assert_eq!(rt; (store.frames(), store.name()), (364, b"DRIVE1          "));
-    let Ok((store, left)) = AptplStore::open(alloc, store.close()) else {
-        return Err(Fail::from("not opened"));
-    };
-    let (left, wanted) = (left.state(), state.state());
-    assert_eq!(rt;
-        (store.frames(), left.generation, left.aptpl),
-        (364, 0, true)
-    );
-    assert_eq!(rt; left.keys, wanted.keys);
-    Ok(())
+    assert_eq!(rt; store.name(), b"DRIVE1          ");
+    is_left(&rt, alloc, store.close(), &state)
 }

@@ -1,20 +1,19 @@
 //! A stop at each call of the disk, through orders to a drive.
 use crate::asking::{
-    A_NEW, A_WITHOUT_APTPL, BY_A, Host, NONE, REGISTER, RESERVE_5, TEST_UNIT_READY, host_over,
-    new_host,
+    A_NEW, A_WITHOUT_APTPL, BY_A, CHECK, GOOD, Host, NONE, REGISTER, RESERVE_5, TEST_UNIT_READY,
+    host_over, new_host,
 };
 use crate::samples::{
     Found, NEW, NO_STORE, REGISTERED, RESERVED, SIDE, SIDE_WITHOUT_APTPL, WITHOUT_APTPL, found,
 };
 use gate_journal::stops::{Run, Stop, stop_at_each_call};
-use scsi_sense::Status;
 use std::alloc::Global;
-use std::process::Abort;
 use std::test::Fail;
-use tape_disk::{FuseDisk, MemDisk};
+use tape_disk::{Disk, FuseDisk, MemDisk};
 use vtl_base::Nexus;
 
-type Order = (&'static [u8], &'static [u8]);
+// A command of host 1, what is sent with it, and its status where all goes through.
+type Order = (&'static [u8], &'static [u8], u8);
 
 // Host 1 gives orders to a drive over a new store, or over the store that the disk holds.
 #[derive(Clone, Copy)]
@@ -23,14 +22,13 @@ struct Work {
     orders: &'static [Order],
 }
 
-// Whether host 1 is told GOOD to each of its orders.
-fn ordered(drive: &mut Host<FuseDisk<MemDisk>>, orders: &[Order]) -> bool {
+// Whether all orders go through.
+fn ordered<D: Disk + Drop>(drive: &mut Host<D>, orders: &[Order]) -> bool {
     let Some(host) = Nexus::new(1) else {
         unreachable!()
     };
-    let _ = drive.execute(host, TEST_UNIT_READY, NONE);
-    for (cdb, sent) in orders {
-        if drive.execute(host, cdb, sent).status != Status::Good {
+    for (cdb, sent, status) in orders {
+        if drive.execute(host, cdb, sent).status.code() != *status {
             return false;
         }
     }
@@ -56,42 +54,45 @@ impl Run for Work {
     }
 }
 
-// What may be found after no more than so many calls, the old state or the new.
-type Moment = (u64, Found, Found);
+const RESERVING: [Order; 3] = [
+    (TEST_UNIT_READY, NONE, CHECK),
+    (REGISTER, A_NEW, GOOD),
+    (RESERVE_5, BY_A, GOOD),
+];
 
-const RESERVING: [Order; 2] = [(REGISTER, A_NEW), (RESERVE_5, BY_A)];
+const LEAVING: [Order; 2] = [
+    (TEST_UNIT_READY, NONE, CHECK),
+    (REGISTER, A_WITHOUT_APTPL, GOOD),
+];
 
-const LEAVING: [Order; 1] = [(REGISTER, A_WITHOUT_APTPL)];
+const STATES: [Found; 5] = [NO_STORE, NEW, REGISTERED, RESERVED, WITHOUT_APTPL];
+
+// What may be found after no more than so many calls: one state or another, by their places in the table.
+type Moment = (u64, usize, usize);
 
 // To make a store takes five calls, to save four.
 const OVER_NOTHING: [Moment; 7] = [
-    (0, NO_STORE, NO_STORE),
-    (4, NO_STORE, NEW),
-    (5, NEW, NEW),
-    (8, NEW, REGISTERED),
-    (9, REGISTERED, REGISTERED),
-    (12, REGISTERED, RESERVED),
-    (13, RESERVED, RESERVED),
+    (0, 0, 0),
+    (4, 0, 1),
+    (5, 1, 1),
+    (8, 1, 2),
+    (9, 2, 2),
+    (12, 2, 3),
+    (13, 3, 3),
 ];
 
 const OVER_A_STORE: [Moment; 7] = [
-    (0, WITHOUT_APTPL, WITHOUT_APTPL),
-    (4, NO_STORE, NEW),
-    (5, NEW, NEW),
-    (8, NEW, REGISTERED),
-    (9, REGISTERED, REGISTERED),
-    (12, REGISTERED, RESERVED),
-    (13, RESERVED, RESERVED),
+    (0, 4, 4),
+    (4, 0, 1),
+    (5, 1, 1),
+    (8, 1, 2),
+    (9, 2, 2),
+    (12, 2, 3),
+    (13, 3, 3),
 ];
 
-// To open a store takes a sync, a read of the header, and two of each frame and one of the last gate.
-const ON: [Moment; 3] = [
-    (8, RESERVED, RESERVED),
-    (11, RESERVED, WITHOUT_APTPL),
-    (12, WITHOUT_APTPL, WITHOUT_APTPL),
-];
-
-const OPENED: [Moment; 1] = [(10, WITHOUT_APTPL, WITHOUT_APTPL)];
+// To open a store takes a sync, two reads of the header, two of each frame, and one of the last gate.
+const OVER_THE_SIDE: [Moment; 3] = [(8, 3, 3), (11, 3, 4), (12, 4, 4)];
 
 // What the disk holds first, whether a new store is made, the orders, how many calls of the disk that takes, and
 // what may be found where it stops.
@@ -101,17 +102,18 @@ const RUNS: [(
     &'static [Order],
     u64,
     &'static [Moment],
-); 4] = [
+); 5] = [
     (NONE, true, &RESERVING, 13, &OVER_NOTHING),
     (SIDE_WITHOUT_APTPL, true, &RESERVING, 13, &OVER_A_STORE),
-    (SIDE, false, &LEAVING, 12, &ON),
-    (SIDE_WITHOUT_APTPL, false, &[], 10, &OPENED),
+    (SIDE, false, &LEAVING, 12, &OVER_THE_SIDE),
+    (SIDE, false, &[], 8, &[(8, 3, 3)]),
+    (SIDE_WITHOUT_APTPL, false, &[], 10, &[(10, 4, 4)]),
 ];
 
 fn may_be_found(left: Found, calls: u64, moments: &[Moment]) -> bool {
     for (upto, old, new) in moments {
         if calls <= *upto {
-            return left == *old || left == *new;
+            return STATES.get(*old) == Some(&left) || STATES.get(*new) == Some(&left);
         }
     }
     false
@@ -122,11 +124,15 @@ fn an_order_is_stopped_at_each_call(rt: HostRuntime) -> Result<(), Fail> {
     let alloc = rt.alloc();
     for (bytes, is_new, orders, total, moments) in RUNS {
         let disk = MemDisk::from_bytes(alloc, bytes)?;
-        for Stop { calls, ended, disk } in stop_at_each_call(
-            alloc,
-            &disk,
-            &Work { is_new, orders },
-        )? {
+        let stops = stop_at_each_call(alloc, &disk, &Work { is_new, orders })?;
+        // Nine crashes at each.
+        assert_eq!(rt; stops.len() as u64 / 9, total.saturating_add(1));
+        for Stop { calls, ended, disk } in stops {
+            // An opening writes nothing.
+            assert!(rt;
+                !orders.is_empty() || disk.bytes() == bytes,
+                "after {calls} calls"
+            );
             let left = found(alloc, disk);
             assert!(rt;
                 may_be_found(left, calls, moments),
@@ -134,20 +140,6 @@ fn an_order_is_stopped_at_each_call(rt: HostRuntime) -> Result<(), Fail> {
             );
             assert_eq!(rt; ended, calls == total, "after {calls} calls");
         }
-    }
-    Ok(())
-}
-
-#[test]
-fn an_opening_is_stopped_at_each_call(rt: HostRuntime) -> Result<(), Fail> {
-    let alloc = rt.alloc();
-    let disk = MemDisk::from_bytes(alloc, SIDE)?;
-    let work = Work {
-        is_new: false,
-        orders: &[],
-    };
-    for Stop { disk, .. } in stop_at_each_call(alloc, &disk, &work)? {
-        assert_eq!(rt; disk.bytes(), SIDE.as_slice());
     }
     Ok(())
 }
