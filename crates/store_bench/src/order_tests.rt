@@ -5,6 +5,8 @@ use crate::asking::{
     host_over, made,
 };
 use crate::samples::{NEW_SIDE, SIDE, SIDE_WITHOUT_APTPL};
+use std::alloc::Global;
+use std::process::Abort;
 use std::test::Fail;
 use tape_disk::MemDisk;
 
@@ -44,30 +46,41 @@ const LEFT: [Row; 3] = [
     (1, READ_RESERVATION, NONE, GOOD, NO_KEYS, 3),
 ];
 
-// From one loss of power to the next: what hosts ask, the bytes on the disk then, and how many syncs it took:
-// one to open the store, and two for each save.
+// From one loss of power to the next: what hosts ask, the bytes on the disk then, and how many syncs it took: two
+// to make the store, one to open it, and two for each save.
 const COURSES: [(&'static [Row], &'static [u8], u64); 4] = [
-    (&[], NEW_SIDE, 1),
+    (&[], NEW_SIDE, 3),
     (&RESERVING, SIDE, 5),
     (&LEAVING, SIDE_WITHOUT_APTPL, 3),
     (&LEFT, SIDE_WITHOUT_APTPL, 1),
 ];
 
+// A drive over this disk is asked, and leaves these bytes; then its power goes.
+fn asked(
+    rt: &impl Abort,
+    alloc: Global,
+    disk: MemDisk,
+    rows: &[Row],
+    bytes: &[u8],
+    syncs: u64,
+) -> Result<MemDisk, Fail> {
+    let Ok(mut drive) = host_over(alloc, disk) else {
+        return Err(Fail::from("not opened"));
+    };
+    ask_all(rt, &mut drive, rows);
+    let reached = drive.keeper().disk();
+    assert_eq!(rt; (reached.bytes(), reached.syncs()), (bytes, syncs));
+    Ok(reached.copy()?.crash(0, 0xa5)?)
+}
+
 #[test]
 fn reservations_outlive_a_loss_of_power(rt: HostRuntime) -> Result<(), Fail> {
-    let alloc = rt.alloc();
-    let Ok(store) = made(alloc, MemDisk::new(alloc)) else {
+    let Ok(store) = made(rt.alloc(), MemDisk::new(rt.alloc())) else {
         return Err(Fail::from("not made"));
     };
-    let mut disk = store.close().crash(0, 0xa5)?;
+    let mut disk = store.close();
     for (rows, bytes, syncs) in COURSES {
-        let Ok(mut drive) = host_over(alloc, disk) else {
-            return Err(Fail::from("not opened"));
-        };
-        ask_all(&rt, &mut drive, rows);
-        let reached = drive.keeper().disk();
-        assert_eq!(rt; (reached.bytes(), reached.syncs()), (bytes, syncs));
-        disk = reached.copy()?.crash(0, 0xa5)?;
+        disk = asked(&rt, rt.alloc(), disk, rows, bytes, syncs)?;
     }
     Ok(())
 }

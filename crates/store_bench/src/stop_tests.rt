@@ -8,9 +8,10 @@ use crate::samples::{
 };
 use gate_journal::stops::{Run, Stop, stop_at_each_call};
 use std::alloc::Global;
+use std::process::Abort;
 use std::test::Fail;
 use tape_disk::{Disk, FuseDisk, MemDisk};
-use vtl_base::Nexus;
+use vtl_base::{Nexus, NoMemory};
 
 // A command of host 1, what is sent with it, and its status where all goes through.
 type Order = (&'static [u8], &'static [u8], u8);
@@ -54,16 +55,27 @@ impl Run for Work {
     }
 }
 
-const RESERVING: [Order; 3] = [
-    (TEST_UNIT_READY, NONE, CHECK),
-    (REGISTER, A_NEW, GOOD),
-    (RESERVE_5, BY_A, GOOD),
-];
+const MAKING: Work = Work {
+    is_new: true,
+    orders: &[
+        (TEST_UNIT_READY, NONE, CHECK),
+        (REGISTER, A_NEW, GOOD),
+        (RESERVE_5, BY_A, GOOD),
+    ],
+};
 
-const LEAVING: [Order; 2] = [
-    (TEST_UNIT_READY, NONE, CHECK),
-    (REGISTER, A_WITHOUT_APTPL, GOOD),
-];
+const LEAVING: Work = Work {
+    is_new: false,
+    orders: &[
+        (TEST_UNIT_READY, NONE, CHECK),
+        (REGISTER, A_WITHOUT_APTPL, GOOD),
+    ],
+};
+
+const OPENING: Work = Work {
+    is_new: false,
+    orders: &[],
+};
 
 const STATES: [Found; 5] = [NO_STORE, NEW, REGISTERED, RESERVED, WITHOUT_APTPL];
 
@@ -94,52 +106,63 @@ const OVER_A_STORE: [Moment; 7] = [
 // To open a store takes a sync, two reads of the header, two of each frame, and one of the last gate.
 const OVER_THE_SIDE: [Moment; 3] = [(8, 3, 3), (11, 3, 4), (12, 4, 4)];
 
-// What the disk holds first, whether a new store is made, the orders, how many calls of the disk that takes, and
-// what may be found where it stops.
-const RUNS: [(
-    &'static [u8],
-    bool,
-    &'static [Order],
-    u64,
-    &'static [Moment],
-); 5] = [
-    (NONE, true, &RESERVING, 13, &OVER_NOTHING),
-    (SIDE_WITHOUT_APTPL, true, &RESERVING, 13, &OVER_A_STORE),
-    (SIDE, false, &LEAVING, 12, &OVER_THE_SIDE),
-    (SIDE, false, &[], 8, &[(8, 3, 3)]),
-    (SIDE_WITHOUT_APTPL, false, &[], 10, &[(10, 4, 4)]),
+// What the disk holds first, the work, how many calls of the disk it takes, and what may be found where it stops.
+const RUNS: [(&'static [u8], Work, u64, &'static [Moment]); 5] = [
+    (NONE, MAKING, 13, &OVER_NOTHING),
+    (SIDE_WITHOUT_APTPL, MAKING, 13, &OVER_A_STORE),
+    (SIDE, LEAVING, 12, &OVER_THE_SIDE),
+    (SIDE, OPENING, 8, &[(8, 3, 3)]),
+    (SIDE_WITHOUT_APTPL, OPENING, 10, &[(10, 4, 4)]),
 ];
 
-fn may_be_found(left: Found, calls: u64, moments: &[Moment]) -> bool {
+fn is_state(left: &Found, place: usize) -> bool {
+    match STATES.get(place) {
+        Some(state) => left == state,
+        None => false,
+    }
+}
+
+fn may_be_found(left: &Found, calls: u64, moments: &[Moment]) -> bool {
     for (upto, old, new) in moments {
         if calls <= *upto {
-            return STATES.get(*old) == Some(&left) || STATES.get(*new) == Some(&left);
+            return is_state(left, *old) || is_state(left, *new);
         }
     }
     false
 }
 
+// What is found at a stop may be found there.
+fn is_right(rt: &impl Abort, alloc: Global, stop: Stop, total: u64, moments: &[Moment]) {
+    let Stop { calls, ended, disk } = stop;
+    let left = found(alloc, disk);
+    let is_right = may_be_found(&left, calls, moments) && ended == (calls == total);
+    assert!(rt; is_right, "{left:?} after {calls} calls");
+}
+
+// Stops the work at each of its calls of a disk of these bytes, nine times each.
+fn stopped(
+    rt: &impl Abort,
+    alloc: Global,
+    bytes: &[u8],
+    work: &Work,
+    total: u64,
+    moments: &[Moment],
+) -> Result<(), NoMemory> {
+    let disk = MemDisk::from_bytes(alloc, bytes)?;
+    let stops = stop_at_each_call(alloc, &disk, work)?;
+    assert_eq!(rt; stops.len() as u64 / 9, total.saturating_add(1));
+    for stop in stops {
+        // An opening writes nothing.
+        assert!(rt; !work.orders.is_empty() || stop.disk.bytes() == bytes);
+        is_right(rt, alloc, stop, total, moments);
+    }
+    Ok(())
+}
+
 #[test]
 fn an_order_is_stopped_at_each_call(rt: HostRuntime) -> Result<(), Fail> {
-    let alloc = rt.alloc();
-    for (bytes, is_new, orders, total, moments) in RUNS {
-        let disk = MemDisk::from_bytes(alloc, bytes)?;
-        let stops = stop_at_each_call(alloc, &disk, &Work { is_new, orders })?;
-        // Nine crashes at each.
-        assert_eq!(rt; stops.len() as u64 / 9, total.saturating_add(1));
-        for Stop { calls, ended, disk } in stops {
-            // An opening writes nothing.
-            assert!(rt;
-                !orders.is_empty() || disk.bytes() == bytes,
-                "after {calls} calls"
-            );
-            let left = found(alloc, disk);
-            assert!(rt;
-                may_be_found(left, calls, moments),
-                "{left:?} after {calls} calls"
-            );
-            assert_eq!(rt; ended, calls == total, "after {calls} calls");
-        }
+    for (bytes, work, total, moments) in RUNS {
+        stopped(&rt, rt.alloc(), bytes, &work, total, moments)?;
     }
     Ok(())
 }
