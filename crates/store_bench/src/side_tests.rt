@@ -62,7 +62,9 @@ fn bad_copies(rt: &impl Abort, alloc: Global, side: &[u8]) -> Result<u32, NoMemo
     for at in 0..side.len() {
         let mut bytes = Vec::from_slice(alloc, side)?;
         for value in 0..=255 {
-            bytes[at] = value;
+            if let Some(byte) = bytes.get_mut(at) {
+                *byte = value;
+            }
             if let Err(StoreError::BadRecord { .. }) = agreed(rt, alloc, &bytes)? {
                 bad = bad.saturating_add(1);
             }

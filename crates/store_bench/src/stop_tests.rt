@@ -131,12 +131,15 @@ fn may_be_found(left: &Found, calls: u64, moments: &[Moment]) -> bool {
     false
 }
 
-// What is found at a stop may be found there.
+// What is found at a stop may be found there, and the work has ended just behind its last call.
 fn is_right(rt: &impl Abort, alloc: Global, stop: Stop, total: u64, moments: &[Moment]) {
     let Stop { calls, ended, disk } = stop;
     let left = found(alloc, disk);
-    let is_right = may_be_found(&left, calls, moments) && ended == (calls == total);
-    assert!(rt; is_right, "{left:?} after {calls} calls");
+    assert!(rt;
+        may_be_found(&left, calls, moments),
+        "{left:?} after {calls} calls"
+    );
+    assert_eq!(rt; ended, calls == total, "after {calls} calls");
 }
 
 // Stops the work at each of its calls of a disk of these bytes, nine times each.
