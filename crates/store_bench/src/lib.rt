@@ -1,0 +1,17 @@
+//! The tests of aptpl_store, alone and below a drive.
+#![tactic(auto)]
+
+#[cfg(test)]
+mod asking;
+#[cfg(test)]
+mod fault_tests;
+#[cfg(test)]
+mod order_tests;
+#[cfg(test)]
+mod plain_stores;
+#[cfg(test)]
+mod samples;
+#[cfg(test)]
+mod side_tests;
+#[cfg(test)]
+mod stop_tests;

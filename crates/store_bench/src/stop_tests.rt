@@ -1,0 +1,171 @@
+//! A stop at each call of the disk, through orders to a drive.
+use crate::asking::{
+    A_NEW, A_WITHOUT_APTPL, BY_A, CHECK, GOOD, Host, NONE, REGISTER, RESERVE_5, TEST_UNIT_READY,
+    host_over, new_host,
+};
+use crate::samples::{
+    Found, NEW, NO_STORE, REGISTERED, RESERVED, SIDE, SIDE_WITHOUT_APTPL, WITHOUT_APTPL, found,
+};
+use gate_journal::stops::{Run, Stop, stop_at_each_call};
+use std::alloc::Global;
+use std::process::Abort;
+use std::test::Fail;
+use tape_disk::{Disk, FuseDisk, MemDisk};
+use vtl_base::{Nexus, NoMemory};
+
+// A command of host 1, what is sent with it, and its status where all goes through.
+type Order = (&'static [u8], &'static [u8], u8);
+
+// Host 1 gives orders to a drive over a new store, or over the store that the disk holds.
+#[derive(Clone, Copy)]
+struct Work {
+    is_new: bool,
+    orders: &'static [Order],
+}
+
+// Whether all orders go through.
+fn ordered<D: Disk + Drop>(drive: &mut Host<D>, orders: &[Order]) -> bool {
+    let Some(host) = Nexus::new(1) else {
+        unreachable!()
+    };
+    for (cdb, sent, status) in orders {
+        if drive.execute(host, cdb, sent).status.code() != *status {
+            return false;
+        }
+    }
+    true
+}
+
+impl Run for Work {
+    fn run(&self, alloc: Global, disk: FuseDisk<MemDisk>) -> (MemDisk, bool) {
+        let host = if self.is_new {
+            new_host(alloc, disk)
+        } else {
+            host_over(alloc, disk)
+        };
+        let mut drive = match host {
+            Ok(drive) => drive,
+            Err(refused) => return (refused.disk.into_inner(), false),
+        };
+        let ended = ordered(&mut drive, self.orders);
+        match drive.keeper().disk().inner().copy() {
+            Ok(reached) => (reached, ended),
+            Err(_) => (MemDisk::new(alloc), false),
+        }
+    }
+}
+
+const MAKING: Work = Work {
+    is_new: true,
+    orders: &[
+        (TEST_UNIT_READY, NONE, CHECK),
+        (REGISTER, A_NEW, GOOD),
+        (RESERVE_5, BY_A, GOOD),
+    ],
+};
+
+const LEAVING: Work = Work {
+    is_new: false,
+    orders: &[
+        (TEST_UNIT_READY, NONE, CHECK),
+        (REGISTER, A_WITHOUT_APTPL, GOOD),
+    ],
+};
+
+const OPENING: Work = Work {
+    is_new: false,
+    orders: &[],
+};
+
+const STATES: [Found; 5] = [NO_STORE, NEW, REGISTERED, RESERVED, WITHOUT_APTPL];
+
+// What may be found after no more than so many calls: one state or another, by their places in the table.
+type Moment = (u64, usize, usize);
+
+// To make a store takes five calls, to save four.
+const OVER_NOTHING: [Moment; 7] = [
+    (0, 0, 0),
+    (4, 0, 1),
+    (5, 1, 1),
+    (8, 1, 2),
+    (9, 2, 2),
+    (12, 2, 3),
+    (13, 3, 3),
+];
+
+const OVER_A_STORE: [Moment; 7] = [
+    (0, 4, 4),
+    (4, 0, 1),
+    (5, 1, 1),
+    (8, 1, 2),
+    (9, 2, 2),
+    (12, 2, 3),
+    (13, 3, 3),
+];
+
+// To open a store takes a sync, two reads of the header, two of each frame, and one of the last gate.
+const OVER_THE_SIDE: [Moment; 3] = [(8, 3, 3), (11, 3, 4), (12, 4, 4)];
+
+// What the disk holds first, the work, how many calls of the disk it takes, and what may be found where it stops.
+const RUNS: [(&'static [u8], Work, u64, &'static [Moment]); 5] = [
+    (NONE, MAKING, 13, &OVER_NOTHING),
+    (SIDE_WITHOUT_APTPL, MAKING, 13, &OVER_A_STORE),
+    (SIDE, LEAVING, 12, &OVER_THE_SIDE),
+    (SIDE, OPENING, 8, &[(8, 3, 3)]),
+    (SIDE_WITHOUT_APTPL, OPENING, 10, &[(10, 4, 4)]),
+];
+
+fn is_state(left: &Found, place: usize) -> bool {
+    match STATES.get(place) {
+        Some(state) => left == state,
+        None => false,
+    }
+}
+
+fn may_be_found(left: &Found, calls: u64, moments: &[Moment]) -> bool {
+    for (upto, old, new) in moments {
+        if calls <= *upto {
+            return is_state(left, *old) || is_state(left, *new);
+        }
+    }
+    false
+}
+
+// What is found at a stop may be found there, and the work has ended just behind its last call.
+fn is_right(rt: &impl Abort, alloc: Global, stop: Stop, total: u64, moments: &[Moment]) {
+    let Stop { calls, ended, disk } = stop;
+    let left = found(alloc, disk);
+    assert!(rt;
+        may_be_found(&left, calls, moments),
+        "{left:?} after {calls} calls"
+    );
+    assert_eq!(rt; ended, calls == total, "after {calls} calls");
+}
+
+// Stops the work at each of its calls of a disk of these bytes, nine times each.
+fn stopped(
+    rt: &impl Abort,
+    alloc: Global,
+    bytes: &[u8],
+    work: &Work,
+    total: u64,
+    moments: &[Moment],
+) -> Result<(), NoMemory> {
+    let disk = MemDisk::from_bytes(alloc, bytes)?;
+    let stops = stop_at_each_call(alloc, &disk, work)?;
+    assert_eq!(rt; stops.len() as u64 / 9, total.saturating_add(1));
+    for stop in stops {
+        // An opening writes nothing.
+        assert!(rt; !work.orders.is_empty() || stop.disk.bytes() == bytes);
+        is_right(rt, alloc, stop, total, moments);
+    }
+    Ok(())
+}
+
+#[test]
+fn an_order_is_stopped_at_each_call(rt: HostRuntime) -> Result<(), Fail> {
+    for (bytes, work, total, moments) in RUNS {
+        stopped(&rt, rt.alloc(), bytes, &work, total, moments)?;
+    }
+    Ok(())
+}
