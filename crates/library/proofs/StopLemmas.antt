@@ -34,7 +34,7 @@ use Rattle.drive_core.specs.Work.{Request}
 use Rattle.aptpl_store.specs.Contents.{GivesStates, ShowsStates, latest}
 use Rattle.aptpl_store.specs.Kept.{core_of, core_with, store_below, store_kept, store_rules}
 use Rattle.aptpl_store.specs.State.{OpenStore}
-use Rattle.library.specs.Reservations.{Asked, Call, CallDoes, Calls, IsHolding, IsOrdered, LeavesHeld, MayStand, ReservationsOutlive, Turned, disk_of}
+use Rattle.library.specs.Reservations.{Asked, Call, CallDoes, Calls, IsHolding, IsOrdered, IsOrderedIn, LeavesHeld, MayStand, ReservationsOutlive, Turned, disk_of}
 use Rattle.library.proofs.CoreLemmas.{Either, MayAccept, Within, fewer_accept, first_many, within_steps}
 use Rattle.library.proofs.MachineLemmas.{Goes, step_goes}
 
@@ -165,7 +165,7 @@ module _ {M D : Type 0} (medium : M → MediumState) (below : Below M Change) (d
         CoreMoves store_rules (disk_of medium below disk old) (disk_of medium below disk new) (core_of old.keeper)
         (core_of new.keeper) made
     pub more : PrState
-    pub stands : (power_loss more ≡ power_loss old.reservations) ⊎ MayStand medium below disk old call more
+    pub stands : (power_loss more ≡ power_loss old.reservations) ⊎ MayStand medium below disk old call new more
     pub fits : (made ≡ []) ⊎ ((made ≡ more ∷ []) × (old.keeper.torn ≡ None))
     pub torn : (old.keeper.torn ≡ None) ⊎ (old.keeper.torn ≡ Some more)
     pub sound : IsSound new.reservations
@@ -215,16 +215,16 @@ module _ {M D : Type 0} (medium : M → MediumState) (below : Below M Change) (d
         }
 
     -- a state was saved, or the disk failed while it was
-    asked_to_save : (state : PrState) → MayStand medium below disk old call state → IsSound state
+    asked_to_save : (state : PrState) → IsOrderedIn (machine_of medium store_kept old) call state → IsSound state
         → (saving : Result Unit KeeperError) (keeper : KeeperState) → Saves (store_kept old.keeper) state saving keeper
         → store_kept new.keeper ≡ keeper → made ≡ saved_by saving state
         → new.reservations ≡ (elim saving as (λ x. PrState) [ Ok done ↦ state | Err error ↦ old.reservations ])
         → CallGoes old call new
-    asked_to_save state stands sound (Ok done) keeper saves kept made_is is = record {
+    asked_to_save state ordered sound (Ok done) keeper saves kept made_is is = record {
       made = made;
       moves = moves;
       more = state;
-      stands = inr stands;
+      stands = inr (inr (ordered, inl is));
       fits = inr (made_is, none);
       torn = inl none;
       sound = subst IsSound (sym is) sound;
@@ -239,11 +239,11 @@ module _ {M D : Type 0} (medium : M → MediumState) (below : Below M Change) (d
       where
         none : old.keeper.torn ≡ None
         none = none_torn old.keeper.torn (sym holding.at_rest ∙ saves.0)
-    asked_to_save state stands sound (Err save.Device) keeper saves kept made_is is = record {
+    asked_to_save state ordered sound (Err save.Device) keeper saves kept made_is is = record {
       made = made;
       moves = moves;
       more = state;
-      stands = inr stands;
+      stands = inr (inr (ordered, inr (ap (λ (k : KeeperState). k.torn) kept ∙ saves.1.torn)));
       fits = inr (made_is, none);
       torn = inl none;
       sound = subst IsSound (sym is) holding.sound;
@@ -258,11 +258,11 @@ module _ {M D : Type 0} (medium : M → MediumState) (below : Below M Change) (d
       where
         none : old.keeper.torn ≡ None
         none = none_torn old.keeper.torn (sym holding.at_rest ∙ saves.0)
-    asked_to_save state stands sound (Err save.NoMemory) keeper saves kept made_is is =
+    asked_to_save state ordered sound (Err save.NoMemory) keeper saves kept made_is is =
         unsaved made_is (kept ∙ saves.2) (subst IsSound (sym is) holding.sound) (ap power_loss is)
-    asked_to_save state stands sound (Err save.SideFull) keeper saves kept made_is is =
+    asked_to_save state ordered sound (Err save.SideFull) keeper saves kept made_is is =
         unsaved made_is (kept ∙ saves.2) (subst IsSound (sym is) holding.sound) (ap power_loss is)
-    asked_to_save state stands sound (Err save.Failed) keeper saves kept made_is is =
+    asked_to_save state ordered sound (Err save.Failed) keeper saves kept made_is is =
         unsaved made_is (kept ∙ saves.1) (subst IsSound (sym is) holding.sound) (ap power_loss is)
 
   -- what an order's work does
@@ -282,10 +282,10 @@ module _ {M D : Type 0} (medium : M → MediumState) (below : Below M Change) (d
         (machine_of medium store_kept new)
         → made.saved ≡ saved_by saving state → CallGoes old (Asked request reply) new
     once_saved (Ok done) keeper saves stands made_is =
-        asked_to_save old new holding (Asked request reply) made.saved moves state (inr ordered) sound (Ok done) keeper
+        asked_to_save old new holding (Asked request reply) made.saved moves state ordered sound (Ok done) keeper
         saves (ap (λ (m : Machine). m.keeper) stands.1) made_is (ap (λ (m : Machine). m.reservations) stands.1)
     once_saved (Err error) keeper saves stands made_is =
-        asked_to_save old new holding (Asked request reply) made.saved moves state (inr ordered) sound (Err error)
+        asked_to_save old new holding (Asked request reply) made.saved moves state ordered sound (Err error)
         keeper saves (ap (λ (m : Machine). m.keeper) stands.1) made_is (ap (λ (m : Machine). m.reservations) stands.1)
 
     stands_by : (needed : Bool) → needs_save old.reservations state ≡ needed
@@ -357,7 +357,7 @@ module _ {M D : Type 0} (medium : M → MediumState) (below : Below M Change) (d
   call_leaves : (old new : DriveState M (OpenStore D)) (call : Call) → (disk_of medium below disk old).honest
       → IsHolding medium below disk old → CallDoes medium below disk old call new
       → LeavesOnly (disk_of medium below disk old) (disk_of medium below disk new)
-      (LeavesHeld medium below disk old call)
+      (LeavesHeld medium below disk old call new)
       × IsHolding medium below disk new
   call_leaves old new call honest holding does =
       let goes = call_goes old new call holding does in
@@ -372,8 +372,8 @@ module _ {M D : Type 0} (medium : M → MediumState) (below : Below M Change) (d
       (core_within old.keeper.heading old.keeper.states old.keeper.torn goes.more goes.torn)
       (accepts old goes.more goes.made goes.fits) went.0 in (
         weakened (disk_of medium below disk old) (disk_of medium below disk new)
-            (GivesEither old.keeper.heading old.keeper.states goes.more) (LeavesHeld medium below disk old call) leaves
-            (opens old call goes.more holding goes.stands),
+            (GivesEither old.keeper.heading old.keeper.states goes.more) (LeavesHeld medium below disk old call new) leaves
+            (opens old call new goes.more holding goes.stands),
         record {
           sound = goes.sound;
           saved = goes.saved;
@@ -393,18 +393,19 @@ module _ {M D : Type 0} (medium : M → MediumState) (below : Below M Change) (d
             ap (λ (t : Option PrState). (core_with drive.keeper.heading drive.keeper.states t).accepted) one.1,
           )
 
-      opens : (drive : DriveState M (OpenStore D)) (call : Call) (more : PrState) → IsHolding medium below disk drive
-          → (power_loss more ≡ power_loss drive.reservations) ⊎ MayStand medium below disk drive call more
+      opens : (drive : DriveState M (OpenStore D)) (call : Call) (later : DriveState M (OpenStore D)) (more : PrState)
+          → IsHolding medium below disk drive
+          → (power_loss more ≡ power_loss drive.reservations) ⊎ MayStand medium below disk drive call later more
           → (image : List ℕ) → GivesEither drive.keeper.heading drive.keeper.states more image
-          → LeavesHeld medium below disk drive call image
-      opens drive call more holds stands image (inl gives) = inl (drive.keeper.states, gives, sym holds.saved)
-      opens drive call more holds (inl same) image (inr gives) =
+          → LeavesHeld medium below disk drive call later image
+      opens drive call later more holds stands image (inl gives) = inl (drive.keeper.states, gives, sym holds.saved)
+      opens drive call later more holds (inl same) image (inr gives) =
           inl (
             drive.keeper.states ++ more ∷ [],
             gives,
             sym same ∙ ap power_loss (sym (last_more empty_state drive.keeper.states more)),
           )
-      opens drive call more holds (inr may) image (inr gives) =
+      opens drive call later more holds (inr may) image (inr gives) =
           inr (
             more,
             may,
