@@ -1,6 +1,6 @@
 -- What a drive over a store leaves on the store's disk, call by call.
 use Rattle.std.proofs.Common.{◌≡◌, ◌⊎◌, inl, inr, ℕ, ◌≤◌, ◌+◌, List, [], ◌∷◌, ◌++◌, length, take, Bool, true, false, Option, None, Some, is_some, Result, Ok, Err, refl, sym, ◌∙◌, ap, subst, arith, length-append}
-use Rattle.std.specs.Prelude.{unwrap_or}
+use Rattle.std.specs.Prelude.{option_to_list, unwrap_or}
 use Rattle.std.proofs.lemmas.List.{append-nil, take_all, take_at}
 use Rattle.vtl_base.specs.Below.{Below}
 use Rattle.scsi_sense.specs.declared.replies.Reply.{Reply}
@@ -34,7 +34,7 @@ use Rattle.drive_core.specs.Work.{Request}
 use Rattle.aptpl_store.specs.Contents.{GivesStates, ShowsStates, latest}
 use Rattle.aptpl_store.specs.Kept.{core_of, core_with, store_below, store_kept, store_rules}
 use Rattle.aptpl_store.specs.State.{OpenStore}
-use Rattle.library.specs.Reservations.{Asked, Call, CallDoes, Calls, IsHolding, IsOrdered, IsOrderedIn, LeavesHeld, MayStand, ReservationsOutlive, Turned, disk_of}
+use Rattle.library.specs.Reservations.{Asked, Call, CallDoes, Calls, GivesHeld, IsHolding, IsOrdered, IsOrderedIn, LeavesHeld, MayStand, ReservationsOutlive, Turned, disk_of}
 use Rattle.library.proofs.CoreLemmas.{Either, MayAccept, Within, fewer_accept, first_many, within_steps}
 use Rattle.library.proofs.MachineLemmas.{Goes, step_goes}
 
@@ -428,7 +428,39 @@ module _ {M D : Type 0} (medium : M → MediumState) (below : Below M Change) (d
       let goes = call_goes old did.0 call holding did.1 in
       calls_leave did.0 mid calls (goes.moves.keeps.stays_honest honest) next.1 did.2
 
+  -- between two calls an image gives what is held, or the state whose save failed
+  gives_held : (drive : DriveState M (OpenStore D)) → IsHolding medium below disk drive → (image : List ℕ)
+      → ShowsStates drive.keeper.heading drive.keeper.states drive.keeper.torn image
+      → GivesHeld medium below disk drive image
+  gives_held drive holding image (inl gives) = inl (drive.keeper.states, gives, sym holding.saved)
+  gives_held drive holding image (inr gives) = by drive.keeper.torn refl gives
+    where
+      by : (torn : Option PrState) → drive.keeper.torn ≡ torn
+          → GivesStates drive.keeper.heading (drive.keeper.states ++ option_to_list torn) image
+          → GivesHeld medium below disk drive image
+      by None is gives =
+          inl (
+            drive.keeper.states,
+            given_as drive.keeper.heading (drive.keeper.states ++ []) drive.keeper.states image
+                (append-nil drive.keeper.states) gives,
+            sym holding.saved,
+          )
+      by (Some more) is gives =
+          inr (
+            more,
+            is,
+            (
+              drive.keeper.states ++ more ∷ [],
+              gives,
+              ap power_loss (sym (last_more empty_state drive.keeper.states more)),
+            ),
+          )
+
   pub outlive : ReservationsOutlive medium below disk
   outlive old mid new calls last honest holding did does =
       let there = calls_leave old mid calls honest holding did in
-      call_leaves mid new last there.0 there.1 does
+      let left = call_leaves mid new last there.0 there.1 does in (
+        left.0,
+        λ image may. gives_held new left.1 image (left.1.shows image may),
+        left.1,
+      )

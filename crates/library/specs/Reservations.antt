@@ -86,11 +86,20 @@ module _ {M D : Type 0} (medium : M → MediumState) (below : Below M Change) (d
       OpensAs old.keeper.heading (power_loss old.reservations) image
       ⊎ ((state : PrState) × MayStand old call new state × OpensAs old.keeper.heading (power_loss state) image)
 
+  -- the image opens as what a loss of power leaves of the reservations that the drive holds, or of the state whose save
+  -- failed (own)
+  abbrev pub GivesHeld : DriveState M (OpenStore D) → List ℕ → Type 0
+  GivesHeld drive image =
+      OpensAs drive.keeper.heading (power_loss drive.reservations) image
+      ⊎ ((state : PrState) × (drive.keeper.torn ≡ Some state)
+      × OpensAs drive.keeper.heading (power_loss state) image)
+
   -- Whatever a drive was given, and wherever it is stopped, inside the last call too: each image that a crash may leave
   -- opens as what a loss of power leaves of what was held before that call, or of a state that may stand in its place;
-  -- and the drive goes on so (own).
+  -- once the call is over, of what is then held, or of the state whose save failed; and the drive goes on so (own).
   abbrev pub ReservationsOutlive : Type 0
   ReservationsOutlive =
       (old mid new : DriveState M (OpenStore D)) (calls : List Call) (last : Call)
       → (disk_of old).honest → IsHolding old → Calls old calls mid → CallDoes mid last new
-      → LeavesOnly (disk_of mid) (disk_of new) (LeavesHeld mid last new) × IsHolding new
+      → LeavesOnly (disk_of mid) (disk_of new) (LeavesHeld mid last new) × Each (disk_of new) (GivesHeld new)
+      × IsHolding new
