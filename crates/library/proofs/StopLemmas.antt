@@ -8,7 +8,7 @@ use Rattle.volume_core.specs.declared.changes.Change.{Change}
 use Rattle.volume_core.specs.declared.media.Turn.{Turn}
 use Rattle.volume_core.specs.declared.media.Turn.TheVariants as turns
 use Rattle.volume_core.specs.Medium.{MediumState}
-use Rattle.tape_disk.specs.Disk.{DiskState, IsDisk}
+use Rattle.tape_disk.specs.Disk.{DiskState, Each, IsDisk}
 use Rattle.tape_disk.specs.Moments.{LeavesOnly, weakened}
 use Rattle.gate_journal.specs.Side.{Heading}
 use Rattle.accepting.specs.Core.{Core}
@@ -17,7 +17,7 @@ use Rattle.pr_core.specs.declared.keepers.KeeperError.{KeeperError}
 use Rattle.pr_core.specs.declared.keepers.KeeperError.TheVariants as save
 use Rattle.pr_core.specs.declared.states.PrState.{PrState}
 use Rattle.pr_core.specs.Keepers.{KeeperState, Saves, saved_by}
-use Rattle.pr_core.specs.Laws.{OrdersKeepRules, SavedAlikeAreLostAlike, SavesAreDueByChange}
+use Rattle.pr_core.specs.Laws.{OrdersKeepRules, PowerLossIsOnce, SavedAlikeAreLostAlike, SavesAreDueByChange}
 use Rattle.pr_core.specs.Saves.{needs_save}
 use Rattle.pr_core.specs.Sound.{IsSound}
 use Rattle.pr_core.specs.Staged.{last_saved}
@@ -28,13 +28,13 @@ use Rattle.drive_core.specs.declared.faults.Fault.{Fault}
 use Rattle.drive_core.specs.Execute.{Answers}
 use Rattle.drive_core.specs.Relations.{Made}
 use Rattle.drive_core.specs.ReserveOut.{StandsBy, StandsOnceSaved}
-use Rattle.drive_core.specs.State.{DriveState, Machine, machine_of}
+use Rattle.drive_core.specs.State.{DriveState, Machine, left_of, machine_of, powered_on}
 use Rattle.drive_core.specs.Turn.{TurnsIn}
 use Rattle.drive_core.specs.Work.{Request}
 use Rattle.aptpl_store.specs.Contents.{GivesStates, ShowsStates, latest}
 use Rattle.aptpl_store.specs.Kept.{core_of, core_with, store_below, store_kept, store_rules}
 use Rattle.aptpl_store.specs.State.{OpenStore}
-use Rattle.library.specs.Reservations.{Asked, Call, CallDoes, Calls, GivesHeld, IsHolding, IsOrdered, IsOrderedIn, LeavesHeld, MayStand, ReservationsOutlive, Turned, disk_of}
+use Rattle.library.specs.Reservations.{Asked, Call, CallDoes, Calls, GivesHeld, IsHolding, IsOrdered, IsOrderedIn, LeavesHeld, MayStand, ReservationsOutlive, SwitchedOnHolds, Turned, disk_of}
 use Rattle.library.proofs.CoreLemmas.{Either, MayAccept, Within, fewer_accept, first_many, within_steps}
 use Rattle.library.proofs.MachineLemmas.{Goes, step_goes}
 
@@ -464,3 +464,24 @@ module _ {M D : Type 0} (medium : M → MediumState) (below : Below M Change) (d
         λ image may. gives_held new left.1 image (left.1.shows image may),
         left.1,
       )
+
+-- a drive that was just switched on holds what its store saved last
+module _ {M D : Type 0} (medium : M → MediumState) (below : Below M Change) (disk : D → DiskState)
+    (once : PowerLossIsOnce) where
+  switched : (store : OpenStore D) (reservations : PrState) (bay : Bay M) (new : DriveState M (OpenStore D))
+      → reservations ≡ left_of (store_kept store).saved → IsSound reservations → store.failed ≡ is_some store.torn
+      → Each (disk store.disk) (ShowsStates store.heading store.states store.torn)
+      → new ≡ powered_on bay reservations store → IsHolding medium below disk new
+  switched store reservations bay new left sound at_rest shows is =
+      subst (λ (d : DriveState M (OpenStore D)). IsHolding medium below disk d) (sym is) (record {
+        sound = sound;
+        saved = sym (ap power_loss left ∙ once (latest store.states));
+        at_rest = at_rest;
+        shows = shows;
+      })
+
+  pub begins : SwitchedOnHolds medium below disk
+  begins None store reservations new left sound at_rest shows on =
+      switched store reservations Empty new left sound at_rest shows on
+  begins (Some given) store reservations new left sound at_rest shows on =
+      switched store reservations on.2 new left sound at_rest shows on.5

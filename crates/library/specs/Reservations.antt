@@ -1,5 +1,5 @@
 -- What a drive over a store of reservations leaves on the store's disk, wherever it is stopped.
-use Rattle.std.specs.Prelude.{◌≡◌, ◌⊎◌, ℕ, List, [], ◌∷◌, Some, is_some, Ok}
+use Rattle.std.specs.Prelude.{◌≡◌, ◌⊎◌, ℕ, List, [], ◌∷◌, Option, Some, is_some, Ok}
 use Rattle.vtl_base.specs.Below.{Below}
 use Rattle.scsi_sense.specs.declared.replies.Reply.{Reply}
 use Rattle.scsi_attention.specs.AttentionSets.{AttentionSet}
@@ -19,8 +19,8 @@ use Rattle.tape_disk.specs.Disk.{DiskState, Each}
 use Rattle.tape_disk.specs.Moments.{LeavesOnly}
 use Rattle.drive_core.specs.Checks.{verdict}
 use Rattle.drive_core.specs.Execute.{Answers}
-use Rattle.drive_core.specs.Media.{TakesTurn}
-use Rattle.drive_core.specs.State.{DriveState, Machine, machine_of}
+use Rattle.drive_core.specs.Media.{SwitchesOn, TakesTurn}
+use Rattle.drive_core.specs.State.{DriveState, Machine, left_of, machine_of}
 use Rattle.drive_core.specs.Work.{Request}
 use Rattle.aptpl_store.specs.Contents.{OpensAs, ShowsStates, latest}
 use Rattle.aptpl_store.specs.Kept.{store_below, store_kept}
@@ -103,3 +103,11 @@ module _ {M D : Type 0} (medium : M → MediumState) (below : Below M Change) (d
       → (disk_of old).honest → IsHolding old → Calls old calls mid → CallDoes mid last new
       → LeavesOnly (disk_of mid) (disk_of new) (LeavesHeld mid last new) × Each (disk_of new) (GivesHeld new)
       × IsHolding new
+
+  -- a drive that was just switched on, with what a loss of power leaves of what its store saved last, holds so (own)
+  abbrev pub SwitchedOnHolds : Type 0
+  SwitchedOnHolds =
+      (given : Option M) (store : OpenStore D) (reservations : PrState) (new : DriveState M (OpenStore D))
+      → reservations ≡ left_of (store_kept store).saved → IsSound reservations → store.failed ≡ is_some store.torn
+      → Each (disk store.disk) (ShowsStates store.heading store.states store.torn)
+      → SwitchesOn medium below given reservations store (Ok new) → IsHolding new

@@ -1,5 +1,5 @@
 //! Reservations through a loss of power.
-ghost use Rattle.library.specs.Reservations.{ReservationsOutlive};
+ghost use Rattle.library.specs.Reservations.{ReservationsOutlive, SwitchedOnHolds};
 
 use pr_core::laws::{power_loss_is_once, rules_are_kept, saves_are_due_by_change};
 use tape_disk::Disk;
@@ -7,9 +7,12 @@ use volume_core::Medium;
 
 /// Whatever commands and turns a drive over a store was given, and wherever it is stopped, inside the last
 /// call too: opening the store gives what a loss of power leaves of the reservations that were held before
-/// that call, or of those that the order under way makes.
+/// that call, or of those that its order makes, if they then stand or their save failed, or of those whose
+/// save failed earlier. Between two calls it gives that of what is held, or of the order whose save failed.
+/// A power on is where that begins.
 pub fn reservations_outlive_each_stop<M: Medium, D: Disk>()
-    ensures { ReservationsOutlive M.state M.below D.state }
+    ensures begins { SwitchedOnHolds M.state M.below D.state }
+    ensures outlive { ReservationsOutlive M.state M.below D.state }
 {
     power_loss_is_once();
     rules_are_kept();
