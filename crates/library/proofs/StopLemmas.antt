@@ -372,8 +372,8 @@ module _ {M D : Type 0} (medium : M → MediumState) (below : Below M Change) (d
       (core_within old.keeper.heading old.keeper.states old.keeper.torn goes.more goes.torn)
       (accepts old goes.more goes.made goes.fits) went.0 in (
         weakened (disk_of medium below disk old) (disk_of medium below disk new)
-            (GivesEither old.keeper.heading old.keeper.states goes.more) (LeavesHeld medium below disk old call new) leaves
-            (opens old call new goes.more holding goes.stands),
+            (GivesEither old.keeper.heading old.keeper.states goes.more) (LeavesHeld medium below disk old call new)
+            leaves (opens old call new goes.more holding goes.stands),
         record {
           sound = goes.sound;
           saved = goes.saved;
