@@ -5,6 +5,7 @@ use Rattle.std.specs.List.{All, flat_map}
 use Rattle.std.proofs.lemmas.Bool.{cases_lt}
 use Rattle.std.proofs.lemmas.List.{append-nil, get_or-map, get_or-take, length-map, take_all}
 use Rattle.std.proofs.lemmas.List.Elements.{All-get_or, All-head, All-tail}
+use Rattle.tape_disk.specs.Disk.{DiskState}
 use Rattle.gate_journal.specs.declared.header.SideKind.{SideKind}
 use Rattle.gate_journal.specs.declared.header.SideKind.TheVariants.{Cartridge, Store}
 use Rattle.gate_journal.specs.Side.{BeginsAs, Heading, IsDamagedAt, IsDamagedOf, StandsFor, frame, spell, spell_heading}
@@ -14,6 +15,9 @@ use Rattle.pr_core.specs.declared.states.PrState.{PrState}
 use Rattle.pr_core.specs.Saves.{AreSavedAlike}
 use Rattle.pr_core.specs.Staged.{last_saved}
 use Rattle.pr_core.specs.States.{empty_state, power_loss}
+use Rattle.aptpl_store.specs.declared.error.StoreError.{StoreError}
+use Rattle.aptpl_store.specs.declared.error.StoreError.TheVariants.{NotOurs, Damaged, BadRecord, Device, NoMemory}
+use Rattle.aptpl_store.specs.Answers.{IsNotOfBytes, IsStoreNotOpened}
 use Rattle.aptpl_store.specs.Contents.{AreAllSavedAlike, GivesStates, IsBadState, IsBadStateAt, IsNoStore, OpensAs, state_bodies}
 use Rattle.aptpl_store.specs.Spelling.{IsSavable, spell_state}
 use Rattle.aptpl_store.proofs.TellingLemmas.{one_state}
@@ -177,3 +181,15 @@ damaged_ours image at none damage = no_store_begins image none damage.0
 
 pub damaged_once : (image : List ℕ) (a b : ℕ) → IsDamagedOf Store image a → IsDamagedOf Store image b → a ≡ b
 damaged_once image a b one two = one_place image a b one.1 two.1
+
+-- bytes that open as a state are refused by no cause of their own
+pub refused_so : (error : StoreError) (old new : DiskState) → old.honest → IsStoreNotOpened error old new
+    → (h : Heading) (state : PrState) → OpensAs h state old.seen → IsNotOfBytes error
+refused_so NotOurs old new honest why h state (states, gives, is) =
+    absurd (gives_ours old.seen h states gives (why.1 honest).0)
+refused_so (Damaged at) old new honest why h state (states, gives, is) =
+    absurd (gives_whole old.seen h states at gives (why.1 honest).0)
+refused_so (BadRecord at) old new honest why h state (states, gives, is) =
+    absurd (gives_good old.seen h states at gives (why.1 honest).0)
+refused_so (Device fault) old new honest why h state opens = tt
+refused_so NoMemory old new honest why h state opens = tt

@@ -1,9 +1,9 @@
 -- What holds after each answer of a call.
-use Rattle.std.specs.Prelude.{◌≡◌, ◌≤◌, ◌+◌, [], ◌∷◌, ◌++◌, length, Some, true, Result, Ok, Err}
+use Rattle.std.specs.Prelude.{◌≡◌, ◌≤◌, ◌+◌, ℕ, List, [], ◌∷◌, ◌++◌, length, Some, true, Result, Ok, Err}
 use Rattle.vtl_base.specs.declared.faults.DevFault.{DevFault}
 use Rattle.tape_disk.specs.Disk.{DiskState, Only}
 use Rattle.gate_journal.specs.declared.header.SideKind.TheVariants.{Store}
-use Rattle.gate_journal.specs.Side.{IsDamagedOf}
+use Rattle.gate_journal.specs.Side.{Heading, IsDamagedOf}
 use Rattle.gate_journal.specs.Answers.{IsFault, NoneFailed}
 use Rattle.pr_core.specs.declared.states.PrState.{PrState}
 use Rattle.pr_core.specs.declared.keepers.KeeperError.{KeeperError}
@@ -12,7 +12,7 @@ use Rattle.pr_core.specs.Keepers.{state_frame_size}
 use Rattle.aptpl_store.specs.declared.error.StoreError.{StoreError}
 use Rattle.aptpl_store.specs.declared.error.StoreError.TheVariants.{NotOurs, Damaged, BadRecord, Device, NoMemory}
 use Rattle.aptpl_store.specs.declared.error.StoreRefused.{StoreRefused}
-use Rattle.aptpl_store.specs.Contents.{IsBadStateAt, IsNoStore}
+use Rattle.aptpl_store.specs.Contents.{IsBadStateAt, IsNoStore, OpensAs}
 use Rattle.aptpl_store.specs.State.{OpenStore}
 
 module _ {D : Type 0} where
@@ -43,6 +43,21 @@ module _ {D : Type 0} where
   abbrev pub disk_of_opened : {R : Type 0} → Result (OpenStore D × R) (StoreRefused D) → D
   disk_of_opened (Ok opened) = opened.0.disk
   disk_of_opened (Err refused) = refused.disk
+
+-- a cause that no bytes are: the disk failed, or memory ran out (own)
+abbrev pub IsNotOfBytes : StoreError → Type 0
+IsNotOfBytes (Device fault) = Unit {0}
+IsNotOfBytes NoMemory = Unit {0}
+IsNotOfBytes NotOurs = ⊥
+IsNotOfBytes (Damaged at) = ⊥
+IsNotOfBytes (BadRecord at) = ⊥
+
+-- An opening gives the state that these bytes open as, which is one at most; where it gives none though they open as
+-- some, the disk failed or memory ran out (own).
+abbrev pub Recovers : {D : Type 0} → Result (OpenStore D × PrState) (StoreRefused D) → List ℕ → Type 0
+Recovers (Ok opened) image = OpensAs opened.0.heading opened.1 image
+Recovers (Err refused) image =
+    (heading : Heading) (state : PrState) → OpensAs heading state image → IsNotOfBytes refused.error
 
 -- why a store is not made: memory ran out, or a fault (own)
 abbrev pub IsStoreNotMade : StoreError → Type 0 → (DevFault → Type 0) → Type 0

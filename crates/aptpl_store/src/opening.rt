@@ -5,7 +5,7 @@ ghost use Rattle.tape_disk.specs.Moments.{LeavesOnly};
 ghost use Rattle.gate_journal.specs.Answers.{NoneFailed};
 ghost use Rattle.gate_journal.specs.Crash.{Unwritten};
 ghost use Rattle.pr_core.specs.States.{power_loss};
-ghost use Rattle.aptpl_store.specs.Answers.{IsStoreNotOpened, disk_of_opened};
+ghost use Rattle.aptpl_store.specs.Answers.{IsStoreNotOpened, Recovers, disk_of_opened};
 ghost use Rattle.aptpl_store.specs.Contents.{GivesStates, state_bodies, latest};
 ghost use Rattle.aptpl_store.specs.Inner.Reading.{IsNotRead, IsReadUpTo, NotRecovered};
 
@@ -35,6 +35,7 @@ impl<D: Disk> AptplStore<D> {
         ensures gives { IfOk result (λ opened. (D.state disk).honest →
             GivesStates opened.0.heading opened.0.states (D.state disk).seen
             × Only (D.state disk).seen (D.state opened.0.disk).may_leave) }
+        ensures recovers { (D.state disk).honest → Recovers result (D.state disk).seen }
         ensures refused { IfErr result (λ refused.
             IsStoreNotOpened refused.error (D.state disk) (D.state refused.disk)) }
         ensures any_moment { (D.state disk).honest →

@@ -80,7 +80,7 @@ impl<D: Disk> AptplStore<D> {
         &self.journal.header().name
     }
 
-    /// How many frames the side has: one for each state that was saved.
+    /// How many states were saved: the side has a frame for each. After a device fault it may have one more.
     pub fn frames(&self) -> usize
         ensures { result ≡ length self.now.states }
     {

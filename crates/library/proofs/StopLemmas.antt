@@ -1,6 +1,6 @@
 -- What a drive over a store leaves on the store's disk, call by call.
 use Rattle.std.proofs.Common.{◌≡◌, ◌⊎◌, inl, inr, ℕ, ◌≤◌, ◌+◌, List, [], ◌∷◌, ◌++◌, length, take, Bool, true, false, Option, None, Some, is_some, Result, Ok, Err, refl, sym, ◌∙◌, ap, subst, arith, length-append}
-use Rattle.std.specs.Prelude.{unwrap_or}
+use Rattle.std.specs.Prelude.{option_to_list, unwrap_or}
 use Rattle.std.proofs.lemmas.List.{append-nil, take_all, take_at}
 use Rattle.vtl_base.specs.Below.{Below}
 use Rattle.scsi_sense.specs.declared.replies.Reply.{Reply}
@@ -34,7 +34,7 @@ use Rattle.drive_core.specs.Work.{Request}
 use Rattle.aptpl_store.specs.Contents.{GivesStates, ShowsStates, latest}
 use Rattle.aptpl_store.specs.Kept.{core_of, core_with, store_below, store_kept, store_rules}
 use Rattle.aptpl_store.specs.State.{OpenStore}
-use Rattle.library.specs.Reservations.{Asked, Call, CallDoes, Calls, IsHolding, IsOrdered, LeavesHeld, MayStand, ReservationsOutlive, SwitchedOnHolds, Turned, disk_of}
+use Rattle.library.specs.Reservations.{Asked, Call, CallDoes, Calls, GivesHeld, IsHolding, IsOrdered, IsOrderedIn, LeavesHeld, MayStand, ReservationsOutlive, SwitchedOnHolds, Turned, disk_of}
 use Rattle.library.proofs.CoreLemmas.{Either, MayAccept, Within, fewer_accept, first_many, within_steps}
 use Rattle.library.proofs.MachineLemmas.{Goes, step_goes}
 
@@ -165,7 +165,7 @@ module _ {M D : Type 0} (medium : M → MediumState) (below : Below M Change) (d
         CoreMoves store_rules (disk_of medium below disk old) (disk_of medium below disk new) (core_of old.keeper)
         (core_of new.keeper) made
     pub more : PrState
-    pub stands : (power_loss more ≡ power_loss old.reservations) ⊎ MayStand medium below disk old call more
+    pub stands : (power_loss more ≡ power_loss old.reservations) ⊎ MayStand medium below disk old call new more
     pub fits : (made ≡ []) ⊎ ((made ≡ more ∷ []) × (old.keeper.torn ≡ None))
     pub torn : (old.keeper.torn ≡ None) ⊎ (old.keeper.torn ≡ Some more)
     pub sound : IsSound new.reservations
@@ -215,16 +215,16 @@ module _ {M D : Type 0} (medium : M → MediumState) (below : Below M Change) (d
         }
 
     -- a state was saved, or the disk failed while it was
-    asked_to_save : (state : PrState) → MayStand medium below disk old call state → IsSound state
+    asked_to_save : (state : PrState) → IsOrderedIn (machine_of medium store_kept old) call state → IsSound state
         → (saving : Result Unit KeeperError) (keeper : KeeperState) → Saves (store_kept old.keeper) state saving keeper
         → store_kept new.keeper ≡ keeper → made ≡ saved_by saving state
         → new.reservations ≡ (elim saving as (λ x. PrState) [ Ok done ↦ state | Err error ↦ old.reservations ])
         → CallGoes old call new
-    asked_to_save state stands sound (Ok done) keeper saves kept made_is is = record {
+    asked_to_save state ordered sound (Ok done) keeper saves kept made_is is = record {
       made = made;
       moves = moves;
       more = state;
-      stands = inr stands;
+      stands = inr (inr (ordered, inl is));
       fits = inr (made_is, none);
       torn = inl none;
       sound = subst IsSound (sym is) sound;
@@ -239,11 +239,11 @@ module _ {M D : Type 0} (medium : M → MediumState) (below : Below M Change) (d
       where
         none : old.keeper.torn ≡ None
         none = none_torn old.keeper.torn (sym holding.at_rest ∙ saves.0)
-    asked_to_save state stands sound (Err save.Device) keeper saves kept made_is is = record {
+    asked_to_save state ordered sound (Err save.Device) keeper saves kept made_is is = record {
       made = made;
       moves = moves;
       more = state;
-      stands = inr stands;
+      stands = inr (inr (ordered, inr (ap (λ (k : KeeperState). k.torn) kept ∙ saves.1.torn)));
       fits = inr (made_is, none);
       torn = inl none;
       sound = subst IsSound (sym is) holding.sound;
@@ -258,11 +258,11 @@ module _ {M D : Type 0} (medium : M → MediumState) (below : Below M Change) (d
       where
         none : old.keeper.torn ≡ None
         none = none_torn old.keeper.torn (sym holding.at_rest ∙ saves.0)
-    asked_to_save state stands sound (Err save.NoMemory) keeper saves kept made_is is =
+    asked_to_save state ordered sound (Err save.NoMemory) keeper saves kept made_is is =
         unsaved made_is (kept ∙ saves.2) (subst IsSound (sym is) holding.sound) (ap power_loss is)
-    asked_to_save state stands sound (Err save.SideFull) keeper saves kept made_is is =
+    asked_to_save state ordered sound (Err save.SideFull) keeper saves kept made_is is =
         unsaved made_is (kept ∙ saves.2) (subst IsSound (sym is) holding.sound) (ap power_loss is)
-    asked_to_save state stands sound (Err save.Failed) keeper saves kept made_is is =
+    asked_to_save state ordered sound (Err save.Failed) keeper saves kept made_is is =
         unsaved made_is (kept ∙ saves.1) (subst IsSound (sym is) holding.sound) (ap power_loss is)
 
   -- what an order's work does
@@ -282,10 +282,10 @@ module _ {M D : Type 0} (medium : M → MediumState) (below : Below M Change) (d
         (machine_of medium store_kept new)
         → made.saved ≡ saved_by saving state → CallGoes old (Asked request reply) new
     once_saved (Ok done) keeper saves stands made_is =
-        asked_to_save old new holding (Asked request reply) made.saved moves state (inr ordered) sound (Ok done) keeper
+        asked_to_save old new holding (Asked request reply) made.saved moves state ordered sound (Ok done) keeper
         saves (ap (λ (m : Machine). m.keeper) stands.1) made_is (ap (λ (m : Machine). m.reservations) stands.1)
     once_saved (Err error) keeper saves stands made_is =
-        asked_to_save old new holding (Asked request reply) made.saved moves state (inr ordered) sound (Err error)
+        asked_to_save old new holding (Asked request reply) made.saved moves state ordered sound (Err error)
         keeper saves (ap (λ (m : Machine). m.keeper) stands.1) made_is (ap (λ (m : Machine). m.reservations) stands.1)
 
     stands_by : (needed : Bool) → needs_save old.reservations state ≡ needed
@@ -357,7 +357,7 @@ module _ {M D : Type 0} (medium : M → MediumState) (below : Below M Change) (d
   call_leaves : (old new : DriveState M (OpenStore D)) (call : Call) → (disk_of medium below disk old).honest
       → IsHolding medium below disk old → CallDoes medium below disk old call new
       → LeavesOnly (disk_of medium below disk old) (disk_of medium below disk new)
-      (LeavesHeld medium below disk old call)
+      (LeavesHeld medium below disk old call new)
       × IsHolding medium below disk new
   call_leaves old new call honest holding does =
       let goes = call_goes old new call holding does in
@@ -372,8 +372,8 @@ module _ {M D : Type 0} (medium : M → MediumState) (below : Below M Change) (d
       (core_within old.keeper.heading old.keeper.states old.keeper.torn goes.more goes.torn)
       (accepts old goes.more goes.made goes.fits) went.0 in (
         weakened (disk_of medium below disk old) (disk_of medium below disk new)
-            (GivesEither old.keeper.heading old.keeper.states goes.more) (LeavesHeld medium below disk old call) leaves
-            (opens old call goes.more holding goes.stands),
+            (GivesEither old.keeper.heading old.keeper.states goes.more) (LeavesHeld medium below disk old call new)
+            leaves (opens old call new goes.more holding goes.stands),
         record {
           sound = goes.sound;
           saved = goes.saved;
@@ -393,18 +393,19 @@ module _ {M D : Type 0} (medium : M → MediumState) (below : Below M Change) (d
             ap (λ (t : Option PrState). (core_with drive.keeper.heading drive.keeper.states t).accepted) one.1,
           )
 
-      opens : (drive : DriveState M (OpenStore D)) (call : Call) (more : PrState) → IsHolding medium below disk drive
-          → (power_loss more ≡ power_loss drive.reservations) ⊎ MayStand medium below disk drive call more
+      opens : (drive : DriveState M (OpenStore D)) (call : Call) (later : DriveState M (OpenStore D)) (more : PrState)
+          → IsHolding medium below disk drive
+          → (power_loss more ≡ power_loss drive.reservations) ⊎ MayStand medium below disk drive call later more
           → (image : List ℕ) → GivesEither drive.keeper.heading drive.keeper.states more image
-          → LeavesHeld medium below disk drive call image
-      opens drive call more holds stands image (inl gives) = inl (drive.keeper.states, gives, sym holds.saved)
-      opens drive call more holds (inl same) image (inr gives) =
+          → LeavesHeld medium below disk drive call later image
+      opens drive call later more holds stands image (inl gives) = inl (drive.keeper.states, gives, sym holds.saved)
+      opens drive call later more holds (inl same) image (inr gives) =
           inl (
             drive.keeper.states ++ more ∷ [],
             gives,
             sym same ∙ ap power_loss (sym (last_more empty_state drive.keeper.states more)),
           )
-      opens drive call more holds (inr may) image (inr gives) =
+      opens drive call later more holds (inr may) image (inr gives) =
           inr (
             more,
             may,
@@ -427,10 +428,42 @@ module _ {M D : Type 0} (medium : M → MediumState) (below : Below M Change) (d
       let goes = call_goes old did.0 call holding did.1 in
       calls_leave did.0 mid calls (goes.moves.keeps.stays_honest honest) next.1 did.2
 
+  -- between two calls an image gives what is held, or the state whose save failed
+  gives_held : (drive : DriveState M (OpenStore D)) → IsHolding medium below disk drive → (image : List ℕ)
+      → ShowsStates drive.keeper.heading drive.keeper.states drive.keeper.torn image
+      → GivesHeld medium below disk drive image
+  gives_held drive holding image (inl gives) = inl (drive.keeper.states, gives, sym holding.saved)
+  gives_held drive holding image (inr gives) = by drive.keeper.torn refl gives
+    where
+      by : (torn : Option PrState) → drive.keeper.torn ≡ torn
+          → GivesStates drive.keeper.heading (drive.keeper.states ++ option_to_list torn) image
+          → GivesHeld medium below disk drive image
+      by None is gives =
+          inl (
+            drive.keeper.states,
+            given_as drive.keeper.heading (drive.keeper.states ++ []) drive.keeper.states image
+                (append-nil drive.keeper.states) gives,
+            sym holding.saved,
+          )
+      by (Some more) is gives =
+          inr (
+            more,
+            is,
+            (
+              drive.keeper.states ++ more ∷ [],
+              gives,
+              ap power_loss (sym (last_more empty_state drive.keeper.states more)),
+            ),
+          )
+
   pub outlive : ReservationsOutlive medium below disk
   outlive old mid new calls last honest holding did does =
       let there = calls_leave old mid calls honest holding did in
-      call_leaves mid new last there.0 there.1 does
+      let left = call_leaves mid new last there.0 there.1 does in (
+        left.0,
+        λ image may. gives_held new left.1 image (left.1.shows image may),
+        left.1,
+      )
 
 -- a drive that was just switched on holds what its store saved last
 module _ {M D : Type 0} (medium : M → MediumState) (below : Below M Change) (disk : D → DiskState)

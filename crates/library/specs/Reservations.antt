@@ -71,27 +71,38 @@ module _ {M D : Type 0} (medium : M → MediumState) (below : Below M Change) (d
     pub shows :
         Each (disk_of drive) (ShowsStates drive.keeper.heading drive.keeper.states drive.keeper.torn)
 
-  -- a state that may be found in the place of the one held: that whose save failed, or that which the order of this
-  -- call makes (own)
-  abbrev pub MayStand : DriveState M (OpenStore D) → Call → PrState → Type 0
-  MayStand drive call state =
-      (drive.keeper.torn ≡ Some state) ⊎ IsOrderedIn (machine_of medium store_kept drive) call state
+  -- A state that may be found in the place of the one held: that whose save failed earlier; or that which the order of
+  -- this call makes, where the drive holds it once the call is over, or its save failed in the call (own).
+  abbrev pub MayStand : DriveState M (OpenStore D) → Call → DriveState M (OpenStore D) → PrState → Type 0
+  MayStand old call new state =
+      (old.keeper.torn ≡ Some state)
+      ⊎ (IsOrderedIn (machine_of medium store_kept old) call state
+      × ((new.reservations ≡ state) ⊎ (new.keeper.torn ≡ Some state)))
 
   -- the image opens as what a loss of power leaves of the reservations that the drive held before this call, or of a
   -- state that may stand in their place (own)
-  abbrev pub LeavesHeld : DriveState M (OpenStore D) → Call → List ℕ → Type 0
-  LeavesHeld drive call image =
+  abbrev pub LeavesHeld : DriveState M (OpenStore D) → Call → DriveState M (OpenStore D) → List ℕ → Type 0
+  LeavesHeld old call new image =
+      OpensAs old.keeper.heading (power_loss old.reservations) image
+      ⊎ ((state : PrState) × MayStand old call new state × OpensAs old.keeper.heading (power_loss state) image)
+
+  -- the image opens as what a loss of power leaves of the reservations that the drive holds, or of the state whose save
+  -- failed (own)
+  abbrev pub GivesHeld : DriveState M (OpenStore D) → List ℕ → Type 0
+  GivesHeld drive image =
       OpensAs drive.keeper.heading (power_loss drive.reservations) image
-      ⊎ ((state : PrState) × MayStand drive call state × OpensAs drive.keeper.heading (power_loss state) image)
+      ⊎ ((state : PrState) × (drive.keeper.torn ≡ Some state)
+      × OpensAs drive.keeper.heading (power_loss state) image)
 
   -- Whatever a drive was given, and wherever it is stopped, inside the last call too: each image that a crash may leave
   -- opens as what a loss of power leaves of what was held before that call, or of a state that may stand in its place;
-  -- and the drive goes on so (own).
+  -- once the call is over, of what is then held, or of the state whose save failed; and the drive goes on so (own).
   abbrev pub ReservationsOutlive : Type 0
   ReservationsOutlive =
       (old mid new : DriveState M (OpenStore D)) (calls : List Call) (last : Call)
       → (disk_of old).honest → IsHolding old → Calls old calls mid → CallDoes mid last new
-      → LeavesOnly (disk_of mid) (disk_of new) (LeavesHeld mid last) × IsHolding new
+      → LeavesOnly (disk_of mid) (disk_of new) (LeavesHeld mid last new) × Each (disk_of new) (GivesHeld new)
+      × IsHolding new
 
   -- a drive that was just switched on, with what a loss of power leaves of what its store saved last, holds so (own)
   abbrev pub SwitchedOnHolds : Type 0

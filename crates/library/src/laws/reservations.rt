@@ -7,7 +7,9 @@ use volume_core::Medium;
 
 /// Whatever commands and turns a drive over a store was given, and wherever it is stopped, inside the last
 /// call too: opening the store gives what a loss of power leaves of the reservations that were held before
-/// that call, or of those that the order under way makes. A power on is where that begins.
+/// that call, or of those that its order makes, if they then stand or their save failed, or of those whose
+/// save failed earlier. Between two calls it gives that of what is held, or of the order whose save failed.
+/// A power on is where that begins.
 pub fn reservations_outlive_each_stop<M: Medium, D: Disk>()
     ensures begins { SwitchedOnHolds M.state M.below D.state }
     ensures outlive { ReservationsOutlive M.state M.below D.state }
