@@ -17,8 +17,8 @@ pub enum FileError {
     /// Another process has the file open as a disk, or this one.
     #[error("file in use")]
     InUse,
-    /// The system reported another error. A file that was made is gone again, where the system
-    /// could take it away.
+    /// The system reported another error, in the opening itself or in a read, a write or a sync of
+    /// it. A file that was made is gone again, where the system could take it away.
     #[error("device fault")]
     Device(DevFault),
 }

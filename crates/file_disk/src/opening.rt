@@ -55,6 +55,8 @@ pub fn create(rt: &HostRuntime, path: &str) -> Result<FileDisk, FileError>
     };
     match named(rt, path, file) {
         Ok(disk) => Ok(disk),
+        // Another process has opened it meanwhile.
+        Err(FileError::InUse) => Err(FileError::InUse),
         Err(error) => {
             let _ = fs::remove_file(rt, path);
             Err(error)

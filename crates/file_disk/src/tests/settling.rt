@@ -4,7 +4,7 @@ use super::staged::staged;
 use super::steps::{named, new_folder};
 use crate::raw::{CallFailed, RawFile};
 use crate::settling::settle;
-use crate::{FileDisk, FileError, Turn, open, open_to_read};
+use crate::{Turn, open, open_to_read};
 use std::fs;
 use std::fs::File;
 use std::os::unix::fs::MetadataExt;
@@ -82,14 +82,8 @@ fn what_a_sync_left_behind(rt: HostRuntime) {
     assert_eq!(rt; (settle(&mut file), file.device), (Ok(()), *b"new "));
 }
 
-// Whether an opening wrote to the file: its time is then no more that of 1970.
-fn is_written(
-    rt: &HostRuntime,
-    path: &str,
-    opens: fn(&HostRuntime, &str) -> Result<FileDisk, FileError>,
-) -> Result<bool, Fail> {
-    File::open(rt, path)?.set_modified(UNIX_EPOCH)?;
-    drop(opens(rt, path)?);
+// Whether a file was changed since its time was set to the beginning of 1970.
+fn is_written(rt: &HostRuntime, path: &str) -> Result<bool, Fail> {
     Ok(fs::metadata(rt, path)?.mtime() != 0)
 }
 
@@ -101,8 +95,11 @@ fn a_file_is_written_again(rt: HostRuntime) -> Result<(), Fail> {
     bytes[4095] = b'y';
     bytes[9_999] = b'z';
     fs::write(&rt, path.as_str(), bytes.as_slice())?;
-    assert!(rt; !is_written(&rt, path.as_str(), open_to_read)?);
-    assert!(rt; is_written(&rt, path.as_str(), open)?);
+    File::open(&rt, path.as_str())?.set_modified(UNIX_EPOCH)?;
+    drop(open_to_read(&rt, path.as_str())?);
+    assert!(rt; !is_written(&rt, path.as_str())?);
+    drop(open(&rt, path.as_str())?);
+    assert!(rt; is_written(&rt, path.as_str())?);
     let found = fs::read(&rt, path.as_str())?;
     assert_eq!(rt; found.as_slice(), bytes.as_slice());
     fs::remove_dir_all(&rt, folder.as_str())?;

@@ -2,6 +2,7 @@
 use super::doubles::Untold;
 use super::steps::{Step, act, failures, get, put};
 use crate::disk::fits;
+use crate::raw::{RawFile, Stop};
 use crate::{DiskOver, StagedFile, Turn};
 use std::alloc::Global;
 use std::collections::VecDeque;
@@ -97,4 +98,22 @@ fn a_length_that_is_not_told(rt: HostRuntime) {
         assert_eq!(rt; (failures(act(&mut disk, step)), disk.len()), (1, 0));
         assert_eq!(rt; (failures(act(&mut disk, step)), disk.len()), (0, len));
     }
+}
+
+// Each turn does what its comment says: a test over a file that passes turns over would see nothing.
+#[test]
+fn what_a_turn_moves(rt: HostRuntime) -> Result<(), Fail> {
+    for (turn, moved) in [
+        (Turn::Whole, Ok(4)),
+        (Turn::Part(9), Ok(4)),
+        (Turn::Part(1), Ok(1)),
+        (Turn::Part(0), Ok(0)),
+        (Turn::Interrupted, Err(Stop::Interrupted)),
+        (Turn::Failed, Err(Stop::Failed)),
+    ] {
+        let mut file = staged(rt.alloc(), b"abcd", &[turn, turn])?;
+        assert_eq!(rt; file.read_some(0, &mut [0; 4]), moved);
+        assert_eq!(rt; file.write_some(0, b"wxyz"), moved);
+    }
+    Ok(())
 }
