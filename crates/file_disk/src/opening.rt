@@ -82,7 +82,7 @@ fn named(rt: &HostRuntime, path: &str, file: File) -> Result<FileDisk, FileError
 /// Opens a file, for this process alone. Its last 8,388,672 bytes are written again where they are
 /// before its sync, or all where it has fewer: where a sync failed before, an earlier process may
 /// have left bytes in the system's memory that never reached the device, and that a sync alone
-/// passes over. A fault in that is `Device`.
+/// passes over. A fault in that is `Device`. What a crash in it leaves stands in docs/PREMISES.md.
 pub fn open(rt: &HostRuntime, path: &str) -> Result<FileDisk, FileError>
     ensures ok { IfOk result (λ disk. disk.failures ≡ 0) }
     ensures device { IfErr result IsOneFailure }
