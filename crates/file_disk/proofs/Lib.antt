@@ -1,0 +1,5 @@
+pub mod RunLemmas
+pub mod SettlingLemmas
+pub mod SmearLemmas
+pub mod StagedLemmas
+pub mod TransferLemmas

@@ -1,0 +1,53 @@
+-- What a call of a staged file does, by what it does to the log of the disk below.
+use Rattle.std.proofs.Common.{◌≡◌, ℕ, ◌+◌, ◌≤◌, List, [], length, take, drop, refl, sym, ap, ◌∙◌, subst, arith, Ok, Err, take-append-drop}
+use Rattle.std.proofs.lemmas.List.{append-nil, length-take}
+use Rattle.tape_disk.specs.CallLog.{Wrote, CallLog, idled, kept, logged, state_of}
+use Rattle.tape_disk.specs.Disk.{Smeared, WriteAt}
+use Rattle.file_disk.specs.declared.raw.CallFailed.{CallFailed}
+use Rattle.file_disk.specs.declared.raw.Stop.{Stop}
+use Rattle.file_disk.specs.RawFile.{CutsFile, WritesSomeBytes}
+use Rattle.file_disk.proofs.SmearLemmas.{smeared_same, smeared_wider}
+
+module _ (log mid new : CallLog) (same : mid ≡ log) where
+  -- the first of the bytes were written
+  pub staged_wrote : (at count : ℕ) (bytes : List ℕ) → new ≡ logged (WriteAt at (take count bytes)) mid
+      → WritesSomeBytes at bytes (Ok count) (state_of log 0) (state_of new 0)
+  staged_wrote at count bytes is =
+      let size : length (take count bytes) ≤ length bytes = omega (arith, length-take count bytes) in
+      subst (λ (l : CallLog). WritesSomeBytes at bytes (Ok count) (state_of log 0) (state_of l 0))
+      (sym (is ∙ ap (λ (l : CallLog). logged (WriteAt at (take count bytes)) l) same)) (record {
+        written = refl;
+        none = tt;
+        smeared = tt;
+        crash = λ image left. (
+          left.0,
+          left.1,
+          smeared_wider at (length bytes) at (length (take count bytes)) (omega arith) (omega (arith, size))
+              left.0 image left.2,
+        );
+        keeps = λ image left. (image, left, smeared_same at (length (take count bytes)) image);
+      })
+
+  -- nothing was written
+  pub staged_stopped : (at : ℕ) (bytes : List ℕ) (stop : Stop) → new ≡ idled mid
+      → WritesSomeBytes at bytes (Err stop) (state_of log 0) (state_of new 0)
+  staged_stopped at bytes stop is =
+      subst (λ (l : CallLog). WritesSomeBytes at bytes (Err stop) (state_of log 0) (state_of l 0))
+      (sym (is ∙ ap idled same)) (record {
+        written = tt;
+        none = λ interrupted. refl;
+        smeared = smeared_same at (length bytes) (state_of log 0).seen;
+        crash = λ image left. (image, left, smeared_same at (length bytes) image);
+        keeps = λ image left. left;
+      })
+
+  -- nothing was cut
+  pub staged_not_cut : (len : ℕ) (failed : CallFailed) → new ≡ idled mid
+      → CutsFile len (Err failed) (state_of log 0) (state_of new 0)
+  staged_not_cut len failed is =
+      subst (λ (l : CallLog). CutsFile len (Err failed) (state_of log 0) (state_of l 0))
+      (sym (is ∙ ap idled same)) (record {
+        done = tt;
+        smeared = (drop len (state_of log 0).seen, sym (take-append-drop len (state_of log 0).seen));
+        crash = λ image left. (image, left, (drop len image, sym (take-append-drop len image)));
+      })

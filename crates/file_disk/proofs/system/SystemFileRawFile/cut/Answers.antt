@@ -1,0 +1,14 @@
+use Rattle.file_disk.specs.Inner.SystemFile.{of_honest}
+use Rattle.file_disk.proofs.system.SystemFileRawFile.cut.Goals as goal
+
+pub returns-in-Ok-clause-time : goal.returns-in-Ok-clause-time
+returns-in-Ok-clause-time c = λ honest. of_honest c.args.self.now honest
+
+pub returns-in-Ok-clause-cuts : goal.returns-in-Ok-clause-cuts
+returns-in-Ok-clause-cuts c = λ honest. of_honest c.args.self.now honest
+
+pub returns-in-Err-clause-time : goal.returns-in-Err-clause-time
+returns-in-Err-clause-time c = λ honest. of_honest c.args.self.now honest
+
+pub returns-in-Err-clause-cuts : goal.returns-in-Err-clause-cuts
+returns-in-Err-clause-cuts c = λ honest. of_honest c.args.self.now honest

@@ -1,0 +1,2 @@
+pub mod SystemFile
+pub mod Transfers

@@ -1,0 +1,6 @@
+pub mod Inner
+pub mod OpenFile
+pub mod Opening
+pub mod RawFile
+pub mod Settling
+pub mod Staged

@@ -1,0 +1,24 @@
+-- A file for tests, as its contracts see it.
+use Rattle.std.specs.Prelude.{List}
+use Rattle.tape_disk.specs.CallLog.{CallLog, state_of}
+use Rattle.tape_disk.specs.Disk.{DiskState}
+use Rattle.tape_disk.specs.MemDisk.{mem_log}
+use Rattle.tape_disk.specs.declared.memory.MemDisk.{MemDisk}
+use Rattle.file_disk.specs.declared.staged.StagedFile.{StagedFile}
+use Rattle.file_disk.specs.declared.staged.Turn.{Turn}
+
+-- the disk below (own)
+abbrev pub staged_disk : StagedFile → MemDisk
+staged_disk file = file.disk
+
+-- what the next calls do, in order (own)
+abbrev pub staged_turns : StagedFile → List Turn
+staged_turns file = file.turns.items
+
+-- the log of the disk below (own)
+abbrev pub staged_log : StagedFile → CallLog
+staged_log file = mem_log file.disk
+
+-- that of the disk below; a file counts no failures (own)
+abbrev pub staged_file_state : StagedFile → DiskState
+staged_file_state file = state_of (staged_log file) 0

@@ -1,0 +1,193 @@
+//! A disk over an open file.
+ghost use Rattle.std.specs.Prelude.{◌≡◌, ◌↔◌, ◌+◌, ◌-◌, ◌<◌, ◌≤◌, ◌^◌, min, true, length, IsTrue};
+ghost use Rattle.tape_disk.specs.Disk.{Elapses, Same};
+ghost use Rattle.file_disk.specs.RawFile.{IsAsHonest};
+
+use crate::raw::RawFile;
+use crate::transfers::{read_all, write_all};
+use std::marker::Model;
+use tape_disk::{Disk, Failures};
+use vtl_base::DevFault;
+
+/// The bytes that a file has at most: the system counts them in 63 bits (POSIX, `off_t` of 64).
+pub const MAX_FILE: u64 = 9_223_372_036_854_775_807;
+
+// The length of a file, and whether the system told it since a call last failed.
+#[derive(Clone, Copy)]
+struct Size {
+    bytes: u64,
+    is_told: bool,
+}
+
+/// A disk over an open file, honest where the file is. Short reads and writes are gone on with, an
+/// interrupted one is made again, and every other error of the system is a counted failure. After
+/// one the length is asked for anew; while the system does not tell it, each call fails. After a
+/// sync that failed each later one fails: what it would answer is not to be relied on before the
+/// file is opened again.
+#[derive(Drop)]
+pub struct DiskOver<F: RawFile> {
+    file: F,
+    size: Size,
+    failures: Failures,
+    // what the system then has in memory it may take for written
+    sync_failed: bool,
+}
+
+impl<F: RawFile> Model for DiskOver<F> {
+    ghost use Rattle.std.specs.Prelude.{◌≡◌, true, length};
+    ghost use Rattle.tape_disk.specs.Failures.{failure_count};
+    ghost use Rattle.file_disk.specs.OpenFile.{OpenFile, open_file_code};
+
+    ghost Value = { OpenFile F };
+
+    ghost coded = { open_file_code F.code };
+
+    ghost view = { λ d. record { file = d.file; failures = failure_count d.failures } };
+
+    ghost invariant = { λ d. (F.state d.file).honest →
+        (d.size.is_told ≡ true) × (d.size.bytes ≡ length (F.state d.file).seen) };
+}
+
+// What the system tells of a file's length, or else the length that it told last.
+fn measured<F: RawFile>(file: &F, last: u64) -> Size
+    ensures { (F.state file.now).honest →
+        (result.is_told ≡ true) × (result.bytes ≡ length (F.state file.now).seen) }
+{
+    match file.size() {
+        Some(bytes) => Size {
+            bytes,
+            is_told: true,
+        },
+        None => Size {
+            bytes: last,
+            is_told: false,
+        },
+    }
+}
+
+// Whether a file may have so many bytes from that place on.
+pub(crate) fn fits(at: u64, count: usize) -> bool
+    ensures { IsTrue result ↔ (at + count < 2 ^ 63) }
+{
+    at <= MAX_FILE && count as u64 <= MAX_FILE - at
+}
+
+impl<F: RawFile> DiskOver<F> {
+    /// A disk over an open file, with no failure yet.
+    pub fn new(file: F) -> DiskOver<F>
+        ensures file { result.file ≡ file }
+        ensures failures { result.failures ≡ 0 }
+    {
+        let size = measured(&file, 0);
+        DiskOver {
+            file,
+            size,
+            failures: Failures::none(),
+            sync_failed: false,
+        }
+    }
+
+    /// The file.
+    pub fn file(&self) -> &F
+        ensures { result.now ≡ self.now.file }
+    {
+        &self.file
+    }
+
+    // Asks for the length where it is not known: whether it is.
+    fn is_measured(&mut self) -> bool
+        ensures same { self.new ≡ self.old }
+        ensures known { (F.state self.old.file).honest → result ≡ true }
+    {
+        if !self.size.is_told {
+            self.size = measured(&self.file, self.size.bytes);
+        }
+        self.size.is_told
+    }
+
+    // A call that is refused. The file is asked for no bytes, which moves its clock on.
+    fn refuse(&mut self) -> DevFault
+        ensures honesty { IsAsHonest (F.state self.old.file) (F.state self.new.file) }
+        ensures time { (F.state self.old.file).honest →
+            Elapses (F.state self.old.file) (F.state self.new.file) }
+        ensures same { (F.state self.old.file).honest →
+            Same (F.state self.old.file) (F.state self.new.file) }
+        ensures count { self.new.failures ≡ self.old.failures + 1 }
+        ensures told { result.failures ≡ min self.new.failures (2 ^ 64 - 1) }
+    {
+        let _ = self.file.read_some(0, &mut []);
+        self.failures.rise()
+    }
+}
+
+impl<F: RawFile> Disk for DiskOver<F> {
+    ghost use Rattle.tape_disk.specs.Faults.{is_disk_over};
+    ghost use Rattle.file_disk.specs.OpenFile.{CountsOnce, file_disk_state};
+
+    ghost state = { file_disk_state F.state };
+
+    ghost effect = { CountsOnce };
+
+    ghost is_disk = { λ disk honest. is_disk_over (F.state disk.file) disk.failures
+        (F.is_file disk.file honest) };
+
+    fn len(&self) -> u64 {
+        self.size.bytes
+    }
+
+    fn read_at(&mut self, at: u64, buffer: &mut [u8]) -> Result<(), DevFault> {
+        if !self.is_measured() || !fits(at, buffer.len()) {
+            return Err(self.refuse());
+        }
+        match read_all(&mut self.file, at, buffer) {
+            Ok(()) => Ok(()),
+            Err(_) => Err(self.failures.rise()),
+        }
+    }
+
+    fn write_at(&mut self, at: u64, bytes: &[u8]) -> Result<(), DevFault> {
+        if !self.is_measured() || !fits(at, bytes.len()) {
+            return Err(self.refuse());
+        }
+        match write_all(&mut self.file, at, bytes) {
+            Ok(()) => {
+                self.size.bytes = self.size.bytes.max(at + bytes.len() as u64);
+                Ok(())
+            }
+            Err(_) => {
+                self.size = measured(&self.file, self.size.bytes);
+                Err(self.failures.rise())
+            }
+        }
+    }
+
+    fn cut(&mut self, len: u64) -> Result<(), DevFault> {
+        if !self.is_measured() {
+            return Err(self.refuse());
+        }
+        match self.file.cut(len) {
+            Ok(()) => {
+                self.size.bytes = len;
+                Ok(())
+            }
+            Err(_) => {
+                self.size = measured(&self.file, self.size.bytes);
+                Err(self.failures.rise())
+            }
+        }
+    }
+
+    fn sync(&mut self) -> Result<(), DevFault> {
+        if self.sync_failed || !self.is_measured() {
+            return Err(self.refuse());
+        }
+        match self.file.sync() {
+            Ok(()) => Ok(()),
+            Err(_) => {
+                self.sync_failed = true;
+                self.size = measured(&self.file, self.size.bytes);
+                Err(self.failures.rise())
+            }
+        }
+    }
+}

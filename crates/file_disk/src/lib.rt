@@ -1,0 +1,23 @@
+//! A disk over a file of the operating system.
+#![tactic(auto)]
+
+pub mod disk;
+pub mod error;
+pub mod opening;
+pub mod raw;
+pub mod settling;
+pub mod staged;
+pub mod system;
+#[cfg(test)]
+mod tests;
+mod transfers;
+
+pub use disk::DiskOver;
+pub use error::FileError;
+pub use opening::{create, open, open_to_read};
+pub use raw::{CallFailed, RawFile, Stop};
+pub use staged::{StagedFile, Turn};
+pub use system::SystemFile;
+
+/// A disk over a file of the operating system.
+pub type FileDisk = DiskOver<SystemFile>;

@@ -1,0 +1,185 @@
+//! Making and opening the file of a disk.
+ghost use Rattle.std.specs.Prelude.{◌≡◌, IfOk, IfErr};
+ghost use Rattle.file_disk.specs.Opening.{IsOneFailure};
+ghost use Rattle.file_disk.specs.declared.error.FileError.{FileError};
+
+use crate::FileDisk;
+use crate::disk::DiskOver;
+use crate::error::FileError;
+use crate::raw::RawFile;
+use crate::settling::settle;
+use crate::system::SystemFile;
+use std::fs::{File, OpenOptions, TryLockError};
+use std::io::ErrorKind;
+use std::os::fd::AsRawFd;
+use std::path::Path;
+use std::{fs, io};
+use vtl_base::DevFault;
+
+// What a file is opened for.
+#[derive(Clone, Copy, PartialEq, Eq, Debug)]
+enum Access {
+    Change,
+    Read,
+}
+
+fn device() -> FileError
+    ensures { result ≡ FileError.Device (record { failures = 1 }) }
+{
+    FileError::Device(DevFault { failures: 1 })
+}
+
+// What an error of the system means for a name.
+fn error_of(error: &io::Error) -> FileError
+    ensures { IsOneFailure result }
+{
+    match error.kind() {
+        ErrorKind::AlreadyExists => FileError::Exists,
+        ErrorKind::NotFound => FileError::Missing,
+        ErrorKind::IsADirectory => FileError::NotAFile,
+        _ => device(),
+    }
+}
+
+/// Makes a file of no bytes and opens it, for this process alone. At Ok the name is sure. A file
+/// that exists is not touched. The name is taken as it stands, from the working directory.
+pub fn create(rt: &HostRuntime, path: &str) -> Result<FileDisk, FileError>
+    ensures ok { IfOk result (λ disk. disk.failures ≡ 0) }
+    ensures device { IfErr result IsOneFailure }
+{
+    let mut options = OpenOptions::new();
+    options.read(true).write(true).create_new(true);
+    let file = match options.open(rt, path) {
+        Ok(file) => file,
+        Err(error) => return Err(error_of(&error)),
+    };
+    match named(rt, path, file) {
+        Ok(disk) => Ok(disk),
+        // Another process has opened it meanwhile.
+        Err(FileError::InUse) => Err(FileError::InUse),
+        Err(error) => {
+            let _ = fs::remove_file(rt, path);
+            Err(error)
+        }
+    }
+}
+
+// A disk over a file that was just made, whose name is then sure.
+fn named(rt: &HostRuntime, path: &str, file: File) -> Result<FileDisk, FileError>
+    ensures ok { IfOk result (λ disk. disk.failures ≡ 0) }
+    ensures device { IfErr result IsOneFailure }
+{
+    let disk = match prepared(file, Access::Change) {
+        Ok(disk) => disk,
+        Err(error) => return Err(error),
+    };
+    match sync_folder(rt, path) {
+        Ok(()) => Ok(disk),
+        Err(error) => Err(error),
+    }
+}
+
+/// Opens a file, for this process alone. Its last 8,388,672 bytes are written again where they are
+/// before its sync, or all where it has fewer: where a sync failed before, an earlier process may
+/// have left bytes in the system's memory that never reached the device, and that a sync alone
+/// passes over. A fault in that is `Device`. What a crash in it leaves stands in docs/PREMISES.md.
+pub fn open(rt: &HostRuntime, path: &str) -> Result<FileDisk, FileError>
+    ensures ok { IfOk result (λ disk. disk.failures ≡ 0) }
+    ensures device { IfErr result IsOneFailure }
+{
+    open_as(rt, path, Access::Change)
+}
+
+/// Opens a file to be read, for this process alone: each call that would change it fails. Nothing is
+/// written again, so where a sync failed before, what is read may not be on the device.
+pub fn open_to_read(rt: &HostRuntime, path: &str) -> Result<FileDisk, FileError>
+    ensures ok { IfOk result (λ disk. disk.failures ≡ 0) }
+    ensures device { IfErr result IsOneFailure }
+{
+    open_as(rt, path, Access::Read)
+}
+
+// The name is looked at first, since the opening of a pipe may wait for its other end.
+fn open_as(rt: &HostRuntime, path: &str, access: Access) -> Result<FileDisk, FileError>
+    ensures ok { IfOk result (λ disk. disk.failures ≡ 0) }
+    ensures device { IfErr result IsOneFailure }
+{
+    match fs::metadata(rt, path) {
+        Ok(found) if found.is_file() => {}
+        Ok(_) => return Err(FileError::NotAFile),
+        Err(error) => return Err(error_of(&error)),
+    }
+    let mut options = OpenOptions::new();
+    options.read(true).write(access == Access::Change);
+    match options.open(rt, path) {
+        Ok(file) => prepared(file, access),
+        Err(error) => Err(error_of(&error)),
+    }
+}
+
+// A disk over an open file that is a regular one, above the standard streams, locked and settled.
+fn prepared(file: File, access: Access) -> Result<FileDisk, FileError>
+    ensures ok { IfOk result (λ disk. disk.failures ≡ 0) }
+    ensures device { IfErr result IsOneFailure }
+{
+    let Ok(file) = above_streams(file) else {
+        return Err(device());
+    };
+    match file.metadata() {
+        Ok(found) if found.is_file() => {}
+        Ok(_) => return Err(FileError::NotAFile),
+        Err(_) => return Err(device()),
+    }
+    if let Err(error) = lock(&file) {
+        return Err(error);
+    }
+    let mut file = SystemFile::over(file);
+    let sure = match access {
+        Access::Change => settle(&mut file),
+        Access::Read => file.sync(),
+    };
+    match sure {
+        Ok(()) => Ok(DiskOver::new(file)),
+        Err(_) => Err(device()),
+    }
+}
+
+// Where a standard stream was closed the file may have its number, and what is written to the
+// stream would land in the file.
+fn above_streams(file: File) -> io::Result<File> {
+    if file.as_raw_fd() <= 2 {
+        file.try_clone()
+    } else {
+        Ok(file)
+    }
+}
+
+// Where the file system has no locks the file is taken without one.
+fn lock(file: &File) -> Result<(), FileError>
+    ensures { IfErr result IsOneFailure }
+{
+    match file.try_lock() {
+        Ok(()) => Ok(()),
+        Err(TryLockError::WouldBlock) => Err(FileError::InUse),
+        Err(TryLockError::Error(error)) if error.kind() == ErrorKind::Unsupported => Ok(()),
+        Err(TryLockError::Error(_)) => Err(device()),
+    }
+}
+
+// Makes the names in the folder of this file sure.
+fn sync_folder(rt: &HostRuntime, path: &str) -> Result<(), FileError>
+    ensures { IfErr result IsOneFailure }
+{
+    let folder = match Path::new(path).parent() {
+        Some(parent) if !parent.as_str().is_empty() => parent.as_str(),
+        _ => ".",
+    };
+    let synced = match File::open(rt, folder) {
+        Ok(folder) => folder.sync_all(),
+        Err(error) => Err(error),
+    };
+    match synced {
+        Ok(()) => Ok(()),
+        Err(_) => Err(device()),
+    }
+}

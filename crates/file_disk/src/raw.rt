@@ -1,0 +1,67 @@
+//! An open file by the calls that a system has for it, and what an honest system makes of each.
+ghost use Rattle.std.specs.Prelude.{◌≡◌, ◌≤◌, ◌+◌, length, take, IfOk, Result, Some, slice_range};
+ghost use Rattle.tape_disk.specs.Disk.{DiskState, IsDisk, Elapses, Same};
+ghost use Rattle.file_disk.specs.RawFile.{IsAsHonest, WritesSomeBytes, CutsFile, SyncsFile};
+
+use std::fmt::Debug;
+
+/// Why a call moved no bytes.
+#[derive(Clone, Copy, PartialEq, Eq, Debug)]
+pub enum Stop {
+    /// A signal came before it had moved any: the call may be made again.
+    Interrupted,
+    /// The system reported an error.
+    Failed,
+}
+
+/// The system reported an error.
+#[derive(Clone, Copy, PartialEq, Eq, Debug)]
+pub struct CallFailed;
+
+/// An open file. Each method is one call of the system. Where the system is honest, it keeps the
+/// laws below and nobody else writes the file: that is a premise for each real file. Of a file whose
+/// honesty is not known a contract says nothing.
+pub trait RawFile {
+    // That of a disk. A file counts no failures.
+    ghost state: { Self → DiskState };
+
+    /// The bytes of the file, or nothing where the system does not tell.
+    fn size(&self) -> Option<u64>
+        ensures { (state self.now).honest → result ≡ Some (length (state self.now).seen) };
+
+    /// Puts bytes from a place on at the start of the buffer: how many. It may be fewer than there
+    /// is room for, and none at the end of the file.
+    fn read_some(&mut self, at: u64, buffer: &mut [u8]) -> Result<usize, Stop>
+        ensures bound { IfOk result (λ count. count ≤ length buffer.new) }
+        ensures honesty { IsAsHonest (state self.old) (state self.new) }
+        ensures time { (state self.old).honest → Elapses (state self.old) (state self.new) }
+        ensures same { (state self.old).honest → Same (state self.old) (state self.new) }
+        ensures bytes { (state self.old).honest → IfOk result
+            (λ count. take count buffer.new ≡ slice_range (state self.old).seen at (at + count)) };
+
+    /// Writes the first of the bytes from a place on: how many. The place is the end at most.
+    fn write_some(&mut self, at: u64, bytes: &[u8]) -> Result<usize, Stop>
+        requires { (state self.old).honest → at ≤ length (state self.old).seen }
+        ensures bound { IfOk result (λ count. count ≤ length bytes.now) }
+        ensures honesty { IsAsHonest (state self.old) (state self.new) }
+        ensures time { (state self.old).honest → Elapses (state self.old) (state self.new) }
+        ensures writes { (state self.old).honest →
+            WritesSomeBytes at bytes.now result (state self.old) (state self.new) };
+
+    /// Takes away the bytes from a place on. The place is the end at most.
+    fn cut(&mut self, len: u64) -> Result<(), CallFailed>
+        requires { (state self.old).honest → len ≤ length (state self.old).seen }
+        ensures honesty { IsAsHonest (state self.old) (state self.new) }
+        ensures time { (state self.old).honest → Elapses (state self.old) (state self.new) }
+        ensures cuts { (state self.old).honest →
+            CutsFile len result (state self.old) (state self.new) };
+
+    /// Makes bytes and length sure.
+    fn sync(&mut self) -> Result<(), CallFailed>
+        ensures honesty { IsAsHonest (state self.old) (state self.new) }
+        ensures time { (state self.old).honest → Elapses (state self.old) (state self.new) }
+        ensures syncs { (state self.old).honest →
+            SyncsFile result (state self.old) (state self.new) };
+
+    ghost is_file: { (file : Self) → (state file).honest → IsDisk (state file) };
+}

@@ -1,0 +1,78 @@
+//! A file of the operating system, by its calls.
+ghost use Rattle.std.specs.Prelude.{◌≡◌, ◌≢◌};
+
+use crate::raw::{CallFailed, RawFile, Stop};
+use std::fs::File;
+use std::io::ErrorKind;
+use std::os::unix::fs::FileExt;
+
+/// An open file of the operating system. Whether it is honest no proof says.
+#[derive(Drop)]
+pub struct SystemFile {
+    file: File,
+}
+
+// What an error of the system means for a call that moves bytes.
+fn stop_of(kind: ErrorKind) -> Stop
+    ensures interrupted { kind ≡ ErrorKind.Interrupted → result ≡ Stop.Interrupted }
+    ensures failed { kind ≢ ErrorKind.Interrupted → result ≡ Stop.Failed }
+{
+    if kind == ErrorKind::Interrupted {
+        Stop::Interrupted
+    } else {
+        Stop::Failed
+    }
+}
+
+impl SystemFile {
+    /// A file that is open.
+    pub(crate) fn over(file: File) -> SystemFile
+        ensures { result.file ≡ file }
+    {
+        SystemFile { file }
+    }
+}
+
+impl RawFile for SystemFile {
+    ghost use Rattle.file_disk.specs.Inner.SystemFile.{system_state, of_honest};
+
+    ghost state = { system_state };
+
+    ghost is_file = { λ file honest. of_honest file honest };
+
+    fn size(&self) -> Option<u64> {
+        match self.file.metadata() {
+            Ok(found) => Some(found.len()),
+            Err(_) => None,
+        }
+    }
+
+    fn read_some(&mut self, at: u64, buffer: &mut [u8]) -> Result<usize, Stop> {
+        match self.file.read_at(buffer, at) {
+            Ok(count) => Ok(count),
+            Err(error) => Err(stop_of(error.kind())),
+        }
+    }
+
+    fn write_some(&mut self, at: u64, bytes: &[u8]) -> Result<usize, Stop> {
+        match self.file.write_at(bytes, at) {
+            Ok(count) => Ok(count),
+            Err(error) => Err(stop_of(error.kind())),
+        }
+    }
+
+    // The standard library makes this call and the next one again where a signal interrupts them.
+    fn cut(&mut self, len: u64) -> Result<(), CallFailed> {
+        match self.file.set_len(len) {
+            Ok(()) => Ok(()),
+            Err(_) => Err(CallFailed),
+        }
+    }
+
+    fn sync(&mut self) -> Result<(), CallFailed> {
+        match self.file.sync_all() {
+            Ok(()) => Ok(()),
+            Err(_) => Err(CallFailed),
+        }
+    }
+}

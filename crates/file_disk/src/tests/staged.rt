@@ -1,0 +1,119 @@
+//! Disks over files whose calls move fewer bytes than were asked for, are interrupted, or fail.
+use super::doubles::Untold;
+use super::steps::{Step, act, failures, get, put};
+use crate::disk::fits;
+use crate::raw::{RawFile, Stop};
+use crate::{DiskOver, StagedFile, Turn};
+use std::alloc::Global;
+use std::collections::VecDeque;
+use std::test::Fail;
+use tape_disk::{Disk, MemDisk};
+
+/// A file in memory that holds these bytes.
+pub fn staged(alloc: Global, bytes: &[u8], turns: &[Turn]) -> Result<StagedFile, Fail> {
+    let mut plan = VecDeque::new(alloc);
+    for turn in turns {
+        plan.push_back(*turn)?;
+    }
+    Ok(StagedFile::new(MemDisk::from_bytes(alloc, bytes)?, plan))
+}
+
+#[test]
+fn short_and_interrupted_calls_are_gone_on_with(rt: HostRuntime) -> Result<(), Fail> {
+    let turns: [&[Turn]; 4] = [
+        &[],
+        &[Turn::Part(1), Turn::Part(2), Turn::Part(3)],
+        &[Turn::Interrupted, Turn::Interrupted],
+        &[Turn::Part(5), Turn::Interrupted, Turn::Part(1)],
+    ];
+    for turns in turns {
+        let mut disk = DiskOver::new(staged(rt.alloc(), b"abc", turns)?);
+        assert_eq!(rt; failures(put(&mut disk, 2, b"uvwxyz")), 0);
+        assert_eq!(rt; disk.file().disk().bytes(), b"abuvwxyz".as_slice());
+        assert_eq!(rt; disk.len(), 8);
+        let mut disk = DiskOver::new(staged(rt.alloc(), b"abuvwxyz", turns)?);
+        let mut buffer = [0; 6];
+        assert_eq!(rt; failures(get(&mut disk, 1, &mut buffer)), 0);
+        assert_eq!(rt; buffer, *b"buvwxy");
+    }
+    Ok(())
+}
+
+#[test]
+fn each_error_is_counted(rt: HostRuntime) -> Result<(), Fail> {
+    let turns = [
+        Turn::Part(2),
+        Turn::Failed,
+        Turn::Part(0),
+        Turn::Part(0),
+        Turn::Failed,
+        Turn::Failed,
+    ];
+    let mut disk = DiskOver::new(staged(rt.alloc(), b"abc", &turns)?);
+    for (step, failed, len) in [
+        // Two of the bytes are there, and the length is what the file has.
+        (Step::Put(3, b"defg"), 1, 5),
+        // A call that moves none is an error, too.
+        (Step::Put(5, b"x"), 2, 5),
+        (Step::Get(0), 3, 5),
+        (Step::Cut(1), 4, 5),
+        (Step::Sync, 5, 5),
+        // From then on no sync is relied on.
+        (Step::Sync, 6, 5),
+        (Step::Cut(1), 0, 1),
+        (Step::Sync, 7, 1),
+    ] {
+        assert_eq!(rt; (failures(act(&mut disk, step)), disk.len()), (failed, len));
+    }
+    assert_eq!(rt; disk.file().disk().syncs(), 0);
+    assert_eq!(rt; disk.file().disk().bytes(), b"a".as_slice());
+    Ok(())
+}
+
+#[test]
+fn what_a_file_has_room_for(rt: HostRuntime) {
+    let greatest = 9_223_372_036_854_775_807;
+    for (at, count, fit) in [
+        (0, 0, true),
+        (greatest - 1, 1, true),
+        (greatest, 0, true),
+        (greatest, 1, false),
+        (greatest + 1, 0, false),
+        (u64::MAX, 1, false),
+    ] {
+        assert_eq!(rt; fits(at, count), fit, "{count} at {at}");
+    }
+}
+
+// The first call is refused, and the file is asked for no bytes in it.
+#[test]
+fn a_length_that_is_not_told(rt: HostRuntime) {
+    for (step, len) in [
+        (Step::Get(0), 1),
+        (Step::Put(0, b"xyz"), 3),
+        (Step::Cut(0), 0),
+        (Step::Sync, 1),
+    ] {
+        let mut disk = DiskOver::new(Untold { calls: 0 });
+        assert_eq!(rt; (failures(act(&mut disk, step)), disk.len()), (1, 0));
+        assert_eq!(rt; (failures(act(&mut disk, step)), disk.len()), (0, len));
+    }
+}
+
+// Each turn does what its comment says: a test over a file that passes turns over would see nothing.
+#[test]
+fn what_a_turn_moves(rt: HostRuntime) -> Result<(), Fail> {
+    for (turn, moved) in [
+        (Turn::Whole, Ok(4)),
+        (Turn::Part(9), Ok(4)),
+        (Turn::Part(1), Ok(1)),
+        (Turn::Part(0), Ok(0)),
+        (Turn::Interrupted, Err(Stop::Interrupted)),
+        (Turn::Failed, Err(Stop::Failed)),
+    ] {
+        let mut file = staged(rt.alloc(), b"abcd", &[turn, turn])?;
+        assert_eq!(rt; file.read_some(0, &mut [0; 4]), moved);
+        assert_eq!(rt; file.write_some(0, b"wxyz"), moved);
+    }
+    Ok(())
+}

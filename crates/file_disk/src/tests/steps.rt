@@ -1,0 +1,61 @@
+//! Calls of a disk at places that are its end at most, and folders for real files.
+use std::hash::{BuildHasher, RandomState};
+use std::test::Fail;
+use std::{env, fs};
+use tape_disk::Disk;
+use vtl_base::DevFault;
+
+/// A call of a disk.
+#[derive(Clone, Copy)]
+pub enum Step {
+    /// It reads three bytes.
+    Get(u64),
+    Put(u64, &'static [u8]),
+    Cut(u64),
+    Sync,
+}
+
+pub fn put<D: Disk>(disk: &mut D, at: u64, bytes: &[u8]) -> Result<(), DevFault> {
+    let end = disk.len();
+    disk.write_at(end.min(at), bytes)
+}
+
+pub fn get<D: Disk>(disk: &mut D, at: u64, buffer: &mut [u8]) -> Result<(), DevFault> {
+    let end = disk.len();
+    let at = end.min(at);
+    let count = buffer.len().min((end - at) as usize);
+    disk.read_at(at, &mut buffer[..count])
+}
+
+pub fn cut_to<D: Disk>(disk: &mut D, len: u64) -> Result<(), DevFault> {
+    let end = disk.len();
+    disk.cut(end.min(len))
+}
+
+pub fn act<D: Disk>(disk: &mut D, step: Step) -> Result<(), DevFault> {
+    match step {
+        Step::Get(at) => get(disk, at, &mut [0; 3]),
+        Step::Put(at, bytes) => put(disk, at, bytes),
+        Step::Cut(len) => cut_to(disk, len),
+        Step::Sync => disk.sync(),
+    }
+}
+
+/// How many failures an answer tells: none at Ok.
+pub fn failures(answer: Result<(), DevFault>) -> u64 {
+    answer.err().map_or(0, |fault| fault.failures)
+}
+
+/// A folder of a test's own.
+pub fn new_folder(rt: &HostRuntime) -> Result<String, Fail> {
+    let key = RandomState::new(rt)?.hash_one(&0u8);
+    let parent = env::temp_dir(rt)?;
+    let folder = format!(in rt.alloc(); "{}/vtl_files_{key:016x}", parent.as_str())?;
+    fs::create_dir(rt, folder.as_str())?;
+    Ok(folder)
+}
+
+/// A file's name in that folder.
+pub fn named(rt: &HostRuntime, folder: &str, name: &str) -> Result<String, Fail> {
+    Ok(format!(in rt.alloc(); "{folder}/{name}")?)
+}

@@ -1,0 +1,125 @@
+//! Reads and writes that go on where a call moved fewer bytes than were asked for.
+ghost use Rattle.std.specs.Prelude.{◌≡◌, ◌+◌, ◌<◌, ◌≤◌, ◌^◌, ℕ, List, length, take, IfOk, OnOk, OnErr, slice_range};
+ghost use Rattle.tape_disk.specs.Disk.{Elapses, Follows, Same, Smeared, overwritten};
+ghost use Rattle.file_disk.specs.RawFile.{IsAsHonest, WritesSomeBytes};
+
+use crate::raw::{CallFailed, RawFile, Stop};
+
+// How many calls one read or write makes at most: no run lives to see them all interrupted.
+const CALLS: u64 = u64::MAX;
+
+// One call that reads behind the bytes that were read: how many are there then. An interrupted
+// one read none.
+fn read_on<F: RawFile>(
+    file: &mut F,
+    at: u64,
+    buffer: &mut [u8],
+    done: usize,
+) -> Result<usize, CallFailed>
+    requires place { at + length buffer.old < 2 ^ 63 }
+    requires done { done ≤ length buffer.old }
+    ensures honesty { IsAsHonest (F.state file.old) (F.state file.new) }
+    ensures time { (F.state file.old).honest → Elapses (F.state file.old) (F.state file.new) }
+    ensures same { (F.state file.old).honest → Same (F.state file.old) (F.state file.new) }
+    ensures bound { IfOk result (λ count. (done ≤ count) × (count ≤ length buffer.new)) }
+    ensures bytes { (F.state file.old).honest →
+        take done buffer.old ≡ slice_range (F.state file.old).seen at (at + done) →
+        IfOk result
+        (λ count. take count buffer.new ≡ slice_range (F.state file.old).seen at (at + count)) }
+{
+    match file.read_some(at + done as u64, &mut buffer[done..]) {
+        Ok(count) => {
+            if count == 0 && done < buffer.len() {
+                return Err(CallFailed);
+            }
+            Ok(done + count)
+        }
+        Err(Stop::Interrupted) => Ok(done),
+        Err(Stop::Failed) => Err(CallFailed),
+    }
+}
+
+/// Fills the buffer with the bytes from a place on, in as many calls as that takes.
+pub(crate) fn read_all<F: RawFile>(
+    file: &mut F,
+    at: u64,
+    buffer: &mut [u8],
+) -> Result<(), CallFailed>
+    requires { at + length buffer.old < 2 ^ 63 }
+    ensures honesty { IsAsHonest (F.state file.old) (F.state file.new) }
+    ensures time { (F.state file.old).honest → Elapses (F.state file.old) (F.state file.new) }
+    ensures same { (F.state file.old).honest → Same (F.state file.old) (F.state file.new) }
+    ensures bytes { (F.state file.old).honest → OnOk result
+        (buffer.new ≡ slice_range (F.state file.old).seen at (at + length buffer.old)) }
+{
+    let mut done = 0;
+    let mut left = CALLS;
+    while left > 0 {
+        left -= 1;
+        done = read_on(file, at, buffer, done)?;
+        if done == buffer.len() {
+            return Ok(());
+        }
+    }
+    Err(CallFailed)
+}
+
+// One call that writes behind the bytes that were written: how many are there then. An
+// interrupted one wrote none.
+fn write_on<F: RawFile>(
+    file: &mut F,
+    at: u64,
+    bytes: &[u8],
+    done: usize,
+) -> Result<usize, CallFailed>
+    requires place { at + length bytes.now < 2 ^ 63 }
+    requires done { done ≤ length bytes.now }
+    requires inside { (F.state file.old).honest → at + done ≤ length (F.state file.old).seen }
+    ensures honesty { IsAsHonest (F.state file.old) (F.state file.new) }
+    ensures time { (F.state file.old).honest → Elapses (F.state file.old) (F.state file.new) }
+    ensures bound { IfOk result (λ count. (done ≤ count) × (count ≤ length bytes.now)) }
+    ensures written { (F.state file.old).honest → IfOk result (λ count. (F.state file.new).seen
+        ≡ overwritten (at + done) (slice_range bytes.now done count) (F.state file.old).seen) }
+    ensures smeared { (F.state file.old).honest →
+        Smeared at (length bytes.now) (F.state file.old).seen (F.state file.new).seen }
+    ensures crash { (F.state file.old).honest → Follows (Smeared at (length bytes.now))
+        (F.state file.old).may_leave (F.state file.new).may_leave }
+    ensures keeps { (F.state file.old).honest →
+        (image : List ℕ) → (F.state file.old).may_leave image → (F.state file.new).may_leave image }
+{
+    match file.write_some(at + done as u64, &bytes[done..]) {
+        Ok(count) => {
+            if count == 0 && done < bytes.len() {
+                return Err(CallFailed);
+            }
+            Ok(done + count)
+        }
+        Err(Stop::Interrupted) => Ok(done),
+        Err(Stop::Failed) => Err(CallFailed),
+    }
+}
+
+/// Writes all bytes from a place on, in as many calls as that takes.
+pub(crate) fn write_all<F: RawFile>(file: &mut F, at: u64, bytes: &[u8]) -> Result<(), CallFailed>
+    requires place { at + length bytes.now < 2 ^ 63 }
+    requires inside { (F.state file.old).honest → at ≤ length (F.state file.old).seen }
+    ensures honesty { IsAsHonest (F.state file.old) (F.state file.new) }
+    ensures time { (F.state file.old).honest → Elapses (F.state file.old) (F.state file.new) }
+    ensures written { (F.state file.old).honest → OnOk result
+        ((F.state file.new).seen ≡ overwritten at bytes.now (F.state file.old).seen) }
+    ensures smeared { (F.state file.old).honest →
+        OnErr result (Smeared at (length bytes.now) (F.state file.old).seen (F.state file.new).seen) }
+    ensures crash { (F.state file.old).honest → Follows (Smeared at (length bytes.now))
+        (F.state file.old).may_leave (F.state file.new).may_leave }
+{
+    let mut done = 0;
+    let mut left = CALLS;
+    while left > 0 {
+        left -= 1;
+        done = write_on(file, at, bytes, done)?;
+        if done == bytes.len() {
+            return Ok(());
+        }
+    }
+    Err(CallFailed)
+}
