@@ -1,3 +1,7 @@
 pub mod Cartridges
+pub mod Commands
 pub mod Doings
+pub mod Elements
+pub mod Finish
+pub mod Moves
 pub mod Reservations
