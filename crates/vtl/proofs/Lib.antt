@@ -1,14 +1,2 @@
-pub mod BehindLemmas
-pub mod HostLemmas
-pub mod ItemLemmas
-pub mod LineLemmas
 pub mod OneHostLemmas
-pub mod PartLemmas
-pub mod PhaseLemmas
-pub mod ReadingLemmas
-pub mod RefusedLemmas
-pub mod ScriptLemmas
 pub mod SideTextLemmas
-pub mod SplitLemmas
-pub mod TextLemmas
-pub mod TurnLemmas

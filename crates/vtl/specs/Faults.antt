@@ -1,7 +1,7 @@
 -- How a fault is reported (own).
 use Rattle.std.specs.Prelude.{ℕ, List, ◌++◌, codes, decimal}
-use Rattle.vtl.specs.declared.faults.ScriptFault.{ScriptFault}
-use Rattle.vtl.specs.declared.faults.ScriptFault.TheVariants as script
+use Rattle.vtl_script.specs.declared.faults.ScriptFault.{ScriptFault}
+use Rattle.vtl_script.specs.declared.faults.ScriptFault.TheVariants as script
 use Rattle.vtl.specs.declared.programs.VtlFault.{VtlFault}
 use Rattle.vtl.specs.declared.programs.VtlFault.TheVariants.{Words, Config, Script, Device, NoMemory}
 

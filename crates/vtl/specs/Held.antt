@@ -9,10 +9,10 @@ use Rattle.volume_core.specs.Medium.{MediumState}
 use Rattle.drive_core.specs.Run.{Serves}
 use Rattle.drive_core.specs.Execute.{asked}
 use Rattle.drive_core.specs.Work.{Request}
-use Rattle.vtl.specs.declared.lines.Line.{Line}
+use Rattle.vtl_script.specs.declared.lines.Line.{Line}
 use Rattle.vtl.specs.declared.drives.HeldDrive.{HeldDrive}
-use Rattle.vtl.specs.declared.items.Item.{Item}
-use Rattle.vtl.specs.Items.{commands_to_run}
+use Rattle.vtl_script.specs.declared.items.Item.{Item}
+use Rattle.vtl_script.specs.Items.{commands_to_run}
 
 -- to carry its command block out, for its host, with the bytes that it sends (own)
 abbrev pub request_of : Line → Request

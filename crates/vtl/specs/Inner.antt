@@ -1,4 +1,1 @@
 pub mod HeldRuns
-pub mod ReadItem
-pub mod Reading
-pub mod RunItem

@@ -2,11 +2,6 @@ pub mod BuiltIn
 pub mod Faults
 pub mod Held
 pub mod Inner
-pub mod Items
-pub mod Lines
 pub mod OneHost
-pub mod Parsed
 pub mod Program
-pub mod Runs
 pub mod SideText
-pub mod Text

@@ -1,6 +1,5 @@
 -- Scripts of at most one host (own).
-use Rattle.std.specs.Prelude.{◌≡◌, ℕ, ◌==◌, ◌≤◌, false, true, List, All, map, filter_map, Option, Result, Ok, IfSome}
-use Rattle.std.specs.List.{list_all, list_any}
+use Rattle.std.specs.Prelude.{◌≡◌, ℕ, ◌==◌, List, All, map, Option, Result, Ok, IfSome}
 use Rattle.std.specs.Io.KnownBytes.{Appends}
 use Rattle.scsi_sense.specs.declared.replies.Reply.{Reply}
 use Rattle.vtl_base.specs.Below.{Below}
@@ -15,32 +14,15 @@ use Rattle.drive_core.specs.Relations.{Made}
 use Rattle.drive_core.specs.Step.{Input, Execute, Output, Answered, replies_of}
 use Rattle.drive_core.specs.Run.{Run}
 use Rattle.drive_core.specs.Determined.{IsCalm, IsSureDrive, seen_of, without_turns}
-use Rattle.vtl.specs.declared.lines.Line.{Line}
-use Rattle.vtl.specs.declared.lines.ParsedLine.{ParsedLine}
-use Rattle.vtl.specs.Parsed.{parsed_lines, is_refused, line_in}
-use Rattle.vtl.specs.Items.{items_to_run, commands_to_run}
-use Rattle.vtl.specs.Text.{text_of}
+use Rattle.vtl_script.specs.declared.lines.ParsedLine.{ParsedLine}
+use Rattle.vtl_script.specs.Parsed.{parsed_lines}
+use Rattle.vtl_script.specs.InOrder.{commands_in, IsOfHost}
+use Rattle.vtl_script.specs.Text.{text_of}
 use Rattle.vtl.specs.Held.{request_of}
-
--- the commands of a script, in the order of its lines (own)
-abbrev pub commands_in : List ParsedLine → List Line
-commands_in parsed_list = filter_map line_in parsed_list
-
--- all commands are of one host (own)
-pub record IsOfHost (host : ℕ) (lines : List Line) : Type 0 where
-  pub least : 1 ≤ host
-  pub most : host ≤ 64
-  pub all : list_all (λ line. line.host == host) lines ≡ true
 
 -- what a script asks of a drive, line by line (own)
 abbrev pub asked_in : List ParsedLine → List Input
 asked_in parsed_list = map Execute (map request_of (commands_in parsed_list))
-
--- a script of one host is run line by line (own)
-abbrev pub OneHostInOrder : Type 0
-OneHostInOrder =
-    (host : ℕ) (parsed_list : List ParsedLine) → IsOfHost host (commands_in parsed_list)
-    → list_any is_refused parsed_list ≡ false → commands_to_run (items_to_run parsed_list) ≡ commands_in parsed_list
 
 -- a script of one host that was run to its end by the drive of this number: it was answered by a run of the drive's
 -- machine over the commands in the order of the lines, and the text of those answers was written, and nothing else;

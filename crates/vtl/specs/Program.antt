@@ -2,12 +2,12 @@
 use Rattle.std.specs.Prelude.{◌≡◌, ℕ, ◌++◌, ◌∷◌, [], Bool, true, List, Option, Result, Ok, Err}
 use Rattle.std.specs.Io.KnownBytes.{Appends, Keeps}
 use Rattle.scsi_sense.specs.declared.replies.Reply.{Reply}
-use Rattle.vtl.specs.declared.items.Item.{Item}
-use Rattle.vtl.specs.declared.faults.ScriptFault.{ScriptFault}
+use Rattle.vtl_script.specs.declared.items.Item.{Item}
+use Rattle.vtl_script.specs.declared.faults.ScriptFault.{ScriptFault}
 use Rattle.vtl.specs.declared.programs.VtlFault.{VtlFault}
 use Rattle.vtl.specs.declared.programs.Ended.{Ended}
 use Rattle.vtl.specs.Faults.{fault_of, status_of, fault_text}
-use Rattle.vtl.specs.Runs.{RunsScript}
+use Rattle.vtl_script.specs.Runs.{RunsScript}
 
 -- the program's outcome, by that of its script (own)
 abbrev pub outcome_of : Result (Unit {0}) ScriptFault → Result (Unit {0}) VtlFault

@@ -4,13 +4,8 @@ ghost use Rattle.drive_core.specs.Run.{Serves, serves_none};
 ghost use Rattle.vtl.specs.Held.{request_of, HeldAnswers};
 ghost use Rattle.vtl.specs.Inner.HeldRuns.{held_on};
 ghost use Rattle.vtl.specs.OneHost.{AnswersOneHost};
-ghost use Rattle.vtl.specs.Runs.{AnswersSome, RunsScript, TakesWithin};
+ghost use Rattle.vtl_script.specs.Runs.{AnswersSome, RunsScript, TakesWithin};
 
-use crate::faults::ScriptFault;
-use crate::items::Item;
-use crate::lines::Line;
-use crate::runners::Runner;
-use crate::scripts::run_script;
 use drive_core::{Drive, laws};
 use pr_core::Keeper;
 use scsi_sense::Reply;
@@ -18,6 +13,7 @@ use std::alloc::Global;
 use std::io::{Read, Write};
 use volume_core::Medium;
 use vtl_base::{DriveNo, NoMemory};
+use vtl_script::{Item, Line, Runner, ScriptFault, run_script};
 
 /// One drive, which runs the commands of a phase one after another.
 #[derive(Drop)]
@@ -87,9 +83,10 @@ pub fn run_on_drive<M: Medium, K: Keeper, R: Read, W: Write>(
     ensures past { result ≢ Err ScriptFault.ReadFault →
         TakesWithin (R.remaining reader.old) 0 (R.remaining reader.new) }
 {
-    // The laws of the machine, for the proof alone.
+    // The laws of the machine and of scripts, for the proof alone.
     laws::honest_steps::<M>();
     laws::answers_are_determined();
     laws::served_hosts_run::<M, K>();
+    vtl_script::laws::one_host_runs_in_order();
     run_script(alloc, held, reader, writer)
 }

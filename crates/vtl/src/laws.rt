@@ -1,12 +1,6 @@
-//! Laws of scripts, and of the lines of a side.
+//! Laws of the lines of a side.
 ghost use Rattle.std.specs.Prelude.{◌≡◌, ℕ, List};
-ghost use Rattle.vtl.specs.OneHost.{OneHostInOrder};
 ghost use Rattle.vtl.specs.SideText.{SideText};
-
-/// The commands of one host are run line by line, however they are parted into phases.
-pub fn one_host_runs_in_order()
-    ensures { OneHostInOrder }
-{}
 
 /// What `vtl check` prints of a side is one text, whatever the bytes are.
 pub fn each_side_has_one_text()

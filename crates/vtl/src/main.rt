@@ -3,21 +3,10 @@
 
 pub mod checking;
 mod drives;
-mod faults;
-mod hosts;
-mod items;
 pub mod laws;
-mod line_readers;
-mod lines;
-mod phases;
 mod programs;
-mod runners;
-mod script_limits;
-mod scripts;
-mod splits;
 #[cfg(test)]
 mod tests;
-mod texts;
 
 use programs::{built_in_drive, run};
 use std::io;

@@ -7,7 +7,6 @@ ghost use Rattle.vtl.specs.Held.{HeldAnswers};
 ghost use Rattle.vtl.specs.Program.{RunsFrom, RunsProgram};
 
 use crate::drives::{HeldDrive, run_on_drive};
-use crate::faults::ScriptFault;
 use drive_core::Drive;
 use pr_core::{Keeper, NoKeeper, Reservations};
 use std::alloc::Global;
@@ -15,6 +14,7 @@ use std::fmt;
 use std::io::{Read, Write};
 use volume_core::{Medium, PlainMedium};
 use vtl_base::{DriveNo, NoMemory};
+use vtl_script::ScriptFault;
 
 // The drive and the capacity of the built-in configuration.
 const DRIVE: u8 = 1;

@@ -1,22 +1,19 @@
 //! The worked scripts, and the turns of hosts.
-mod borders;
-mod failing;
 mod motions;
 mod plain_sides;
 mod programs;
 mod sides;
-mod wires;
+mod streams;
 
 use crate::drives::HeldDrive;
-use crate::faults::ScriptFault;
 use crate::programs::built_in_drive;
-use crate::scripts::run_script;
 use pr_core::NoKeeper;
 use std::alloc::{AllocError, Global};
 use std::process::Abort;
 use std::test::Fail;
+use streams::{BadReader, BadWriter};
 use volume_core::PlainMedium;
-use wires::{Plan, Wire, WireReader, WireWriter};
+use vtl_script::{ScriptFault, run_script};
 
 const ATTENTION: &str = "CHECK 700006000000000a00000000290000000000\n";
 
@@ -31,36 +28,25 @@ fn bad(line: u64) -> Result<(), ScriptFault> {
     Err(ScriptFault::BadLine { line })
 }
 
-// What a script writes, how it ends, whether a read came while replies were not flushed, and how many
-// reads there were.
+// What a script writes, and how it ends.
 #[derive(Drop)]
 struct Outcome {
     text: Vec<u8>,
     end: Result<(), ScriptFault>,
-    read_early: bool,
-    reads: u32,
-}
-
-fn answered(alloc: Global, script: &[u8], plan: Plan) -> Result<Outcome, Fail> {
-    answered_by(alloc, &mut built_in_drive(alloc)?, script, plan)
 }
 
 fn answered_by(
     alloc: Global,
     drive: &mut HeldDrive<PlainMedium, NoKeeper>,
     script: &[u8],
-    plan: Plan,
-) -> Result<Outcome, Fail> {
-    let wire = Wire::new();
-    let mut reader = WireReader::new(script, plan, &wire);
-    let mut writer = WireWriter::new(alloc, plan, &wire);
+) -> Outcome {
+    let mut reader = BadReader::new(script, None);
+    let mut writer = BadWriter::new(alloc, None);
     let end = run_script(alloc, drive, &mut reader, &mut writer);
-    Ok(Outcome {
+    Outcome {
         text: writer.into_text(),
         end,
-        read_early: wire.read_early(),
-        reads: reader.calls(),
-    })
+    }
 }
 
 fn joined(alloc: Global, parts: &[&str]) -> Result<Vec<u8>, AllocError> {
@@ -79,7 +65,7 @@ fn assert_ends(
     at: usize,
 ) -> Result<(), Fail> {
     let text = joined(alloc, wanted.0)?;
-    let outcome = answered(alloc, script, Plan::whole())?;
+    let outcome = answered_by(alloc, &mut built_in_drive(alloc)?, script);
     assert_eq!(rt; outcome.end, wanted.1, "end of {at}");
     assert_eq!(rt; outcome.text.as_slice(), text.as_slice(), "text of {at}");
     Ok(())
@@ -208,23 +194,4 @@ fn the_longest_block(rt: HostRuntime) -> Result<(), Fail> {
         DONE,
     );
     assert_ends(&rt, rt.alloc(), script.as_slice(), wanted, 0)
-}
-
-#[test]
-fn many_phases(rt: HostRuntime) -> Result<(), Fail> {
-    let mut script = joined(rt.alloc(), &["1 1 000000000000\n"])?;
-    let mut wanted = joined(rt.alloc(), &[ATTENTION])?;
-    for _ in 0..1_000 {
-        script.extend_from_slice(b"--\n1 1 000000000000\n")?;
-        wanted.extend_from_slice(b"GOOD\n")?;
-    }
-    let plan = Plan {
-        piece: 7,
-        ..Plan::whole()
-    };
-    let outcome = answered(rt.alloc(), script.as_slice(), plan)?;
-    assert_eq!(rt; outcome.end, DONE);
-    assert!(rt; !outcome.read_early);
-    assert_eq!(rt; outcome.text.as_slice(), wanted.as_slice());
-    Ok(())
 }

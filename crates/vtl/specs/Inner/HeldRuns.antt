@@ -10,8 +10,8 @@ use Rattle.volume_core.specs.declared.changes.Change.{Change}
 use Rattle.volume_core.specs.Medium.{MediumState}
 use Rattle.drive_core.specs.State.{DriveState}
 use Rattle.drive_core.specs.Run.{Serves, serves_append}
-use Rattle.vtl.specs.declared.items.Item.{Item}
-use Rattle.vtl.specs.Items.{commands_of, commands_to_run}
+use Rattle.vtl_script.specs.declared.items.Item.{Item}
+use Rattle.vtl_script.specs.Items.{commands_of, commands_to_run}
 use Rattle.vtl.specs.Held.{request_of, requests_of}
 
 -- what was run goes on by what is run from there

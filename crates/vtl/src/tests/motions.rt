@@ -1,5 +1,5 @@
 //! Motions, reports, erasing and early warning by worked rows, each table on a new drive.
-use super::{DONE, Plan, answered_by};
+use super::{DONE, answered_by};
 use crate::drives::HeldDrive;
 use drive_core::Drive;
 use pr_core::{NoKeeper, Reservations};
@@ -197,7 +197,7 @@ fn motions_and_reports(rt: HostRuntime) -> Result<(), Fail> {
     for (at, (capacities, rows)) in tables.into_iter().enumerate() {
         let mut drive = new_drive(&rt, rt.alloc(), capacities)?;
         let (script, text) = spelled(rt.alloc(), rows)?;
-        let outcome = answered_by(rt.alloc(), &mut drive, script.as_slice(), Plan::whole())?;
+        let outcome = answered_by(rt.alloc(), &mut drive, script.as_slice());
         assert_eq!(rt; outcome.end, DONE, "end of {at}");
         assert_eq!(rt; outcome.text.as_slice(), text.as_slice(), "text of {at}");
     }

@@ -2,7 +2,7 @@ use Rattle.std.proofs.Common.{◌≡◌, ℕ, [], ◌∷◌, ◌++◌, ◌+◌, 
 use Rattle.std.proofs.lemmas.List.{take_more, map-append}
 use Rattle.drive_core.specs.Execute.{Answers, asked}
 use Rattle.drive_core.specs.Run.{serves_append}
-use Rattle.vtl.specs.declared.lines.Line.{Line}
+use Rattle.vtl_script.specs.declared.lines.Line.{Line}
 use Rattle.vtl.specs.Held.{request_of}
 use Rattle.vtl.proofs.drives.HeldDrive.run_lines.Goals as goal
 

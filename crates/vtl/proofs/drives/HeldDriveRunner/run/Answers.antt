@@ -1,5 +1,5 @@
 use Rattle.drive_core.specs.Run.{serves_none}
-use Rattle.vtl.proofs.ItemLemmas.{none_answered}
+use Rattle.vtl_script.specs.Answered.{none_answered}
 use Rattle.vtl.proofs.drives.HeldDriveRunner.run.Goals as goal
 
 pub returns-clause-err : goal.returns-clause-err

@@ -1,0 +1,77 @@
+//! A reader and a writer that fail at a call.
+use std::alloc::Global;
+use std::io;
+use std::io::{ErrorKind, Read, Write};
+
+/// The call that fails, if any; calls are counted from 1 on.
+pub type BadCall = Option<u32>;
+
+// Counts a call, and fails where it is the one that is to fail.
+fn call(calls: &mut u32, bad: BadCall) -> io::Result<()> {
+    *calls = calls.saturating_add(1);
+    if bad == Some(*calls) {
+        Err(io::Error::from(ErrorKind::Other))
+    } else {
+        Ok(())
+    }
+}
+
+#[derive(Drop)]
+pub struct BadReader<'a> {
+    rest: &'a [u8],
+    bad: BadCall,
+    calls: u32,
+}
+
+impl<'a> BadReader<'a> {
+    pub fn new(rest: &'a [u8], bad: BadCall) -> Self {
+        BadReader {
+            rest,
+            bad,
+            calls: 0,
+        }
+    }
+}
+
+impl Read for BadReader<'_> {
+    fn read(&mut self, buf: &mut [u8]) -> io::Result<usize> {
+        call(&mut self.calls, self.bad)?;
+        let count = buf.len().min(self.rest.len());
+        buf[..count].copy_from_slice(&self.rest[..count]);
+        self.rest = &self.rest[count..];
+        Ok(count)
+    }
+}
+
+#[derive(Drop)]
+pub struct BadWriter {
+    text: Vec<u8>,
+    bad: BadCall,
+    calls: u32,
+}
+
+impl BadWriter {
+    pub fn new(alloc: Global, bad: BadCall) -> Self {
+        BadWriter {
+            text: Vec::new(alloc),
+            bad,
+            calls: 0,
+        }
+    }
+
+    pub fn into_text(self) -> Vec<u8> {
+        self.text
+    }
+}
+
+impl Write for BadWriter {
+    fn write(&mut self, buf: &[u8]) -> io::Result<usize> {
+        call(&mut self.calls, self.bad)?;
+        self.text.extend_from_slice(buf)?;
+        Ok(buf.len())
+    }
+
+    fn flush(&mut self) -> io::Result<()> {
+        call(&mut self.calls, self.bad)
+    }
+}

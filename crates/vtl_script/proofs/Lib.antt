@@ -1,0 +1,13 @@
+pub mod BehindLemmas
+pub mod HostLemmas
+pub mod InOrderLemmas
+pub mod ItemLemmas
+pub mod LineLemmas
+pub mod PartLemmas
+pub mod PhaseLemmas
+pub mod ReadingLemmas
+pub mod RefusedLemmas
+pub mod ScriptLemmas
+pub mod SplitLemmas
+pub mod TextLemmas
+pub mod TurnLemmas

@@ -1,0 +1,219 @@
+-- The lines of a phase, read one after another.
+use Rattle.std.proofs.Common.{inl, inr, ◌≡◌, ℕ, ◌+◌, ◌≤◌, Bool, true, false, ◌||◌, List, [], ◌∷◌, ◌++◌, length, Option, refl, sym, ap, ◌∙◌, arith, append_assoc, filter_map}
+use Rattle.std.proofs.lemmas.List.{length-append, append-nil}
+use Rattle.std.proofs.lemmas.List.Folds.{list_any-append, list_all-append}
+use Rattle.std.specs.List.{list_any, list_all}
+use Rattle.std.specs.Io.KnownBytes.{Consumes}
+use Rattle.vtl_script.specs.declared.lines.Line.{Line}
+use Rattle.vtl_script.specs.declared.lines.ParsedLine.{ParsedLine}
+use Rattle.vtl_script.specs.declared.lines.ParsedLine.TheVariants.{Nothing, PhaseEnd, Command, Refused}
+use Rattle.vtl_script.specs.declared.phases.NextLine.{NextLine}
+use Rattle.vtl_script.specs.declared.phases.PhaseLines.{PhaseLines}
+use Rattle.vtl_script.specs.declared.items.Item.{Item}
+use Rattle.vtl_script.specs.declared.items.Item.TheVariants.{Phase}
+use Rattle.vtl_script.specs.declared.items.NextItem.{NextItem}
+use Rattle.vtl_script.specs.Parsed.{parsed_lines, is_refused, is_phase_end, line_in}
+use Rattle.vtl_script.specs.Items.{has_host, by_host, items_after, items_to_run}
+use Rattle.vtl_script.specs.Inner.ReadItem.{rest_of, ParsesFirst, ReadsLine, RefusesLine, ReadsLines, ReadsPhase, ReadsItem, RefusesItem, IsItem}
+use Rattle.vtl_script.specs.Runs.{TakesWithin}
+use Rattle.vtl_script.proofs.HostLemmas.{all_by_host}
+use Rattle.vtl_script.specs.Inner.Reading.{Reading, work_left}
+use Rattle.vtl_script.proofs.ReadingLemmas.{consumes_on, consumes_none}
+use Rattle.vtl_script.proofs.TurnLemmas.{by_host-none}
+use Rattle.vtl_script.proofs.LineLemmas.{tells, refuses}
+
+-- some lines of a phase were read, with these commands
+pub record IsGathered (is_configured : ℕ → Bool) (left : Option (List ℕ)) (old : Reading)
+    (left' : Option (List ℕ)) (new : Reading) (lines : List Line) : Type 0 where
+  pub read : List ℕ
+  pub taken : Consumes left left' read
+  pub parsed_list : List ParsedLine
+  pub says :
+      (more : List ℕ) → parsed_lines is_configured ((old.unread ++ read) ++ more)
+      ≡ parsed_list ++ parsed_lines is_configured (new.unread ++ more)
+  pub accepted : list_any is_refused parsed_list ≡ false
+  pub to_run : (more : List ParsedLine) → items_to_run (parsed_list ++ more) ≡ items_after lines more
+  pub counted : new.lines ≡ old.lines + length parsed_list
+  pub less : work_left new ≤ work_left old
+  pub hosts : list_all has_host lines ≡ true
+  pub drives : list_all (λ line. is_configured line.drive) lines ≡ true
+  pub bytes : new.bytes ≡ old.bytes + length read
+
+pub gathered_none : (is_configured : ℕ → Bool) (left : Option (List ℕ)) (reading : Reading)
+    → IsGathered is_configured left reading left reading []
+gathered_none is_configured left reading = record {
+  read = [];
+  taken = consumes_none left;
+  parsed_list = [];
+  says = λ more. ap (λ (text : List ℕ). parsed_lines is_configured (text ++ more)) (append-nil reading.unread);
+  accepted = refl;
+  to_run = λ more. refl;
+  counted = omega arith;
+  less = omega arith;
+  hosts = refl;
+  drives = refl;
+  bytes = omega arith;
+}
+
+pub both_none : (p : ParsedLine → Bool) (parsed_list : List ParsedLine) (parsed : ParsedLine)
+    → list_any p parsed_list ≡ false → p parsed ≡ false → list_any p (parsed_list ++ parsed ∷ []) ≡ false
+both_none p parsed_list parsed first second = list_any-append p parsed_list (parsed ∷ []) ∙ rw (first, second) refl
+
+-- what passes of both lists passes
+all_of : (p : Line → Bool) (lines lines' more : List Line) → list_all p lines ≡ true → list_all p more ≡ true
+    → lines' ≡ lines ++ more → list_all p lines' ≡ true
+all_of p lines lines' more first second is =
+    ap (list_all p) is ∙ list_all-append p lines more ∙ rw (first, second) refl
+
+-- what is read first, and then more
+pub texts : (old first second more : List ℕ) → (old ++ (first ++ second)) ++ more ≡ (old ++ first) ++ (second ++ more)
+texts old first second more = simp append_assoc
+
+-- a line that ends no phase, behind some commands of it
+line_on : (parsed : ParsedLine) (lines lines' : List Line) (more : List ParsedLine) → is_refused parsed ≡ false
+    → is_phase_end parsed ≡ false → lines' ≡ lines ++ filter_map line_in (parsed ∷ [])
+    → items_after lines (parsed ∷ more) ≡ items_after lines' more
+line_on Nothing lines lines' more good inside is =
+    ap (λ (xs : List Line). items_after xs more) (sym (is ∙ append-nil lines))
+line_on (Command line) lines lines' more good inside is = ap (λ (xs : List Line). items_after xs more) (sym is)
+line_on PhaseEnd lines lines' more good inside is = absurd (cc)
+line_on Refused lines lines' more good inside is = absurd (cc)
+
+pub gathers_on : (is_configured : ℕ → Bool) (a b c : Option (List ℕ)) (old mid new : Reading)
+    (lines lines' : List Line) (next : NextLine) → IsGathered is_configured a old b mid lines
+    → ReadsLine is_configured b mid c new next → next.is_last ≡ false → is_phase_end next.parsed ≡ false
+    → lines' ≡ lines ++ filter_map line_in (next.parsed ∷ []) → IsGathered is_configured a old c new lines'
+gathers_on is_configured a b c old mid new lines lines' next so tells on inside more_lines =
+    let second = rw on at tells.says in
+    record {
+      read = so.read ++ tells.read;
+      taken = consumes_on a b c so.read tells.read so.taken tells.taken;
+      parsed_list = so.parsed_list ++ next.parsed ∷ [];
+      says = λ more.
+          ap (parsed_lines is_configured) (texts old.unread so.read tells.read more) ∙ so.says (tells.read ++ more)
+          ∙ ap (λ (text : List ℕ). so.parsed_list ++ parsed_lines is_configured text)
+          (sym (append_assoc mid.unread tells.read more))
+          ∙ ap (λ (parsed_list : List ParsedLine). so.parsed_list ++ parsed_list) (second more)
+          ∙ sym (append_assoc so.parsed_list (next.parsed ∷ []) (parsed_lines is_configured (new.unread ++ more)));
+      accepted = both_none is_refused so.parsed_list next.parsed so.accepted tells.accepted;
+      to_run = λ more.
+          ap items_to_run (append_assoc so.parsed_list (next.parsed ∷ []) more) ∙ so.to_run (next.parsed ∷ more)
+          ∙ line_on next.parsed lines lines' more tells.accepted inside more_lines;
+      counted = omega (arith, so.counted, tells.lines on, length-append so.parsed_list (next.parsed ∷ []));
+      less = omega (arith, so.less, tells.less on);
+      hosts = all_of has_host lines lines' (filter_map line_in (next.parsed ∷ [])) so.hosts tells.host more_lines;
+      drives = all_of (λ line. is_configured line.drive) lines lines' (filter_map line_in (next.parsed ∷ [])) so.drives
+          tells.drive more_lines;
+      bytes = omega (arith, so.bytes, tells.bytes, length-append so.read tells.read);
+    }
+
+says_then : (is_configured : ℕ → Bool) (is_last : Bool) (old mid new first second : List ℕ)
+    (parsed_list more : List ParsedLine) (left : Option (List ℕ))
+    → ((rest : List ℕ) → parsed_lines is_configured ((old ++ first) ++ rest) ≡ parsed_list ++ parsed_lines
+    is_configured (mid ++ rest)) → ParsesFirst is_configured is_last (mid ++ second) more new left
+    → ParsesFirst is_configured is_last (old ++ (first ++ second)) (parsed_list ++ more) new left
+says_then is_configured true old mid new first second parsed_list more left so tells = (
+  tells.0,
+  ap (parsed_lines is_configured) (sym (append_assoc old first second)) ∙ so second
+      ∙ ap (λ (xs : List ParsedLine). parsed_list ++ xs) tells.1,
+)
+says_then is_configured false old mid new first second parsed_list more left so tells = λ rest.
+    ap (parsed_lines is_configured) (texts old first second rest) ∙ so (second ++ rest)
+    ∙ ap (λ (text : List ℕ). parsed_list ++ parsed_lines is_configured text) (sym (append_assoc mid second rest))
+    ∙ ap (λ (xs : List ParsedLine). parsed_list ++ xs) (tells rest)
+    ∙ sym (append_assoc parsed_list more (parsed_lines is_configured (new ++ rest)))
+
+-- the last line of an item, by what it says and whether the text has ended
+item_ends : (parsed : ParsedLine) (is_last : Bool) (parsed_list : List ParsedLine) (lines lines' : List Line)
+    → ((more : List ParsedLine) → items_to_run (parsed_list ++ more) ≡ items_after lines more)
+    → is_refused parsed ≡ false → (is_phase_end parsed || is_last) ≡ true
+    → lines' ≡ lines ++ filter_map line_in (parsed ∷ [])
+    → IsItem is_last (parsed_list ++ parsed ∷ []) (Phase (by_host lines'))
+item_ends PhaseEnd true parsed_list lines lines' to_run good ends is =
+    let same : lines ≡ lines' = sym (is ∙ append-nil lines) in (
+      Phase [] ∷ [],
+      to_run (PhaseEnd ∷ []) ∙ ap (λ (xs : List Line). Phase (by_host xs) ∷ Phase (by_host []) ∷ []) same
+          ∙ ap (λ (xs : List Line). Phase (by_host lines') ∷ Phase xs ∷ []) by_host-none,
+      inr refl,
+    )
+item_ends PhaseEnd false parsed_list lines lines' to_run good ends is = λ more.
+    ap items_to_run (append_assoc parsed_list (PhaseEnd ∷ []) more) ∙ to_run (PhaseEnd ∷ more)
+    ∙ ap (λ (xs : List Line). Phase (by_host xs) ∷ items_to_run more) (sym (is ∙ append-nil lines))
+item_ends Nothing true parsed_list lines lines' to_run good ends is = (
+  [],
+  to_run (Nothing ∷ []) ∙ ap (λ (xs : List Line). Phase (by_host xs) ∷ []) (sym (is ∙ append-nil lines)),
+  inl
+      refl,
+)
+item_ends (Command line) true parsed_list lines lines' to_run good ends is =
+    ([], to_run (Command line ∷ []) ∙ ap (λ (xs : List Line). Phase (by_host xs) ∷ []) (sym is), inl refl)
+item_ends Nothing false parsed_list lines lines' to_run good ends is = absurd (cc)
+item_ends (Command line) false parsed_list lines lines' to_run good ends is = absurd (cc)
+item_ends Refused is_last parsed_list lines lines' to_run good ends is = absurd (cc)
+
+pub phase_read : (is_configured : ℕ → Bool) (a b c : Option (List ℕ)) (old mid new : Reading) (lines : List Line)
+    (next : NextLine) (phase : PhaseLines) → IsGathered is_configured a old b mid lines
+    → ReadsLine is_configured b mid c new next → (is_phase_end next.parsed || next.is_last) ≡ true
+    → phase.is_last ≡ next.is_last → phase.lines.items ≡ lines ++ filter_map line_in (next.parsed ∷ [])
+    → ReadsPhase is_configured a old c new phase
+phase_read is_configured a b c old mid new lines next phase so tells ends same_last same_lines =
+    let more = filter_map line_in (next.parsed ∷ []) in
+    record {
+      reads = record {
+        read = so.read ++ tells.read;
+        taken = consumes_on a b c so.read tells.read so.taken tells.taken;
+        parsed_list = so.parsed_list ++ next.parsed ∷ [];
+        says = rw same_last (says_then is_configured next.is_last old.unread mid.unread new.unread so.read tells.read
+            so.parsed_list (next.parsed ∷ []) c so.says tells.says);
+        accepted = both_none is_refused so.parsed_list next.parsed so.accepted tells.accepted;
+        lines = λ on. let counted = tells.lines (sym same_last ∙ on) in omega
+            (arith, so.counted, counted, length-append so.parsed_list (next.parsed ∷ []));
+        less = λ on. let least = tells.less (sym same_last ∙ on) in omega (arith, so.less, least);
+        bytes = omega (arith, so.bytes, tells.bytes, length-append so.read tells.read);
+        within = tells.within;
+        is_item = rw same_last (item_ends next.parsed next.is_last so.parsed_list lines phase.lines.items so.to_run
+            tells.accepted ends same_lines);
+      };
+      hosts = all_of has_host lines phase.lines.items more so.hosts tells.host same_lines;
+      drives = all_of (λ line. is_configured line.drive) lines phase.lines.items more so.drives tells.drive same_lines;
+    }
+
+pub phase_refused : (is_configured : ℕ → Bool) (a b c : Option (List ℕ)) (old mid : Reading) (lines : List Line)
+    (number : ℕ) → IsGathered is_configured a old b mid lines → RefusesLine is_configured b mid c number
+    → RefusesItem is_configured a old c number
+phase_refused is_configured a b c old mid lines number so refuses =
+    record {
+      read = so.read ++ refuses.read;
+      taken = consumes_on a b c so.read refuses.read so.taken refuses.taken;
+      parsed_list = so.parsed_list;
+      accepted = so.accepted;
+      number_is = omega (arith, refuses.number_is, so.counted);
+      behind = refuses.behind;
+      says =
+          ap (parsed_lines is_configured) (texts old.unread so.read refuses.read (rest_of c))
+          ∙ so.says (refuses.read ++ rest_of c)
+          ∙ ap (λ (text : List ℕ). so.parsed_list ++ parsed_lines is_configured text)
+          (sym (append_assoc mid.unread refuses.read (rest_of c)))
+          ∙ ap (λ (xs : List ParsedLine). so.parsed_list ++ xs) refuses.says;
+      not_run = so.to_run (Refused ∷ refuses.behind);
+    }
+
+-- what an item's lines take is within the limit of bytes
+pub takes_lines : (is_configured : ℕ → Bool) (left left' : Option (List ℕ)) (old new : Reading) (is_last : Bool)
+    (item : Item) → ReadsLines is_configured left old left' new is_last item → TakesWithin left old.bytes left'
+takes_lines is_configured left left' old new is_last item reads =
+    (reads.read, reads.taken, omega (arith, reads.bytes, reads.within))
+
+-- a phase that was read is an item, its commands in the order of their turns
+pub item_read : (is_configured : ℕ → Bool) (left left' : Option (List ℕ)) (old new : Reading) (phase : PhaseLines)
+    (next : NextItem) → ReadsPhase is_configured left old left' new phase → next.is_last ≡ phase.is_last
+    → next.item ≡ Phase (by_host phase.lines.items) → ReadsItem is_configured left old left' new next
+item_read is_configured left left' old new phase next reads same_last same_item =
+    record {
+      reads = rw (same_last, same_item) reads.reads;
+      runnable = rw same_item (all_by_host (λ line. is_configured line.drive) phase.lines.items reads.drives);
+    }
+
+pub or_last : (b : Bool) → (b || true) ≡ true
+or_last true = refl
+or_last false = refl

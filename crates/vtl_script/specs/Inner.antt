@@ -1,0 +1,3 @@
+pub mod ReadItem
+pub mod Reading
+pub mod RunItem

@@ -1,0 +1,108 @@
+-- What is read of a script, item by item (own).
+use Rattle.std.specs.Prelude.{◌≡◌, ◌⊎◌, ℕ, ◌+◌, ◌<◌, ◌≤◌, Bool, true, false, List, [], ◌∷◌, ◌++◌, length, Option, Result, Ok, Err, unwrap_or, filter_map}
+use Rattle.std.specs.List.{list_any, list_all}
+use Rattle.std.specs.Io.KnownBytes.{Consumes, IsAtEnd}
+use Rattle.vtl_base.specs.declared.limits.TheConstants.{SCRIPT_BYTES}
+use Rattle.vtl_script.specs.declared.lines.ParsedLine.{ParsedLine}
+use Rattle.vtl_script.specs.declared.lines.ParsedLine.TheVariants.{Refused}
+use Rattle.vtl_script.specs.declared.phases.NextLine.{NextLine}
+use Rattle.vtl_script.specs.declared.phases.PhaseLines.{PhaseLines}
+use Rattle.vtl_script.specs.declared.items.Item.{Item}
+use Rattle.vtl_script.specs.declared.items.Item.TheVariants.{Phase}
+use Rattle.vtl_script.specs.declared.items.NextItem.{NextItem}
+use Rattle.vtl_script.specs.declared.faults.ScriptFault.{ScriptFault}
+use Rattle.vtl_script.specs.declared.faults.ScriptFault.TheVariants.{BadLine}
+use Rattle.vtl_script.specs.Parsed.{parsed_lines, is_refused, line_in}
+use Rattle.vtl_script.specs.Items.{has_host, by_host, items_to_run, IsRunnable}
+use Rattle.vtl_script.specs.Inner.Reading.{Reading, work_left}
+
+-- the bytes that a reader is known to have left (own)
+abbrev pub rest_of : Option (List ℕ) → List ℕ
+rest_of left = unwrap_or left []
+
+-- where a line is refused, its number is returned (own)
+abbrev pub ReportsRefused : ParsedLine → Bool → ℕ → Result NextLine ScriptFault → Type 0
+ReportsRefused parsed is_last number (Ok next) =
+    (next ≡ record { parsed = parsed; is_last = is_last }) × (is_refused parsed ≡ false)
+ReportsRefused parsed is_last number (Err fault) = (fault ≡ BadLine number) × (parsed ≡ Refused)
+
+-- what the bytes say that stand before the others of a text, whatever follows; at its end, with nothing behind them
+-- (own)
+abbrev pub ParsesFirst : (ℕ → Bool) → Bool → List ℕ → List ParsedLine → List ℕ → Option (List ℕ) → Type 0
+ParsesFirst is_configured true text parsed_list unread left =
+    IsAtEnd left × (parsed_lines is_configured text ≡ parsed_list)
+ParsesFirst is_configured false text parsed_list unread left =
+    (more : List ℕ)
+    → parsed_lines is_configured (text ++ more) ≡ parsed_list ++ parsed_lines is_configured (unread ++ more)
+
+-- a line was read, and says this (own)
+pub record ReadsLine (is_configured : ℕ → Bool) (left : Option (List ℕ)) (old : Reading)
+    (left' : Option (List ℕ)) (new : Reading) (next : NextLine) : Type 0 where
+  pub read : List ℕ
+  pub taken : Consumes left left' read
+  pub says : ParsesFirst is_configured next.is_last (old.unread ++ read) (next.parsed ∷ []) new.unread left'
+  pub accepted : is_refused next.parsed ≡ false
+  pub host : list_all has_host (filter_map line_in (next.parsed ∷ [])) ≡ true
+  pub drive : list_all (λ line. is_configured line.drive) (filter_map line_in (next.parsed ∷ [])) ≡ true
+  pub bytes : new.bytes ≡ old.bytes + length read
+  pub within : new.bytes ≤ SCRIPT_BYTES
+  pub lines : next.is_last ≡ false → new.lines ≡ old.lines + 1
+  pub less : next.is_last ≡ false → work_left new < work_left old
+
+-- the line of this number was read, and is refused (own)
+pub record RefusesLine (is_configured : ℕ → Bool) (left : Option (List ℕ)) (old : Reading)
+    (left' : Option (List ℕ)) (number : ℕ) : Type 0 where
+  pub read : List ℕ
+  pub taken : Consumes left left' read
+  pub number_is : number ≡ old.lines + 1
+  pub behind : List ParsedLine
+  pub says : parsed_lines is_configured ((old.unread ++ read) ++ rest_of left') ≡ Refused ∷ behind
+
+-- items with no command (own)
+abbrev pub AreEmpty : List Item → Type 0
+AreEmpty items = (items ≡ []) ⊎ (items ≡ Phase [] ∷ [])
+
+-- these lines are an item before what follows; at the end of a text, the last that has a command (own)
+abbrev pub IsItem : Bool → List ParsedLine → Item → Type 0
+IsItem true parsed_list item = (rest : List Item) × (items_to_run parsed_list ≡ item ∷ rest) × AreEmpty rest
+IsItem false parsed_list item =
+    (more : List ParsedLine) → items_to_run (parsed_list ++ more) ≡ item ∷ items_to_run more
+
+-- an item was read, up to the place of a new reading (own)
+pub record ReadsLines (is_configured : ℕ → Bool) (left : Option (List ℕ)) (old : Reading)
+    (left' : Option (List ℕ)) (new : Reading) (is_last : Bool) (item : Item) : Type 0 where
+  pub read : List ℕ
+  pub taken : Consumes left left' read
+  pub parsed_list : List ParsedLine
+  pub says : ParsesFirst is_configured is_last (old.unread ++ read) parsed_list new.unread left'
+  pub accepted : list_any is_refused parsed_list ≡ false
+  pub lines : is_last ≡ false → new.lines ≡ old.lines + length parsed_list
+  pub less : is_last ≡ false → work_left new < work_left old
+  pub bytes : new.bytes ≡ old.bytes + length read
+  pub within : new.bytes ≤ SCRIPT_BYTES
+  pub is_item : IsItem is_last parsed_list item
+
+-- a phase was read, with the lines to be run (own)
+pub record ReadsPhase (is_configured : ℕ → Bool) (left : Option (List ℕ)) (old : Reading)
+    (left' : Option (List ℕ)) (new : Reading) (phase : PhaseLines) : Type 0 where
+  pub reads : ReadsLines is_configured left old left' new phase.is_last (Phase (by_host phase.lines.items))
+  pub hosts : list_all has_host phase.lines.items ≡ true
+  pub drives : list_all (λ line. is_configured line.drive) phase.lines.items ≡ true
+
+-- an item was read, which can be run (own)
+pub record ReadsItem (is_configured : ℕ → Bool) (left : Option (List ℕ)) (old : Reading)
+    (left' : Option (List ℕ)) (new : Reading) (next : NextItem) : Type 0 where
+  pub reads : ReadsLines is_configured left old left' new next.is_last next.item
+  pub runnable : IsRunnable is_configured next.item
+
+-- an item was read up to the line of this number, which is refused (own)
+pub record RefusesItem (is_configured : ℕ → Bool) (left : Option (List ℕ)) (old : Reading)
+    (left' : Option (List ℕ)) (number : ℕ) : Type 0 where
+  pub read : List ℕ
+  pub taken : Consumes left left' read
+  pub parsed_list : List ParsedLine
+  pub accepted : list_any is_refused parsed_list ≡ false
+  pub number_is : number ≡ old.lines + length parsed_list + 1
+  pub behind : List ParsedLine
+  pub says : parsed_lines is_configured ((old.unread ++ read) ++ rest_of left') ≡ parsed_list ++ Refused ∷ behind
+  pub not_run : items_to_run (parsed_list ++ Refused ∷ behind) ≡ []

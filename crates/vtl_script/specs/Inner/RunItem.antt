@@ -1,0 +1,76 @@
+-- How a script is run from a place on, item by item (own).
+use Rattle.std.specs.Prelude.{◌≡◌, ℕ, ◌+◌, Bool, true, false, List, ◌++◌, length, Option, Result, Ok, Err, IfSome}
+use Rattle.std.specs.List.{list_any}
+use Rattle.std.specs.Io.KnownBytes.{Appends, Consumes}
+use Rattle.scsi_sense.specs.declared.replies.Reply.{Reply}
+use Rattle.vtl_script.specs.declared.items.Item.{Item}
+use Rattle.vtl_script.specs.declared.lines.ParsedLine.{ParsedLine}
+use Rattle.vtl_script.specs.declared.faults.ScriptFault.{ScriptFault}
+use Rattle.vtl_script.specs.declared.faults.ScriptFault.TheVariants.{BadLine, ReadFault, WriteFault, NoMemory}
+use Rattle.vtl_script.specs.Parsed.{parsed_lines, is_refused}
+use Rattle.vtl_script.specs.Items.{items_to_run}
+use Rattle.vtl_script.specs.Text.{text_of}
+use Rattle.vtl_script.specs.Inner.Reading.{Reading}
+use Rattle.vtl_script.specs.Runs.{ScriptEnds}
+
+-- as at the end of a script, where it is run from the place of a reading on: lines are counted from its
+-- lines on, and bytes from its bytes on (own)
+abbrev pub EndsFrom : {P : Type 0} → (P → List Item → List Reply → P → Type 0) → Reading → ℕ → List ParsedLine
+    → List Item → List ℕ → P → Option (List ℕ) → P → Option (List ℕ) → Result (Unit {0}) ScriptFault → Type 0
+EndsFrom answers reading size parsed_list items text mid before new now (Ok done) =
+    ScriptEnds answers (reading.bytes + size) parsed_list items text mid before new now (Ok done)
+EndsFrom answers reading size parsed_list items text mid before new now (Err (BadLine number)) =
+    (place : ℕ) × (number ≡ reading.lines + place)
+    × ScriptEnds answers size parsed_list items text mid before new now (Err (BadLine place))
+EndsFrom answers reading size parsed_list items text mid before new now (Err ReadFault) =
+    ScriptEnds answers size parsed_list items text mid before new now (Err ReadFault)
+EndsFrom answers reading size parsed_list items text mid before new now (Err WriteFault) =
+    ScriptEnds answers size parsed_list items text mid before new now (Err WriteFault)
+EndsFrom answers reading size parsed_list items text mid before new now (Err NoMemory) =
+    ScriptEnds answers size parsed_list items text mid before new now (Err NoMemory)
+
+-- what a reading has not taken up was run to its end (own)
+pub record FinishesScript {P : Type 0}
+    (is_configured : ℕ → Bool) (answers : P → List Item → List Reply → P → Type 0) (reading : Reading)
+    (old : P) (left before : Option (List ℕ)) (new : P) (now : Option (List ℕ))
+    (result : Result (Unit {0}) ScriptFault) : Type 0 where
+  pub text : List ℕ
+  pub known : IfSome left (λ all. text ≡ all)
+  pub items : List Item
+  pub replies : List Reply
+  pub mid : P
+  pub answered : answers old items replies mid
+  pub ended :
+      EndsFrom answers reading (length text) (parsed_lines is_configured (reading.unread ++ text)) items
+      (text_of replies) mid before new now result
+
+-- some items were run, and the text goes on (own)
+pub record GoesOn {P : Type 0}
+    (is_configured : ℕ → Bool) (answers : P → List Item → List Reply → P → Type 0)
+    (reading : Reading) (old : P) (left before : Option (List ℕ))
+    (reading' : Reading) (new : P) (left' now : Option (List ℕ)) : Type 0 where
+  pub read : List ℕ
+  pub taken : Consumes left left' read
+  pub parsed_list : List ParsedLine
+  pub says :
+      (more : List ℕ) → parsed_lines is_configured ((reading.unread ++ read) ++ more)
+      ≡ parsed_list ++ parsed_lines is_configured (reading'.unread ++ more)
+  pub accepted : list_any is_refused parsed_list ≡ false
+  pub lines : reading'.lines ≡ reading.lines + length parsed_list
+  pub bytes : reading'.bytes ≡ reading.bytes + length read
+  pub items : List Item
+  pub to_run : (more : List ParsedLine) → items_to_run (parsed_list ++ more) ≡ items ++ items_to_run more
+  pub replies : List Reply
+  pub answered : answers old items replies new
+  pub written : Appends before now (text_of replies)
+
+-- an item was run: at `true` the text goes on (own)
+abbrev pub RunsItem : {P : Type 0} (is_configured : ℕ → Bool) (answers : P → List Item → List Reply → P → Type 0)
+    (reading : Reading) (old : P) (left before : Option (List ℕ)) (reading' : Reading) (new : P)
+    (left' now : Option (List ℕ)) → Result Bool ScriptFault → Type 0
+RunsItem is_configured answers reading old left before reading' new left' now (Ok true) =
+    GoesOn is_configured answers reading old left before reading' new left' now
+RunsItem is_configured answers reading old left before reading' new left' now (Ok false) =
+    FinishesScript is_configured answers reading old left before new now (Ok tt)
+RunsItem is_configured answers reading old left before reading' new left' now (Err fault) =
+    FinishesScript is_configured answers reading old left before new now (Err fault)

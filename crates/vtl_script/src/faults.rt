@@ -1,0 +1,54 @@
+//! Why a script is not run to its end.
+use std::alloc::{AllocError, AllocFailed};
+use thiserror::Error;
+use vtl_base::NoMemory;
+
+/// Why a script is not run to its end.
+#[derive(Clone, Copy, PartialEq, Eq, Debug, Error)]
+pub enum ScriptFault {
+    /// A line is of no form that a line may have. Lines are counted from 1 on.
+    #[error("line {line} refused")]
+    BadLine { line: u64 },
+    /// A read failed, or the script is past its limits of bytes or reads.
+    #[error("read fault")]
+    ReadFault,
+    /// A write failed.
+    #[error("write fault")]
+    WriteFault,
+    /// A growth was refused.
+    #[error("out of memory")]
+    NoMemory,
+}
+
+impl From<NoMemory> for ScriptFault {
+    ghost use Rattle.std.specs.Prelude.{◌≡◌};
+    ghost use Rattle.vtl_script.specs.declared.faults.ScriptFault.TheVariants.{NoMemory};
+
+    ghost from_gives = { λ _ e. e ≡ NoMemory };
+
+    fn from(_: NoMemory) -> Self {
+        ScriptFault::NoMemory
+    }
+}
+
+impl From<AllocError> for ScriptFault {
+    ghost use Rattle.std.specs.Prelude.{◌≡◌};
+    ghost use Rattle.vtl_script.specs.declared.faults.ScriptFault.TheVariants.{NoMemory};
+
+    ghost from_gives = { λ _ e. e ≡ NoMemory };
+
+    fn from(_: AllocError) -> Self {
+        ScriptFault::NoMemory
+    }
+}
+
+impl<T: Drop> From<AllocFailed<T>> for ScriptFault {
+    ghost use Rattle.std.specs.Prelude.{◌≡◌};
+    ghost use Rattle.vtl_script.specs.declared.faults.ScriptFault.TheVariants.{NoMemory};
+
+    ghost from_gives = { λ _ e. e ≡ NoMemory };
+
+    fn from(_: AllocFailed<T>) -> Self {
+        ScriptFault::NoMemory
+    }
+}

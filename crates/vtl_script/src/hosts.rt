@@ -1,0 +1,32 @@
+//! The order in which the commands of a phase are run.
+ghost use Rattle.std.specs.Prelude.{◌≡◌, true, OnOk};
+ghost use Rattle.std.specs.List.{list_all};
+ghost use Rattle.std.specs.List.Sorted.{IsNonDecreasingBy};
+ghost use Rattle.vtl_script.specs.Items.{by_host, has_host};
+
+use crate::lines::Line;
+use std::alloc::AllocError;
+
+// Whether no host stands behind a higher one.
+fn are_sorted_by_host(lines: &[Line]) -> bool
+    ensures { result ≡ true → IsNonDecreasingBy (λ line. line.host) lines.now }
+{
+    for i in 1..lines.len() {
+        if lines[i].host.number() < lines[i - 1].host.number() {
+            return false;
+        }
+    }
+    true
+}
+
+/// Puts the commands of a phase in the order of their turns: by rising host, each host's in their
+/// order.
+pub fn sort_by_host(lines: &mut Vec<Line>) -> Result<(), AllocError>
+    requires { list_all has_host lines.old.items ≡ true }
+    ensures { OnOk result (lines.new.items ≡ by_host lines.old.items) }
+{
+    if are_sorted_by_host(lines.as_slice()) {
+        return Ok(());
+    }
+    lines.sort_by_key(|line| line.host.number())
+}

@@ -1,0 +1,81 @@
+//! The items of a script, each of which is run at once.
+ghost use Rattle.std.specs.Prelude.{◌≡◌, ◌≢◌, ℕ, IfOk, IfErr, Err};
+ghost use Rattle.vtl_script.specs.Runs.{TakesWithin};
+ghost use Rattle.vtl_script.specs.Inner.ReadItem.{ReadsItem, RefusesItem};
+
+use crate::faults::ScriptFault;
+use crate::hosts::sort_by_host;
+use crate::line_readers::LineReader;
+use crate::lines::Line;
+use crate::phases::{PhaseLines, read_phase};
+use crate::runners::Runner;
+use std::alloc::Global;
+use std::io::Read;
+use std::marker::Model;
+
+/// The commands of a phase. To a contract they are a list.
+#[derive(Drop)]
+pub struct Commands {
+    lines: Vec<Line>,
+}
+
+impl Model for Commands {
+    ghost use Rattle.std.specs.Prelude.{List};
+    ghost use Rattle.vtl_script.specs.declared.lines.Line.{Line};
+
+    ghost Value = { List Line };
+
+    ghost view = { λ commands. commands.lines.items };
+}
+
+impl Commands {
+    /// The commands of a `Vec`, which takes no memory.
+    pub fn from_vec(lines: Vec<Line>) -> Self
+        ensures { result ≡ lines.items }
+    {
+        Commands { lines }
+    }
+
+    /// The commands, to be read.
+    pub fn as_slice(&self) -> &[Line]
+        ensures { result.now ≡ self.now }
+    {
+        self.lines.as_slice()
+    }
+}
+
+/// What of a script is run at once.
+#[derive(Drop)]
+pub enum Item {
+    /// The commands of a phase, in the order of their turns.
+    Phase(Commands),
+}
+
+/// The next item, and whether the text has ended with it.
+#[derive(Drop)]
+pub struct NextItem {
+    pub item: Item,
+    pub is_last: bool,
+}
+
+/// Reads an item, or up to the first line of it that is refused.
+pub fn read_item<P: Runner, R: Read>(
+    alloc: Global,
+    runner: &P,
+    line_reader: &mut LineReader,
+    reader: &mut R,
+) -> Result<NextItem, ScriptFault>
+    ensures ok { IfOk result (ReadsItem (P.is_configured runner.now)
+        (R.remaining reader.old) line_reader.old (R.remaining reader.new) line_reader.new) }
+    ensures refused { (number : ℕ) → result ≡ Err (ScriptFault.BadLine number) →
+        RefusesItem (P.is_configured runner.now)
+        (R.remaining reader.old) line_reader.old (R.remaining reader.new) number }
+    ensures fault { IfErr result (λ fault. fault ≢ ScriptFault.WriteFault) }
+    ensures past { IfErr result (λ fault. fault ≢ ScriptFault.ReadFault →
+        TakesWithin (R.remaining reader.old) line_reader.old.bytes (R.remaining reader.new)) }
+{
+    let PhaseLines { mut lines, is_last } = read_phase(alloc, runner, line_reader, reader)?;
+    sort_by_host(&mut lines)?;
+    let item = Item::Phase(Commands::from_vec(lines));
+    Ok(NextItem { item, is_last })
+}

@@ -1,0 +1,23 @@
+//! Scripts: read line by line, run item by item by whatever runs items, and answered.
+#![tactic(auto)]
+
+pub mod faults;
+mod hosts;
+pub mod items;
+pub mod laws;
+mod line_readers;
+pub mod lines;
+mod phases;
+pub mod runners;
+mod script_limits;
+pub mod scripts;
+mod splits;
+#[cfg(test)]
+mod tests;
+mod texts;
+
+pub use faults::ScriptFault;
+pub use items::{Commands, Item};
+pub use lines::Line;
+pub use runners::Runner;
+pub use scripts::run_script;

@@ -1,0 +1,261 @@
+//! The bytes of a script, read in line_reader.
+ghost use Rattle.std.specs.Prelude.{◌≡◌, ◌<◌, ◌≤◌, ◌+◌, ◌==◌, ◌++◌, ◌⊎◌, [], ℕ, length, take, drop, vec_len, position, Some, None, Ok, false, IfOk, IfErr, OnOk, OnErr};
+ghost use Rattle.std.specs.Io.KnownBytes.{Consumes, IsAtEnd};
+ghost use Rattle.vtl_script.specs.Inner.Reading.{unbegun, bytes_read, Comes, Ends};
+
+use crate::faults::ScriptFault;
+use crate::script_limits::{within_bytes, within_reads};
+use crate::splits::place_of;
+use std::alloc::Global;
+use std::io::{ErrorKind, Read};
+use std::marker::Model;
+use vtl_base::limits::{LINE_BYTES, SCRIPT_BYTES, SCRIPT_READS};
+
+// The bytes that a read asks for.
+const READ_CHUNK: usize = 65_536;
+
+/// The bytes of a script that were read, from the first line on that was not taken up.
+#[derive(Drop)]
+pub struct LineReader {
+    buffer: Vec<u8>,
+    start: usize,
+    bytes: u64,
+    reads: u64,
+    lines: u64,
+}
+
+/// Where the first line ends.
+#[derive(Drop)]
+pub enum Found {
+    /// At the line feed behind so many bytes.
+    Line(usize),
+    /// With the text, which has ended.
+    Last,
+    /// Not within the limit of a line.
+    TooLong,
+}
+
+impl Model for LineReader {
+    ghost use Rattle.std.specs.Prelude.{ℕ, ◌≤◌, ◌+◌, ◌-◌, drop, vec_len};
+    ghost use Rattle.vtl_base.specs.declared.limits.TheConstants.{LINE_BYTES, SCRIPT_BYTES, SCRIPT_READS};
+    ghost use Rattle.vtl_script.specs.declared.line_readers.TheConstants.{READ_CHUNK};
+    ghost use Rattle.vtl_script.specs.Inner.Reading.{Reading};
+
+    ghost Value = { Reading };
+
+    ghost view = { λ b. record {
+      unread = drop b.start b.buffer.items;
+      bytes = b.bytes;
+      reads = b.reads;
+      lines = b.lines;
+    } };
+
+    ghost invariant = { λ b. (b.start ≤ vec_len b.buffer) × (vec_len b.buffer ≤ LINE_BYTES + READ_CHUNK)
+        × (b.lines + (vec_len b.buffer - b.start) ≤ b.bytes)
+        × (b.bytes ≤ SCRIPT_BYTES) × (b.reads ≤ SCRIPT_READS) };
+}
+
+// One read into this slice: how many bytes came, or None where the read was interrupted.
+fn read_once<R: Read>(reader: &mut R, slice: &mut [u8]) -> Result<Option<usize>, ScriptFault>
+    requires { 0 < length slice.old }
+    ensures taken { Consumes (R.remaining reader.old) (R.remaining reader.new)
+        (take (bytes_read result) slice.new) }
+    ensures within { bytes_read result ≤ length slice.new }
+    ensures end { result ≡ Ok (Some 0) → IsAtEnd (R.remaining reader.new) }
+    ensures fault { IfErr result (λ fault. fault ≡ ScriptFault.ReadFault) }
+{
+    match reader.read(slice) {
+        Ok(count) => Ok(Some(count)),
+        Err(e) if e.kind() == ErrorKind::Interrupted => Ok(None),
+        Err(_) => Err(ScriptFault::ReadFault),
+    }
+}
+
+// One read into a buffer, behind the bytes that fill it.
+fn read_behind<R: Read>(
+    reader: &mut R,
+    buffer: &mut [u8],
+    filled: usize,
+) -> Result<Option<usize>, ScriptFault>
+    requires { filled < length buffer.old }
+    ensures front { take filled buffer.new ≡ take filled buffer.old }
+    ensures taken { Consumes (R.remaining reader.old) (R.remaining reader.new)
+        (take (bytes_read result) (drop filled buffer.new)) }
+    ensures within { filled + bytes_read result ≤ length buffer.new }
+    ensures end { result ≡ Ok (Some 0) → IsAtEnd (R.remaining reader.new) }
+    ensures fault { IfErr result (λ fault. fault ≡ ScriptFault.ReadFault) }
+{
+    read_once(reader, &mut buffer[filled..])
+}
+
+// How many bytes a read gave.
+fn count(outcome: &Result<Option<usize>, ScriptFault>) -> usize
+    ensures { result ≡ bytes_read outcome.now }
+{
+    match outcome {
+        Ok(Some(count)) => *count,
+        Ok(None) | Err(_) => 0,
+    }
+}
+
+// One read, whose bytes are put behind those of the buffer.
+fn read_chunk<R: Read>(reader: &mut R, buffer: &mut Vec<u8>) -> Result<Option<usize>, ScriptFault>
+    ensures taken { OnOk result (Consumes (R.remaining reader.old) (R.remaining reader.new)
+        (drop (vec_len buffer.old) buffer.new.items)) }
+    ensures front { OnOk result (take (vec_len buffer.old) buffer.new.items ≡ buffer.old.items) }
+    ensures count { vec_len buffer.new ≡ vec_len buffer.old + bytes_read result }
+    ensures most { bytes_read result ≤ READ_CHUNK }
+    ensures end { result ≡ Ok (Some 0) → IsAtEnd (R.remaining reader.new) }
+    ensures fault { IfErr result (λ fault. (fault ≡ ScriptFault.ReadFault)
+        ⊎ ((fault ≡ ScriptFault.NoMemory)
+        × Consumes (R.remaining reader.old) (R.remaining reader.new) [])) }
+{
+    let filled = buffer.len();
+    buffer.resize(filled + READ_CHUNK, 0)?;
+    let outcome = read_behind(reader, buffer.as_mut_slice(), filled);
+    buffer.truncate(filled + count(&outcome));
+    outcome
+}
+
+// Gives up the room of the bytes before this place.
+fn close_up(buffer: &mut Vec<u8>, start: usize)
+    requires { start ≤ vec_len buffer.old }
+    ensures { buffer.new.items ≡ drop start buffer.old.items }
+{
+    let left = buffer.len() - start;
+    buffer.copy_within(start.., 0);
+    buffer.truncate(left);
+}
+
+impl LineReader {
+    ghost use Rattle.std.specs.Prelude.{◌≡◌, ◌<◌, ◌≤◌, ◌+◌, ◌⊎◌, [], drop, take, length, Ok, Err, false, IfOk, IfErr, OnOk};
+    ghost use Rattle.vtl_base.specs.declared.limits.TheConstants.{SCRIPT_BYTES, SCRIPT_READS};
+    ghost use Rattle.std.specs.Io.KnownBytes.{Consumes};
+    ghost use Rattle.vtl_base.specs.declared.limits.TheConstants.{LINE_BYTES};
+    ghost use Rattle.vtl_script.specs.declared.line_readers.TheConstants.{READ_CHUNK};
+    ghost use Rattle.vtl_script.specs.Inner.Reading.{unbegun, work_left, may_read, Comes, Ends};
+    ghost use Rattle.vtl_script.specs.Runs.{TakesWithin};
+
+    /// Nothing yet.
+    pub fn new(alloc: Global) -> Self
+        ensures { result ≡ unbegun }
+    {
+        LineReader {
+            buffer: Vec::new(alloc),
+            start: 0,
+            bytes: 0,
+            reads: 0,
+            lines: 0,
+        }
+    }
+
+    // One read more. At `false` the text has ended, and at `true` bytes came or the read was
+    // interrupted.
+    fn fill<R: Read>(&mut self, reader: &mut R) -> Result<bool, ScriptFault>
+        requires { length self.old.unread ≤ LINE_BYTES }
+        ensures comes { OnOk result
+            (Comes (R.remaining reader.old) self.old (R.remaining reader.new) self.new) }
+        ensures within { OnOk result (self.new.bytes ≤ SCRIPT_BYTES) }
+        ensures reads { OnOk result
+            ((self.new.reads ≡ self.old.reads + 1) × (self.new.reads ≤ SCRIPT_READS)) }
+        ensures end { result ≡ Ok false →
+            IsAtEnd (R.remaining reader.new) × (self.new.unread ≡ self.old.unread) }
+        ensures limit { may_read self.old.reads ≡ false → result ≡ Err ScriptFault.ReadFault }
+        ensures fault { IfErr result (λ fault. (fault ≡ ScriptFault.ReadFault)
+            ⊎ ((fault ≡ ScriptFault.NoMemory)
+            × Consumes (R.remaining reader.old) (R.remaining reader.new) [])) }
+    {
+        if !within_reads(self.reads) {
+            return Err(ScriptFault::ReadFault);
+        }
+        self.reads += 1;
+        close_up(&mut self.buffer, self.start);
+        self.start = 0;
+        match read_chunk(reader, &mut self.buffer)? {
+            None => Ok(true),
+            Some(0) => Ok(false),
+            Some(count) if !within_bytes(self.bytes, count) => {
+                self.buffer.clear();
+                Err(ScriptFault::ReadFault)
+            }
+            Some(count) => {
+                self.bytes += count as u64;
+                Ok(true)
+            }
+        }
+    }
+
+    /// Brings the first line into the buffer. The reader is called only where the line feed is not
+    /// there.
+    pub fn find<R: Read>(&mut self, reader: &mut R) -> Result<Found, ScriptFault>
+        ensures comes { OnOk result
+            (Comes (R.remaining reader.old) self.old (R.remaining reader.new) self.new) }
+        ensures within { OnOk result (self.new.bytes ≤ SCRIPT_BYTES) }
+        ensures found { IfOk result (λ found. Ends found self.new.unread (R.remaining reader.new)) }
+        ensures fault { IfErr result (λ fault. (fault ≡ ScriptFault.ReadFault)
+            ⊎ ((fault ≡ ScriptFault.NoMemory)
+            × TakesWithin (R.remaining reader.old) self.old.bytes (R.remaining reader.new))) }
+    {
+        let mut searched = 0;
+        loop {
+            let unread = self.unread();
+            match place_of(b'\n', &unread[searched..]) {
+                Some(place) => return Ok(Found::Line(searched + place)),
+                None => searched = unread.len(),
+            }
+            if searched > LINE_BYTES {
+                return Ok(Found::TooLong);
+            }
+            if !self.fill(reader)? {
+                return Ok(Found::Last);
+            }
+        }
+    }
+
+    /// The first bytes of the first line.
+    pub fn front(&self, count: usize) -> &[u8]
+        requires { count ≤ length self.now.unread }
+        ensures { result.now ≡ take count self.now.unread }
+    {
+        &self.buffer[self.start..self.start + count]
+    }
+
+    /// All bytes that were not taken up: those of a line and of a read at most.
+    pub fn unread(&self) -> &[u8]
+        ensures bytes { result.now ≡ self.now.unread }
+        ensures most { length self.now.unread ≤ LINE_BYTES + READ_CHUNK }
+        ensures within { self.now.bytes ≤ SCRIPT_BYTES }
+    {
+        &self.buffer[self.start..]
+    }
+
+    /// How many lines were taken up.
+    pub fn lines(&self) -> u64
+        ensures lines { result ≡ self.now.lines }
+        ensures limit { result + length self.now.unread ≤ SCRIPT_BYTES }
+    {
+        self.lines
+    }
+
+    /// How many reads were asked for.
+    #[cfg(test)]
+    pub fn reads(&self) -> u64
+        ensures { result ≡ self.now.reads }
+    {
+        self.reads
+    }
+
+    /// Takes up the first line, of so many bytes before its line feed.
+    pub fn take_up(&mut self, count: usize)
+        requires { count < length self.old.unread }
+        ensures line { self.new ≡ record self.old {
+          unread = drop (count + 1) self.old.unread;
+          lines = self.old.lines + 1;
+        } }
+        ensures less { work_left self.new < work_left self.old }
+    {
+        let end = self.start + count;
+        self.start = end + 1;
+        self.lines += 1;
+    }
+}

@@ -1,0 +1,144 @@
+//! A script, read phase by phase.
+ghost use Rattle.std.specs.Prelude.{◌≡◌, ◌≢◌, ◌++◌, ◌∷◌, [], ℕ, filter_map, IfOk, IfErr, OnOk, Err};
+ghost use Rattle.vtl_script.specs.Parsed.{without_return, parsed_line, is_phase_end, line_in};
+ghost use Rattle.vtl_script.specs.Runs.{TakesWithin};
+ghost use Rattle.vtl_script.specs.Inner.ReadItem.{ReportsRefused, ReadsLine, ReadsPhase, RefusesLine, RefusesItem};
+
+use crate::faults::ScriptFault;
+use crate::line_readers::{Found, LineReader};
+use crate::lines::{Line, ParsedLine, parse};
+use crate::runners::Runner;
+use std::alloc::Global;
+use std::io::Read;
+use vtl_base::NoMemory;
+use vtl_base::limits::LINE_BYTES;
+
+/// What the next line says, and whether the text has ended with it.
+#[derive(Drop)]
+pub struct NextLine {
+    pub parsed: ParsedLine,
+    pub is_last: bool,
+}
+
+/// The commands of a phase in the order of their lines, and whether the text has ended with it.
+#[derive(Drop)]
+pub struct PhaseLines {
+    pub lines: Vec<Line>,
+    pub is_last: bool,
+}
+
+// The line without the carriage return at its end.
+fn without_return(line: &[u8]) -> &[u8]
+    ensures { result.now ≡ without_return line.now }
+{
+    match line {
+        [front @ .., b'\r'] => front,
+        _ => line,
+    }
+}
+
+// What a line says that has so many bytes before its line feed, and these that count.
+fn parsed_line<P: Runner>(
+    alloc: Global,
+    runner: &P,
+    count: usize,
+    line: &[u8],
+) -> Result<ParsedLine, NoMemory>
+    ensures { IfOk result (λ parsed.
+        parsed ≡ parsed_line (P.is_configured runner.now) count line.now) }
+{
+    if count > LINE_BYTES {
+        return Ok(ParsedLine::Refused);
+    }
+    parse(alloc, runner, line)
+}
+
+// A line that is refused ends the reading.
+fn accepted(parsed: ParsedLine, is_last: bool, line: u64) -> Result<NextLine, ScriptFault>
+    ensures { ReportsRefused parsed is_last line result }
+{
+    match parsed {
+        ParsedLine::Refused => Err(ScriptFault::BadLine { line }),
+        parsed => Ok(NextLine { parsed, is_last }),
+    }
+}
+
+// What the next line says.
+fn read_line<P: Runner, R: Read>(
+    alloc: Global,
+    runner: &P,
+    line_reader: &mut LineReader,
+    reader: &mut R,
+) -> Result<NextLine, ScriptFault>
+    ensures ok { IfOk result (ReadsLine (P.is_configured runner.now)
+        (R.remaining reader.old) line_reader.old (R.remaining reader.new) line_reader.new) }
+    ensures refused { (number : ℕ) → result ≡ Err (ScriptFault.BadLine number) →
+        RefusesLine (P.is_configured runner.now)
+        (R.remaining reader.old) line_reader.old (R.remaining reader.new) number }
+    ensures fault { IfErr result (λ fault. fault ≢ ScriptFault.WriteFault) }
+    ensures past { IfErr result (λ fault. fault ≢ ScriptFault.ReadFault →
+        TakesWithin (R.remaining reader.old) line_reader.old.bytes (R.remaining reader.new)) }
+{
+    let number = line_reader.lines() + 1;
+    match line_reader.find(reader)? {
+        Found::Line(count) => {
+            let parsed = parsed_line(
+                alloc,
+                runner,
+                count,
+                without_return(line_reader.front(count)),
+            )?;
+            line_reader.take_up(count);
+            accepted(parsed, false, number)
+        }
+        Found::Last => {
+            let line = line_reader.unread();
+            let parsed = parsed_line(alloc, runner, line.len(), line)?;
+            accepted(parsed, true, number)
+        }
+        Found::TooLong => Err(ScriptFault::BadLine { line: number }),
+    }
+}
+
+// Adds the command of a line, and answers whether the phase ends with it.
+fn gather(lines: &mut Vec<Line>, parsed: ParsedLine) -> Result<bool, ScriptFault>
+    ensures ends { IfOk result (λ is_end. is_end ≡ is_phase_end parsed) }
+    ensures lines { OnOk result
+        (lines.new.items ≡ lines.old.items ++ filter_map line_in (parsed ∷ [])) }
+    ensures fault { IfErr result (λ fault. fault ≡ ScriptFault.NoMemory) }
+{
+    match parsed {
+        ParsedLine::Command(line) => {
+            lines.push(line)?;
+            Ok(false)
+        }
+        ParsedLine::PhaseEnd => Ok(true),
+        ParsedLine::Nothing | ParsedLine::Refused => Ok(false),
+    }
+}
+
+/// Reads a phase: the commands up to its end, or the first line that is refused.
+pub fn read_phase<P: Runner, R: Read>(
+    alloc: Global,
+    runner: &P,
+    line_reader: &mut LineReader,
+    reader: &mut R,
+) -> Result<PhaseLines, ScriptFault>
+    ensures ok { IfOk result (ReadsPhase (P.is_configured runner.now)
+        (R.remaining reader.old) line_reader.old (R.remaining reader.new) line_reader.new) }
+    ensures refused { (number : ℕ) → result ≡ Err (ScriptFault.BadLine number) →
+        RefusesItem (P.is_configured runner.now)
+        (R.remaining reader.old) line_reader.old (R.remaining reader.new) number }
+    ensures fault { IfErr result (λ fault. fault ≢ ScriptFault.WriteFault) }
+    ensures past { IfErr result (λ fault. fault ≢ ScriptFault.ReadFault →
+        TakesWithin (R.remaining reader.old) line_reader.old.bytes (R.remaining reader.new)) }
+{
+    let mut lines = Vec::new(alloc);
+    loop {
+        let NextLine { parsed, is_last } = read_line(alloc, runner, line_reader, reader)?;
+        let is_end = gather(&mut lines, parsed)?;
+        if is_end || is_last {
+            return Ok(PhaseLines { lines, is_last });
+        }
+    }
+}
