@@ -1,4 +1,6 @@
+pub mod BayLemmas
 pub mod CartridgeLemmas
 pub mod CoreLemmas
 pub mod MachineLemmas
+pub mod MoveLemmas
 pub mod StopLemmas

@@ -3,5 +3,6 @@ pub mod Commands
 pub mod Doings
 pub mod Elements
 pub mod Finish
+pub mod Inner
 pub mod Moves
 pub mod Reservations

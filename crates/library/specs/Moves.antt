@@ -14,11 +14,6 @@ use Rattle.changer.specs.Slots.{Puts, held_at, is_slot}
 use Rattle.library.specs.Elements.{BayState, Becomes, HeldState, bay_at, cartridge_at, is_element, is_reserved_at}
 
 module _ {D : Type 0} where
-  -- a reservation is held at the drive of one of these addresses (own)
-  abbrev pub IsFenced : HeldState D → ℕ → ℕ → Type 0
-  IsFenced held from to =
-      (is_reserved_at (bay_at held.bays from) || is_reserved_at (bay_at held.bays to)) ≡ true
-
   -- why nothing is moved, by the first of these that holds: an address is no slot's and no drive's; a reservation is
   -- held at a drive that is touched; nothing is at the source; something is at the destination (SMC-3, MOVE MEDIUM;
   -- that a reservation keeps the operator out, own)
@@ -50,6 +45,10 @@ module _ {D : Type 0} where
   GoesBackTo old address back new =
       ((is_slot address ≡ true) × SlotHolds address (Some back) old new)
       ⊎ ((is_slot address ≡ false) × InsertsAt old address back new)
+
+  -- the drives are where they were (own)
+  abbrev pub KeepsBays : HeldState D → HeldState D → Type 0
+  KeepsBays old new = (number : ℕ) → is_some (bay_at new.bays number) ≡ is_some (bay_at old.bays number)
 
   module _ (state : D → DiskState) where
     -- what is in the drive of this address goes out of it, or the drive answers why not (own)
@@ -128,7 +127,3 @@ module _ {D : Type 0} where
         × IsSameAt (cartridge_at old from) (cartridge_at new to)
         × ((other : ℕ) → other ≢ from → other ≢ to → cartridge_at new other ≡ cartridge_at old other))
         ⊎ ((reply ≢ good_with []) × ((address : ℕ) → IsSameAt (cartridge_at old address) (cartridge_at new address)))
-
-    -- the drives are where they were (own)
-    abbrev pub KeepsBays : HeldState D → HeldState D → Type 0
-    KeepsBays old new = (number : ℕ) → is_some (bay_at new.bays number) ≡ is_some (bay_at old.bays number)

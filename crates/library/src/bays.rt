@@ -9,7 +9,6 @@ ghost use Rattle.tape_buffer.specs.Moves.{buffer_below};
 ghost use Rattle.tape_buffer.specs.State.{state_of};
 ghost use Rattle.aptpl_store.specs.Kept.{store_below, store_kept};
 ghost use Rattle.library.specs.Elements.{is_reserved_at};
-ghost use Rattle.library.specs.Finish.{HasFailed};
 
 use crate::parked::Parked;
 use aptpl_store::AptplStore;

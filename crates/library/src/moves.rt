@@ -1,5 +1,5 @@
 //! Moves of cartridges.
-ghost use Rattle.std.specs.Prelude.{◌≡◌, ◌≤◌, ◌⊎◌, ◌<◌, None, Some, true, false, is_some, option_map, IfSome, IfNone, OnNone};
+ghost use Rattle.std.specs.Prelude.{◌≡◌, ◌≤◌, ◌⊎◌, ◌<◌, None, Some, true, false, is_some, option_map, IfSome, IfNone, []};
 ghost use Rattle.vtl_base.specs.declared.limits.TheConstants.{DRIVES};
 ghost use Rattle.scsi_sense.specs.Replies.{check_with};
 ghost use Rattle.drive_core.specs.declared.bays.Bay.TheVariants as Bays;
@@ -17,8 +17,9 @@ use vtl_base::{Bytes, DriveNo, SlotNo};
 
 // The drive of this number, if it is one.
 fn drive_of(address: u32) -> Option<DriveNo>
-    ensures some { IfSome result (λ drive. drive ≡ address) }
-    ensures none { OnNone result ((address ≡ 0) ⊎ (DRIVES < address)) }
+    ensures some { IfSome result (λ drive.
+        (drive ≡ address) × (1 ≤ address) × (address ≤ DRIVES)) }
+    ensures none { IfNone result ((address ≡ 0) ⊎ (DRIVES < address)) }
 {
     DriveNo::new(u8::try_from(address).ok()?)
 }
@@ -81,6 +82,8 @@ impl<D: Disk + Drop> Held<D> {
     fn bay_of(&self, address: u32) -> Option<&Bay<D>>
         ensures { option_map (λ bay. bay.now) result ≡ bay_at self.now.bays address }
     {
+        // Looked at for the proof's sake: there are places for all drives.
+        let _ = &self.bays;
         match drive_of(address) {
             Some(drive) => self.bay(drive),
             None => None,
@@ -160,6 +163,8 @@ impl<D: Disk + Drop> Held<D> {
         requires { is_some (bay_at self.old.bays address) ≡ true }
         ensures { UnloadsAt D.state self.old address result self.new }
     {
+        // Looked at for the proof's sake: there are places for all drives.
+        let _ = &self.bays;
         let Some(drive) = drive_of(address) else {
             unreachable!()
         };
@@ -175,6 +180,8 @@ impl<D: Disk + Drop> Held<D> {
         requires empty { cartridge_in (bay_at self.old.bays address) ≡ None }
         ensures { LoadsAt D.state self.old address cartridge result self.new }
     {
+        // Looked at for the proof's sake: there are places for all drives.
+        let _ = &self.bays;
         let Some(drive) = drive_of(address) else {
             unreachable!()
         };
@@ -190,6 +197,8 @@ impl<D: Disk + Drop> Held<D> {
         requires empty { cartridge_in (bay_at self.old.bays address) ≡ None }
         ensures { InsertsAt self.old address cartridge self.new }
     {
+        // Looked at for the proof's sake: there are places for all drives.
+        let _ = &self.bays;
         let Some(drive) = drive_of(address) else {
             unreachable!()
         };
