@@ -91,6 +91,11 @@ IsBayPositioned state Empty position = Unit {0}
 IsBayPositioned state (Unloaded m) position = (state m).awake ≡ false
 IsBayPositioned state (Loaded m) position = IsPositioned (state m) position
 
+-- what is loaded in a bay has failed (own)
+abbrev pub has_failed_in : {M : Type 0} → (M → MediumState) → Bay M → Bool
+has_failed_in state (Loaded m) = (state m).failed
+has_failed_in state _ = false
+
 -- the reservations with which a drive begins whose keeper holds this: what a loss of power leaves of the state that was
 -- saved last; of one that keeps nothing, none (SPC-4, persist through power loss)
 abbrev pub left_of : Option PrState → PrState

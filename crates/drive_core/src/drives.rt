@@ -1,7 +1,7 @@
 //! Drives.
 ghost use Rattle.std.specs.Prelude.{◌≡◌, ◌↔◌, IsTrue, IfOk, false, is_some, option_copied};
 ghost use Rattle.drive_core.specs.declared.bays.Bay.TheVariants as Bays;
-ghost use Rattle.drive_core.specs.State.{machine_of, medium_in, left_of, IsBayPositioned};
+ghost use Rattle.drive_core.specs.State.{has_failed_in, machine_of, medium_in, left_of, IsBayPositioned};
 ghost use Rattle.drive_core.specs.Conditions.{denial_reply, denied, without_condition};
 ghost use Rattle.drive_core.specs.Checks.{Executes};
 ghost use Rattle.drive_core.specs.Synchronize.{IsSynchronizing, Acknowledges, NothingPending};
@@ -138,6 +138,16 @@ impl<M: Medium, K: Keeper> Drive<M, K> {
         ensures { result ≡ is_some self.now.reservations.reservation }
     {
         self.reservations.is_held()
+    }
+
+    /// Whether what is loaded has failed: nothing more of it is stored until it is unloaded and loaded.
+    pub fn has_failed(&self) -> bool
+        ensures { result ≡ has_failed_in M.state self.now.bay }
+    {
+        match &self.bay {
+            Bay::Loaded(medium) => medium.has_failed(),
+            Bay::Empty | Bay::Unloaded(_) => false,
+        }
     }
 
     /// Unloads what is in the drive, as UNLOAD does, and gives it out, parked. Where there is nothing

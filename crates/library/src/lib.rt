@@ -1,4 +1,14 @@
-//! Drives over disks: what is left of them wherever they are stopped.
+//! Drives over disks, slots, and moves between them; what is left of them wherever they are stopped.
 #![tactic(auto)]
 
+pub mod bays;
+mod finishing;
+pub mod held;
 pub mod laws;
+mod moves;
+pub mod parked;
+
+pub use bays::{Bay, NotOn};
+pub use finishing::Unwritten;
+pub use held::Held;
+pub use parked::Parked;
