@@ -1,5 +1,5 @@
 -- Drives are written out one after another.
-use Rattle.std.proofs.Common.{◌≡◌, ◌≢◌, ◌⊎◌, inl, inr, ℕ, ◌+◌, ◌≤◌, ◌<◌, Bool, true, false, List, [], length, Option, None, Some, Result, Ok, Err, OnOk, OnErr, is_err, refl, sym, ap, ◌∙◌, subst, nat_lt, nat_le, ◌==◌, ◌-◌, cond, get_or, arith}
+use Rattle.std.proofs.Common.{◌≡◌, ◌≢◌, inr, ℕ, ◌+◌, ◌≤◌, ◌<◌, Bool, true, false, length, Option, None, Some, Result, Ok, Err, OnOk, OnErr, is_err, refl, sym, ap, ◌∙◌, subst, nat_le, ◌==◌, ◌-◌, cond, get_or, arith}
 use Rattle.std.proofs.lemmas.Bool.Decides.{nat_tests}
 use Rattle.tape_disk.specs.Disk.{DiskState}
 use Rattle.library.specs.Elements.{BayState, HeldState, bay_at}
@@ -50,7 +50,8 @@ module _ {D : Type 0} (state : D → DiskState) where
           subst (λ (b : Option (BayState D)). IsWrittenAt state b) (sym (no_bay number least)) tt
 
   -- one drive more
-  pub record TurnsOne (number : ℕ) (old : HeldState D) (result : Result Unit Unwritten) (new : HeldState D) : Type 0 where
+  pub record TurnsOne (number : ℕ) (old : HeldState D) (result : Result Unit Unwritten) (new : HeldState D) : Type
+      0 where
     pub turns : TurnsAt state (bay_at old.bays number) (bay_at new.bays number)
     pub others : (other : ℕ) → other ≢ number → bay_at new.bays other ≡ bay_at old.bays other
     pub slots : new.slots ≡ old.slots

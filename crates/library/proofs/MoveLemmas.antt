@@ -1,9 +1,7 @@
 -- What a move does to the cartridges of a library.
-use Rattle.std.proofs.Common.{◌≡◌, ◌≢◌, ◌⊎◌, inl, inr, ℕ, ◌==◌, ◌&&◌, ◌||◌, not, Bool, true, false, List, [], Option, None, Some, is_some, Result, Ok, Err, refl, sym, ap, ◌∙◌, cond, subst, arith}
+use Rattle.std.proofs.Common.{◌≡◌, ◌≢◌, ◌⊎◌, inl, inr, ℕ, ◌==◌, ◌&&◌, ◌||◌, not, Bool, true, false, List, [], Option, None, Some, is_some, Ok, Err, refl, sym, ap, ◌∙◌, cond, subst, arith}
 use Rattle.std.proofs.lemmas.Bool.Decides.{nat_tests}
-use Rattle.vtl_base.specs.Below.{Advances}
 use Rattle.scsi_sense.specs.declared.replies.Reply.{Reply}
-use Rattle.scsi_sense.specs.declared.replies.Status.{Status}
 use Rattle.scsi_sense.specs.declared.replies.Status.TheVariants.{Good, Check, Conflict}
 use Rattle.scsi_sense.specs.declared.sense_data.Sense.{Sense}
 use Rattle.scsi_sense.specs.Replies.{check_with, conflict, good_with}
@@ -13,13 +11,12 @@ use Rattle.volume_core.specs.declared.changes.Change.{Change}
 use Rattle.volume_core.specs.declared.media.MediumError.{MediumError}
 use Rattle.volume_core.specs.declared.media.MediumError.TheVariants as Errors
 use Rattle.volume_core.specs.Volume.{Part, after}
-use Rattle.volume_core.specs.Medium.{Breaks, GivenBy, IsFresh, IsParked, IsParkedFrom, MediumState, Opens, Wakes, WakesFrom, volume_of, volume_or_empty}
+use Rattle.volume_core.specs.Medium.{IsParked, IsParkedFrom, MediumState, WakesFrom, volume_of, volume_or_empty}
 use Rattle.drive_core.specs.declared.bays.Bay.{Bay}
 use Rattle.drive_core.specs.declared.bays.Bay.TheVariants.{Empty, Unloaded, Loaded}
-use Rattle.drive_core.specs.declared.faults.Fault.{Fault}
 use Rattle.drive_core.specs.Faults.{reply_of}
 use Rattle.drive_core.specs.Load.{wake_answer}
-use Rattle.drive_core.specs.Media.{GoesOutOf, ParksFrom, TakesIn, WakesAs}
+use Rattle.drive_core.specs.Media.{GoesOutOf, ParksFrom, WakesAs}
 use Rattle.drive_core.specs.State.{medium_in}
 use Rattle.tape_buffer.specs.Moves.{buffer_below, medium_moves_nowhere, medium_moves_on}
 use Rattle.tape_buffer.specs.State.{BufferState, state_of}
@@ -456,7 +453,8 @@ module _ {D : Type 0} (state : D → DiskState) where
         )
 
     pub moves_keep : (old new : HeldState D) (from to : ℕ) (reply : Reply)
-        → (refusal_of_move old from to ≡ None → IsAwakeAt state old from) → MovesMedium state old from to reply new → KeepsCartridges state old from to reply new
+        → (refusal_of_move old from to ≡ None → IsAwakeAt state old from) → MovesMedium state old from to reply new
+        → KeepsCartridges state old from to reply new
     moves_keep old new from to reply awake moves = by (refusal_of_move old from to) refl moves
       where
         by : (refusal : Option Reply) → refusal_of_move old from to ≡ refusal
@@ -478,7 +476,8 @@ module _ {D : Type 0} (state : D → DiskState) where
             (is_some (cartridge_at old from)) (is_some (cartridge_at old to)) (check_with invalid_element_address [])
             conflict (check_with source_empty []) (check_with destination_full []) is in
             let source = some_of (cartridge_at old from) passed.0 in
-            carries_keep old new from to reply source.0 source.1 (none_of (cartridge_at old to) passed.1) (awake is) answers
+            carries_keep old new from to reply source.0 source.1 (none_of (cartridge_at old to) passed.1) (awake is)
+            answers
 
   out_stays : (old mid : HeldState D) (from : ℕ) (out : BufferState D) → GoesOutAt state old from (Ok out) mid
       → KeepsBays old mid

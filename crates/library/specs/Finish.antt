@@ -25,7 +25,8 @@ module _ {D : Type 0} (state : D → DiskState) where
   -- a drive, where there is one, takes a flusher's turn (own)
   abbrev pub TurnsAt : Option (BayState D) → Option (BayState D) → Type 0
   TurnsAt None None = Unit {0}
-  TurnsAt (Some old) (Some new) = (turn : Turn) × TakesTurn (state_of state) (buffer_below state) store_kept old turn new
+  TurnsAt (Some old) (Some new) =
+      (turn : Turn) × TakesTurn (state_of state) (buffer_below state) store_kept old turn new
   TurnsAt _ _ = ⊥
 
   -- nothing is left to be written of the drive, where there is one (own)

@@ -1,4 +1,4 @@
-use Rattle.std.proofs.Common.{◌≡◌, ◌∙◌, ap, sym, subst, inl, inr, Option}
+use Rattle.std.proofs.Common.{◌∙◌, ap, sym, subst, inl, inr, Option}
 use Rattle.scsi_sense.specs.declared.replies.Reply.{Reply}
 use Rattle.scsi_sense.specs.Replies.{good_with}
 use Rattle.library.specs.Moves.{AnswersMove}

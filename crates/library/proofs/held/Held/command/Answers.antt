@@ -1,4 +1,4 @@
-use Rattle.std.proofs.Common.{◌≡◌, ◌≤◌, ◌∙◌, ap, sym, Some, arith}
+use Rattle.std.proofs.Common.{◌≤◌, ◌∙◌, ap, sym, arith}
 use Rattle.library.specs.Elements.{HeldState, bay_at}
 use Rattle.library.proofs.BayLemmas.{bay_is, found_at}
 use Rattle.library.proofs.held.Held.command.Goals as goal

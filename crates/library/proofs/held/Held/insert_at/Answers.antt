@@ -1,4 +1,4 @@
-use Rattle.std.proofs.Common.{◌≡◌, ◌∙◌, ap, sym, subst, set, Some, ℕ, ◌-◌}
+use Rattle.std.proofs.Common.{◌∙◌, ap, sym, subst, set, Some, ℕ, ◌-◌}
 use Rattle.library.specs.Elements.{BayState, HeldState, bay_at, cartridge_in}
 use Rattle.library.specs.Moves.{BayIs}
 use Rattle.library.proofs.BayLemmas.{at_no_place, bay_is, empty_bay, found_at}
@@ -42,8 +42,11 @@ returns g c =
       ap (λ (h : HeldState g.row.D.Denot). bay_at h.bays c.args.address) (sym c.self.view_is)
           ∙ found ∙ c.in-Some-index_mut.is,
       subst (λ (b : BayState g.row.D.Denot). BayIs c.args.address b c.args.self.now
-          (record { slots = c.self.inside.slots; bays = set c.self.inside.bays.items c.place.result (Some c.insert.new.self) }))
+          (record {
+            slots = c.self.inside.slots;
+            bays = set c.self.inside.bays.items c.place.result (Some c.insert.new.self);
+          }))
           c.insert.ensures.inserted
-          (bay_is c.self.inside.slots c.self.inside.bays.items c.args.address c.place.result c.insert.new.self c.args.self.now
-          c.self.view_is at.1 at.2 c.self.invariant place),
+          (bay_is c.self.inside.slots c.self.inside.bays.items c.args.address c.place.result c.insert.new.self
+          c.args.self.now c.self.view_is at.1 at.2 c.self.invariant place),
     )

@@ -1,4 +1,4 @@
-use Rattle.std.proofs.Common.{◌≡◌, ◌≤◌, ◌∙◌, ap, sym, subst, Some, set, arith}
+use Rattle.std.proofs.Common.{◌≤◌, ◌∙◌, ap, sym, subst, Some, set, arith}
 use Rattle.library.specs.Elements.{Becomes, HeldState, bay_at}
 use Rattle.library.proofs.BayLemmas.{changed_at, nothing}
 use Rattle.library.proofs.held.Held.install.Goals as goal

@@ -1,4 +1,4 @@
-use Rattle.std.proofs.Common.{◌≡◌, ◌∙◌, ap, sym, ℕ, ◌-◌}
+use Rattle.std.proofs.Common.{◌∙◌, ap, sym, ℕ, ◌-◌}
 use Rattle.library.specs.Elements.{HeldState, bay_at, cartridge_in}
 use Rattle.library.proofs.BayLemmas.{at_no_place, bay_is, empty_bay, found_at}
 use Rattle.library.proofs.held.Held.load_at.Goals as goal

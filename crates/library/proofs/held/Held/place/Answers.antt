@@ -1,4 +1,4 @@
-use Rattle.std.proofs.Common.{◌≡◌, ◌∙◌, ap, subst, Some}
+use Rattle.std.proofs.Common.{ap, subst, Some}
 use Rattle.changer.specs.Slots.{Puts}
 use Rattle.library.specs.Elements.{HeldState}
 use Rattle.library.proofs.BayLemmas.{if_err, on_ok, with_slots}

@@ -1,4 +1,4 @@
-use Rattle.std.proofs.Common.{◌≡◌, ◌∙◌, ap, sym, subst, inl, inr, true, List, Option, None, Some, is_some}
+use Rattle.std.proofs.Common.{◌≡◌, ◌∙◌, ap, sym, subst, inl, true, List, Option, None, Some}
 use Rattle.changer.specs.Slots.{Puts}
 use Rattle.tape_buffer.specs.State.{BufferState}
 use Rattle.library.specs.Elements.{HeldState, cartridge_at, is_element}
@@ -30,8 +30,8 @@ returns-in-Ok g c =
       placed_slot c.self.inside.slots c.args.address c.in-Ok.ensures.ok.0,
       record {
         slots =
-            subst (λ (h : HeldState g.row.D.Denot). Puts c.args.address (Some c.args.cartridge) h.slots c.place.new.self)
-            c.self.view_is c.in-Ok.ensures.ok.1;
+            subst (λ (h : HeldState g.row.D.Denot). Puts c.args.address (Some c.args.cartridge) h.slots
+            c.place.new.self) c.self.view_is c.in-Ok.ensures.ok.1;
         bays = ap (λ (h : HeldState g.row.D.Denot). h.bays) c.self.view_is;
       },
     )

@@ -1,4 +1,4 @@
-use Rattle.std.proofs.Common.{◌≡◌, ◌∙◌, ap, sym, subst, inl, true, List, Option, None, Some, is_some}
+use Rattle.std.proofs.Common.{◌≡◌, ◌∙◌, ap, sym, subst, inl, true, List, Option, None, is_some}
 use Rattle.changer.specs.Slots.{Puts, held_at}
 use Rattle.tape_buffer.specs.State.{BufferState}
 use Rattle.library.specs.Elements.{BayState, HeldState, bay_at, cartridge_at}
@@ -12,7 +12,8 @@ unload_at-requires g c =
     let held : HeldState g.row.D.Denot = record { slots = c.self.inside.slots; bays = c.self.inside.bays.items } in
     let full = subst (λ (h : HeldState g.row.D.Denot). is_some (cartridge_at h c.args.address) ≡ true)
     (sym c.self.view_is) c.requires in
-    drive_there held c.args.address (not_taken held c.args.address c.in-Err.field-0 c.in-Err.ensures.refused.0 full) full
+    drive_there held c.args.address (not_taken held c.args.address c.in-Err.field-0 c.in-Err.ensures.refused.0 full)
+    full
 
 pub returns-in-Ok-clause-out : goal.returns-in-Ok-clause-out
 returns-in-Ok-clause-out g c =

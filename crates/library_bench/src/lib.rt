@@ -1,0 +1,9 @@
+//! The tests of library.
+#![tactic(auto)]
+
+#[cfg(test)]
+mod moving;
+#[cfg(test)]
+mod samples;
+#[cfg(test)]
+mod writing;

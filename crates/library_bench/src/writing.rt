@@ -1,0 +1,70 @@
+//! Buffers are written out.
+use crate::samples::{Disk, GOOD, NEVER, asks, is_answer, library};
+use drive_core::Drive;
+use library::{Held, Unwritten};
+use scsi_sense::Status;
+use std::alloc::Global;
+use std::process::Abort;
+use std::test::Fail;
+use vtl_base::DriveNo;
+
+const READY: &[u8] = &[0; 6];
+
+// A library whose drive 1 holds the cartridge, loaded, with a block of one byte pending; or none, where the
+// cartridge does not go into the drive.
+fn with_a_block(rt: &impl Abort, alloc: Global, fails: u64) -> Result<Option<Held<Disk>>, Fail> {
+    let mut held = library(alloc, fails)?;
+    if held.move_medium(1001, 1).sense.is_some() {
+        return Ok(None);
+    }
+    for wanted in [
+        (Status::Check, 6, 0x29, 0),
+        (Status::Check, 6, 0x28, 0),
+        GOOD,
+    ] {
+        asks(rt, &mut held, (1, 1), READY, b"", wanted);
+    }
+    asks(rt, &mut held, (1, 1), &[0x0a, 0, 0, 0, 1, 0], b"x", GOOD);
+    Ok(Some(held))
+}
+
+// The syncs of the disk of the cartridge in drive 1.
+fn syncs(rt: &impl Abort, held: &Held<Disk>) -> u64 {
+    let drive = DriveNo::new(1).expect(rt, "a drive");
+    match held.bay(drive).and_then(|bay| bay.drive().medium()) {
+        Some(medium) => medium.disk().inner().syncs(),
+        None => 0,
+    }
+}
+
+#[test]
+fn all_is_written_out(rt: HostRuntime) -> Result<(), Fail> {
+    let Some(held) = with_a_block(&rt, rt.alloc(), NEVER)? else {
+        return Err(Fail::from("not loaded"));
+    };
+    let mut held = held;
+    let before = syncs(&rt, &held);
+    assert_eq!(rt; held.finish(), Ok(()));
+    assert_eq!(rt; syncs(&rt, &held).checked_sub(before), Some(2));
+    assert_eq!(rt; held.finish(), Ok(()));
+    assert_eq!(rt; syncs(&rt, &held).checked_sub(before), Some(2));
+    Ok(())
+}
+
+// A frame takes four calls of the disk.
+#[test]
+fn what_is_not_written_is_told(rt: HostRuntime) -> Result<(), Fail> {
+    let mut unwritten = 0u32;
+    for fails in 5..30 {
+        let Some(held) = with_a_block(&rt, rt.alloc(), fails)? else {
+            continue;
+        };
+        let mut held = held;
+        if held.finish() == Err(Unwritten) {
+            unwritten = unwritten.saturating_add(1);
+            assert_eq!(rt; held.finish(), Err(Unwritten));
+        }
+    }
+    assert_eq!(rt; unwritten, 4);
+    Ok(())
+}
