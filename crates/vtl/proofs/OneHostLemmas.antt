@@ -12,7 +12,7 @@ use Rattle.drive_core.specs.Relations.{Made, made_nothing}
 use Rattle.drive_core.specs.Work.{Request}
 use Rattle.drive_core.specs.Faults.{reply_of}
 use Rattle.drive_core.specs.State.{DriveState, Machine, machine_of, medium_in}
-use Rattle.drive_core.specs.Run.{Run, Serves, ServedByRuns}
+use Rattle.drive_core.specs.Run.{Run, ServedByRuns}
 use Rattle.std.specs.Io.KnownBytes.{Appends}
 use Rattle.drive_core.specs.Execute.{HonestIn}
 use Rattle.drive_core.specs.Determined.{AllAskAlike, IsCalm, without_turns, HonestStepsAreSteps, RunsAreDetermined}

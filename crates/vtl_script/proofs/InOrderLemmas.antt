@@ -1,5 +1,5 @@
 -- Scripts of at most one host, in their order.
-use Rattle.std.proofs.Common.{◌≡◌, ℕ, ◌+◌, ◌<◌, ◌≤◌, Bool, true, false, cond, ◌&&◌, nat_lt, ◌==◌, List, [], ◌∷◌, ◌++◌, length, get_or, filter_map, Option, Some, None, option_map, refl, sym, ap, ◌∙◌, arith, append_assoc}
+use Rattle.std.proofs.Common.{◌≡◌, ℕ, ◌+◌, ◌<◌, ◌≤◌, Bool, true, false, cond, ◌&&◌, nat_lt, ◌==◌, List, [], ◌∷◌, ◌++◌, length, get_or, filter_map, Some, None, option_map, refl, sym, ap, ◌∙◌, arith, append_assoc}
 use Rattle.std.proofs.lemmas.Bool.Decides.{nat_tests}
 use Rattle.std.proofs.lemmas.List.{append-nil}
 use Rattle.std.proofs.lemmas.List.Sums.{AllPass-from_list_all}
@@ -9,7 +9,7 @@ use Rattle.vtl_script.specs.declared.lines.Line.{Line}
 use Rattle.vtl_script.specs.declared.lines.ParsedLine.{ParsedLine}
 use Rattle.vtl_script.specs.declared.lines.ParsedLine.TheVariants.{Nothing, PhaseEnd, Command, Move, Refused}
 use Rattle.vtl_script.specs.Parsed.{is_refused, is_move, refused_line, line_in}
-use Rattle.vtl_script.specs.Items.{has_host, by_host, items_after, items_to_run, commands_to_run, is_phase}
+use Rattle.vtl_script.specs.Items.{has_host, by_host, items_after, commands_to_run, is_phase}
 use Rattle.vtl_script.specs.InOrder.{IsOfHost, OneHostInOrder, NoMoveIsRun}
 use Rattle.vtl_script.proofs.PartLemmas.{none_of}
 use Rattle.vtl_script.proofs.TurnLemmas.{by_host-rising}

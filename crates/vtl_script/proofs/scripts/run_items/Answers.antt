@@ -1,4 +1,4 @@
-use Rattle.std.proofs.Common.{◌∷◌, [], sym}
+use Rattle.std.proofs.Common.{◌∷◌, []}
 use Rattle.std.proofs.lemmas.Result.{err_from_is_err_and}
 use Rattle.vtl_script.proofs.RunLemmas.{runs_on, phase_not_run}
 use Rattle.vtl_script.proofs.scripts.run_items.Goals as goal
