@@ -1,13 +1,14 @@
--- Scripts of at most one host.
-use Rattle.std.proofs.Common.{◌≡◌, ℕ, ◌==◌, List, [], ◌∷◌, map, Option, Some, None, IfSome, OnOk, Result, Err, Ok, refl, sym, ap, ◌∙◌, subst, All}
+-- Scripts of at most one host, without moves.
+use Rattle.std.proofs.Common.{◌≡◌, ℕ, ◌==◌, Bool, true, false, List, [], ◌∷◌, map, Option, Some, None, IfSome, OnOk, Result, Err, Ok, refl, sym, ap, ◌∙◌, subst, All}
 use Rattle.std.proofs.lemmas.List.Elements.{All-map}
+use Rattle.std.specs.List.{list_any}
 use Rattle.scsi_sense.specs.declared.replies.Reply.{Reply}
 use Rattle.pr_core.specs.declared.states.PrState.{PrState}
 use Rattle.pr_core.specs.Keepers.{KeeperState}
 use Rattle.volume_core.specs.declared.changes.Change.{Change}
 use Rattle.volume_core.specs.Medium.{MediumState}
 use Rattle.vtl_base.specs.Below.{Below}
-use Rattle.drive_core.specs.Relations.{Made}
+use Rattle.drive_core.specs.Relations.{Made, made_nothing}
 use Rattle.drive_core.specs.Work.{Request}
 use Rattle.drive_core.specs.Faults.{reply_of}
 use Rattle.drive_core.specs.State.{DriveState, Machine, machine_of, medium_in}
@@ -22,11 +23,12 @@ use Rattle.vtl.specs.declared.drives.HeldDrive.{HeldDrive}
 use Rattle.vtl_script.specs.declared.faults.ScriptFault.{ScriptFault}
 use Rattle.vtl_script.specs.Runs.{RunsScript}
 use Rattle.vtl_script.specs.declared.items.Item.{Item}
-use Rattle.vtl_script.specs.Parsed.{parsed_lines, refused_line}
+use Rattle.vtl_script.specs.Parsed.{parsed_lines, refused_line, is_move}
 use Rattle.vtl_script.specs.Items.{items_to_run}
 use Rattle.vtl_script.specs.Text.{text_of}
-use Rattle.vtl.specs.Held.{request_of, requests_of, HeldAnswers}
-use Rattle.vtl_script.specs.InOrder.{commands_in, IsOfHost, OneHostInOrder}
+use Rattle.vtl.specs.Held.{request_of, requests_of, HeldAnswers, HeldAnswersAll}
+use Rattle.vtl.specs.Inner.HeldRuns.{held_serves}
+use Rattle.vtl_script.specs.InOrder.{commands_in, IsOfHostAlone, OneHostInOrder, NoMoveIsRun}
 use Rattle.vtl.specs.OneHost.{asked_in, AnswersOneHost}
 
 -- requests ask as they do
@@ -78,59 +80,87 @@ run_in below steps None is old inputs outputs made new run = run
 run_in below steps (Some medium) is old inputs outputs made new run =
     run_over below.honest steps medium is old inputs outputs made new run
 
-pub one_host_is_answered : {M K : Type 0} (state : M → MediumState) (below : Below M Change) (kept : K → KeeperState)
-    (keeps : Below K PrState) → HonestStepsAreSteps below.honest → RunsAreDetermined
-    → ServedByRuns state below kept keeps → OneHostInOrder
-    → (number : ℕ) (old : DriveState M K) (left before : Option (List ℕ)) (new : DriveState M K)
-    (now : Option (List ℕ)) (text : List ℕ) (items : List Item) (replies : List Reply)
-    → IfSome left (λ all. text ≡ all) → refused_line (parsed_lines (λ drive. drive == number) text) ≡ None
-    → items ≡ items_to_run (parsed_lines (λ drive. drive == number) text)
-    → Serves state below kept keeps old (requests_of items) replies new → Appends before now (text_of replies)
-    → AnswersOneHost state below kept number old left before new now
-one_host_is_answered state below kept keeps steps determined runs in_order number old left before new now text items
-    replies known good items_are serves written =
-    let parsed_list = parsed_lines (λ drive. drive == number) text in
-    let served = runs old new (requests_of items) replies serves in
-    let lines_are : (host : ℕ) → IsOfHost host (commands_in parsed_list)
-    → map Execute (requests_of items) ≡ asked_in parsed_list =
-    λ host of.
-    ap (λ (xs : List Item). map Execute (requests_of xs)) items_are
-    ∙ ap (λ (xs : List Line). map Execute (map request_of xs))
-    (in_order host parsed_list of good) in
-    record {
-      text = text;
-      known = known;
-      answers = served.answers;
-      made = served.made;
-      run = λ host of. rw (lines_are host of) at served.run;
-      written = rw served.replied at written;
-      sole = λ host of is_honest sure silent ended inputs outputs others end asked calm run.
-          let ran = rw (lines_are host of, ended) at served.run in
-          let own = map request_of (commands_in parsed_list) in
-          let alike : AllAskAlike (without_turns (asked_in parsed_list)) (without_turns inputs) =
-          subst (λ (xs : List Input). AllAskAlike (without_turns (asked_in parsed_list)) xs) (sym asked)
-          (subst (λ (xs : List Input). AllAskAlike xs (asked_in parsed_list)) (sym (no_turns own)) (ask_alike own)) in
-          let same =
-          determined (machine_of state kept old) (machine_of state kept old)
-          (asked_in parsed_list) inputs (map Answered (map Ok silent)) outputs _ others _ end refl sure alike
-          (all_calm silent) calm
-          (run_in below steps (medium_in old.bay) is_honest (machine_of state kept old) (asked_in parsed_list)
-          (map Answered (map Ok silent)) _ _ ran)
-          run in
-          let replies_are : replies ≡ replies_of outputs =
-          served.replied ∙ ap (map reply_of) ended ∙ replied silent ∙ sym (replies_among silent) ∙ same.outputs in
-          rw replies_are at written;
-    }
+-- the laws of the machine and of scripts
+pub record Laws {M K : Type 0} (state : M → MediumState) (below : Below M Change) (kept : K → KeeperState)
+    (keeps : Below K PrState) : Type 0 where
+  pub steps : HonestStepsAreSteps below.honest
+  pub determined : RunsAreDetermined
+  pub runs : ServedByRuns state below kept keeps
+  pub in_order : OneHostInOrder
+  pub no_moves : NoMoveIsRun
 
-pub one_host_of : {M K : Type 0} (state : M → MediumState) (below : Below M Change) (kept : K → KeeperState)
-    (keeps : Below K PrState) → HonestStepsAreSteps below.honest → RunsAreDetermined
-    → ServedByRuns state below kept keeps → OneHostInOrder
-    → (old : HeldDrive M K) (left before : Option (List ℕ)) (new : HeldDrive M K) (now : Option (List ℕ))
-    (result : Result (Unit {0}) ScriptFault)
-    → RunsScript (λ number. number == old.number) (HeldAnswers state below kept keeps) old left before new now result
-    → OnOk result (AnswersOneHost state below kept old.number old.drive left before new.drive now)
-one_host_of state below kept keeps steps determined runs_law in_order old left before new now (Err fault) runs = tt
-one_host_of state below kept keeps steps determined runs_law in_order old left before new now (Ok done) runs =
-    let serves = rw (sym runs.ended.3.0) at runs.answered in
-    one_host_is_answered state below kept keeps steps determined runs_law in_order old.number old.drive left before
-    new.drive now runs.text runs.items runs.replies runs.known runs.ended.1 runs.ended.2 serves runs.ended.3.1
+module _ {M K : Type 0} (state : M → MediumState) (below : Below M Change) (kept : K → KeeperState)
+    (keeps : Below K PrState) (laws : Laws state below kept keeps) where
+  -- a script that asks for no move
+  without_moves : (number : ℕ) (old : DriveState M K) (left before : Option (List ℕ)) (new : DriveState M K)
+      (now : Option (List ℕ)) (text : List ℕ) (items : List Item) (replies : List Reply)
+      → IfSome left (λ all. text ≡ all) → refused_line (parsed_lines (λ drive. drive == number) text) ≡ None
+      → items ≡ items_to_run (parsed_lines (λ drive. drive == number) text)
+      → HeldAnswersAll state below kept keeps old items replies new → Appends before now (text_of replies)
+      → list_any is_move (parsed_lines (λ drive. drive == number) text) ≡ false
+      → AnswersOneHost state below kept number old left before new now
+  without_moves number old left before new now text items replies known good items_are ran written none =
+      let parsed_list = parsed_lines (λ drive. drive == number) text in
+      let phases = rw (sym items_are) at laws.no_moves parsed_list none in
+      let serves = held_serves state below kept keeps old new items replies phases ran in
+      let served = laws.runs old new (requests_of items) replies serves in
+      let lines_are : (host : ℕ) → IsOfHostAlone host parsed_list
+      → map Execute (requests_of items) ≡ asked_in parsed_list =
+      λ host of.
+      ap (λ (xs : List Item). map Execute (requests_of xs)) items_are
+      ∙ ap (λ (xs : List Line). map Execute (map request_of xs)) (laws.in_order host parsed_list of.commands good) in
+      record {
+        text = text;
+        known = known;
+        answers = served.answers;
+        made = served.made;
+        run = λ host of. rw (lines_are host of) at served.run;
+        written = rw served.replied at written;
+        sole = λ host of is_honest sure silent ended inputs outputs others end asked calm run.
+            let ran = rw (lines_are host of, ended) at served.run in
+            let own = map request_of (commands_in parsed_list) in
+            let alike : AllAskAlike (without_turns (asked_in parsed_list)) (without_turns inputs) =
+            subst (λ (xs : List Input). AllAskAlike (without_turns (asked_in parsed_list)) xs) (sym asked)
+            (subst (λ (xs : List Input). AllAskAlike xs (asked_in parsed_list)) (sym (no_turns own)) (ask_alike own)) in
+            let same =
+            laws.determined (machine_of state kept old) (machine_of state kept old)
+            (asked_in parsed_list) inputs (map Answered (map Ok silent)) outputs _ others _ end refl sure alike
+            (all_calm silent) calm
+            (run_in below laws.steps (medium_in old.bay) is_honest (machine_of state kept old) (asked_in parsed_list)
+            (map Answered (map Ok silent)) _ _ ran)
+            run in
+            let replies_are : replies ≡ replies_of outputs =
+            served.replied ∙ ap (map reply_of) ended ∙ replied silent ∙ sym (replies_among silent) ∙ same.outputs in
+            rw replies_are at written;
+      }
+
+  -- a script, by whether it asks for a move
+  answered_by : (number : ℕ) (old : DriveState M K) (left before : Option (List ℕ)) (new : DriveState M K)
+      (now : Option (List ℕ)) (text : List ℕ) (items : List Item) (replies : List Reply) (moves : Bool)
+      → IfSome left (λ all. text ≡ all) → refused_line (parsed_lines (λ drive. drive == number) text) ≡ None
+      → items ≡ items_to_run (parsed_lines (λ drive. drive == number) text)
+      → HeldAnswersAll state below kept keeps old items replies new → Appends before now (text_of replies)
+      → list_any is_move (parsed_lines (λ drive. drive == number) text) ≡ moves
+      → AnswersOneHost state below kept number old left before new now
+  answered_by number old left before new now text items replies false known good items_are ran written is =
+      without_moves number old left before new now text items replies known good items_are ran written is
+  answered_by number old left before new now text items replies true known good items_are ran written is = record {
+    text = text;
+    known = known;
+    answers = map Ok replies;
+    made = made_nothing;
+    run = λ host of. let none = of.no_move in absurd (cc);
+    written = rw (replied replies) written;
+    sole = λ host of. let none = of.no_move in absurd (cc);
+  }
+
+  pub one_host_of : (old : HeldDrive M K) (left before : Option (List ℕ)) (new : HeldDrive M K)
+      (now : Option (List ℕ)) (result : Result (Unit {0}) ScriptFault)
+      → RunsScript (λ number. number == old.number) (HeldAnswers state below kept keeps) old left before new now result
+      → OnOk result (AnswersOneHost state below kept old.number old.drive left before new.drive now)
+  one_host_of old left before new now (Err fault) runs = tt
+  one_host_of old left before new now (Ok done) runs =
+      let ran = rw (sym runs.ended.3.0) at runs.answered in
+      answered_by old.number old.drive left before new.drive now runs.text runs.items runs.replies
+      (list_any is_move (parsed_lines (λ drive. drive == old.number) runs.text)) runs.known runs.ended.1 runs.ended.2 ran
+      runs.ended.3.1 refl

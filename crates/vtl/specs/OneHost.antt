@@ -1,4 +1,4 @@
--- Scripts of at most one host (own).
+-- Scripts of at most one host, without moves (own).
 use Rattle.std.specs.Prelude.{◌≡◌, ℕ, ◌==◌, List, All, map, Option, Result, Ok, IfSome}
 use Rattle.std.specs.Io.KnownBytes.{Appends}
 use Rattle.scsi_sense.specs.declared.replies.Reply.{Reply}
@@ -16,7 +16,7 @@ use Rattle.drive_core.specs.Run.{Run}
 use Rattle.drive_core.specs.Determined.{IsCalm, IsSureDrive, seen_of, without_turns}
 use Rattle.vtl_script.specs.declared.lines.ParsedLine.{ParsedLine}
 use Rattle.vtl_script.specs.Parsed.{parsed_lines}
-use Rattle.vtl_script.specs.InOrder.{commands_in, IsOfHost}
+use Rattle.vtl_script.specs.InOrder.{commands_in, IsOfHostAlone}
 use Rattle.vtl_script.specs.Text.{text_of}
 use Rattle.vtl.specs.Held.{request_of}
 
@@ -24,11 +24,11 @@ use Rattle.vtl.specs.Held.{request_of}
 abbrev pub asked_in : List ParsedLine → List Input
 asked_in parsed_list = map Execute (map request_of (commands_in parsed_list))
 
--- a script of one host that was run to its end by the drive of this number: it was answered by a run of the drive's
--- machine over the commands in the order of the lines, and the text of those answers was written, and nothing else;
--- over an honest medium of which it is sure what its side gives, and where no answer is a fault, want of memory or a
--- full side, no other run of the machine in which none of these comes, wherever flusher's turns stand in it, has
--- another text (own)
+-- a script that was run to its end by the drive of this number, the text of whose answers was written, and nothing
+-- else: where it is of one host and asks for no move, the answers are those of a run of the drive's machine over the
+-- commands in the order of the lines; over an honest medium of which it is sure what its side gives, and where no
+-- answer is a fault, want of memory or a full side, no other run of the machine in which none of these comes, wherever
+-- flusher's turns stand in it, has another text (own)
 pub record AnswersOneHost {M K : Type 0}
     (state : M → MediumState) (below : Below M Change) (kept : K → KeeperState) (number : ℕ)
     (old : DriveState M K) (left before : Option (List ℕ)) (new : DriveState M K) (now : Option (List ℕ)) : Type
@@ -39,12 +39,12 @@ pub record AnswersOneHost {M K : Type 0}
   pub answers : List (Result Reply Fault)
   pub made : Made
   pub run :
-      (host : ℕ) → IsOfHost host (commands_in (parsed_lines (λ drive. drive == number) text))
+      (host : ℕ) → IsOfHostAlone host (parsed_lines (λ drive. drive == number) text)
       → Run (HonestIn below (medium_in old.bay)) (machine_of state kept old)
       (asked_in (parsed_lines (λ drive. drive == number) text)) (map Answered answers) made (machine_of state kept new)
   pub written : Appends before now (text_of (map reply_of answers))
   pub sole :
-      (host : ℕ) → IsOfHost host (commands_in (parsed_lines (λ drive. drive == number) text))
+      (host : ℕ) → IsOfHostAlone host (parsed_lines (λ drive. drive == number) text)
       → HonestIn below (medium_in old.bay) → IsSureDrive (seen_of (machine_of state kept old)) → (silent : List Reply)
       → answers ≡ map Ok silent
       → (inputs : List Input) (outputs : List Output) (others : Made) (end : Machine)

@@ -1,21 +1,24 @@
 //! A script that is run by one drive.
-ghost use Rattle.std.specs.Prelude.{◌≡◌, ◌≢◌, ◌==◌, map, IfOk, OnOk, OnErr, Err, length, vec_len};
-ghost use Rattle.drive_core.specs.Run.{Serves, serves_none};
+ghost use Rattle.std.specs.Prelude.{◌≡◌, ◌≢◌, ◌==◌, ◌∷◌, [], refl, map, IfOk, OnOk, OnErr, Err, length, vec_len};
+ghost use Rattle.drive_core.specs.Run.{Serves};
+ghost use Rattle.scsi_sense.specs.Replies.{check_with};
+ghost use Rattle.scsi_sense.specs.Senses.{invalid_element_address};
 ghost use Rattle.vtl.specs.Held.{request_of, HeldAnswers};
-ghost use Rattle.vtl.specs.Inner.HeldRuns.{held_on};
+ghost use Rattle.vtl.specs.Inner.HeldRuns.{held_empty, held_on};
 ghost use Rattle.vtl.specs.OneHost.{AnswersOneHost};
 ghost use Rattle.vtl_script.specs.Runs.{AnswersSome, RunsScript, TakesWithin};
 
 use drive_core::{Drive, laws};
 use pr_core::Keeper;
-use scsi_sense::Reply;
+use scsi_sense::{Reply, Sense};
 use std::alloc::Global;
 use std::io::{Read, Write};
 use volume_core::Medium;
-use vtl_base::{DriveNo, NoMemory};
+use vtl_base::{Bytes, DriveNo, NoMemory};
 use vtl_script::{Item, Line, Runner, ScriptFault, run_script};
 
-/// One drive, which runs the commands of a phase one after another.
+/// One drive, which runs the commands of a phase one after another. It has no slots, and its own
+/// address is not looked for: every move is answered by no such element address.
 #[derive(Drop)]
 pub struct HeldDrive<M: Medium, K: Keeper> {
     pub number: DriveNo,
@@ -41,6 +44,17 @@ impl<M: Medium, K: Keeper> HeldDrive<M, K> {
     }
 }
 
+// What every move is answered.
+fn no_address(alloc: Global) -> Result<Vec<Reply>, NoMemory>
+    ensures { IfOk result (λ replies.
+        replies.items ≡ check_with invalid_element_address [] ∷ []) }
+{
+    let mut replies = Vec::with_capacity(alloc, 1)?;
+    let reply = Reply::check(Sense::invalid_element_address(), Bytes::new(alloc));
+    replies.push(reply).unwrap();
+    Ok(replies)
+}
+
 impl<M: Medium, K: Keeper> Runner for HeldDrive<M, K> {
     ghost is_configured = { λ held number. number == held.number };
 
@@ -53,19 +67,20 @@ impl<M: Medium, K: Keeper> Runner for HeldDrive<M, K> {
     fn run(&mut self, alloc: Global, item: &Item) -> Result<Vec<Reply>, NoMemory> {
         match item {
             Item::Phase(commands) => self.run_lines(alloc, commands.as_slice()),
+            Item::Move { .. } => no_address(alloc),
         }
     }
 
-    ghost answers_none = { λ held. serves_none M.state M.below K.kept K.below held.drive };
+    ghost answers_none = { λ held. (refl, refl) };
 
-    ghost answers_empty = { λ held. serves_none M.state M.below K.kept K.below held.drive };
+    ghost answers_empty = { λ held. held_empty M.state M.below K.kept K.below held.drive };
 
     ghost answers_on = { λ old mid new first rest replies others one two.
         held_on M.state M.below K.kept K.below old.drive mid.drive new.drive
         first rest replies others one two };
 }
 
-/// Runs a script by one drive. Where it is of one host, and was run to its end with no fault, want of
+/// Runs a script by one drive. Where it is of one host and asks for no move, and was run to its end with no fault, want of
 /// memory or full side over an honest medium, what is written is the text of the machine's replies
 /// to its lines, and nothing else.
 pub fn run_on_drive<M: Medium, K: Keeper, R: Read, W: Write>(

@@ -11,7 +11,7 @@ use Rattle.vtl_script.specs.Items.{items_to_run}
 use Rattle.vtl_script.specs.Text.{reply_text, text_of}
 use Rattle.vtl_script.specs.Runs.{WritesPart, RunsPart, WritesSome}
 use Rattle.vtl_script.specs.Inner.Reading.{Reading}
-use Rattle.vtl_script.specs.Inner.ReadItem.{rest_of, ParsesFirst, IsItem, ReadsLines}
+use Rattle.vtl_script.specs.Inner.ReadItem.{rest_of, ParsesFirst, AreItems, ReadsLines}
 use Rattle.vtl_script.proofs.LineLemmas.{at_end}
 use Rattle.vtl_script.proofs.TextLemmas.{appends_on}
 
@@ -88,16 +88,16 @@ writes_some_behind answers behind front text mid before during new now one two =
   written = longer before during now front text _ one two.written;
 }
 
--- an item that was read is the first of those that a script runs
-first_of_items : (is_last : Bool) (parsed_list all behind : List ParsedLine) (item : Item)
-    → all ≡ parsed_list ++ behind → (is_last ≡ true → behind ≡ []) → IsItem is_last parsed_list item
-    → (rest : List Item) × (items_to_run all ≡ item ∷ rest)
-first_of_items true parsed_list all behind item is last is_item =
+-- some items that were read are the first of those that a script runs
+first_of_items : (is_last : Bool) (parsed_list all behind : List ParsedLine) (items : List Item)
+    → all ≡ parsed_list ++ behind → (is_last ≡ true → behind ≡ []) → AreItems is_last parsed_list items
+    → (rest : List Item) × (items_to_run all ≡ items ++ rest)
+first_of_items true parsed_list all behind items is last are =
     let whole : all ≡ parsed_list = is ∙ ap (λ (xs : List ParsedLine). parsed_list ++ xs) (last refl)
     ∙ append-nil parsed_list in
-    (is_item.0, ap items_to_run whole ∙ is_item.1)
-first_of_items false parsed_list all behind item is last is_item =
-    (items_to_run behind, ap items_to_run is ∙ is_item behind)
+    (are.0, ap items_to_run whole ∙ are.1)
+first_of_items false parsed_list all behind items is last are =
+    (items_to_run behind, ap items_to_run is ∙ are behind)
 
 lines_behind : (is_configured : ℕ → Bool) (is_last : Bool) (text read : List ℕ) (parsed_list : List ParsedLine)
     (unread : List ℕ) (left : Option (List ℕ))
@@ -120,11 +120,11 @@ lines_behind is_configured false text read parsed_list unread left says = (
 )
 
 pub in_script : (is_configured : ℕ → Bool) (left left' : Option (List ℕ)) (old new : Reading) (is_last : Bool)
-    (item : Item) → (reads : ReadsLines is_configured left old left' new is_last item)
+    (items : List Item) → (reads : ReadsLines is_configured left old left' new is_last items)
     → (rest : List Item)
-    × (items_to_run (parsed_lines is_configured (old.unread ++ (reads.read ++ rest_of left'))) ≡ item ∷ rest)
-in_script is_configured left left' old new is_last item reads =
+    × (items_to_run (parsed_lines is_configured (old.unread ++ (reads.read ++ rest_of left'))) ≡ items ++ rest)
+in_script is_configured left left' old new is_last items reads =
     let behind = lines_behind is_configured is_last old.unread reads.read reads.parsed_list new.unread left' reads.says
     in
     first_of_items is_last reads.parsed_list (parsed_lines is_configured (old.unread ++ (reads.read ++ rest_of left')))
-    behind.0 item behind.1 behind.2 reads.is_item
+    behind.0 items behind.1 behind.2 reads.are_items

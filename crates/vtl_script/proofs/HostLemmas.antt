@@ -5,7 +5,7 @@ use Rattle.std.proofs.lemmas.List.Folds.{list_all-append}
 use Rattle.vtl_script.specs.declared.lines.Line.{Line}
 use Rattle.vtl_script.specs.declared.lines.ParsedLine.{ParsedLine}
 use Rattle.vtl_script.specs.declared.lines.ParsedLine.TheVariants.{Nothing, PhaseEnd, Refused}
-use Rattle.vtl_script.specs.Lines.{only_if, host_of, drive_of, bytes_of, decimal_of, parsed_command, command_in, data_of, parse_command, parse_fields, line_fields}
+use Rattle.vtl_script.specs.Lines.{only_if, host_of, drive_of, bytes_of, decimal_of, parsed_command, command_in, data_of, parse_command, parsed_move, parse_move, parse_order, parse_fields, line_fields}
 use Rattle.vtl_script.specs.Parsed.{parsed_line, line_in}
 use Rattle.vtl_script.specs.Items.{has_host, by_host}
 
@@ -58,12 +58,24 @@ pass_with p is_configured all first (drive ∷ []) = refl
 pass_with p is_configured all first (drive ∷ cdb ∷ rest) = pass_fields p is_configured all first drive cdb
     (data_of rest)
 
+pass_moved : (p : Line → Bool) (from to : Option ℕ) → list_all p (filter_map line_in (parsed_move from to ∷ [])) ≡ true
+pass_moved p (Some from) (Some to) = refl
+pass_moved p (Some from) None = refl
+pass_moved p None to = refl
+
+pass_move : (p : Line → Bool) (fields : List (List ℕ)) → list_all p (filter_map line_in (parse_move fields ∷ [])) ≡ true
+pass_move p [] = refl
+pass_move p (from ∷ []) = refl
+pass_move p (from ∷ to ∷ []) = pass_moved p (decimal_of from) (decimal_of to)
+pass_move p (from ∷ to ∷ other ∷ fields) = refl
+
 pass_by : (p : Line → Bool) (is_configured : ℕ → Bool) → AllPass p is_configured → (fields : List (List ℕ))
     → list_all p (filter_map line_in (parse_fields is_configured fields ∷ [])) ≡ true
 pass_by p is_configured all [] = refl
 pass_by p is_configured all (first ∷ rest) =
-    pass_if p (slice_index first 0 == 35) Nothing (parse_command is_configured first rest) refl
-    (pass_with p is_configured all first rest)
+    pass_if p (slice_index first 0 == 35) Nothing (parse_order is_configured first rest) refl
+    (pass_if p (bytes_eq first (codes "move")) (parse_move rest) (parse_command is_configured first rest)
+    (pass_move p rest) (pass_with p is_configured all first rest))
 
 pass_line : (p : Line → Bool) (is_configured : ℕ → Bool) → AllPass p is_configured → (count : ℕ) (line : List ℕ)
     → list_all p (filter_map line_in (parsed_line is_configured count line ∷ [])) ≡ true

@@ -7,10 +7,10 @@ use Rattle.std.proofs.lemmas.List.Folds.{list_all-append}
 use Rattle.std.specs.List.{list_all, list_any, position_or_len}
 use Rattle.vtl_script.specs.declared.lines.Line.{Line}
 use Rattle.vtl_script.specs.declared.lines.ParsedLine.{ParsedLine}
-use Rattle.vtl_script.specs.declared.lines.ParsedLine.TheVariants.{Nothing, PhaseEnd, Command, Refused}
-use Rattle.vtl_script.specs.Parsed.{is_refused, refused_line, line_in}
-use Rattle.vtl_script.specs.Items.{has_host, by_host, items_after, items_to_run, commands_to_run}
-use Rattle.vtl_script.specs.InOrder.{IsOfHost, OneHostInOrder}
+use Rattle.vtl_script.specs.declared.lines.ParsedLine.TheVariants.{Nothing, PhaseEnd, Command, Move, Refused}
+use Rattle.vtl_script.specs.Parsed.{is_refused, is_move, refused_line, line_in}
+use Rattle.vtl_script.specs.Items.{has_host, by_host, items_after, items_to_run, commands_to_run, is_phase}
+use Rattle.vtl_script.specs.InOrder.{IsOfHost, OneHostInOrder, NoMoveIsRun}
 use Rattle.vtl_script.proofs.PartLemmas.{none_of}
 use Rattle.vtl_script.proofs.TurnLemmas.{by_host-rising}
 
@@ -65,6 +65,11 @@ in_order host least most front (PhaseEnd ∷ parsed_list) good all =
     ap (λ (xs : List Line). xs ++ commands_to_run (items_after [] parsed_list))
     (by_one_host host front (record { least = least; most = most; all = both.0 }))
     ∙ ap (λ (xs : List Line). front ++ xs) (in_order host least most [] parsed_list good both.1)
+in_order host least most front (Move from to ∷ parsed_list) good all =
+    let both = both_of host front (filter_map line_in parsed_list) all in
+    ap (λ (xs : List Line). xs ++ commands_to_run (items_after [] parsed_list))
+    (by_one_host host front (record { least = least; most = most; all = both.0 }))
+    ∙ ap (λ (xs : List Line). front ++ xs) (in_order host least most [] parsed_list good both.1)
 in_order host least most front (Refused ∷ parsed_list) good all = absurd (cc)
 in_order host least most front (Nothing ∷ parsed_list) good all = in_order host least most front parsed_list good all
 in_order host least most front (Command line ∷ parsed_list) good all =
@@ -86,3 +91,16 @@ no_refused parsed_list is =
 pub one_host_in_order : OneHostInOrder
 one_host_in_order host parsed_list of good = in_order host of.least of.most [] parsed_list (no_refused parsed_list good)
     of.all
+
+-- where no line asks for a move, all items are phases
+phases_after : (front : List Line) (parsed_list : List ParsedLine) → list_any is_move parsed_list ≡ false
+    → list_all is_phase (items_after front parsed_list) ≡ true
+phases_after front [] none = refl
+phases_after front (Nothing ∷ parsed_list) none = phases_after front parsed_list none
+phases_after front (PhaseEnd ∷ parsed_list) none = phases_after [] parsed_list none
+phases_after front (Command line ∷ parsed_list) none = phases_after (front ++ line ∷ []) parsed_list none
+phases_after front (Move from to ∷ parsed_list) none = absurd (cc)
+phases_after front (Refused ∷ parsed_list) none = refl
+
+pub no_move_is_run : NoMoveIsRun
+no_move_is_run parsed_list none = phases_after [] parsed_list none

@@ -1,5 +1,5 @@
--- An item that is read, run and answered, and where that ends.
-use Rattle.std.proofs.Common.{◌≡◌, ℕ, ◌+◌, Bool, true, false, not, List, [], ◌∷◌, ◌++◌, length, take, Option, Result, Ok, Err, refl, sym, ap, ◌∙◌, arith, append_assoc, ◌⊎◌, inl, inr}
+-- Items that are read, run and answered, and where that ends.
+use Rattle.std.proofs.Common.{◌≡◌, ℕ, ◌+◌, Bool, true, false, not, List, [], ◌∷◌, ◌++◌, length, Option, Result, Ok, Err, refl, sym, ap, ◌∙◌, arith, append_assoc, inl, inr}
 use Rattle.std.proofs.lemmas.List.{append-nil}
 use Rattle.std.specs.Io.KnownBytes.{Appends}
 use Rattle.scsi_sense.specs.declared.replies.Reply.{Reply}
@@ -9,15 +9,15 @@ use Rattle.vtl_script.specs.declared.faults.ScriptFault.{ScriptFault}
 use Rattle.vtl_script.specs.declared.faults.ScriptFault.TheVariants.{BadLine, ReadFault, WriteFault, NoMemory}
 use Rattle.vtl_script.specs.Parsed.{parsed_lines, refused_line}
 use Rattle.vtl_script.specs.Items.{items_to_run}
-use Rattle.vtl_script.specs.Text.{text_of, AppendsPart}
+use Rattle.vtl_script.specs.Text.{text_of}
 use Rattle.vtl_script.specs.Inner.Reading.{Reading}
 use Rattle.vtl_script.specs.Inner.ReadItem.{rest_of, AreEmpty, ReadsLines, RefusesItem}
-use Rattle.vtl_script.specs.Runs.{AnswersSome}
-use Rattle.vtl_script.specs.Inner.RunItem.{FinishesScript, GoesOn, RunsItem}
+use Rattle.vtl_script.specs.Inner.RunItem.{AnswersItems, AnswersFirst, FinishesScript, GoesOn, RunsNext}
 use Rattle.vtl_script.proofs.LineLemmas.{at_end}
 use Rattle.vtl_script.proofs.TextLemmas.{appends_none}
 use Rattle.vtl_script.proofs.RefusedLemmas.{none_refused, first_refused}
 use Rattle.vtl_script.proofs.BehindLemmas.{known_on, known_rest, in_script}
+use Rattle.vtl_script.proofs.RunLemmas.{stops_sooner}
 
 module _ {P : Type 0} (is_configured : ℕ → Bool) (answers : P → List Item → List Reply → P → Type 0)
     (nothing : (runner : P) → answers runner [] [] runner)
@@ -86,88 +86,42 @@ module _ {P : Type 0} (is_configured : ℕ → Bool) (answers : P → List Item 
   read_failed reading old left left' before WriteFault other refuses = absurd (other refl)
   read_failed reading old left left' before NoMemory other refuses = finish_short reading old left before
 
-  -- an item was read, and not all of it was run
-  pub finish_part : (reading reading' : Reading) (old : P) (left left' before : Option (List ℕ)) (new : P)
-      (is_last : Bool) (item : Item) → ReadsLines is_configured left reading left' reading' is_last item
-      → AnswersSome answers old item new
-      → FinishesScript is_configured answers reading old left before new before (Err NoMemory)
-  finish_part reading reading' old left left' before new is_last item reads some =
-      let at = in_script is_configured left left' reading reading' is_last item reads in
+  -- some items of a phase were run, and where memory ran out or a write failed the next was not run whole
+  pub finish_first : (reading reading' : Reading) (old : P) (left left' before : Option (List ℕ)) (new : P)
+      (now : Option (List ℕ)) (is_last : Bool) (items : List Item) (fault : ScriptFault)
+      → ReadsLines is_configured left reading left' reading' is_last items
+      → AnswersFirst answers old items before new now fault
+      → FinishesScript is_configured answers reading old left before new now (Err fault)
+  finish_first reading reading' old left left' before new now is_last items (BadLine number) reads ran = absurd ran.stops
+  finish_first reading reading' old left left' before new now is_last items ReadFault reads ran = absurd ran.stops
+  finish_first reading reading' old left left' before new now is_last items WriteFault reads ran =
+      let at = in_script is_configured left left' reading reading' is_last items reads in
       record {
         text = reads.read ++ rest_of left';
         known = known_on left left' reads.read (rest_of left') reads.taken (known_rest left');
-        items = [];
-        replies = [];
-        mid = old;
-        answered = nothing old;
+        items = ran.first;
+        replies = ran.replies;
+        mid = ran.mid;
+        answered = ran.answered;
         ended = (
-          item ∷ at.0,
-          at.1,
-          inr
-              (inl (record { item = item; rest = at.0; is = refl; some = some; written = appends_none before })),
+          ran.behind ++ at.0,
+          at.1 ∙ ap (λ (xs : List Item). xs ++ at.0) ran.are ∙ append_assoc ran.first ran.behind at.0,
+          stops_sooner answers ran.behind at.0 (text_of ran.replies) ran.mid before new now WriteFault ran.stops,
         );
       }
-
-  -- it was run, and the first of its replies were written
-  pub finish_print : (reading reading' : Reading) (old : P) (left left' before now : Option (List ℕ)) (new : P)
-      (is_last : Bool) (item : Item) (replies : List Reply) (count : ℕ)
-      → ReadsLines is_configured left reading left' reading' is_last item → answers old (item ∷ []) replies new
-      → Appends before now (text_of (take count replies))
-      → FinishesScript is_configured answers reading old left before new now (Err NoMemory)
-  finish_print reading reading' old left left' before now new is_last item replies count reads answered appends =
-      let at = in_script is_configured left left' reading reading' is_last item reads in
+  finish_first reading reading' old left left' before new now is_last items NoMemory reads ran =
+      let at = in_script is_configured left left' reading reading' is_last items reads in
       record {
         text = reads.read ++ rest_of left';
         known = known_on left left' reads.read (rest_of left') reads.taken (known_rest left');
-        items = [];
-        replies = [];
-        mid = old;
-        answered = nothing old;
+        items = ran.first;
+        replies = ran.replies;
+        mid = ran.mid;
+        answered = ran.answered;
         ended = (
-          item ∷ at.0,
-          at.1,
-          inr
-              (inr (record {
-                item = item;
-                rest = at.0;
-                is = refl;
-                replies = replies;
-                answered = answered;
-                count = count;
-                written = appends;
-              })),
-        );
-      }
-
-  -- a write failed
-  pub finish_unwritten : (reading reading' : Reading) (old : P) (left left' before now : Option (List ℕ)) (new : P)
-      (is_last : Bool) (item : Item) (replies : List Reply)
-      → ReadsLines is_configured left reading left' reading' is_last item → answers old (item ∷ []) replies new
-      → AppendsPart before now (text_of replies)
-      → FinishesScript is_configured answers reading old left before new now (Err WriteFault)
-  finish_unwritten reading reading' old left left' before now new is_last item replies reads answered part =
-      let at = in_script is_configured left left' reading reading' is_last item reads in
-      record {
-        text = reads.read ++ rest_of left';
-        known = known_on left left' reads.read (rest_of left') reads.taken (known_rest left');
-        items = [];
-        replies = [];
-        mid = old;
-        answered = nothing old;
-        ended = (
-          item ∷ at.0,
-          at.1,
-          record {
-            item = item;
-            rest = at.0;
-            is = refl;
-            replies = replies;
-            answered = answered;
-            part = part.0;
-            begins =
-                part.1;
-            written = part.2;
-          },
+          ran.behind ++ at.0,
+          at.1 ∙ ap (λ (xs : List Item). xs ++ at.0) ran.are ∙ append_assoc ran.first ran.behind at.0,
+          inr (stops_sooner answers ran.behind at.0 (text_of ran.replies) ran.mid before new now NoMemory ran.stops),
         );
       }
 
@@ -176,40 +130,40 @@ module _ {P : Type 0} (is_configured : ℕ → Bool) (answers : P → List Item 
   empty_stand runner items (inl none) = rw none (nothing runner)
   empty_stand runner items (inr one) = rw one (empty runner)
 
-  -- the last item was run and answered
-  pub finish_last : (reading reading' : Reading) (old : P) (left left' before now : Option (List ℕ)) (new : P)
-      (item : Item) (replies : List Reply) → ReadsLines is_configured left reading left' reading' true item
-      → answers old (item ∷ []) replies new → Appends before now (text_of replies)
+  -- the last items were run and answered
+  finish_last : (reading reading' : Reading) (old : P) (left left' before now : Option (List ℕ)) (new : P)
+      (items : List Item) → ReadsLines is_configured left reading left' reading' true items
+      → AnswersItems answers old items before new now
       → FinishesScript is_configured answers reading old left before new now (Ok tt)
-  finish_last reading reading' old left left' before now new item replies reads answered appends =
+  finish_last reading reading' old left left' before now new items reads ran =
       let text_is : reads.read ++ rest_of left' ≡ reads.read = ap (λ (xs : List ℕ). reads.read ++ xs)
       (at_end left' reads.says.0) ∙ append-nil reads.read in
       let parsed_is : parsed_lines is_configured (reading.unread ++ (reads.read ++ rest_of left')) ≡ reads.parsed_list
       = ap (λ (xs : List ℕ). parsed_lines is_configured (reading.unread ++ xs)) text_is ∙ reads.says.1 in
-      let rest = reads.is_item.0 in
+      let rest = reads.are_items.0 in
       record {
         text = reads.read ++ rest_of left';
         known = known_on left left' reads.read (rest_of left') reads.taken (known_rest left');
-        items = item ∷ rest;
-        replies = replies;
+        items = items ++ rest;
+        replies = ran.replies;
         mid = new;
-        answered = rw (append-nil replies) at
-            (on old new new (item ∷ []) rest replies [] answered (empty_stand new rest reads.is_item.2));
+        answered = rw (append-nil ran.replies) at
+            (on old new new items rest ran.replies [] ran.answered (empty_stand new rest reads.are_items.2));
         ended = (
           omega (arith, ap length text_is, reads.bytes, reads.within),
           ap refused_line parsed_is
               ∙ none_refused reads.parsed_list reads.accepted,
-          sym (ap items_to_run parsed_is ∙ reads.is_item.1),
-          (refl, appends),
+          sym (ap items_to_run parsed_is ∙ reads.are_items.1),
+          (refl, ran.written),
         );
       }
 
-  -- an item that is not the last was run and answered
-  pub go_on : (reading reading' : Reading) (old : P) (left left' before now : Option (List ℕ)) (new : P)
-      (item : Item) (replies : List Reply) → ReadsLines is_configured left reading left' reading' false item
-      → answers old (item ∷ []) replies new → Appends before now (text_of replies)
+  -- items that are not the last were run and answered
+  go_on : (reading reading' : Reading) (old : P) (left left' before now : Option (List ℕ)) (new : P)
+      (items : List Item) → ReadsLines is_configured left reading left' reading' false items
+      → AnswersItems answers old items before new now
       → GoesOn is_configured answers reading old left before reading' new left' now
-  go_on reading reading' old left left' before now new item replies reads answered appends =
+  go_on reading reading' old left left' before now new items reads ran =
       record {
         read = reads.read;
         taken = reads.taken;
@@ -218,44 +172,19 @@ module _ {P : Type 0} (is_configured : ℕ → Bool) (answers : P → List Item 
         accepted = reads.accepted;
         lines = reads.lines refl;
         bytes = reads.bytes;
-        items = item ∷ [];
-        to_run = reads.is_item;
-        replies = replies;
-        answered = answered;
-        written = appends;
+        items = items;
+        to_run = reads.are_items;
+        replies = ran.replies;
+        answered = ran.answered;
+        written = ran.written;
       }
 
-  -- the replies of an item were not all written
-  pub write_failed : (reading reading' : Reading) (old : P) (left left' before now : Option (List ℕ)) (new : P)
-      (is_last : Bool) (item : Item) (replies : List Reply) (fault : ScriptFault)
-      → ReadsLines is_configured left reading left' reading' is_last item → answers old (item ∷ []) replies new
-      → (fault ≡ WriteFault) ⊎ (fault ≡ NoMemory)
-      → (fault ≡ WriteFault → AppendsPart before now (text_of replies))
-      → (fault ≡ NoMemory → (count : ℕ) × Appends before now (text_of (take count replies)))
-      → FinishesScript is_configured answers reading old left before new now (Err fault)
-  write_failed reading reading' old left left' before now new is_last item replies (BadLine number) reads answered
-      (inl is) part some = absurd (cc)
-  write_failed reading reading' old left left' before now new is_last item replies (BadLine number) reads answered
-      (inr is) part some = absurd (cc)
-  write_failed reading reading' old left left' before now new is_last item replies ReadFault reads answered (inl is)
-      part some = absurd (cc)
-  write_failed reading reading' old left left' before now new is_last item replies ReadFault reads answered (inr is)
-      part some = absurd (cc)
-  write_failed reading reading' old left left' before now new is_last item replies WriteFault reads answered cause part
-      some =
-      finish_unwritten reading reading' old left left' before now new is_last item replies reads answered (part refl)
-  write_failed reading reading' old left left' before now new is_last item replies NoMemory reads answered cause part
-      some =
-      let written = some refl in finish_print reading reading' old left left' before now new is_last item replies
-      written.0 reads answered written.1
-
-  -- an item was run and answered
-  pub item_done : (reading reading' : Reading) (old : P) (left left' before now : Option (List ℕ)) (new : P)
-      (is_last : Bool) (item : Item) (replies : List Reply)
-      → ReadsLines is_configured left reading left' reading' is_last item → answers old (item ∷ []) replies new
-      → Appends before now (text_of replies)
-      → RunsItem is_configured answers reading old left before reading' new left' now (Ok (not is_last))
-  item_done reading reading' old left left' before now new true item replies reads answered appends = finish_last
-      reading reading' old left left' before now new item replies reads answered appends
-  item_done reading reading' old left left' before now new false item replies reads answered appends = go_on reading
-      reading' old left left' before now new item replies reads answered appends
+  -- items were run and answered
+  pub items_done : (reading reading' : Reading) (old : P) (left left' before now : Option (List ℕ)) (new : P)
+      (is_last : Bool) (items : List Item) → ReadsLines is_configured left reading left' reading' is_last items
+      → AnswersItems answers old items before new now
+      → RunsNext is_configured answers reading old left before reading' new left' now (Ok (not is_last))
+  items_done reading reading' old left left' before now new true items reads ran = finish_last reading reading' old left
+      left' before now new items reads ran
+  items_done reading reading' old left left' before now new false items reads ran = go_on reading reading' old left left'
+      before now new items reads ran

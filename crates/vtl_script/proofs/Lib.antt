@@ -7,6 +7,7 @@ pub mod PartLemmas
 pub mod PhaseLemmas
 pub mod ReadingLemmas
 pub mod RefusedLemmas
+pub mod RunLemmas
 pub mod ScriptLemmas
 pub mod SplitLemmas
 pub mod TextLemmas

@@ -1,20 +1,21 @@
 -- The lines of a phase, read one after another.
-use Rattle.std.proofs.Common.{inl, inr, ◌≡◌, ℕ, ◌+◌, ◌≤◌, Bool, true, false, ◌||◌, List, [], ◌∷◌, ◌++◌, length, Option, refl, sym, ap, ◌∙◌, arith, append_assoc, filter_map}
+use Rattle.std.proofs.Common.{inl, inr, ◌≡◌, ℕ, ◌+◌, ◌≤◌, Bool, true, false, ◌||◌, List, [], ◌∷◌, ◌++◌, length, Option, IfSome, refl, sym, ap, ◌∙◌, arith, append_assoc, filter_map}
 use Rattle.std.proofs.lemmas.List.{length-append, append-nil}
 use Rattle.std.proofs.lemmas.List.Folds.{list_any-append, list_all-append}
 use Rattle.std.specs.List.{list_any, list_all}
 use Rattle.std.specs.Io.KnownBytes.{Consumes}
 use Rattle.vtl_script.specs.declared.lines.Line.{Line}
 use Rattle.vtl_script.specs.declared.lines.ParsedLine.{ParsedLine}
-use Rattle.vtl_script.specs.declared.lines.ParsedLine.TheVariants.{Nothing, PhaseEnd, Command, Refused}
+use Rattle.vtl_script.specs.declared.lines.ParsedLine.TheVariants.{Nothing, PhaseEnd, Command, Move, Refused}
 use Rattle.vtl_script.specs.declared.phases.NextLine.{NextLine}
 use Rattle.vtl_script.specs.declared.phases.PhaseLines.{PhaseLines}
 use Rattle.vtl_script.specs.declared.items.Item.{Item}
 use Rattle.vtl_script.specs.declared.items.Item.TheVariants.{Phase}
-use Rattle.vtl_script.specs.declared.items.NextItem.{NextItem}
+use Rattle.vtl_script.specs.declared.items.Item.TheVariants as item
+use Rattle.vtl_script.specs.declared.items.NextItems.{NextItems}
 use Rattle.vtl_script.specs.Parsed.{parsed_lines, is_refused, is_phase_end, line_in}
-use Rattle.vtl_script.specs.Items.{has_host, by_host, items_after, items_to_run}
-use Rattle.vtl_script.specs.Inner.ReadItem.{rest_of, ParsesFirst, ReadsLine, RefusesLine, ReadsLines, ReadsPhase, ReadsItem, RefusesItem, IsItem}
+use Rattle.vtl_script.specs.Items.{has_host, by_host, items_after, items_to_run, IsRunnable}
+use Rattle.vtl_script.specs.Inner.ReadItem.{rest_of, ParsesFirst, ReadsLine, RefusesLine, ReadsLines, ReadsPhase, ReadsItems, RefusesItem, AreItems, move_in, with_move}
 use Rattle.vtl_script.specs.Runs.{TakesWithin}
 use Rattle.vtl_script.proofs.HostLemmas.{all_by_host}
 use Rattle.vtl_script.specs.Inner.Reading.{Reading, work_left}
@@ -77,6 +78,7 @@ line_on Nothing lines lines' more good inside is =
     ap (λ (xs : List Line). items_after xs more) (sym (is ∙ append-nil lines))
 line_on (Command line) lines lines' more good inside is = ap (λ (xs : List Line). items_after xs more) (sym is)
 line_on PhaseEnd lines lines' more good inside is = absurd (cc)
+line_on (Move from to) lines lines' more good inside is = absurd (cc)
 line_on Refused lines lines' more good inside is = absurd (cc)
 
 pub gathers_on : (is_configured : ℕ → Bool) (a b c : Option (List ℕ)) (old mid new : Reading)
@@ -123,40 +125,59 @@ says_then is_configured false old mid new first second parsed_list more left so 
     ∙ ap (λ (xs : List ParsedLine). parsed_list ++ xs) (tells rest)
     ∙ sym (append_assoc parsed_list more (parsed_lines is_configured (new ++ rest)))
 
--- the last line of an item, by what it says and whether the text has ended
-item_ends : (parsed : ParsedLine) (is_last : Bool) (parsed_list : List ParsedLine) (lines lines' : List Line)
+-- the last line of a phase, by what it says and whether the text has ended
+phase_ends : (parsed : ParsedLine) (is_last : Bool) (parsed_list : List ParsedLine) (lines lines' : List Line)
     → ((more : List ParsedLine) → items_to_run (parsed_list ++ more) ≡ items_after lines more)
     → is_refused parsed ≡ false → (is_phase_end parsed || is_last) ≡ true
     → lines' ≡ lines ++ filter_map line_in (parsed ∷ [])
-    → IsItem is_last (parsed_list ++ parsed ∷ []) (Phase (by_host lines'))
-item_ends PhaseEnd true parsed_list lines lines' to_run good ends is =
+    → AreItems is_last (parsed_list ++ parsed ∷ []) (with_move (Phase (by_host lines')) (move_in parsed))
+phase_ends PhaseEnd true parsed_list lines lines' to_run good ends is =
     let same : lines ≡ lines' = sym (is ∙ append-nil lines) in (
       Phase [] ∷ [],
       to_run (PhaseEnd ∷ []) ∙ ap (λ (xs : List Line). Phase (by_host xs) ∷ Phase (by_host []) ∷ []) same
           ∙ ap (λ (xs : List Line). Phase (by_host lines') ∷ Phase xs ∷ []) by_host-none,
       inr refl,
     )
-item_ends PhaseEnd false parsed_list lines lines' to_run good ends is = λ more.
+phase_ends PhaseEnd false parsed_list lines lines' to_run good ends is = λ more.
     ap items_to_run (append_assoc parsed_list (PhaseEnd ∷ []) more) ∙ to_run (PhaseEnd ∷ more)
     ∙ ap (λ (xs : List Line). Phase (by_host xs) ∷ items_to_run more) (sym (is ∙ append-nil lines))
-item_ends Nothing true parsed_list lines lines' to_run good ends is = (
+phase_ends (Move from to) true parsed_list lines lines' to_run good ends is =
+    let same : lines ≡ lines' = sym (is ∙ append-nil lines) in (
+      Phase [] ∷ [],
+      to_run (Move from to ∷ [])
+          ∙ ap (λ (xs : List Line). Phase (by_host xs) ∷ item.Move from to ∷ Phase (by_host []) ∷ []) same
+          ∙ ap (λ (xs : List Line). Phase (by_host lines') ∷ item.Move from to ∷ Phase xs ∷ []) by_host-none,
+      inr refl,
+    )
+phase_ends (Move from to) false parsed_list lines lines' to_run good ends is = λ more.
+    ap items_to_run (append_assoc parsed_list (Move from to ∷ []) more) ∙ to_run (Move from to ∷ more)
+    ∙ ap (λ (xs : List Line). Phase (by_host xs) ∷ item.Move from to ∷ items_to_run more) (sym (is ∙ append-nil lines))
+phase_ends Nothing true parsed_list lines lines' to_run good ends is = (
   [],
   to_run (Nothing ∷ []) ∙ ap (λ (xs : List Line). Phase (by_host xs) ∷ []) (sym (is ∙ append-nil lines)),
   inl
       refl,
 )
-item_ends (Command line) true parsed_list lines lines' to_run good ends is =
+phase_ends (Command line) true parsed_list lines lines' to_run good ends is =
     ([], to_run (Command line ∷ []) ∙ ap (λ (xs : List Line). Phase (by_host xs) ∷ []) (sym is), inl refl)
-item_ends Nothing false parsed_list lines lines' to_run good ends is = absurd (cc)
-item_ends (Command line) false parsed_list lines lines' to_run good ends is = absurd (cc)
-item_ends Refused is_last parsed_list lines lines' to_run good ends is = absurd (cc)
+phase_ends Nothing false parsed_list lines lines' to_run good ends is = absurd (cc)
+phase_ends (Command line) false parsed_list lines lines' to_run good ends is = absurd (cc)
+phase_ends Refused is_last parsed_list lines lines' to_run good ends is = absurd (cc)
+
+-- a move names any two addresses
+moves_run : (is_configured : ℕ → Bool) (parsed : ParsedLine) → IfSome (move_in parsed) (IsRunnable is_configured)
+moves_run is_configured Nothing = tt
+moves_run is_configured PhaseEnd = tt
+moves_run is_configured (Command line) = tt
+moves_run is_configured (Move from to) = tt
+moves_run is_configured Refused = tt
 
 pub phase_read : (is_configured : ℕ → Bool) (a b c : Option (List ℕ)) (old mid new : Reading) (lines : List Line)
     (next : NextLine) (phase : PhaseLines) → IsGathered is_configured a old b mid lines
     → ReadsLine is_configured b mid c new next → (is_phase_end next.parsed || next.is_last) ≡ true
-    → phase.is_last ≡ next.is_last → phase.lines.items ≡ lines ++ filter_map line_in (next.parsed ∷ [])
+    → phase.is_last ≡ next.is_last → phase.moved ≡ move_in next.parsed → phase.lines.items ≡ lines ++ filter_map line_in (next.parsed ∷ [])
     → ReadsPhase is_configured a old c new phase
-phase_read is_configured a b c old mid new lines next phase so tells ends same_last same_lines =
+phase_read is_configured a b c old mid new lines next phase so tells ends same_last same_move same_lines =
     let more = filter_map line_in (next.parsed ∷ []) in
     record {
       reads = record {
@@ -171,11 +192,12 @@ phase_read is_configured a b c old mid new lines next phase so tells ends same_l
         less = λ on. let least = tells.less (sym same_last ∙ on) in omega (arith, so.less, least);
         bytes = omega (arith, so.bytes, tells.bytes, length-append so.read tells.read);
         within = tells.within;
-        is_item = rw same_last (item_ends next.parsed next.is_last so.parsed_list lines phase.lines.items so.to_run
+        are_items = rw (same_last, same_move) (phase_ends next.parsed next.is_last so.parsed_list lines phase.lines.items so.to_run
             tells.accepted ends same_lines);
       };
       hosts = all_of has_host lines phase.lines.items more so.hosts tells.host same_lines;
       drives = all_of (λ line. is_configured line.drive) lines phase.lines.items more so.drives tells.drive same_lines;
+      moves = rw same_move (moves_run is_configured next.parsed);
     }
 
 pub phase_refused : (is_configured : ℕ → Bool) (a b c : Option (List ℕ)) (old mid : Reading) (lines : List Line)
@@ -198,20 +220,22 @@ phase_refused is_configured a b c old mid lines number so refuses =
       not_run = so.to_run (Refused ∷ refuses.behind);
     }
 
--- what an item's lines take is within the limit of bytes
+-- what the lines of some items take is within the limit of bytes
 pub takes_lines : (is_configured : ℕ → Bool) (left left' : Option (List ℕ)) (old new : Reading) (is_last : Bool)
-    (item : Item) → ReadsLines is_configured left old left' new is_last item → TakesWithin left old.bytes left'
-takes_lines is_configured left left' old new is_last item reads =
+    (items : List Item) → ReadsLines is_configured left old left' new is_last items → TakesWithin left old.bytes left'
+takes_lines is_configured left left' old new is_last items reads =
     (reads.read, reads.taken, omega (arith, reads.bytes, reads.within))
 
 -- a phase that was read is an item, its commands in the order of their turns
-pub item_read : (is_configured : ℕ → Bool) (left left' : Option (List ℕ)) (old new : Reading) (phase : PhaseLines)
-    (next : NextItem) → ReadsPhase is_configured left old left' new phase → next.is_last ≡ phase.is_last
-    → next.item ≡ Phase (by_host phase.lines.items) → ReadsItem is_configured left old left' new next
-item_read is_configured left left' old new phase next reads same_last same_item =
+pub items_read : (is_configured : ℕ → Bool) (left left' : Option (List ℕ)) (old new : Reading) (phase : PhaseLines)
+    (next : NextItems) → ReadsPhase is_configured left old left' new phase → next.is_last ≡ phase.is_last
+    → next.phase ≡ Phase (by_host phase.lines.items) → next.moved ≡ phase.moved
+    → ReadsItems is_configured left old left' new next
+items_read is_configured left left' old new phase next reads same_last same_phase same_move =
     record {
-      reads = rw (same_last, same_item) reads.reads;
-      runnable = rw same_item (all_by_host (λ line. is_configured line.drive) phase.lines.items reads.drives);
+      reads = rw (same_last, same_phase, same_move) reads.reads;
+      moves = rw same_move reads.moves;
+      runnable = rw same_phase (all_by_host (λ line. is_configured line.drive) phase.lines.items reads.drives);
     }
 
 pub or_last : (b : Bool) → (b || true) ≡ true

@@ -1,9 +1,9 @@
 -- Items of which nothing was run (own).
 use Rattle.std.specs.Prelude.{◌≡◌, List, [], ◌∷◌, Result, Ok, Err, OnErr}
-use Rattle.std.proofs.Common.{refl}
+use Rattle.std.proofs.Common.{refl, inr}
 use Rattle.scsi_sense.specs.declared.replies.Reply.{Reply}
 use Rattle.vtl_script.specs.declared.items.Item.{Item}
-use Rattle.vtl_script.specs.declared.items.Item.TheVariants.{Phase}
+use Rattle.vtl_script.specs.declared.items.Item.TheVariants.{Phase, Move}
 use Rattle.vtl_script.specs.Runs.{AnswersSome}
 
 -- where standing still answers a phase of no command, it answers the first commands of any item: none
@@ -11,6 +11,8 @@ pub none_of_item : {P : Type 0} (answers : P → List Item → List Reply → P 
     → answers old (Phase [] ∷ []) [] old → AnswersSome answers old item old
 none_of_item answers old (Phase lines) empty = record
     { part = Phase []; begins = (0, refl); replies = []; answered = empty }
+none_of_item answers old (Move from to) empty = record
+    { part = Phase []; begins = inr refl; replies = []; answered = empty }
 
 -- and so a call that leaves all as it was where it fails
 pub none_answered : {P T E : Type 0} (answers : P → List Item → List Reply → P → Type 0) (old new : P) (item : Item)

@@ -5,7 +5,7 @@ use Rattle.std.specs.Char.{is_ascii_digit}
 use Rattle.std.specs.Result.{result_ok}
 use Rattle.hex.specs.Hex.{decode_of}
 use Rattle.vtl_script.specs.declared.lines.ParsedLine.{ParsedLine}
-use Rattle.vtl_script.specs.declared.lines.ParsedLine.TheVariants.{Nothing, PhaseEnd, Command, Refused}
+use Rattle.vtl_script.specs.declared.lines.ParsedLine.TheVariants.{Nothing, PhaseEnd, Command, Move, Refused}
 
 -- whether a part of a line has a byte (own)
 abbrev pub is_some_byte : List ℕ → Bool
@@ -65,8 +65,25 @@ parse_command is_configured first [] = if bytes_eq first (codes "--") then Phase
 parse_command is_configured first (drive ∷ []) = Refused
 parse_command is_configured first (drive ∷ cdb ∷ rest) = command_in is_configured first drive cdb (data_of rest)
 
+-- a move, where both element addresses are decimal numbers (own)
+abbrev pub parsed_move : Option ℕ → Option ℕ → ParsedLine
+parsed_move (Some from) (Some to) = Move from to
+parsed_move from to = Refused
+
+-- what the fields behind `move` say: FROM TO (own)
+abbrev pub parse_move : List (List ℕ) → ParsedLine
+parse_move [] = Refused
+parse_move (from ∷ []) = Refused
+parse_move (from ∷ to ∷ []) = parsed_move (decimal_of from) (decimal_of to)
+parse_move (from ∷ to ∷ other ∷ fields) = Refused
+
+-- what the fields of a line say that is no remark, the first of them apart: `move` and two addresses, or other (own)
+abbrev pub parse_order : (ℕ → Bool) → List ℕ → List (List ℕ) → ParsedLine
+parse_order is_configured first rest =
+    if bytes_eq first (codes "move") then parse_move rest else parse_command is_configured first rest
+
 -- what the fields of a line say: nothing where there is none, or where the first begins with `#` (own)
 abbrev pub parse_fields : (ℕ → Bool) → List (List ℕ) → ParsedLine
 parse_fields is_configured [] = Nothing
 parse_fields is_configured (first ∷ rest) =
-    if slice_index first 0 == 35 then Nothing else parse_command is_configured first rest
+    if slice_index first 0 == 35 then Nothing else parse_order is_configured first rest

@@ -4,7 +4,7 @@ use Rattle.std.specs.List.{slice_split}
 use Rattle.vtl_base.specs.declared.limits.TheConstants.{LINE_BYTES}
 use Rattle.vtl_script.specs.declared.lines.Line.{Line}
 use Rattle.vtl_script.specs.declared.lines.ParsedLine.{ParsedLine}
-use Rattle.vtl_script.specs.declared.lines.ParsedLine.TheVariants.{PhaseEnd, Command, Refused}
+use Rattle.vtl_script.specs.declared.lines.ParsedLine.TheVariants.{PhaseEnd, Command, Move, Refused}
 use Rattle.vtl_script.specs.Lines.{line_fields, parse_fields}
 
 -- a line without the carriage return at its end (own)
@@ -34,15 +34,21 @@ abbrev pub is_refused : ParsedLine → Bool
 is_refused Refused = true
 is_refused other = false
 
--- whether a line ends a phase (own)
+-- whether a line ends a phase: `--` and a move do (own)
 abbrev pub is_phase_end : ParsedLine → Bool
 is_phase_end PhaseEnd = true
+is_phase_end (Move from to) = true
 is_phase_end other = false
 
 -- the command of a line, if it has one (own)
 abbrev pub line_in : ParsedLine → Option Line
 line_in (Command line) = Some line
 line_in other = None
+
+-- whether a line asks for a move (own)
+abbrev pub is_move : ParsedLine → Bool
+is_move (Move from to) = true
+is_move other = false
 
 -- the number of the first line that is refused, from 1 on (own)
 abbrev pub refused_line : List ParsedLine → Option ℕ

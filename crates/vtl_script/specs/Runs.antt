@@ -5,7 +5,7 @@ use Rattle.std.specs.Io.KnownBytes.{Appends, Consumes}
 use Rattle.vtl_base.specs.declared.limits.TheConstants.{SCRIPT_BYTES}
 use Rattle.scsi_sense.specs.declared.replies.Reply.{Reply}
 use Rattle.vtl_script.specs.declared.items.Item.{Item}
-use Rattle.vtl_script.specs.declared.items.Item.TheVariants.{Phase}
+use Rattle.vtl_script.specs.declared.items.Item.TheVariants.{Phase, Move}
 use Rattle.vtl_script.specs.declared.lines.ParsedLine.{ParsedLine}
 use Rattle.vtl_script.specs.declared.faults.ScriptFault.{ScriptFault}
 use Rattle.vtl_script.specs.declared.faults.ScriptFault.TheVariants.{BadLine, ReadFault, WriteFault, NoMemory}
@@ -13,11 +13,12 @@ use Rattle.vtl_script.specs.Parsed.{parsed_lines, refused_line}
 use Rattle.vtl_script.specs.Items.{items_to_run}
 use Rattle.vtl_script.specs.Text.{text_of}
 
--- an item, or its first commands alone (own)
+-- an item, or its first commands alone; of a move there is the move, or nothing of it: a phase of no command (own)
 abbrev pub IsBeginningOf : Item → Item → Type 0
 IsBeginningOf (Phase lines) part = (count : ℕ) × (part ≡ Phase (take count lines))
+IsBeginningOf (Move from to) part = (part ≡ Move from to) ⊎ (part ≡ Phase [])
 
--- some of an item's commands were answered, from the first on (own)
+-- some of an item's commands were answered, from the first on; a move was answered, or nothing (own)
 pub record AnswersSome {P : Type 0}
     (answers : P → List Item → List Reply → P → Type 0) (old : P) (item : Item) (new : P) : Type 0 where
   pub part : Item

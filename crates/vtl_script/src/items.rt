@@ -1,7 +1,7 @@
-//! The items of a script, each of which is run at once.
+//! The items of a script: phases and moves, each of which is run at once.
 ghost use Rattle.std.specs.Prelude.{◌≡◌, ◌≢◌, ℕ, IfOk, IfErr, Err};
 ghost use Rattle.vtl_script.specs.Runs.{TakesWithin};
-ghost use Rattle.vtl_script.specs.Inner.ReadItem.{ReadsItem, RefusesItem};
+ghost use Rattle.vtl_script.specs.Inner.ReadItem.{ReadsItems, RefusesItem};
 
 use crate::faults::ScriptFault;
 use crate::hosts::sort_by_host;
@@ -49,23 +49,27 @@ impl Commands {
 pub enum Item {
     /// The commands of a phase, in the order of their turns.
     Phase(Commands),
+    /// The cartridge at an element address is moved to another. The addresses are as the line gives
+    /// them, at most 99999 each.
+    Move { from: u32, to: u32 },
 }
 
-/// The next item, and whether the text has ended with it.
+/// The next phase, the move that ended it, if one did, and whether the text has ended with them.
 #[derive(Drop)]
-pub struct NextItem {
-    pub item: Item,
+pub struct NextItems {
+    pub phase: Item,
+    pub moved: Option<Item>,
     pub is_last: bool,
 }
 
-/// Reads an item, or up to the first line of it that is refused.
-pub fn read_item<P: Runner, R: Read>(
+/// Reads a phase and the move that ends it, or up to the first line of them that is refused.
+pub fn read_items<P: Runner, R: Read>(
     alloc: Global,
     runner: &P,
     line_reader: &mut LineReader,
     reader: &mut R,
-) -> Result<NextItem, ScriptFault>
-    ensures ok { IfOk result (ReadsItem (P.is_configured runner.now)
+) -> Result<NextItems, ScriptFault>
+    ensures ok { IfOk result (ReadsItems (P.is_configured runner.now)
         (R.remaining reader.old) line_reader.old (R.remaining reader.new) line_reader.new) }
     ensures refused { (number : ℕ) → result ≡ Err (ScriptFault.BadLine number) →
         RefusesItem (P.is_configured runner.now)
@@ -74,8 +78,15 @@ pub fn read_item<P: Runner, R: Read>(
     ensures past { IfErr result (λ fault. fault ≢ ScriptFault.ReadFault →
         TakesWithin (R.remaining reader.old) line_reader.old.bytes (R.remaining reader.new)) }
 {
-    let PhaseLines { mut lines, is_last } = read_phase(alloc, runner, line_reader, reader)?;
+    let PhaseLines {
+        mut lines,
+        moved,
+        is_last,
+    } = read_phase(alloc, runner, line_reader, reader)?;
     sort_by_host(&mut lines)?;
-    let item = Item::Phase(Commands::from_vec(lines));
-    Ok(NextItem { item, is_last })
+    Ok(NextItems {
+        phase: Item::Phase(Commands::from_vec(lines)),
+        moved,
+        is_last,
+    })
 }

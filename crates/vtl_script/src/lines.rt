@@ -1,7 +1,7 @@
 //! One line of a script: its fields, and what it says.
 ghost use Rattle.std.specs.Prelude.{◌≡◌, ℕ, ◌<◌, ◌==◌, ◌∷◌, [], length, filter, MatchOption, Some, IfOk, IfSome};
 ghost use Rattle.std.specs.List.{slice_split};
-ghost use Rattle.vtl_script.specs.Lines.{line_fields, is_some_byte, decimal_of, host_of, drive_of, bytes_of, parsed_command, command_in, data_of, parse_command, parse_fields};
+ghost use Rattle.vtl_script.specs.Lines.{line_fields, is_some_byte, decimal_of, host_of, drive_of, bytes_of, parsed_command, command_in, data_of, parse_command, parsed_move, parse_move, parse_fields};
 
 use crate::runners::Runner;
 use crate::splits::place_of;
@@ -26,6 +26,8 @@ pub enum ParsedLine {
     PhaseEnd,
     /// A command.
     Command(Line),
+    /// The cartridge at an element address is moved to another. The phase ends before it.
+    Move { from: u32, to: u32 },
     /// It is of no form that a line may have.
     Refused,
 }
@@ -177,6 +179,25 @@ fn parse_command<P: Runner>(
     }
 }
 
+// The move between the addresses of these fields.
+fn parse_move(rest: &[u8]) -> ParsedLine
+    ensures { result ≡ parse_move (line_fields rest.now) }
+{
+    let Some((from, rest)) = next_field(rest) else {
+        return ParsedLine::Refused;
+    };
+    let Some((to, rest)) = next_field(rest) else {
+        return ParsedLine::Refused;
+    };
+    if next_field(rest).is_some() {
+        return ParsedLine::Refused;
+    }
+    match (decimal(from), decimal(to)) {
+        (Some(from), Some(to)) => ParsedLine::Move { from, to },
+        _ => ParsedLine::Refused,
+    }
+}
+
 /// What a line of these bytes says, its line feed and the carriage return before it left out.
 pub fn parse<P: Runner>(alloc: Global, runner: &P, line: &[u8]) -> Result<ParsedLine, NoMemory>
     ensures { IfOk result (λ parsed.
@@ -187,6 +208,9 @@ pub fn parse<P: Runner>(alloc: Global, runner: &P, line: &[u8]) -> Result<Parsed
     };
     if first[0] == b'#' {
         return Ok(ParsedLine::Nothing);
+    }
+    if first == b"move".as_slice() {
+        return Ok(parse_move(rest));
     }
     parse_command(alloc, runner, first, rest)
 }

@@ -2,9 +2,10 @@
 ghost use Rattle.std.specs.Prelude.{◌≡◌, ◌≢◌, ◌++◌, ◌∷◌, [], ℕ, filter_map, IfOk, IfErr, OnOk, Err};
 ghost use Rattle.vtl_script.specs.Parsed.{without_return, parsed_line, is_phase_end, line_in};
 ghost use Rattle.vtl_script.specs.Runs.{TakesWithin};
-ghost use Rattle.vtl_script.specs.Inner.ReadItem.{ReportsRefused, ReadsLine, ReadsPhase, RefusesLine, RefusesItem};
+ghost use Rattle.vtl_script.specs.Inner.ReadItem.{ReportsRefused, ReadsLine, ReadsPhase, RefusesLine, RefusesItem, move_in};
 
 use crate::faults::ScriptFault;
+use crate::items::Item;
 use crate::line_readers::{Found, LineReader};
 use crate::lines::{Line, ParsedLine, parse};
 use crate::runners::Runner;
@@ -20,10 +21,12 @@ pub struct NextLine {
     pub is_last: bool,
 }
 
-/// The commands of a phase in the order of their lines, and whether the text has ended with it.
+/// The commands of a phase in the order of their lines, the move that ended it, if one did, and
+/// whether the text has ended with it.
 #[derive(Drop)]
 pub struct PhaseLines {
     pub lines: Vec<Line>,
+    pub moved: Option<Item>,
     pub is_last: bool,
 }
 
@@ -100,6 +103,20 @@ fn read_line<P: Runner, R: Read>(
     }
 }
 
+// The move that a line asks for.
+fn move_in(parsed: &ParsedLine) -> Option<Item>
+    ensures { result ≡ move_in parsed.now }
+{
+    match parsed {
+        ParsedLine::Move { from, to } => Some(Item::Move {
+            from: *from,
+            to: *to,
+        }),
+        ParsedLine::Nothing | ParsedLine::PhaseEnd | ParsedLine::Command(_) | ParsedLine::Refused =>
+            None,
+    }
+}
+
 // Adds the command of a line, and answers whether the phase ends with it.
 fn gather(lines: &mut Vec<Line>, parsed: ParsedLine) -> Result<bool, ScriptFault>
     ensures ends { IfOk result (λ is_end. is_end ≡ is_phase_end parsed) }
@@ -112,12 +129,13 @@ fn gather(lines: &mut Vec<Line>, parsed: ParsedLine) -> Result<bool, ScriptFault
             lines.push(line)?;
             Ok(false)
         }
-        ParsedLine::PhaseEnd => Ok(true),
+        ParsedLine::PhaseEnd | ParsedLine::Move { .. } => Ok(true),
         ParsedLine::Nothing | ParsedLine::Refused => Ok(false),
     }
 }
 
-/// Reads a phase: the commands up to its end, or the first line that is refused.
+/// Reads a phase: the commands up to its end, with the move that ends it, or up to the first line
+/// that is refused.
 pub fn read_phase<P: Runner, R: Read>(
     alloc: Global,
     runner: &P,
@@ -136,9 +154,14 @@ pub fn read_phase<P: Runner, R: Read>(
     let mut lines = Vec::new(alloc);
     loop {
         let NextLine { parsed, is_last } = read_line(alloc, runner, line_reader, reader)?;
+        let moved = move_in(&parsed);
         let is_end = gather(&mut lines, parsed)?;
         if is_end || is_last {
-            return Ok(PhaseLines { lines, is_last });
+            return Ok(PhaseLines {
+                lines,
+                moved,
+                is_last,
+            });
         }
     }
 }

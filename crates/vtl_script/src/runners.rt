@@ -24,8 +24,8 @@ pub trait Runner {
     fn configured(&self, drive: DriveNo) -> bool
         ensures { result ≡ is_configured self.now drive };
 
-    /// Runs an item: a reply for each of its commands, in order. Where memory runs out, only the
-    /// first of them were run.
+    /// Runs an item: a reply for each command of a phase, in order, and one for a move. Where memory
+    /// runs out, only the first commands were run, and a move was run or not.
     fn run(&mut self, alloc: Global, item: &Item) -> Result<Vec<Reply>, NoMemory>
         requires { IsRunnable (is_configured self.old) item.now }
         ensures ok { IfOk result (λ replies. answers self.old (item.now ∷ []) replies.items self.new) }

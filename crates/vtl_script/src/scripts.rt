@@ -1,26 +1,66 @@
 //! Scripts: items that are read, run and answered.
-ghost use Rattle.std.specs.Prelude.{◌≡◌, ◌≢◌, ◌<◌, Ok, Err, true};
+ghost use Rattle.std.specs.Prelude.{◌≡◌, ◌≢◌, ◌<◌, ◌∷◌, [], Ok, Err, IfSome, true};
 ghost use Rattle.vtl_script.specs.Inner.Reading.{work_left};
-ghost use Rattle.vtl_script.specs.Inner.RunItem.{RunsItem};
+ghost use Rattle.vtl_script.specs.Inner.ReadItem.{with_move};
+ghost use Rattle.vtl_script.specs.Inner.RunItem.{RunsItems, RunsNext};
+ghost use Rattle.vtl_script.specs.Items.{IsRunnable};
 ghost use Rattle.vtl_script.specs.Runs.{RunsScript, TakesWithin};
 
 use crate::faults::ScriptFault;
-use crate::items::{NextItem, read_item};
+use crate::items::{Item, NextItems, read_items};
 use crate::line_readers::LineReader;
 use crate::runners::Runner;
 use crate::texts::print_replies;
 use std::alloc::Global;
 use std::io::{Read, Write};
 
-// Reads an item, runs it and writes its replies. At `true` the text goes on.
-fn run_item<P: Runner, R: Read, W: Write>(
+// Runs an item and writes its replies.
+fn run_item<P: Runner, W: Write>(
+    alloc: Global,
+    runner: &mut P,
+    item: &Item,
+    writer: &mut W,
+) -> Result<(), ScriptFault>
+    requires { IsRunnable (P.is_configured runner.old) item.now }
+    ensures runs { RunsItems P.answers runner.old (item.now ∷ []) (W.contents writer.old)
+        runner.new (W.contents writer.new) result }
+    ensures same { P.is_configured runner.new ≡ P.is_configured runner.old }
+{
+    let replies = runner.run(alloc, item)?;
+    print_replies(alloc, writer, replies.as_slice())
+}
+
+// Runs a phase and writes its replies, and then the move behind it, if there is one.
+fn run_items<P: Runner, W: Write>(
+    alloc: Global,
+    runner: &mut P,
+    phase: &Item,
+    moved: &Option<Item>,
+    writer: &mut W,
+) -> Result<(), ScriptFault>
+    requires phase { IsRunnable (P.is_configured runner.old) phase.now }
+    requires moved { IfSome moved.now (IsRunnable (P.is_configured runner.old)) }
+    ensures runs { RunsItems P.answers runner.old (with_move phase.now moved.now)
+        (W.contents writer.old) runner.new (W.contents writer.new) result }
+    ensures same { P.is_configured runner.new ≡ P.is_configured runner.old }
+{
+    run_item(alloc, runner, phase, writer)?;
+    match moved {
+        Some(moved) => run_item(alloc, runner, moved, writer),
+        None => Ok(()),
+    }
+}
+
+// Reads a phase and the move that ends it, runs them and writes their replies. At `true` the text
+// goes on.
+fn run_next<P: Runner, R: Read, W: Write>(
     alloc: Global,
     runner: &mut P,
     line_reader: &mut LineReader,
     reader: &mut R,
     writer: &mut W,
 ) -> Result<bool, ScriptFault>
-    ensures runs { RunsItem (P.is_configured runner.old) P.answers
+    ensures runs { RunsNext (P.is_configured runner.old) P.answers
         line_reader.old runner.old (R.remaining reader.old) (W.contents writer.old)
         line_reader.new runner.new (R.remaining reader.new) (W.contents writer.new) result }
     ensures less { result ≡ Ok true → work_left line_reader.new < work_left line_reader.old }
@@ -28,14 +68,18 @@ fn run_item<P: Runner, R: Read, W: Write>(
     ensures past { result ≢ Err ScriptFault.ReadFault →
         TakesWithin (R.remaining reader.old) line_reader.old.bytes (R.remaining reader.new) }
 {
-    let NextItem { item, is_last } = read_item(alloc, runner, line_reader, reader)?;
-    let replies = runner.run(alloc, &item)?;
-    print_replies(alloc, writer, replies.as_slice())?;
+    let NextItems {
+        phase,
+        moved,
+        is_last,
+    } = read_items(alloc, runner, line_reader, reader)?;
+    run_items(alloc, runner, &phase, &moved, writer)?;
     Ok(!is_last)
 }
 
 /// Reads a script, runs it item by item and writes the replies, and nothing else. No byte is read
-/// between an item's last line and the flush of its replies.
+/// between the line that ends a phase and the flush of its replies; where a move ends it, that line
+/// was read, and no byte behind it until the replies of the move were flushed too.
 pub fn run_script<P: Runner, R: Read, W: Write>(
     alloc: Global,
     runner: &mut P,
@@ -51,6 +95,6 @@ pub fn run_script<P: Runner, R: Read, W: Write>(
         TakesWithin (R.remaining reader.old) 0 (R.remaining reader.new) }
 {
     let mut line_reader = LineReader::new(alloc);
-    while run_item(alloc, runner, &mut line_reader, reader, writer)? {}
+    while run_next(alloc, runner, &mut line_reader, reader, writer)? {}
     Ok(())
 }

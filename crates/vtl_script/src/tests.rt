@@ -2,6 +2,7 @@
 mod borders;
 mod echoes;
 mod failing;
+mod moves;
 mod wires;
 
 use crate::faults::ScriptFault;

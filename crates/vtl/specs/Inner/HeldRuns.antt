@@ -1,7 +1,7 @@
 -- What a held drive runs appends (own).
-use Rattle.std.proofs.Common.{List, ◌++◌, map, ap, ◌∙◌}
-use Rattle.std.proofs.lemmas.List.{map-append}
-use Rattle.std.proofs.lemmas.Grind.{flat_map-append}
+use Rattle.std.proofs.Common.{◌≡◌, Bool, true, false, ◌&&◌, List, [], ◌∷◌, ◌++◌, map, refl, sym, ap, ◌∙◌, append_assoc}
+use Rattle.std.proofs.lemmas.List.{map-append, append-nil}
+use Rattle.std.specs.List.{list_all}
 use Rattle.vtl_base.specs.Below.{Below}
 use Rattle.scsi_sense.specs.declared.replies.Reply.{Reply}
 use Rattle.pr_core.specs.declared.states.PrState.{PrState}
@@ -9,18 +9,50 @@ use Rattle.pr_core.specs.Keepers.{KeeperState}
 use Rattle.volume_core.specs.declared.changes.Change.{Change}
 use Rattle.volume_core.specs.Medium.{MediumState}
 use Rattle.drive_core.specs.State.{DriveState}
-use Rattle.drive_core.specs.Run.{Serves, serves_append}
+use Rattle.drive_core.specs.Run.{Serves, serves_none, serves_append}
 use Rattle.vtl_script.specs.declared.items.Item.{Item}
-use Rattle.vtl_script.specs.Items.{commands_of, commands_to_run}
-use Rattle.vtl.specs.Held.{request_of, requests_of}
+use Rattle.vtl_script.specs.declared.items.Item.TheVariants.{Phase, Move}
+use Rattle.vtl_script.specs.Items.{commands_to_run, is_phase}
+use Rattle.vtl.specs.Held.{request_of, requests_of, HeldAnswersOne, HeldAnswersAll}
 
--- what was run goes on by what is run from there
-pub held_on : {M K : Type 0} (state : M → MediumState) (below : Below M Change) (kept : K → KeeperState)
-    (keeps : Below K PrState) (old mid new : DriveState M K) (first rest : List Item) (replies others : List Reply)
-    → Serves state below kept keeps old (requests_of first) replies mid
-    → Serves state below kept keeps mid (requests_of rest) others new
-    → Serves state below kept keeps old (requests_of (first ++ rest)) (replies ++ others) new
-held_on state below kept keeps old mid new first rest replies others one two =
-    rw (ap (map request_of) (flat_map-append commands_of first rest)
-    ∙ map-append request_of (commands_to_run first) (commands_to_run rest))
-    (serves_append state below kept keeps old mid new (requests_of first) (requests_of rest) replies others one two)
+module _ {M K : Type 0} (state : M → MediumState) (below : Below M Change) (kept : K → KeeperState)
+    (keeps : Below K PrState) where
+  -- a phase of no command is answered by standing still
+  pub held_empty : (drive : DriveState M K) → HeldAnswersAll state below kept keeps drive (Phase [] ∷ []) [] drive
+  held_empty drive = (drive, [], [], refl, serves_none state below kept keeps drive, (refl, refl))
+
+  -- an item that is run alone
+  pub held_one : (old new : DriveState M K) (item : Item) (replies : List Reply)
+      → HeldAnswersOne state below kept keeps old item replies new
+      → HeldAnswersAll state below kept keeps old (item ∷ []) replies new
+  held_one old new item replies one = (new, replies, [], sym (append-nil replies), one, (refl, refl))
+
+  -- what was run goes on by what is run from there
+  pub held_on : (old mid new : DriveState M K) (first rest : List Item) (replies others : List Reply)
+      → HeldAnswersAll state below kept keeps old first replies mid
+      → HeldAnswersAll state below kept keeps mid rest others new
+      → HeldAnswersAll state below kept keeps old (first ++ rest) (replies ++ others) new
+  held_on old mid new [] rest replies others one two = rw (one.0, sym one.1) two
+  held_on old mid new (item ∷ items) rest replies others (at, front, behind, are, ran, more) two = (
+    at,
+    front,
+    behind ++ others,
+    ap (λ (xs : List Reply). xs ++ others) are ∙ append_assoc front behind others,
+    ran,
+    held_on at mid new items rest behind others more two,
+  )
+
+  ands : (a b : Bool) → (a && b) ≡ true → (a ≡ true) × (b ≡ true)
+  ands true b h = (refl, h)
+  ands false b h = absurd (cc)
+
+  -- where no item is a move, their commands are served
+  pub held_serves : (old new : DriveState M K) (items : List Item) (replies : List Reply)
+      → list_all is_phase items ≡ true → HeldAnswersAll state below kept keeps old items replies new
+      → Serves state below kept keeps old (requests_of items) replies new
+  held_serves old new [] replies phases one = rw (one.0, one.1) (serves_none state below kept keeps old)
+  held_serves old new (Phase lines ∷ items) replies phases (at, front, behind, are, ran, more) =
+      rw (are, map-append request_of lines (commands_to_run items))
+      (serves_append state below kept keeps old at new (map request_of lines) (requests_of items) front behind ran
+      (held_serves at new items behind phases more))
+  held_serves old new (Move from to ∷ items) replies phases one = absurd (cc)

@@ -1,15 +1,16 @@
 -- What is read of a script, item by item (own).
-use Rattle.std.specs.Prelude.{◌≡◌, ◌⊎◌, ℕ, ◌+◌, ◌<◌, ◌≤◌, Bool, true, false, List, [], ◌∷◌, ◌++◌, length, Option, Result, Ok, Err, unwrap_or, filter_map}
+use Rattle.std.specs.Prelude.{◌≡◌, ◌⊎◌, ℕ, ◌+◌, ◌<◌, ◌≤◌, Bool, true, false, List, [], ◌∷◌, ◌++◌, length, Option, Some, None, IfSome, Result, Ok, Err, unwrap_or, filter_map}
 use Rattle.std.specs.List.{list_any, list_all}
 use Rattle.std.specs.Io.KnownBytes.{Consumes, IsAtEnd}
 use Rattle.vtl_base.specs.declared.limits.TheConstants.{SCRIPT_BYTES}
 use Rattle.vtl_script.specs.declared.lines.ParsedLine.{ParsedLine}
-use Rattle.vtl_script.specs.declared.lines.ParsedLine.TheVariants.{Refused}
+use Rattle.vtl_script.specs.declared.lines.ParsedLine.TheVariants.{Move, Refused}
 use Rattle.vtl_script.specs.declared.phases.NextLine.{NextLine}
 use Rattle.vtl_script.specs.declared.phases.PhaseLines.{PhaseLines}
 use Rattle.vtl_script.specs.declared.items.Item.{Item}
 use Rattle.vtl_script.specs.declared.items.Item.TheVariants.{Phase}
-use Rattle.vtl_script.specs.declared.items.NextItem.{NextItem}
+use Rattle.vtl_script.specs.declared.items.Item.TheVariants as item
+use Rattle.vtl_script.specs.declared.items.NextItems.{NextItems}
 use Rattle.vtl_script.specs.declared.faults.ScriptFault.{ScriptFault}
 use Rattle.vtl_script.specs.declared.faults.ScriptFault.TheVariants.{BadLine}
 use Rattle.vtl_script.specs.Parsed.{parsed_lines, is_refused, line_in}
@@ -58,19 +59,29 @@ pub record RefusesLine (is_configured : ℕ → Bool) (left : Option (List ℕ))
   pub behind : List ParsedLine
   pub says : parsed_lines is_configured ((old.unread ++ read) ++ rest_of left') ≡ Refused ∷ behind
 
+-- the move that a line asks for (own)
+abbrev pub move_in : ParsedLine → Option Item
+move_in (Move from to) = Some (item.Move from to)
+move_in other = None
+
+-- a phase, and the move behind it (own)
+abbrev pub with_move : Item → Option Item → List Item
+with_move phase None = phase ∷ []
+with_move phase (Some moved) = phase ∷ moved ∷ []
+
 -- items with no command (own)
 abbrev pub AreEmpty : List Item → Type 0
 AreEmpty items = (items ≡ []) ⊎ (items ≡ Phase [] ∷ [])
 
--- these lines are an item before what follows; at the end of a text, the last that has a command (own)
-abbrev pub IsItem : Bool → List ParsedLine → Item → Type 0
-IsItem true parsed_list item = (rest : List Item) × (items_to_run parsed_list ≡ item ∷ rest) × AreEmpty rest
-IsItem false parsed_list item =
-    (more : List ParsedLine) → items_to_run (parsed_list ++ more) ≡ item ∷ items_to_run more
+-- these lines are some items before what follows; at the end of a text, the last but for a phase of no command (own)
+abbrev pub AreItems : Bool → List ParsedLine → List Item → Type 0
+AreItems true parsed_list items = (rest : List Item) × (items_to_run parsed_list ≡ items ++ rest) × AreEmpty rest
+AreItems false parsed_list items =
+    (more : List ParsedLine) → items_to_run (parsed_list ++ more) ≡ items ++ items_to_run more
 
--- an item was read, up to the place of a new reading (own)
+-- some items were read, up to the place of a new reading (own)
 pub record ReadsLines (is_configured : ℕ → Bool) (left : Option (List ℕ)) (old : Reading)
-    (left' : Option (List ℕ)) (new : Reading) (is_last : Bool) (item : Item) : Type 0 where
+    (left' : Option (List ℕ)) (new : Reading) (is_last : Bool) (items : List Item) : Type 0 where
   pub read : List ℕ
   pub taken : Consumes left left' read
   pub parsed_list : List ParsedLine
@@ -80,20 +91,24 @@ pub record ReadsLines (is_configured : ℕ → Bool) (left : Option (List ℕ)) 
   pub less : is_last ≡ false → work_left new < work_left old
   pub bytes : new.bytes ≡ old.bytes + length read
   pub within : new.bytes ≤ SCRIPT_BYTES
-  pub is_item : IsItem is_last parsed_list item
+  pub are_items : AreItems is_last parsed_list items
 
--- a phase was read, with the lines to be run (own)
+-- a phase was read, with the lines to be run, and the move behind it (own)
 pub record ReadsPhase (is_configured : ℕ → Bool) (left : Option (List ℕ)) (old : Reading)
     (left' : Option (List ℕ)) (new : Reading) (phase : PhaseLines) : Type 0 where
-  pub reads : ReadsLines is_configured left old left' new phase.is_last (Phase (by_host phase.lines.items))
+  pub reads :
+      ReadsLines is_configured left old left' new phase.is_last
+      (with_move (Phase (by_host phase.lines.items)) phase.moved)
   pub hosts : list_all has_host phase.lines.items ≡ true
   pub drives : list_all (λ line. is_configured line.drive) phase.lines.items ≡ true
+  pub moves : IfSome phase.moved (IsRunnable is_configured)
 
--- an item was read, which can be run (own)
-pub record ReadsItem (is_configured : ℕ → Bool) (left : Option (List ℕ)) (old : Reading)
-    (left' : Option (List ℕ)) (new : Reading) (next : NextItem) : Type 0 where
-  pub reads : ReadsLines is_configured left old left' new next.is_last next.item
-  pub runnable : IsRunnable is_configured next.item
+-- a phase and the move behind it were read, which can be run (own)
+pub record ReadsItems (is_configured : ℕ → Bool) (left : Option (List ℕ)) (old : Reading)
+    (left' : Option (List ℕ)) (new : Reading) (next : NextItems) : Type 0 where
+  pub reads : ReadsLines is_configured left old left' new next.is_last (with_move next.phase next.moved)
+  pub runnable : IsRunnable is_configured next.phase
+  pub moves : IfSome next.moved (IsRunnable is_configured)
 
 -- an item was read up to the line of this number, which is refused (own)
 pub record RefusesItem (is_configured : ℕ → Bool) (left : Option (List ℕ)) (old : Reading)

@@ -1,5 +1,5 @@
--- How a script is run from a place on, item by item (own).
-use Rattle.std.specs.Prelude.{◌≡◌, ℕ, ◌+◌, Bool, true, false, List, ◌++◌, length, Option, Result, Ok, Err, IfSome}
+-- How a script is run from a place on, phase by phase (own).
+use Rattle.std.specs.Prelude.{◌≡◌, ◌⊎◌, ℕ, ◌+◌, Bool, true, false, List, ◌++◌, length, Option, Result, Ok, Err, IfSome}
 use Rattle.std.specs.List.{list_any}
 use Rattle.std.specs.Io.KnownBytes.{Appends, Consumes}
 use Rattle.scsi_sense.specs.declared.replies.Reply.{Reply}
@@ -11,7 +11,7 @@ use Rattle.vtl_script.specs.Parsed.{parsed_lines, is_refused}
 use Rattle.vtl_script.specs.Items.{items_to_run}
 use Rattle.vtl_script.specs.Text.{text_of}
 use Rattle.vtl_script.specs.Inner.Reading.{Reading}
-use Rattle.vtl_script.specs.Runs.{ScriptEnds}
+use Rattle.vtl_script.specs.Runs.{ScriptEnds, WritesPart, RunsPart, WritesSome}
 
 -- as at the end of a script, where it is run from the place of a reading on: lines are counted from its
 -- lines on, and bytes from its bytes on (own)
@@ -64,13 +64,49 @@ pub record GoesOn {P : Type 0}
   pub answered : answers old items replies new
   pub written : Appends before now (text_of replies)
 
--- an item was run: at `true` the text goes on (own)
-abbrev pub RunsItem : {P : Type 0} (is_configured : ℕ → Bool) (answers : P → List Item → List Reply → P → Type 0)
+-- some items were run, and their replies written (own)
+pub record AnswersItems {P : Type 0}
+    (answers : P → List Item → List Reply → P → Type 0) (old : P) (items : List Item)
+    (before : Option (List ℕ)) (new : P) (now : Option (List ℕ)) : Type 0 where
+  pub replies : List Reply
+  pub answered : answers old items replies new
+  pub written : Appends before now (text_of replies)
+
+-- at a write fault the first of these items was run, and a beginning of its replies' text was written behind this text;
+-- where memory ran out it was run in part, or run and its first replies written (own)
+abbrev pub StopsIn : {P : Type 0} → (P → List Item → List Reply → P → Type 0) → List Item → List ℕ → P
+    → Option (List ℕ) → P → Option (List ℕ) → ScriptFault → Type 0
+StopsIn answers behind text mid before new now (BadLine number) = ⊥
+StopsIn answers behind text mid before new now ReadFault = ⊥
+StopsIn answers behind text mid before new now WriteFault = WritesPart answers behind text mid before new now
+StopsIn answers behind text mid before new now NoMemory =
+    RunsPart answers behind text mid before new now ⊎ WritesSome answers behind text mid before new now
+
+-- the first of some items were run and their replies written whole, and the next of them was not (own)
+pub record AnswersFirst {P : Type 0}
+    (answers : P → List Item → List Reply → P → Type 0) (old : P) (items : List Item)
+    (before : Option (List ℕ)) (new : P) (now : Option (List ℕ)) (fault : ScriptFault) : Type 0 where
+  pub first : List Item
+  pub behind : List Item
+  pub are : items ≡ first ++ behind
+  pub replies : List Reply
+  pub mid : P
+  pub answered : answers old first replies mid
+  pub stops : StopsIn answers behind (text_of replies) mid before new now fault
+
+-- some items were run, in order (own)
+abbrev pub RunsItems : {P : Type 0} → (P → List Item → List Reply → P → Type 0) → P → List Item → Option (List ℕ) → P
+    → Option (List ℕ) → Result (Unit {0}) ScriptFault → Type 0
+RunsItems answers old items before new now (Ok done) = AnswersItems answers old items before new now
+RunsItems answers old items before new now (Err fault) = AnswersFirst answers old items before new now fault
+
+-- a phase and the move behind it were run: at `true` the text goes on (own)
+abbrev pub RunsNext : {P : Type 0} (is_configured : ℕ → Bool) (answers : P → List Item → List Reply → P → Type 0)
     (reading : Reading) (old : P) (left before : Option (List ℕ)) (reading' : Reading) (new : P)
     (left' now : Option (List ℕ)) → Result Bool ScriptFault → Type 0
-RunsItem is_configured answers reading old left before reading' new left' now (Ok true) =
+RunsNext is_configured answers reading old left before reading' new left' now (Ok true) =
     GoesOn is_configured answers reading old left before reading' new left' now
-RunsItem is_configured answers reading old left before reading' new left' now (Ok false) =
+RunsNext is_configured answers reading old left before reading' new left' now (Ok false) =
     FinishesScript is_configured answers reading old left before new now (Ok tt)
-RunsItem is_configured answers reading old left before reading' new left' now (Err fault) =
+RunsNext is_configured answers reading old left before reading' new left' now (Err fault) =
     FinishesScript is_configured answers reading old left before new now (Err fault)

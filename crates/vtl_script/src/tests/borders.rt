@@ -62,7 +62,7 @@ fn fields_and_phases(rt: HostRuntime) -> Result<(), Fail> {
         (b"1 1 000000000000\n---\n", (none, bad(2))),
         (b"1 1 000000000000\n-- 1\n", (none, bad(2))),
         (b"1 1 000000000000\n-\n", (none, bad(2))),
-        (b"1 1 000000000000\nmove 1001 1\n", (none, bad(2))),
+        (b"1 1 000000000000\nmove 1001\n", (none, bad(2))),
         (b"1 1 000000000000\n--\nmove 1 2 3\n", (one, bad(3))),
         (
             b"# 1\n\n--\n1 1 000000000000\n--\n1 1 000000000000\nx\ny\n",

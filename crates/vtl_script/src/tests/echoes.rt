@@ -1,8 +1,8 @@
-//! A runner with drive 1, which answers each command by what was sent.
+//! A runner with drive 1, which answers each command and each move by what it asks.
 use crate::items::Item;
 use crate::lines::Line;
 use crate::runners::Runner;
-use scsi_sense::Reply;
+use scsi_sense::{Reply, Status};
 use std::alloc::{AllocError, Global};
 use vtl_base::{Bytes, DriveNo, NoMemory};
 
@@ -32,6 +32,20 @@ fn answer_of(alloc: Global, line: &Line) -> Result<Reply, AllocError> {
     Ok(Reply::good(Bytes::from_vec(bytes)))
 }
 
+// CONFLICT, with both element addresses.
+fn answers_of_move(alloc: Global, from: u32, to: u32) -> Result<Vec<Reply>, AllocError> {
+    let mut bytes = Vec::new(alloc);
+    bytes.extend_from_slice(&from.to_be_bytes())?;
+    bytes.extend_from_slice(&to.to_be_bytes())?;
+    let mut replies = Vec::new(alloc);
+    replies.push(Reply {
+        status: Status::Conflict,
+        sense: None,
+        bytes: Bytes::from_vec(bytes),
+    })?;
+    Ok(replies)
+}
+
 fn answers_of(alloc: Global, lines: &[Line]) -> Result<Vec<Reply>, AllocError> {
     let mut replies = Vec::new(alloc);
     for line in lines {
@@ -55,6 +69,7 @@ impl Runner for Echo {
         self.items = self.items.saturating_add(1);
         match item {
             Item::Phase(commands) => Ok(answers_of(alloc, commands.as_slice())?),
+            Item::Move { from, to } => Ok(answers_of_move(alloc, *from, *to)?),
         }
     }
 

@@ -3,6 +3,10 @@ use Rattle.vtl.proofs.drives.run_on_drive.Goals as goal
 
 pub returns-clause-one_host : goal.returns-clause-one_host
 returns-clause-one_host g c =
-    one_host_of g.M.Catalog.state g.M.Medium.below g.K.Keeper.kept g.K.Keeper.below c.honest_steps.ensures
-    c.answers_are_determined.ensures.run
-    c.served_hosts_run.ensures c.one_host_runs_in_order.ensures c.args.held.now _ _ _ _ c.run_script.result c.run_script.ensures.runs
+    one_host_of g.M.Catalog.state g.M.Medium.below g.K.Keeper.kept g.K.Keeper.below (record {
+      steps = c.honest_steps.ensures;
+      determined = c.answers_are_determined.ensures.run;
+      runs = c.served_hosts_run.ensures;
+      in_order = c.one_host_runs_in_order.ensures.order;
+      no_moves = c.one_host_runs_in_order.ensures.moves;
+    }) c.args.held.now _ _ _ _ c.run_script.result c.run_script.ensures.runs

@@ -27,7 +27,7 @@ returns-then-is_end-clause-ok g c =
     ] in
     phase_read _ _ _ _ c.args.line_reader.now c.loop-lines.line_reader c.read_line.new.line_reader
     c.loop-lines.lines.items next _ c.loop-lines.invariant c.in_ok-parsed.ensures.ok ends refl
-    c.in_ok-is_end.ensures.lines
+    c.move_in-moved.ensures c.in_ok-is_end.ensures.lines
 
 pub loop-lines-preserved : goal.loop-lines-preserved
 loop-lines-preserved g c =

@@ -15,52 +15,52 @@ loop-line_reader-init g c =
       same = refl;
     })
 
-pub returns-in_err-run_item-clause-runs : goal.returns-in_err-run_item-clause-runs
-returns-in_err-run_item-clause-runs g c =
+pub returns-in_err-run_next-clause-runs : goal.returns-in_err-run_next-clause-runs
+returns-in_err-run_next-clause-runs g c =
     let runner = g.P.Runner in
     let laws = g.met.P.Runner in
     let exit = err_from_is_err_and c.from_residual.result c.from_residual.ensures.1 in
-    let last = rw c.loop-line_reader.invariant.same at c.in_err-run_item.ensures.runs in
+    let last = rw c.loop-line_reader.invariant.same at c.in_err-run_next.ensures.runs in
     rw (exit.1, exit.2) (runs_script (runner.is_configured c.args.runner.now) runner.answers laws.answers_none
-    laws.answers_empty laws.answers_on c.args.runner.now _ _ c.run_item.new.runner _
-    (Err c.in_err-run_item.field-0.0)
+    laws.answers_empty laws.answers_on c.args.runner.now _ _ c.run_next.new.runner _
+    (Err c.in_err-run_next.field-0.0)
     (finish_on (runner.is_configured c.args.runner.now) runner.answers laws.answers_none laws.answers_empty
     laws.answers_on unbegun c.loop-line_reader.line_reader c.args.runner.now c.loop-line_reader.runner
-    c.run_item.new.runner _ _ _ _ _ (Err c.in_err-run_item.field-0.0) c.loop-line_reader.invariant.goes last))
+    c.run_next.new.runner _ _ _ _ _ (Err c.in_err-run_next.field-0.0) c.loop-line_reader.invariant.goes last))
 
 pub loop-line_reader-preserved : goal.loop-line_reader-preserved
 loop-line_reader-preserved g c =
     let runner = g.P.Runner in
     let laws = g.met.P.Runner in
-    let more = rw (c.if-branch.true, c.loop-line_reader.invariant.same) at c.in_ok-run_item.ensures.runs in
+    let more = rw (c.if-branch.true, c.loop-line_reader.invariant.same) at c.in_ok-run_next.ensures.runs in
     record {
       goes = goes_on (runner.is_configured c.args.runner.now) runner.answers laws.answers_none laws.answers_empty
-          laws.answers_on unbegun c.loop-line_reader.line_reader c.run_item.new.line_reader c.args.runner.now
-          c.loop-line_reader.runner c.run_item.new.runner _ _ _ _ _ _ c.loop-line_reader.invariant.goes more;
-      same = c.run_item.ensures.same ∙ c.loop-line_reader.invariant.same;
+          laws.answers_on unbegun c.loop-line_reader.line_reader c.run_next.new.line_reader c.args.runner.now
+          c.loop-line_reader.runner c.run_next.new.runner _ _ _ _ _ _ c.loop-line_reader.invariant.goes more;
+      same = c.run_next.ensures.same ∙ c.loop-line_reader.invariant.same;
     }
 
 pub returns-clause-runs : goal.returns-clause-runs
 returns-clause-runs g c =
     let runner = g.P.Runner in
     let laws = g.met.P.Runner in
-    let last = rw (c.if-branch.false, c.loop-line_reader.invariant.same) at c.in_ok-run_item.ensures.runs in
+    let last = rw (c.if-branch.false, c.loop-line_reader.invariant.same) at c.in_ok-run_next.ensures.runs in
     runs_script (runner.is_configured c.args.runner.now) runner.answers laws.answers_none laws.answers_empty
-    laws.answers_on c.args.runner.now _ _ c.run_item.new.runner _ (Ok tt)
+    laws.answers_on c.args.runner.now _ _ c.run_next.new.runner _ (Ok tt)
     (finish_on (runner.is_configured c.args.runner.now) runner.answers laws.answers_none laws.answers_empty
     laws.answers_on unbegun c.loop-line_reader.line_reader c.args.runner.now c.loop-line_reader.runner
-    c.run_item.new.runner _ _ _ _ _ (Ok tt) c.loop-line_reader.invariant.goes last)
+    c.run_next.new.runner _ _ _ _ _ (Ok tt) c.loop-line_reader.invariant.goes last)
 
-pub returns-in_err-run_item-clause-past : goal.returns-in_err-run_item-clause-past
-returns-in_err-run_item-clause-past g c = λ other.
+pub returns-in_err-run_next-clause-past : goal.returns-in_err-run_next-clause-past
+returns-in_err-run_next-clause-past g c = λ other.
     let exit = err_from_is_err_and c.from_residual.result c.from_residual.ensures.1 in
     let goes = c.loop-line_reader.invariant.goes in
     takes_on _ _ _ 0 c.loop-line_reader.line_reader.bytes goes.read goes.taken goes.bytes
-    (c.run_item.ensures.past (λ is. other
-    (exit.1 ∙ ap Err (exit.2 ∙ err_same c.run_item.result _ _ c.in_err-run_item.was is))))
+    (c.run_next.ensures.past (λ is. other
+    (exit.1 ∙ ap Err (exit.2 ∙ err_same c.run_next.result _ _ c.in_err-run_next.was is))))
 
 pub returns-clause-past : goal.returns-clause-past
 returns-clause-past g c = λ other.
     let goes = c.loop-line_reader.invariant.goes in
     takes_on _ _ _ 0 c.loop-line_reader.line_reader.bytes goes.read goes.taken goes.bytes
-    (c.run_item.ensures.past (λ is. ok_other c.run_item.result _ _ c.in_ok-run_item.was is))
+    (c.run_next.ensures.past (λ is. ok_other c.run_next.result _ _ c.in_ok-run_next.was is))

@@ -1,14 +1,14 @@
 use Rattle.std.proofs.Common.{refl, ap, ◌∙◌}
 use Rattle.vtl_script.specs.declared.items.Item.TheVariants.{Phase}
-use Rattle.vtl_script.proofs.PhaseLemmas.{item_read, takes_lines}
+use Rattle.vtl_script.proofs.PhaseLemmas.{items_read, takes_lines}
 use Rattle.vtl_script.proofs.ReadingLemmas.{past_anyway}
-use Rattle.vtl_script.proofs.items.read_item.Goals as goal
+use Rattle.vtl_script.proofs.items.read_items.Goals as goal
 
 pub returns-clause-ok : goal.returns-clause-ok
 returns-clause-ok g c =
-    item_read _ _ _ c.args.line_reader.now c.read_phase.new.line_reader c.in_ok-lines.field-0 _
+    items_read _ _ _ c.args.line_reader.now c.read_phase.new.line_reader c.in_ok-lines.field-0 _
     c.in_ok-lines.ensures.ok refl
-    (ap Phase (c.from_vec.ensures ∙ c.in_ok-sort_by_host.ensures))
+    (ap Phase (c.from_vec.ensures ∙ c.in_ok-sort_by_host.ensures)) refl
 
 pub returns-in_err-sort_by_host-clause-past : goal.returns-in_err-sort_by_host-clause-past
 returns-in_err-sort_by_host-clause-past g c =
