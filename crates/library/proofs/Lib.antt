@@ -4,3 +4,7 @@ pub mod CoreLemmas
 pub mod MachineLemmas
 pub mod MoveLemmas
 pub mod StopLemmas
+pub mod BesideLemmas
+pub mod ServedLemmas
+pub mod OneHostLemmas
+pub mod RunnerLemmas
