@@ -1,5 +1,5 @@
 -- Scripts of at most one host, without moves.
-use Rattle.std.proofs.Common.{◌≡◌, ℕ, List, [], ◌∷◌, All, Option, None, Some, OnOk, Result, Err, Ok, filter, flat_map, length, map, refl, sym, ap, ◌∙◌, subst}
+use Rattle.std.proofs.Common.{◌≡◌, ℕ, List, [], ◌∷◌, All, Option, None, Some, OnOk, Result, Err, Ok, flat_map, length, map, refl, sym, ap, ◌∙◌, subst}
 use Rattle.std.proofs.lemmas.List.{length-map}
 use Rattle.std.proofs.lemmas.List.Elements.{All-map}
 use Rattle.std.specs.Io.KnownBytes.{Appends}
@@ -22,7 +22,7 @@ use Rattle.aptpl_store.specs.Kept.{store_below, store_kept}
 use Rattle.vtl_script.specs.declared.faults.ScriptFault.{ScriptFault}
 use Rattle.vtl_script.specs.declared.lines.Line.{Line}
 use Rattle.vtl_script.specs.InOrder.{commands_in, NoMoveIsRun, OneHostInOrder}
-use Rattle.vtl_script.specs.Items.{commands_to_run, items_to_run}
+use Rattle.vtl_script.specs.Items.{items_to_run}
 use Rattle.vtl_script.specs.Parsed.{parsed_lines}
 use Rattle.vtl_script.specs.Runs.{RunsScript}
 use Rattle.vtl_script.specs.Text.{text_of}

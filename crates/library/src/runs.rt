@@ -1,7 +1,7 @@
 //! A script that is run over a library.
 ghost use Rattle.std.specs.Prelude.{◌≡◌, ◌≢◌, [], ◌∷◌, true, IfOk, OnOk, OnErr, Err};
 ghost use Rattle.std.specs.List.{list_all};
-ghost use Rattle.vtl_script.specs.declared.items.Item.TheVariants as items;
+ghost use Rattle.vtl_script.specs.declared.items.Item.TheVariants as Kinds;
 ghost use Rattle.vtl_script.specs.Runs.{RunsScript, TakesWithin};
 ghost use Rattle.library.specs.Inner.RunsOn.{held_none, held_on};
 ghost use Rattle.library.specs.Moves.{KeepsBays};
@@ -24,7 +24,7 @@ impl<D: Disk + Drop> Held<D> {
     fn run_lines(&mut self, alloc: Global, lines: &[Line]) -> Result<Vec<Reply>, NoMemory>
         requires { list_all (λ line. is_configured_in self.old line.drive) lines.now ≡ true }
         ensures ok { IfOk result (λ replies.
-            HeldAnswers D.state self.old (items.Phase lines.now ∷ []) replies.items self.new) }
+            HeldAnswers D.state self.old (Kinds.Phase lines.now ∷ []) replies.items self.new) }
         ensures err { OnErr result (self.new ≡ self.old) }
         ensures bays { KeepsBays self.old self.new }
     {
@@ -44,7 +44,7 @@ impl<D: Disk + Drop> Held<D> {
     // Moves a cartridge. Where memory runs out nothing is moved.
     fn run_move(&mut self, alloc: Global, from: u32, to: u32) -> Result<Vec<Reply>, NoMemory>
         ensures ok { IfOk result (λ replies.
-            HeldAnswers D.state self.old (items.Move from to ∷ []) replies.items self.new) }
+            HeldAnswers D.state self.old (Kinds.Move from to ∷ []) replies.items self.new) }
         ensures err { OnErr result (self.new ≡ self.old) }
         ensures bays { KeepsBays self.old self.new }
     {
