@@ -72,7 +72,7 @@ def main(words):
     rows = [
         ("the stored script", (0, stored("stdout"), b""), ended(stored("stdin"))),
         ("no line", (0, b"", b""), ended(b"")),
-        ("a bad line", (1, ATTENTION, b"vtl: script line 4 refused\n"), ended(PHASE + READY + b"move 1 2\n" + READY)),
+        ("a bad line", (1, ATTENTION, b"vtl: script line 4 refused\n"), ended(PHASE + READY + b"move 1\n" + READY)),
         ("a bad first line", (1, b"", b"vtl: script line 1 refused\n"), ended(b"x\n")),
         ("4,000,000 empty lines", (0, b"", b""), ended(b"\n" * 4_000_000)),
         ("a reader that fails", (2, b"", DEVICE), ended(b"", stdin=folder)),

@@ -1,7 +1,7 @@
 -- Scripts of at most one host, without moves.
 use Rattle.std.proofs.Common.{◌≡◌, ℕ, ◌==◌, Bool, true, false, List, [], ◌∷◌, map, Option, Some, None, IfSome, OnOk, Result, Err, Ok, refl, sym, ap, ◌∙◌, subst, All}
 use Rattle.std.proofs.lemmas.List.Elements.{All-map}
-use Rattle.std.specs.List.{list_any}
+use Rattle.std.specs.List.{list_all, list_any}
 use Rattle.scsi_sense.specs.declared.replies.Reply.{Reply}
 use Rattle.pr_core.specs.declared.states.PrState.{PrState}
 use Rattle.pr_core.specs.Keepers.{KeeperState}
@@ -24,7 +24,7 @@ use Rattle.vtl_script.specs.declared.faults.ScriptFault.{ScriptFault}
 use Rattle.vtl_script.specs.Runs.{RunsScript}
 use Rattle.vtl_script.specs.declared.items.Item.{Item}
 use Rattle.vtl_script.specs.Parsed.{parsed_lines, refused_line, is_move}
-use Rattle.vtl_script.specs.Items.{items_to_run}
+use Rattle.vtl_script.specs.Items.{items_to_run, is_phase}
 use Rattle.vtl_script.specs.Text.{text_of}
 use Rattle.vtl.specs.Held.{request_of, requests_of, HeldAnswers, HeldAnswersAll}
 use Rattle.vtl.specs.Inner.HeldRuns.{held_serves}
@@ -101,7 +101,7 @@ module _ {M K : Type 0} (state : M → MediumState) (below : Below M Change) (ke
       → AnswersOneHost state below kept number old left before new now
   without_moves number old left before new now text items replies known good items_are ran written none =
       let parsed_list = parsed_lines (λ drive. drive == number) text in
-      let phases = rw (sym items_are) at laws.no_moves parsed_list none in
+      let phases : list_all is_phase items ≡ true = ap (list_all is_phase) items_are ∙ laws.no_moves parsed_list none in
       let serves = held_serves state below kept keeps old new items replies phases ran in
       let served = laws.runs old new (requests_of items) replies serves in
       let lines_are : (host : ℕ) → IsOfHostAlone host parsed_list
@@ -162,5 +162,5 @@ module _ {M K : Type 0} (state : M → MediumState) (below : Below M Change) (ke
   one_host_of old left before new now (Ok done) runs =
       let ran = rw (sym runs.ended.3.0) at runs.answered in
       answered_by old.number old.drive left before new.drive now runs.text runs.items runs.replies
-      (list_any is_move (parsed_lines (λ drive. drive == old.number) runs.text)) runs.known runs.ended.1 runs.ended.2 ran
-      runs.ended.3.1 refl
+      (list_any is_move (parsed_lines (λ drive. drive == old.number) runs.text)) runs.known runs.ended.1 runs.ended.2
+      ran runs.ended.3.1 refl

@@ -80,9 +80,9 @@ impl<M: Medium, K: Keeper> Runner for HeldDrive<M, K> {
         first rest replies others one two };
 }
 
-/// Runs a script by one drive. Where it is of one host and asks for no move, and was run to its end with no fault, want of
-/// memory or full side over an honest medium, what is written is the text of the machine's replies
-/// to its lines, and nothing else.
+/// Runs a script by one drive. Where it is of one host and asks for no move, and was run to its end
+/// with no fault, want of memory or full side over an honest medium, what is written is the text of
+/// the machine's replies to its lines, and nothing else.
 pub fn run_on_drive<M: Medium, K: Keeper, R: Read, W: Write>(
     alloc: Global,
     held: &mut HeldDrive<M, K>,

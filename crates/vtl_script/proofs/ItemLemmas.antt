@@ -92,7 +92,8 @@ module _ {P : Type 0} (is_configured : ℕ → Bool) (answers : P → List Item 
       → ReadsLines is_configured left reading left' reading' is_last items
       → AnswersFirst answers old items before new now fault
       → FinishesScript is_configured answers reading old left before new now (Err fault)
-  finish_first reading reading' old left left' before new now is_last items (BadLine number) reads ran = absurd ran.stops
+  finish_first reading reading' old left left' before new now is_last items (BadLine number) reads ran = absurd
+      ran.stops
   finish_first reading reading' old left left' before new now is_last items ReadFault reads ran = absurd ran.stops
   finish_first reading reading' old left left' before new now is_last items WriteFault reads ran =
       let at = in_script is_configured left left' reading reading' is_last items reads in
@@ -186,5 +187,5 @@ module _ {P : Type 0} (is_configured : ℕ → Bool) (answers : P → List Item 
       → RunsNext is_configured answers reading old left before reading' new left' now (Ok (not is_last))
   items_done reading reading' old left left' before now new true items reads ran = finish_last reading reading' old left
       left' before now new items reads ran
-  items_done reading reading' old left left' before now new false items reads ran = go_on reading reading' old left left'
-      before now new items reads ran
+  items_done reading reading' old left left' before now new false items reads ran = go_on reading reading' old left
+      left' before now new items reads ran

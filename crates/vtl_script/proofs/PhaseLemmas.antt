@@ -175,7 +175,8 @@ moves_run is_configured Refused = tt
 pub phase_read : (is_configured : ℕ → Bool) (a b c : Option (List ℕ)) (old mid new : Reading) (lines : List Line)
     (next : NextLine) (phase : PhaseLines) → IsGathered is_configured a old b mid lines
     → ReadsLine is_configured b mid c new next → (is_phase_end next.parsed || next.is_last) ≡ true
-    → phase.is_last ≡ next.is_last → phase.moved ≡ move_in next.parsed → phase.lines.items ≡ lines ++ filter_map line_in (next.parsed ∷ [])
+    → phase.is_last ≡ next.is_last → phase.moved ≡ move_in next.parsed
+    → phase.lines.items ≡ lines ++ filter_map line_in (next.parsed ∷ [])
     → ReadsPhase is_configured a old c new phase
 phase_read is_configured a b c old mid new lines next phase so tells ends same_last same_move same_lines =
     let more = filter_map line_in (next.parsed ∷ []) in
@@ -192,8 +193,8 @@ phase_read is_configured a b c old mid new lines next phase so tells ends same_l
         less = λ on. let least = tells.less (sym same_last ∙ on) in omega (arith, so.less, least);
         bytes = omega (arith, so.bytes, tells.bytes, length-append so.read tells.read);
         within = tells.within;
-        are_items = rw (same_last, same_move) (phase_ends next.parsed next.is_last so.parsed_list lines phase.lines.items so.to_run
-            tells.accepted ends same_lines);
+        are_items = rw (same_last, same_move) (phase_ends next.parsed next.is_last so.parsed_list lines
+            phase.lines.items so.to_run tells.accepted ends same_lines);
       };
       hosts = all_of has_host lines phase.lines.items more so.hosts tells.host same_lines;
       drives = all_of (λ line. is_configured line.drive) lines phase.lines.items more so.drives tells.drive same_lines;

@@ -1,9 +1,11 @@
 -- What a held drive runs appends (own).
-use Rattle.std.proofs.Common.{◌≡◌, Bool, true, false, ◌&&◌, List, [], ◌∷◌, ◌++◌, map, refl, sym, ap, ◌∙◌, append_assoc}
+use Rattle.std.proofs.Common.{◌≡◌, ℕ, Bool, true, false, ◌&&◌, List, [], ◌∷◌, ◌++◌, map, Result, Ok, Err, IfOk, OnErr, refl, sym, ap, ◌∙◌, append_assoc}
 use Rattle.std.proofs.lemmas.List.{map-append, append-nil}
 use Rattle.std.specs.List.{list_all}
 use Rattle.vtl_base.specs.Below.{Below}
 use Rattle.scsi_sense.specs.declared.replies.Reply.{Reply}
+use Rattle.scsi_sense.specs.Replies.{check_with}
+use Rattle.scsi_sense.specs.Senses.{invalid_element_address}
 use Rattle.pr_core.specs.declared.states.PrState.{PrState}
 use Rattle.pr_core.specs.Keepers.{KeeperState}
 use Rattle.volume_core.specs.declared.changes.Change.{Change}
@@ -26,6 +28,20 @@ module _ {M K : Type 0} (state : M → MediumState) (below : Below M Change) (ke
       → HeldAnswersOne state below kept keeps old item replies new
       → HeldAnswersAll state below kept keeps old (item ∷ []) replies new
   held_one old new item replies one = (new, replies, [], sym (append-nil replies), one, (refl, refl))
+
+  -- and where it was run, its replies are these
+  pub held_ok : {T E : Type 0} (items : T → List Reply) (old new : DriveState M K) (item : Item) (result : Result T E)
+      → IfOk result (λ replies. HeldAnswersOne state below kept keeps old item (items replies) new)
+      → IfOk result (λ replies. HeldAnswersAll state below kept keeps old (item ∷ []) (items replies) new)
+  held_ok items old new item (Ok replies) one = held_one old new item (items replies) one
+  held_ok items old new item (Err fault) one = tt
+
+  -- what every move is answered
+  pub held_move : {T E : Type 0} (items : T → List Reply) (drive : DriveState M K) (from to : ℕ) (result : Result T E)
+      → IfOk result (λ replies. items replies ≡ check_with invalid_element_address [] ∷ [])
+      → IfOk result (λ replies. HeldAnswersAll state below kept keeps drive (Move from to ∷ []) (items replies) drive)
+  held_move items drive from to (Ok replies) are = held_one drive drive (Move from to) (items replies) (are, refl)
+  held_move items drive from to (Err fault) are = tt
 
   -- what was run goes on by what is run from there
   pub held_on : (old mid new : DriveState M K) (first rest : List Item) (replies others : List Reply)
@@ -56,3 +72,8 @@ module _ {M K : Type 0} (state : M → MediumState) (below : Below M Change) (ke
       (serves_append state below kept keeps old at new (map request_of lines) (requests_of items) front behind ran
       (held_serves at new items behind phases more))
   held_serves old new (Move from to ∷ items) replies phases one = absurd (cc)
+
+-- what holds anyway holds after a fault
+pub anyway : {T E : Type 0} {P : Type 0} (result : Result T E) → P → OnErr result P
+anyway (Ok done) holds = tt
+anyway (Err fault) holds = holds
