@@ -1,14 +1,19 @@
 -- The drives of a library, in a row.
-use Rattle.std.proofs.Common.{◌≡◌, ◌≢◌, ◌⊎◌, inl, inr, ℕ, ◌-◌, ◌≤◌, ◌<◌, nat_le, Bool, true, false, List, length, set, get_or, Option, None, Some, is_some, refl, sym, ap, ◌∙◌, arith, cond, subst}
+use Rattle.std.proofs.Common.{◌≡◌, ◌≢◌, ◌⊎◌, inl, inr, ℕ, ◌-◌, ◌≤◌, ◌<◌, nat_le, ◌||◌, not, Bool, true, false, Result, Ok, Err, List, length, set, get_or, Option, None, Some, is_some, is_ok, is_err, [], ◌∷◌, ◌++◌, OnOk, IfErr, replicate, nat_lt, refl, sym, ap, ◌∙◌, arith, cond, subst}
 use Rattle.std.proofs.lemmas.Bool.Decides.{nat_tests}
-use Rattle.std.proofs.lemmas.List.{get_or_default, get_or-set_same, get_or-set_other}
+use Rattle.std.proofs.lemmas.List.{get_or-replicate, get_or_default, get_or-set_same, get_or-set_other, length-replicate}
 use Rattle.std.proofs.Math.ListN.{get_or-eq_default}
 use Rattle.drive_core.specs.declared.bays.Bay.{Bay}
 use Rattle.drive_core.specs.declared.bays.Bay.TheVariants.{Empty, Unloaded, Loaded}
 use Rattle.drive_core.specs.State.{medium_in}
 use Rattle.tape_buffer.specs.State.{BufferState}
-use Rattle.library.specs.Elements.{BayState, Becomes, HeldState, bay_at}
-use Rattle.library.specs.Moves.{BayIs}
+use Rattle.tape_disk.specs.Disk.{DiskState}
+use Rattle.scsi_sense.specs.declared.replies.Reply.{Reply}
+use Rattle.changer.specs.declared.error.SlotError.{SlotError}
+use Rattle.changer.specs.declared.error.SlotError.TheVariants as Errors
+use Rattle.changer.specs.Slots.{held_at, is_slot, refusal_of_placing, refusal_of_taking}
+use Rattle.library.specs.Elements.{BayState, Becomes, HeldState, bay_at, cartridge_at, cartridge_in, is_element}
+use Rattle.library.specs.Moves.{BayIs, GoesInAt, GoesOutAt, LoadsAt, UnloadsAt}
 
 module _ {D : Type 0} where
   -- where a drive stands
@@ -79,3 +84,148 @@ pub empty_bay : {M : Type 0} (bay : Bay M) → medium_in bay ≡ None → bay �
 empty_bay Empty none = refl
 empty_bay (Unloaded medium) none = absurd (cc)
 empty_bay (Loaded medium) none = absurd (cc)
+
+-- what the slots refuse
+slot_by : {X : Type 0} (slot full : Bool) (bad empty : X)
+    → cond (not slot) (Some bad) (cond full None (Some empty)) ≡ None → slot ≡ true
+slot_by true full bad empty is = refl
+slot_by false full bad empty is = absurd (cc)
+
+free_by : {X : Type 0} (slot full : Bool) (bad taken : X)
+    → cond (not slot) (Some bad) (cond full (Some taken) None) ≡ None → slot ≡ true
+free_by true full bad taken is = refl
+free_by false full bad taken is = absurd (cc)
+
+module _ {D : Type 0} where
+  pub taken_slot : (slots : List (Option (BufferState D))) (address : ℕ) → refusal_of_taking slots address ≡ None
+      → is_slot address ≡ true
+  taken_slot slots address is =
+      slot_by (is_slot address) (is_some (held_at slots address)) Errors.BadAddress Errors.Empty is
+
+  pub placed_slot : (slots : List (Option (BufferState D))) (address : ℕ) → refusal_of_placing slots address ≡ None
+      → is_slot address ≡ true
+  placed_slot slots address is =
+      free_by (is_slot address) (is_some (held_at slots address)) Errors.BadAddress Errors.Full is
+
+  -- where a slot does not give what is there, no slot has the address
+  pub not_taken : (held : HeldState D) (address : ℕ) (error : SlotError)
+      → refusal_of_taking held.slots address ≡ Some error → is_some (cartridge_at held address) ≡ true
+      → is_slot address ≡ false
+  not_taken held address error refused full = by (is_slot address) refl
+    where
+      by : (b : Bool) → is_slot address ≡ b → is_slot address ≡ false
+      by false is = is
+      by true is =
+          let there : is_some (held_at held.slots address) ≡ true =
+          sym (ap (λ (b : Bool). is_some (cond b (held_at held.slots address)
+          (cartridge_in (bay_at held.bays address)))) is) ∙ full in
+          let none : refusal_of_taking held.slots address ≡ None =
+          ap (λ (b : Bool). cond (not b) (Some Errors.BadAddress)
+          (cond (is_some (held_at held.slots address)) None (Some Errors.Empty))) is
+          ∙ ap (λ (b : Bool). cond b None (Some Errors.Empty)) there in
+          let clash : None ≡ Some error = sym none ∙ refused in absurd (cc)
+
+  -- where a slot does not take what is given, though nothing is there, no slot has the address
+  pub not_placed : (held : HeldState D) (address : ℕ) (error : SlotError)
+      → refusal_of_placing held.slots address ≡ Some error → cartridge_at held address ≡ None
+      → is_slot address ≡ false
+  not_placed held address error refused empty = by (is_slot address) refl
+    where
+      by : (b : Bool) → is_slot address ≡ b → is_slot address ≡ false
+      by false is = is
+      by true is =
+          let there : is_some (held_at held.slots address) ≡ false =
+          sym (ap (λ (b : Bool). is_some (cond b (held_at held.slots address)
+          (cartridge_in (bay_at held.bays address)))) is)
+          ∙ ap (λ (found : Option (BufferState D)). is_some found) empty in
+          let none : refusal_of_placing held.slots address ≡ None =
+          ap (λ (b : Bool). cond (not b) (Some Errors.BadAddress)
+          (cond (is_some (held_at held.slots address)) (Some Errors.Full) None)) is
+          ∙ ap (λ (b : Bool). cond b (Some Errors.Full) None) there in
+          let clash : None ≡ Some error = sym none ∙ refused in absurd (cc)
+
+  -- what is at an address that is no slot's is in a drive
+  pub in_drive : (held : HeldState D) (address : ℕ) → is_slot address ≡ false
+      → cartridge_at held address ≡ cartridge_in (bay_at held.bays address)
+  in_drive held address off =
+      ap (λ (b : Bool). cond b (held_at held.slots address) (cartridge_in (bay_at held.bays address))) off
+
+  drive_with : (found : Option (BayState D)) → is_some (cartridge_in found) ≡ true → is_some found ≡ true
+  drive_with (Some bay) full = refl
+  drive_with None full = absurd (cc)
+
+  pub drive_there : (held : HeldState D) (address : ℕ) → is_slot address ≡ false
+      → is_some (cartridge_at held address) ≡ true → is_some (bay_at held.bays address) ≡ true
+  drive_there held address off full =
+      drive_with (bay_at held.bays address)
+      (sym (ap (λ (found : Option (BufferState D)). is_some found) (in_drive held address off)) ∙ full)
+
+  pub drive_named : (held : HeldState D) (address : ℕ) → is_slot address ≡ false → is_element held address ≡ true
+      → is_some (bay_at held.bays address) ≡ true
+  drive_named held address off element =
+      sym (ap (λ (b : Bool). b || is_some (bay_at held.bays address)) off) ∙ element
+
+  -- no drive has the address of a slot
+  pub no_drive : (bays : List (Option (BayState D))) (address : ℕ) → length bays ≡ 16 → is_slot address ≡ true
+      → bay_at bays address ≡ None
+  no_drive bays address long slot =
+      let from : 1001 ≤ address = grind (arith, nat_tests) in
+      at_no_place bays address long (inr (omega (arith, from)))
+
+  module _ (state : D → DiskState) where
+    pub out_of_drive : (old new : HeldState D) (address : ℕ) (result : Result (BufferState D) Reply)
+        → is_slot address ≡ false → UnloadsAt state old address result new → GoesOutAt state old address result new
+    out_of_drive old new address (Ok out) off goes = inr (off, goes)
+    out_of_drive old new address (Err reply) off goes = (off, goes)
+
+    pub into_drive : (old new : HeldState D) (address : ℕ) (given : BufferState D)
+        (result : Result Unit (BufferState D × Reply)) → is_slot address ≡ false
+        → LoadsAt state old address given result new → GoesInAt state old address given result new
+    into_drive old new address given (Ok done) off goes = inr (off, goes)
+    into_drive old new address given (Err back) off goes = (off, goes)
+
+-- what a call answers says, in other words
+pub on_ok : {T E : Type 0} {A B : Type 0} (result : Result T E) → (A → B) → OnOk result A → OnOk result B
+on_ok (Ok done) says holds = says holds
+on_ok (Err error) says holds = tt
+
+pub if_err : {T E : Type 0} {P Q : E → Type 0} (result : Result T E) → ((error : E) → P error → Q error)
+    → IfErr result P → IfErr result Q
+if_err (Ok done) says holds = tt
+if_err (Err error) says holds = says error holds
+
+pub with_slots : {D : Type 0} (slots others : List (Option (BufferState D))) (bays : List (Option (BayState D)))
+    (held : HeldState D) → others ≡ slots → record { slots = slots; bays = bays } ≡ held
+    → record { slots = others; bays = bays } ≡ held
+with_slots {D = D} slots others bays held same is =
+    let put : List (Option (BufferState D)) → HeldState D = λ xs. record { slots = xs; bays = bays } in
+    ap put same ∙ is
+
+pub nothing : {X : Type 0} (found : Option X) → is_some found ≡ false → found ≡ None
+nothing (Some x) none = absurd (cc)
+nothing None none = refl
+
+-- no drive is in a row of no drives
+pub none_in : {X : Type 0} (count place : ℕ) → get_or (replicate {A = Option X} count None) place None ≡ None
+none_in {X = X} count place = by (nat_lt place count) refl
+  where
+    by : (b : Bool) → nat_lt place count ≡ b → get_or (replicate {A = Option X} count None) place None ≡ None
+    by true is = get_or-replicate count place None None (grind (arith, nat_tests))
+    by false is =
+        let beyond : count ≤ place = grind (arith, nat_tests) in
+        let long : length (replicate {A = Option X} count None) ≡ count = length-replicate count None in
+        get_or-eq_default (replicate {A = Option X} count None) None (omega (arith, beyond, long))
+
+pub no_bay_in : {D : Type 0} (count number : ℕ)
+    → bay_at (replicate {A = Option (BayState D)} count None) number ≡ None
+no_bay_in {D = D} count number = by (nat_le 1 number) (none_in count (number - 1))
+  where
+    by : (b : Bool) {found : Option (BayState D)} → found ≡ None → cond b found None ≡ None
+    by true none = none
+    by false none = refl
+
+-- a push that did not fail
+pub pushed : {T E X : Type 0} (result : Result T E) (items longer : List X) (item : X) → false ≡ is_err result
+    → longer ≡ cond (is_ok result) (items ++ item ∷ []) items → longer ≡ items ++ item ∷ []
+pushed (Ok done) items longer item fine is = is
+pushed (Err error) items longer item fine is = absurd (cc)

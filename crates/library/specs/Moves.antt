@@ -13,6 +13,10 @@ use Rattle.tape_buffer.specs.State.{BufferState, state_of}
 use Rattle.changer.specs.Slots.{Puts, held_at, is_slot}
 use Rattle.library.specs.Elements.{BayState, Becomes, HeldState, bay_at, cartridge_at, is_element, is_reserved_at}
 
+-- what a medium gives: the volume that an awake one is seen as, or what the side of a parked one gives (own)
+abbrev pub volume_given : MediumState → Option (List Part)
+volume_given medium = if medium.awake then Some (volume_of medium) else medium.stored
+
 module _ {D : Type 0} where
   -- why nothing is moved, by the first of these that holds: an address is no slot's and no drive's; a reservation is
   -- held at a drive that is touched; nothing is at the source; something is at the destination (SMC-3, MOVE MEDIUM;
@@ -101,10 +105,6 @@ module _ {D : Type 0} where
     -- a cartridge is moved from one element address to another (SMC-3, MOVE MEDIUM)
     abbrev pub MovesMedium : HeldState D → ℕ → ℕ → Reply → HeldState D → Type 0
     MovesMedium old from to reply new = AnswersMove (refusal_of_move old from to) old from to reply new
-
-    -- what a medium gives: the volume that an awake one is seen as, or what the side of a parked one gives (own)
-    abbrev pub volume_given : MediumState → Option (List Part)
-    volume_given medium = if medium.awake then Some (volume_of medium) else medium.stored
 
     -- the same cartridge, later: nothing was accepted by it, and where it is honest, and neither failed nor has a frame
     -- under way, it gives the volume that it gave (own)

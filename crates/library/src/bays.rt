@@ -8,7 +8,7 @@ ghost use Rattle.drive_core.specs.Synchronize.{Acknowledges, IsSynchronizing, No
 ghost use Rattle.tape_buffer.specs.Moves.{buffer_below};
 ghost use Rattle.tape_buffer.specs.State.{state_of};
 ghost use Rattle.aptpl_store.specs.Kept.{store_below, store_kept};
-ghost use Rattle.library.specs.Elements.{is_reserved_at};
+ghost use Rattle.library.specs.Inner.Going.{IsAwakeIn};
 
 use crate::parked::Parked;
 use aptpl_store::AptplStore;
@@ -123,7 +123,10 @@ impl<D: Disk> Bay<D> {
     /// the device fails (3, 0C/00), nothing comes out; in the second case the cartridge stays loaded, and has failed.
     pub fn unload(&mut self) -> Result<Parked<D>, Reply>
         ensures out { GoesOut (state_of D.state) (buffer_below D.state) self.old result self.new }
+        ensures awake { IsAwakeIn D.state self.old.bay }
     {
+        // Looked at for the proof's sake: what is loaded is awake.
+        let _ = self.drive.medium();
         match self.drive.unload() {
             Ok(medium) => Ok(Parked::of_medium(medium)),
             Err(reply) => Err(reply),

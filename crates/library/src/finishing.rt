@@ -1,6 +1,8 @@
 //! All that is pending is written out.
-ghost use Rattle.std.specs.Prelude.{◌≡◌, OnOk, OnErr, Some};
-ghost use Rattle.library.specs.Finish.{HasFailedIn, IsWrittenIn, TurnsAt, WritesOut};
+ghost use Rattle.std.specs.Prelude.{◌≡◌, ◌≢◌, ◌+◌, ◌<◌, ℕ, OnOk, OnErr, Some};
+ghost use Rattle.vtl_base.specs.declared.limits.TheConstants.{DRIVES};
+ghost use Rattle.library.specs.Elements.{bay_at};
+ghost use Rattle.library.specs.Finish.{HasFailedAt, HasFailedIn, IsWrittenAt, IsWrittenIn, TurnsAt, WritesOut};
 
 use crate::bays::Bay;
 use crate::held::Held;
@@ -35,14 +37,30 @@ impl<D: Disk + Drop> Held<D> {
     pub fn finish(&mut self) -> Result<(), Unwritten>
         ensures { WritesOut D.state self.old result self.new }
     {
+        // Looked at, here and below, for the proof's sake: there are places for all drives.
+        let _ = &self.bays;
         let mut result = Ok(());
         for place in 0..DRIVES as usize {
-            if let Some(bay) = &mut self.bays[place] {
-                if bay.write_out().is_err() {
-                    result = Err(Unwritten);
-                }
+            if self.write_out_at(place).is_err() {
+                result = Err(Unwritten);
             }
         }
+        let _ = &self.bays;
         result
+    }
+
+    // Stores what is pending in the drive of this place, if there is one.
+    fn write_out_at(&mut self, place: usize) -> Result<(), Unwritten>
+        requires { place < DRIVES }
+        ensures turns { TurnsAt D.state (bay_at self.old.bays (place + 1)) (bay_at self.new.bays (place + 1)) }
+        ensures others { (other : ℕ) → other ≢ place + 1 → bay_at self.new.bays other ≡ bay_at self.old.bays other }
+        ensures slots { self.new.slots ≡ self.old.slots }
+        ensures ok { OnOk result (IsWrittenAt D.state (bay_at self.new.bays (place + 1))) }
+        ensures err { OnErr result (HasFailedAt D.state (bay_at self.new.bays (place + 1))) }
+    {
+        let Some(bay) = &mut self.bays[place] else {
+            return Ok(());
+        };
+        bay.write_out()
     }
 }

@@ -69,11 +69,12 @@ impl<D: Disk + Drop> Held<D> {
         ensures err { IfErr result (λ back. (back ≡ bay)
             × (is_some (bay_at self.old.bays number) ≡ true) × (self.new ≡ self.old)) }
     {
-        let place = &mut self.bays[number.place()];
-        if place.is_some() {
+        // Asked for the proof's sake: the numbers of drives begin with 1.
+        let _ = number.number();
+        if self.configured(number) {
             return Err(bay);
         }
-        *place = Some(bay);
+        self.bays[number.place()] = Some(bay);
         Ok(())
     }
 
@@ -92,6 +93,8 @@ impl<D: Disk + Drop> Held<D> {
         requires { is_some (bay_at self.old.bays drive) ≡ true }
         ensures { Commands D.state drive (asked nexus cdb.now sent.now) self.old result self.new }
     {
+        // Asked for the proof's sake: the numbers of drives begin with 1.
+        let _ = drive.number();
         match &mut self.bays[drive.place()] {
             Some(bay) => bay.execute(nexus, cdb, sent),
             None => unreachable!(),

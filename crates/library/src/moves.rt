@@ -4,6 +4,7 @@ ghost use Rattle.vtl_base.specs.declared.limits.TheConstants.{DRIVES};
 ghost use Rattle.scsi_sense.specs.Replies.{check_with};
 ghost use Rattle.drive_core.specs.declared.bays.Bay.TheVariants as Bays;
 ghost use Rattle.library.specs.Elements.{bay_at, cartridge_at, cartridge_in, is_element, is_reserved_at};
+ghost use Rattle.library.specs.Inner.Going.{IsAwakeAt};
 ghost use Rattle.library.specs.Moves.{GoesBackTo, GoesInAt, GoesOutAt, InsertsAt, KeepsBays, KeepsCartridges, LoadsAt, MovesMedium, UnloadsAt, refusal_of_move};
 
 use crate::bays::Bay;
@@ -42,6 +43,14 @@ impl<D: Disk + Drop> Held<D> {
         ensures answer { MovesMedium D.state self.old from to result self.new }
         ensures kept { KeepsCartridges D.state self.old from to result self.new }
         ensures bays { KeepsBays self.old self.new }
+    {
+        self.carry(from, to)
+    }
+
+    // Moves a cartridge, or refuses to. What is loaded in the drive that it comes from is awake.
+    fn carry(&mut self, from: u32, to: u32) -> Reply
+        ensures answer { MovesMedium D.state self.old from to result self.new }
+        ensures awake { refusal_of_move self.old from to ≡ None → IsAwakeAt D.state self.old from }
     {
         if let Some(refusal) = self.refusal_of_move(from, to) {
             return refusal;
@@ -122,8 +131,9 @@ impl<D: Disk + Drop> Held<D> {
 
     // Takes the cartridge at this address out.
     fn take_out(&mut self, address: u32) -> Result<Parked<D>, Reply>
-        requires full { is_some (cartridge_at self.old address) ≡ true }
-        ensures { GoesOutAt D.state self.old address result self.new }
+        requires { is_some (cartridge_at self.old address) ≡ true }
+        ensures out { GoesOutAt D.state self.old address result self.new }
+        ensures awake { IsAwakeAt D.state self.old address }
     {
         match self.slots.take(address) {
             Ok(cartridge) => Ok(cartridge),
@@ -161,7 +171,8 @@ impl<D: Disk + Drop> Held<D> {
     // Unloads what is in the drive at this address.
     fn unload_at(&mut self, address: u32) -> Result<Parked<D>, Reply>
         requires { is_some (bay_at self.old.bays address) ≡ true }
-        ensures { UnloadsAt D.state self.old address result self.new }
+        ensures out { UnloadsAt D.state self.old address result self.new }
+        ensures awake { IsAwakeAt D.state self.old address }
     {
         // Looked at for the proof's sake: there are places for all drives.
         let _ = &self.bays;

@@ -28,8 +28,8 @@ insert-requires g c =
     c.self.invariant place c.index_mut.ensures.value in
     record {
       empty = empty_bay c.in-Some-index_mut.bay.bay
-    (ap cartridge_in (sym (ap (λ (h : HeldState g.row.D.Denot). bay_at h.bays c.args.address) (sym c.self.view_is)
-    ∙ found ∙ c.in-Some-index_mut.is)) ∙ c.requires.empty);
+          (ap cartridge_in (sym (ap (λ (h : HeldState g.row.D.Denot). bay_at h.bays c.args.address) (sym c.self.view_is)
+          ∙ found ∙ c.in-Some-index_mut.is)) ∙ c.requires.empty);
     }
 
 pub returns : goal.returns
@@ -37,12 +37,13 @@ returns g c =
     let at = c.in-Some.ensures.some in
     let place = c.place.ensures.place ∙ ap (λ (n : ℕ). n - 1) at.0 in
     let found = found_at c.self.inside.bays.items c.args.address c.place.result c.index_mut.result.now at.1 at.2
-    c.self.invariant place c.index_mut.ensures.value in
-    (c.in-Some-index_mut.bay,
-    ap (λ (h : HeldState g.row.D.Denot). bay_at h.bays c.args.address) (sym c.self.view_is)
-    ∙ found ∙ c.in-Some-index_mut.is,
-    subst (λ (b : BayState g.row.D.Denot). BayIs c.args.address b c.args.self.now
-    (record { slots = c.self.inside.slots; bays = set c.self.inside.bays.items c.place.result (Some c.insert.new.self) }))
-    c.insert.ensures.inserted
-    (bay_is c.self.inside.slots c.self.inside.bays.items c.args.address c.place.result c.insert.new.self c.args.self.now
-    c.self.view_is at.1 at.2 c.self.invariant place))
+    c.self.invariant place c.index_mut.ensures.value in (
+      c.in-Some-index_mut.bay,
+      ap (λ (h : HeldState g.row.D.Denot). bay_at h.bays c.args.address) (sym c.self.view_is)
+          ∙ found ∙ c.in-Some-index_mut.is,
+      subst (λ (b : BayState g.row.D.Denot). BayIs c.args.address b c.args.self.now
+          (record { slots = c.self.inside.slots; bays = set c.self.inside.bays.items c.place.result (Some c.insert.new.self) }))
+          c.insert.ensures.inserted
+          (bay_is c.self.inside.slots c.self.inside.bays.items c.args.address c.place.result c.insert.new.self c.args.self.now
+          c.self.view_is at.1 at.2 c.self.invariant place),
+    )

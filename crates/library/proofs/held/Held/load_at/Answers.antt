@@ -27,8 +27,8 @@ load-requires g c =
     c.self.invariant place c.index_mut.ensures.value in
     record {
       empty = empty_bay c.in-Some-index_mut.bay.bay
-    (ap cartridge_in (sym (ap (λ (h : HeldState g.row.D.Denot). bay_at h.bays c.args.address) (sym c.self.view_is)
-    ∙ found ∙ c.in-Some-index_mut.is)) ∙ c.requires.empty);
+          (ap cartridge_in (sym (ap (λ (h : HeldState g.row.D.Denot). bay_at h.bays c.args.address) (sym c.self.view_is)
+          ∙ found ∙ c.in-Some-index_mut.is)) ∙ c.requires.empty);
     }
 
 pub returns : goal.returns
@@ -36,10 +36,12 @@ returns g c =
     let at = c.in-Some.ensures.some in
     let place = c.place.ensures.place ∙ ap (λ (n : ℕ). n - 1) at.0 in
     let found = found_at c.self.inside.bays.items c.args.address c.place.result c.index_mut.result.now at.1 at.2
-    c.self.invariant place c.index_mut.ensures.value in
-    (c.in-Some-index_mut.bay, c.load.new.self,
-    ap (λ (h : HeldState g.row.D.Denot). bay_at h.bays c.args.address) (sym c.self.view_is)
-    ∙ found ∙ c.in-Some-index_mut.is,
-    c.load.ensures.taken,
-    bay_is c.self.inside.slots c.self.inside.bays.items c.args.address c.place.result c.load.new.self c.args.self.now
-    c.self.view_is at.1 at.2 c.self.invariant place)
+    c.self.invariant place c.index_mut.ensures.value in (
+      c.in-Some-index_mut.bay,
+      c.load.new.self,
+      ap (λ (h : HeldState g.row.D.Denot). bay_at h.bays c.args.address) (sym c.self.view_is)
+          ∙ found ∙ c.in-Some-index_mut.is,
+      c.load.ensures.taken,
+      bay_is c.self.inside.slots c.self.inside.bays.items c.args.address c.place.result c.load.new.self c.args.self.now
+          c.self.view_is at.1 at.2 c.self.invariant place,
+    )

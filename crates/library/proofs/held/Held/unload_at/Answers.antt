@@ -1,5 +1,6 @@
-use Rattle.std.proofs.Common.{◌≡◌, ◌∙◌, ap, sym, ℕ, ◌-◌}
-use Rattle.library.specs.Elements.{HeldState, bay_at}
+use Rattle.std.proofs.Common.{◌≡◌, ◌∙◌, ap, sym, subst, ℕ, ◌-◌, Option, Some}
+use Rattle.library.specs.Elements.{BayState, HeldState, bay_at}
+use Rattle.library.specs.Inner.Going.{IsAwakeBay}
 use Rattle.library.proofs.BayLemmas.{at_no_place, bay_is, found_at}
 use Rattle.library.proofs.held.Held.unload_at.Goals as goal
 
@@ -25,9 +26,18 @@ returns g c =
     let place = c.place.ensures.place ∙ ap (λ (n : ℕ). n - 1) at.0 in
     let found = found_at c.self.inside.bays.items c.args.address c.place.result c.index_mut.result.now at.1 at.2
     c.self.invariant place c.index_mut.ensures.value in
-    (c.in-Some-index_mut.bay, c.unload.new.self,
+    let is : bay_at c.args.self.now.bays c.args.address ≡ Some c.in-Some-index_mut.bay =
     ap (λ (h : HeldState g.row.D.Denot). bay_at h.bays c.args.address) (sym c.self.view_is)
-    ∙ found ∙ c.in-Some-index_mut.is,
-    c.unload.ensures.out,
-    bay_is c.self.inside.slots c.self.inside.bays.items c.args.address c.place.result c.unload.new.self c.args.self.now
-    c.self.view_is at.1 at.2 c.self.invariant place)
+    ∙ found ∙ c.in-Some-index_mut.is in
+    record {
+      out = (
+        c.in-Some-index_mut.bay,
+        c.unload.new.self,
+        is,
+        c.unload.ensures.out,
+        bay_is c.self.inside.slots c.self.inside.bays.items c.args.address c.place.result c.unload.new.self
+            c.args.self.now c.self.view_is at.1 at.2 c.self.invariant place,
+      );
+      awake =
+          subst (λ (b : Option (BayState g.row.D.Denot)). IsAwakeBay g.D.Disk.state b) (sym is) c.unload.ensures.awake;
+    }
