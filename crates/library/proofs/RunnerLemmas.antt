@@ -18,9 +18,9 @@ pub passes_at : (p : Line → Bool) (lines : List Line) (i : ℕ) (line : Line) 
 passes_at p lines i line all within is = by (p line) refl
   where
     by : (test : Bool) → p line ≡ test → p line ≡ true
-    by true yes = yes
-    by false no =
-        let none : list_all p lines ≡ false = list_all_at p lines i line within (ap p (sym is) ∙ no) in absurd (cc)
+    by true holds = holds
+    by false fails =
+        let none : list_all p lines ≡ false = list_all_at p lines i line within (ap p (sym is) ∙ fails) in absurd (cc)
 
 -- the orders of a phase alone
 phase_is : (lines : List Line) → flat_map orders_of (Phase lines ∷ []) ≡ map Command lines

@@ -2,7 +2,7 @@ use Rattle.std.proofs.Common.{◌≡◌, ◌≤◌, [], ◌∷◌, take, length,
 use Rattle.vtl_script.specs.declared.items.Item.TheVariants.{Phase}
 use Rattle.library.specs.Moves.{KeepsBays}
 use Rattle.library.specs.Runs.{HeldAnswers}
-use Rattle.library.proofs.runs.Held.run_lines.Given as goal
+use Rattle.library.proofs.held.Held.run_lines.Given as goal
 
 -- the lines so far were run and answered, there is room for all answers, and the drives are where they were
 abbrev pub invariant-loop-line : goal.invariant-loop-line

@@ -5,7 +5,7 @@ use Rattle.library.specs.Commands.{Commands}
 use Rattle.library.specs.Runs.{is_configured_in, request_of}
 use Rattle.library.proofs.RunnerLemmas.{passes_at, phase_on}
 use Rattle.library.proofs.ServedLemmas.{commands_keep}
-use Rattle.library.proofs.runs.Held.run_lines.Goals as goal
+use Rattle.library.proofs.held.Held.run_lines.Goals as goal
 
 pub command-reply-requires : goal.command-reply-requires
 command-reply-requires g c =
