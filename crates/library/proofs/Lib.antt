@@ -5,3 +5,7 @@ pub mod FinishLemmas
 pub mod MachineLemmas
 pub mod MoveLemmas
 pub mod StopLemmas
+pub mod BesideLemmas
+pub mod ServedLemmas
+pub mod OneHostLemmas
+pub mod RunnerLemmas

@@ -1,2 +1,3 @@
 pub mod Finishing
 pub mod Going
+pub mod RunsOn

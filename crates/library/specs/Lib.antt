@@ -5,4 +5,6 @@ pub mod Elements
 pub mod Finish
 pub mod Inner
 pub mod Moves
+pub mod OneHost
 pub mod Reservations
+pub mod Runs

@@ -7,8 +7,11 @@ pub mod held;
 pub mod laws;
 mod moves;
 pub mod parked;
+pub mod runs;
 
 pub use bays::{Bay, NotOn};
 pub use finishing::Unwritten;
 pub use held::Held;
 pub use parked::Parked;
+pub use runs::run_held;
+pub use vtl_script::run_script;

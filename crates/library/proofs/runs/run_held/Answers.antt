@@ -1,0 +1,12 @@
+use Rattle.library.proofs.OneHostLemmas.{one_host_of}
+use Rattle.library.proofs.runs.run_held.Goals as goal
+
+pub returns-clause-one_host : goal.returns-clause-one_host
+returns-clause-one_host g c =
+    one_host_of g.D.Disk.state (record {
+      steps = c.honest_steps.ensures;
+      determined = c.answers_are_determined.ensures.run;
+      runs = c.served_hosts_run.ensures;
+      in_order = c.one_host_runs_in_order.ensures.order;
+      no_moves = c.one_host_runs_in_order.ensures.moves;
+    }) c.args.held.now _ _ _ _ c.run_script.result c.run_script.ensures.runs
