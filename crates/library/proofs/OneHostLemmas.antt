@@ -27,8 +27,8 @@ use Rattle.vtl_script.specs.Parsed.{parsed_lines}
 use Rattle.vtl_script.specs.Runs.{RunsScript}
 use Rattle.vtl_script.specs.Text.{text_of}
 use Rattle.library.specs.Elements.{BayState, HeldState, bay_at}
-use Rattle.library.specs.OneHost.{AnswersLines, AnswersOneHost, IsHonestBay, MayReply, RunsTo, beside, machine_in, requests_at}
-use Rattle.library.specs.Runs.{AnswersOrders, Command, HeldAnswers, Order, is_configured_in, orders_of}
+use Rattle.library.specs.OneHost.{AnswersLines, LibraryAnswersHost, IsHonestBay, MayReply, RunsTo, beside, machine_in, requests_at}
+use Rattle.library.specs.Runs.{AnswersOrders, Command, LibraryAnswers, Order, is_configured_in, orders_of}
 use Rattle.library.proofs.BesideLemmas.{beside_map, beside_nothing, dealt, same_beside}
 use Rattle.library.proofs.ServedLemmas.{counted, found_same, none_asked, orders_are, served_at}
 
@@ -93,7 +93,8 @@ module _ {D : Type 0} (state : D → DiskState) (laws : Laws state) where
   -- a drive may give no other replies than it gave
   told_alike : (bay : BayState D) (requests : List Request) (silent others : List Reply) (made : Made) (end : Machine)
       → IsHonestBay state bay → IsSureDrive (seen_of (machine_in state bay))
-      → Run (IsHonestBay state bay) (machine_in state bay) (map Execute requests) (map Answered (map Ok silent)) made end
+      → Run (IsHonestBay state bay) (machine_in state bay) (map Execute requests) (map Answered (map Ok silent)) made
+      end
       → MayReply state requests others bay → silent ≡ others
   told_alike bay requests silent others made end honest sure run may =
       let own = map Execute requests in
@@ -132,7 +133,8 @@ module _ {D : Type 0} (state : D → DiskState) (laws : Laws state) where
       record {
         answers = own.answers;
         replied = sym own.replied;
-        runs = λ other there. subst (λ (b : BayState D). RunsTo state number (requests_at number lines) own.answers b new)
+        runs = λ other there.
+            subst (λ (b : BayState D). RunsTo state number (requests_at number lines) own.answers b new)
             (found_same bay other (sym is ∙ there))
             (record { left = served.left; is = served.is; made = own.made; run = own.run });
       }
@@ -195,8 +197,8 @@ module _ {D : Type 0} (state : D → DiskState) (laws : Laws state) where
 
   pub one_host_of : (old : HeldState D) (left before : Option (List ℕ)) (new : HeldState D) (now : Option (List ℕ))
       (result : Result (Unit {0}) ScriptFault)
-      → RunsScript (is_configured_in old) (HeldAnswers state) old left before new now result
-      → OnOk result (AnswersOneHost state old left before new now)
+      → RunsScript (is_configured_in old) (LibraryAnswers state) old left before new now result
+      → OnOk result (LibraryAnswersHost state old left before new now)
   one_host_of old left before new now (Err fault) runs = tt
   one_host_of old left before new now (Ok done) runs =
       let parsed_list = parsed_lines (is_configured_in old) runs.text in

@@ -10,7 +10,7 @@ use Rattle.vtl_script.specs.declared.items.Item.TheVariants.{Phase}
 use Rattle.library.specs.Commands.{Commands}
 use Rattle.library.specs.Elements.{HeldState}
 use Rattle.library.specs.Inner.RunsOn.{orders_on}
-use Rattle.library.specs.Runs.{AnswersOrders, Command, HeldAnswers, Order, orders_of, request_of}
+use Rattle.library.specs.Runs.{AnswersOrders, Command, LibraryAnswers, Order, orders_of, line_request}
 
 -- each of some lines passes
 pub passes_at : (p : Line → Bool) (lines : List Line) (i : ℕ) (line : Line) → list_all p lines ≡ true
@@ -29,9 +29,9 @@ phase_is lines = append-nil (map Command lines)
 module _ {D : Type 0} (state : D → DiskState) where
   -- a phase goes on by one more command
   pub phase_on : (old mid new : HeldState D) (lines : List Line) (line : Line) (replies : List Reply) (reply : Reply)
-      → HeldAnswers state old (Phase lines ∷ []) replies mid
-      → Commands state line.drive (request_of line) mid reply new
-      → HeldAnswers state old (Phase (lines ++ line ∷ []) ∷ []) (replies ++ reply ∷ []) new
+      → LibraryAnswers state old (Phase lines ∷ []) replies mid
+      → Commands state line.drive (line_request line) mid reply new
+      → LibraryAnswers state old (Phase (lines ++ line ∷ []) ∷ []) (replies ++ reply ∷ []) new
   phase_on old mid new lines line replies reply first one =
       let before : AnswersOrders state old (map Command lines) replies mid =
       subst (λ (os : List Order). AnswersOrders state old os replies mid) (phase_is lines) first in

@@ -19,7 +19,7 @@ use Rattle.library.specs.Commands.{Commands}
 use Rattle.library.specs.Elements.{BayState, HeldState, bay_at}
 use Rattle.library.specs.Moves.{KeepsBays}
 use Rattle.library.specs.OneHost.{beside, requests_at}
-use Rattle.library.specs.Runs.{AnswersOrders, Command, Order, orders_of, request_of}
+use Rattle.library.specs.Runs.{AnswersOrders, Command, Order, orders_of, line_request}
 
 -- a value that is found twice is the same
 pub found_same : {X : Type 0} (x y : X) → Some x ≡ Some y → x ≡ y
@@ -52,7 +52,7 @@ module _ {D : Type 0} (state : D → DiskState) where
   -- a command to this drive, or to another, and what comes then
   one_more : (number : ℕ) (line : Line) (lines : List Line) (reply : Reply) (replies : List Reply) (bay : BayState D)
       (old mid new : HeldState D) (test : Bool) → (line.drive == number) ≡ test
-      → Commands state line.drive (request_of line) old reply mid → bay_at old.bays number ≡ Some bay
+      → Commands state line.drive (line_request line) old reply mid → bay_at old.bays number ≡ Some bay
       → ((next : BayState D) → bay_at mid.bays number ≡ Some next → ServedAt number lines replies next new)
       → ServedAt number (line ∷ lines) (reply ∷ replies) bay new
   one_more number line lines reply replies bay old mid new true here commands is more =
@@ -67,11 +67,11 @@ module _ {D : Type 0} (state : D → DiskState) where
         left = rest.left;
         is = rest.is;
         serves = subst (λ (b : Bool). Serves (state_of state) (buffer_below state) store_kept (store_below state) bay
-            (map request_of (cond b (line ∷ own) own)) (cond b (reply ∷ told) told) rest.left)
+            (map line_request (cond b (line ∷ own) own)) (cond b (reply ∷ told) told) rest.left)
             (sym here) (
               commands.left,
               subst (λ (b : BayState D). Answers (state_of state) (buffer_below state) store_kept
-                  (store_below state) b (request_of line) reply commands.left) first commands.step,
+                  (store_below state) b (line_request line) reply commands.left) first commands.step,
               rest.serves,
             );
       }
@@ -84,7 +84,7 @@ module _ {D : Type 0} (state : D → DiskState) where
         left = rest.left;
         is = rest.is;
         serves = subst (λ (b : Bool). Serves (state_of state) (buffer_below state) store_kept (store_below state) bay
-            (map request_of (cond b (line ∷ own) own)) (cond b (reply ∷ told) told) rest.left)
+            (map line_request (cond b (line ∷ own) own)) (cond b (reply ∷ told) told) rest.left)
             (sym here) rest.serves;
       }
 
@@ -110,7 +110,7 @@ module _ {D : Type 0} (state : D → DiskState) where
 
   -- a drive that is not there was not asked
   none_more : (number : ℕ) (line : Line) (rest : List Line) (reply : Reply) (old mid : HeldState D) (test : Bool)
-      → (line.drive == number) ≡ test → Commands state line.drive (request_of line) old reply mid
+      → (line.drive == number) ≡ test → Commands state line.drive (line_request line) old reply mid
       → bay_at old.bays number ≡ None → (bay_at mid.bays number ≡ None → rest ≡ [])
       → cond test (line ∷ rest) rest ≡ []
   none_more number line rest reply old mid true here commands none more =
@@ -145,4 +145,6 @@ module _ {D : Type 0} (state : D → DiskState) where
           ∙ ap (λ (found : Option (BayState D)). is_some found) commands.now.bays.here
           ∙ sym (ap (λ (found : Option (BayState D)). is_some found) commands.is)
           ∙ sym (ap (λ (n : ℕ). is_some (bay_at old.bays n)) same)
-      by false here = ap (λ (found : Option (BayState D)). is_some found) (commands.now.bays.elsewhere other (eqb-false other number here))
+      by false here =
+          ap (λ (found : Option (BayState D)). is_some found)
+          (commands.now.bays.elsewhere other (eqb-false other number here))

@@ -20,11 +20,11 @@ use Rattle.vtl_script.specs.InOrder.{commands_in, IsOfHostAlone}
 use Rattle.vtl_script.specs.Parsed.{parsed_lines}
 use Rattle.vtl_script.specs.Text.{text_of}
 use Rattle.library.specs.Elements.{BayState, HeldState, bay_at}
-use Rattle.library.specs.Runs.{is_configured_in, request_of}
+use Rattle.library.specs.Runs.{is_configured_in, line_request}
 
 -- what some lines ask of the drive of this number, in their order (own)
 abbrev pub requests_at : ℕ → List Line → List Request
-requests_at number lines = map request_of (filter (λ line. line.drive == number) lines)
+requests_at number lines = map line_request (filter (λ line. line.drive == number) lines)
 
 -- of what stands beside some lines, one by one, that which stands beside the lines of this drive (own)
 abbrev pub beside : {A : Type 0} → ℕ → List Line → List A → List A
@@ -85,7 +85,7 @@ module _ {D : Type 0} (state : D → DiskState) where
 
   -- a script that was run to its end by a library: where it is of one host and asks for no move, its commands were
   -- answered in the order of the lines (own)
-  pub record AnswersOneHost
+  pub record LibraryAnswersHost
       (old : HeldState D) (left before : Option (List ℕ)) (new : HeldState D) (now : Option (List ℕ)) : Type
       0 where
     -- the text of the script: all that the reader has, where that is known

@@ -22,8 +22,8 @@ orders_of (Phase lines) = map Command lines
 orders_of (Move from to) = Carry from to ∷ []
 
 -- what a line asks of its drive: to carry its command block out, for its host, with the bytes that it sends (own)
-abbrev pub request_of : Line → Request
-request_of line = asked line.host line.cdb line.sent
+abbrev pub line_request : Line → Request
+line_request line = asked line.host line.cdb line.sent
 
 -- whether there is a drive of this number (own)
 abbrev pub is_configured_in : {D : Type 0} → HeldState D → ℕ → Bool
@@ -33,7 +33,7 @@ module _ {D : Type 0} (state : D → DiskState) where
   -- an order is answered: a command by the drive that its line names, a move as MOVE MEDIUM is (SMC-3, MOVE MEDIUM; the
   -- rest own)
   abbrev pub AnswersOrder : HeldState D → Order → Reply → HeldState D → Type 0
-  AnswersOrder old (Command line) reply new = Commands state line.drive (request_of line) old reply new
+  AnswersOrder old (Command line) reply new = Commands state line.drive (line_request line) old reply new
   AnswersOrder old (Carry from to) reply new = MovesMedium state old from to reply new
 
   -- orders are answered one after another, each from where the one before left the library (own)
@@ -45,5 +45,5 @@ module _ {D : Type 0} (state : D → DiskState) where
   AnswersOrders old (order ∷ orders) [] new = ⊥
 
   -- a library answers some items so, one after another (own)
-  abbrev pub HeldAnswers : HeldState D → List Item → List Reply → HeldState D → Type 0
-  HeldAnswers old items replies new = AnswersOrders old (flat_map orders_of items) replies new
+  abbrev pub LibraryAnswers : HeldState D → List Item → List Reply → HeldState D → Type 0
+  LibraryAnswers old items replies new = AnswersOrders old (flat_map orders_of items) replies new

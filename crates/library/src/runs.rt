@@ -5,8 +5,8 @@ ghost use Rattle.vtl_script.specs.declared.items.Item.TheVariants as Kinds;
 ghost use Rattle.vtl_script.specs.Runs.{RunsScript, TakesWithin};
 ghost use Rattle.library.specs.Inner.RunsOn.{held_none, held_on};
 ghost use Rattle.library.specs.Moves.{KeepsBays};
-ghost use Rattle.library.specs.OneHost.{AnswersOneHost};
-ghost use Rattle.library.specs.Runs.{HeldAnswers, is_configured_in};
+ghost use Rattle.library.specs.OneHost.{LibraryAnswersHost};
+ghost use Rattle.library.specs.Runs.{LibraryAnswers, is_configured_in};
 
 use crate::held::Held;
 use aptpl_store::AptplStore;
@@ -24,7 +24,7 @@ impl<D: Disk + Drop> Held<D> {
     fn run_lines(&mut self, alloc: Global, lines: &[Line]) -> Result<Vec<Reply>, NoMemory>
         requires { list_all (λ line. is_configured_in self.old line.drive) lines.now ≡ true }
         ensures ok { IfOk result (λ replies.
-            HeldAnswers D.state self.old (Kinds.Phase lines.now ∷ []) replies.items self.new) }
+            LibraryAnswers D.state self.old (Kinds.Phase lines.now ∷ []) replies.items self.new) }
         ensures err { OnErr result (self.new ≡ self.old) }
         ensures bays { KeepsBays self.old self.new }
     {
@@ -44,7 +44,7 @@ impl<D: Disk + Drop> Held<D> {
     // Moves a cartridge. Where memory runs out nothing is moved.
     fn run_move(&mut self, alloc: Global, from: u32, to: u32) -> Result<Vec<Reply>, NoMemory>
         ensures ok { IfOk result (λ replies.
-            HeldAnswers D.state self.old (Kinds.Move from to ∷ []) replies.items self.new) }
+            LibraryAnswers D.state self.old (Kinds.Move from to ∷ []) replies.items self.new) }
         ensures err { OnErr result (self.new ≡ self.old) }
         ensures bays { KeepsBays self.old self.new }
     {
@@ -57,7 +57,7 @@ impl<D: Disk + Drop> Held<D> {
 impl<D: Disk + Drop> Runner for Held<D> {
     ghost is_configured = { is_configured_in };
 
-    ghost answers = { HeldAnswers D.state };
+    ghost answers = { LibraryAnswers D.state };
 
     fn configured(&self, drive: DriveNo) -> bool {
         Held::configured(self, drive)
@@ -87,9 +87,9 @@ pub fn run_held<D: Disk + Drop, R: Read, W: Write>(
     reader: &mut R,
     writer: &mut W,
 ) -> Result<(), ScriptFault>
-    ensures runs { RunsScript (is_configured_in held.old) (HeldAnswers D.state) held.old
+    ensures runs { RunsScript (is_configured_in held.old) (LibraryAnswers D.state) held.old
         (R.remaining reader.old) (W.contents writer.old) held.new (W.contents writer.new) result }
-    ensures one_host { OnOk result (AnswersOneHost D.state held.old (R.remaining reader.old)
+    ensures one_host { OnOk result (LibraryAnswersHost D.state held.old (R.remaining reader.old)
         (W.contents writer.old) held.new (W.contents writer.new)) }
     ensures past { result ≢ Err ScriptFault.ReadFault →
         TakesWithin (R.remaining reader.old) 0 (R.remaining reader.new) }

@@ -1,11 +1,11 @@
 -- What a library runs appends.
-use Rattle.std.proofs.Common.{◌≡◌, List, [], ◌∷◌, ◌++◌, flat_map, refl, sym, subst}
+use Rattle.std.proofs.Common.{List, [], ◌∷◌, ◌++◌, flat_map, refl, sym, subst}
 use Rattle.std.proofs.lemmas.Grind.{flat_map-append}
 use Rattle.tape_disk.specs.Disk.{DiskState}
 use Rattle.scsi_sense.specs.declared.replies.Reply.{Reply}
 use Rattle.vtl_script.specs.declared.items.Item.{Item}
 use Rattle.library.specs.Elements.{HeldState}
-use Rattle.library.specs.Runs.{AnswersOrders, HeldAnswers, Order, orders_of}
+use Rattle.library.specs.Runs.{AnswersOrders, LibraryAnswers, Order, orders_of}
 
 module _ {D : Type 0} (state : D → DiskState) where
   -- no order is answered by standing still
@@ -25,8 +25,8 @@ module _ {D : Type 0} (state : D → DiskState) where
 
   -- the same of items
   pub held_on : (old mid new : HeldState D) (first rest : List Item) (replies others : List Reply)
-      → HeldAnswers state old first replies mid → HeldAnswers state mid rest others new
-      → HeldAnswers state old (first ++ rest) (replies ++ others) new
+      → LibraryAnswers state old first replies mid → LibraryAnswers state mid rest others new
+      → LibraryAnswers state old (first ++ rest) (replies ++ others) new
   held_on old mid new first rest replies others one two =
       subst (λ (orders : List Order). AnswersOrders state old orders (replies ++ others) new)
       (sym (flat_map-append orders_of first rest))

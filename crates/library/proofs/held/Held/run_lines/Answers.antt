@@ -2,7 +2,7 @@ use Rattle.std.proofs.Common.{◌≡◌, ℕ, [], ◌∷◌, ◌++◌, ◌+◌, 
 use Rattle.std.proofs.lemmas.List.{take_more}
 use Rattle.vtl_script.specs.declared.lines.Line.{Line}
 use Rattle.library.specs.Commands.{Commands}
-use Rattle.library.specs.Runs.{is_configured_in, request_of}
+use Rattle.library.specs.Runs.{is_configured_in, line_request}
 use Rattle.library.proofs.RunnerLemmas.{passes_at, phase_on}
 use Rattle.library.proofs.ServedLemmas.{commands_keep}
 use Rattle.library.proofs.held.Held.run_lines.Goals as goal
@@ -23,7 +23,7 @@ loop-line-preserved g c =
     let taken : take (at + 1) lines ≡ take at lines ++ line ∷ [] =
     take_more lines at line c.loop-line-test.true
     ∙ ap (λ (x : Line). take at lines ++ x ∷ []) (sym c.line-item.is) in
-    let step : Commands state line.drive (request_of line) c.loop-line.self c.command-reply.result
+    let step : Commands state line.drive (line_request line) c.loop-line.self c.command-reply.result
     c.command-reply.new.self =
     rw (c.as_slice.ensures, c.as_slice-in-loop-line.ensures) at c.command-reply.ensures in
     let so =
@@ -34,6 +34,6 @@ loop-line-preserved g c =
       rw (taken, pushed) so,
       longer ∙ ap (λ (n : ℕ). n + 1) c.loop-line.invariant.1,
       omega (arith, c.push.ensures.capacity, c.loop-line.invariant.2),
-      λ number. commands_keep state line.drive (request_of line) c.loop-line.self c.command-reply.result
+      λ number. commands_keep state line.drive (line_request line) c.loop-line.self c.command-reply.result
           c.command-reply.new.self step number ∙ c.loop-line.invariant.3 number,
     )
