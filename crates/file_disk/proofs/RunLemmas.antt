@@ -1,6 +1,6 @@
 -- Time over several calls of a file.
-use Rattle.std.proofs.Common.{◌≡◌, ◌⊎◌, inl, inr, ⊎_elim, ℕ, ◌+◌, ◌<◌, ◌≤◌, List, arith}
-use Rattle.tape_disk.specs.Disk.{DiskState, Elapses, IsDisk, Same}
+use Rattle.std.proofs.Common.{◌⊎◌, inl, inr, ⊎_elim, ℕ, ◌+◌, ◌<◌, ◌≤◌, List, arith}
+use Rattle.tape_disk.specs.Disk.{DiskState, Elapses}
 use Rattle.file_disk.specs.RawFile.{IsAsHonest}
 use Rattle.file_disk.specs.Inner.Transfers.{Ran}
 

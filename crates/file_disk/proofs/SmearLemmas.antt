@@ -1,8 +1,8 @@
 -- Rows of bytes that begin with others, and writes that were not safe, in a row.
-use Rattle.std.proofs.Common.{◌≡◌, ℕ, ◌+◌, ◌-◌, ◌<◌, ◌≤◌, List, [], ◌++◌, length, take, drop, refl, sym, ap, ◌∙◌, subst, inl, inr, arith, append_assoc, length-append, take-append-drop}
+use Rattle.std.proofs.Common.{◌≡◌, ℕ, ◌+◌, ◌-◌, ◌<◌, ◌≤◌, List, [], ◌++◌, length, take, drop, refl, sym, ap, ◌∙◌, subst, inl, inr, arith, append_assoc, take-append-drop}
 use Rattle.std.proofs.lemmas.Bool.{cases_lt}
-use Rattle.std.proofs.lemmas.List.{append-nil, drop-drop, drop-append-le, drop_all, drop-take, drop_at, length-take-le, take-append-le, take-take, take_all, take_at}
-use Rattle.tape_disk.specs.Disk.{IsPrefixOf, Smeared, overwritten}
+use Rattle.std.proofs.lemmas.List.{append-nil, drop-drop, drop-append-le, drop_all, drop-take, drop_at, take-append-le, take-take, take_all, take_at}
+use Rattle.tape_disk.specs.Disk.{IsPrefixOf, Smeared}
 
 module _ (xs ys zs : List ℕ) where
   pub prefix_both : IsPrefixOf xs ys → IsPrefixOf ys zs → IsPrefixOf xs zs

@@ -1,8 +1,8 @@
 -- What a call of a staged file does, by what it does to the log of the disk below.
-use Rattle.std.proofs.Common.{◌≡◌, ℕ, ◌+◌, ◌≤◌, List, [], length, take, drop, refl, sym, ap, ◌∙◌, subst, arith, Ok, Err, take-append-drop}
-use Rattle.std.proofs.lemmas.List.{append-nil, length-take}
-use Rattle.tape_disk.specs.CallLog.{Wrote, CallLog, idled, kept, logged, state_of}
-use Rattle.tape_disk.specs.Disk.{Smeared, WriteAt}
+use Rattle.std.proofs.Common.{◌≡◌, ℕ, ◌≤◌, List, length, take, drop, refl, sym, ap, ◌∙◌, subst, arith, Ok, Err, take-append-drop}
+use Rattle.std.proofs.lemmas.List.{length-take}
+use Rattle.tape_disk.specs.CallLog.{CallLog, idled, logged, state_of}
+use Rattle.tape_disk.specs.Disk.{WriteAt}
 use Rattle.file_disk.specs.declared.raw.CallFailed.{CallFailed}
 use Rattle.file_disk.specs.declared.raw.Stop.{Stop}
 use Rattle.file_disk.specs.RawFile.{CutsFile, WritesSomeBytes}

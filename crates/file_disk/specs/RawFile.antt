@@ -1,5 +1,5 @@
 -- What the calls of a file do to it, where the system is honest.
-use Rattle.std.specs.Prelude.{◌≡◌, ℕ, ◌≤◌, List, length, take, Result, IfOk, IfErr, OnOk, OnErr}
+use Rattle.std.specs.Prelude.{◌≡◌, ℕ, List, length, take, Result, IfOk, IfErr, OnOk, OnErr}
 use Rattle.tape_disk.specs.Disk.{DiskState, Follows, Smeared, Cut, Only, overwritten}
 use Rattle.file_disk.specs.declared.raw.CallFailed.{CallFailed}
 use Rattle.file_disk.specs.declared.raw.Stop.{Stop}

@@ -1,5 +1,5 @@
 -- The state of a file of the system, which no proof knows.
-use Rattle.std.specs.Prelude.{ℕ, List, []}
+use Rattle.std.specs.Prelude.{[]}
 use Rattle.tape_disk.specs.Disk.{DiskState}
 use Rattle.file_disk.specs.RawFile.{IsAsHonest}
 use Rattle.file_disk.specs.declared.system.SystemFile.{SystemFile}

@@ -1,4 +1,4 @@
-use Rattle.std.proofs.Common.{◌≡◌, ◌-◌, ◌≤◌, length}
+use Rattle.std.proofs.Common.{◌-◌, ◌≤◌, length}
 use Rattle.file_disk.specs.RawFile.{IsAsHonest}
 use Rattle.file_disk.specs.Inner.Transfers.{HasWritten}
 use Rattle.file_disk.specs.declared.transfers.TheConstants.{CALLS}
