@@ -16,12 +16,12 @@ ifeq ($(RT),)
 endif
 
 demo: need-rt
-	@cd crates/vtl && rt try < stdin 2> ../../.demo.log || { cat ../../.demo.log >&2; rm -f ../../.demo.log; exit 1; }
+	@cd crates/vtl && rt try -- run < stdin 2> ../../.demo.log || { cat ../../.demo.log >&2; rm -f ../../.demo.log; exit 1; }
 	@rm -f .demo.log
 	@echo "(this run was not proved; 'make check' proves it, and 'make vtl' builds the proved program)"
 
 vtl: need-rt
-	@cd crates/vtl && rt run < stdin > /dev/null
+	@cd crates/vtl && rt run -- run < stdin > /dev/null
 	@echo "the proved program is crates/vtl/out/vtl"
 
 check: need-rt

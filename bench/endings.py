@@ -30,13 +30,13 @@ def ended(script, stdin=None, stdout=None, memory=None):
     """Status, standard output and standard error; stdin and stdout are files in the place of pipes."""
     limited = (lambda: resource.setrlimit(resource.RLIMIT_AS, (memory, memory))) if memory else None
     given = {"input": script} if stdin is None else {"stdin": stdin}
-    done = subprocess.run([PROGRAM], stdout=stdout or subprocess.PIPE, stderr=subprocess.PIPE, preexec_fn=limited, **given)
+    done = subprocess.run([PROGRAM, "run"], stdout=stdout or subprocess.PIPE, stderr=subprocess.PIPE, preexec_fn=limited, **given)
     return done.returncode, done.stdout or b"", done.stderr
 
 
 def ended_on(size):
     """The same of a script of this size: a phase of one command, and remarks."""
-    child = subprocess.Popen([PROGRAM], stdin=subprocess.PIPE, stdout=subprocess.PIPE, stderr=subprocess.PIPE)
+    child = subprocess.Popen([PROGRAM, "run"], stdin=subprocess.PIPE, stdout=subprocess.PIPE, stderr=subprocess.PIPE)
     left, remark = size - len(PHASE), b"#" * 2_199_999 + b"\n"
     try:
         child.stdin.write(PHASE)

@@ -48,7 +48,7 @@ def timed(folder, name, script, answers):
     """Seconds and greatest memory of the script, which must have these answers, and the bytes of both texts."""
     source, sink = os.path.join(folder, "in"), os.path.join(folder, "out")
     size = written(source, script)
-    seconds, memory = best([PROGRAM], source, sink)
+    seconds, memory = best([PROGRAM, "run"], source, sink)
     if not is_text(sink, answers):
         sys.exit(f"{name}: another answer than expected")
     return seconds, memory, size + os.path.getsize(sink)

@@ -1,3 +1,4 @@
+pub mod FileDisk
 pub mod Inner
 pub mod OpenFile
 pub mod Opening

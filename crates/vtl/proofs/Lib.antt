@@ -1,4 +1,4 @@
 pub mod CheckLemmas
-pub mod OneHostLemmas
+mod CreatingLemmas
 pub mod OneTextLemmas
 pub mod SideTextLemmas

@@ -27,3 +27,11 @@ fault_text Config = codes "vtl: configuration refused"
 fault_text (Script line) = codes "vtl: script line " ++ decimal line ++ codes " refused"
 fault_text Device = codes "vtl: device fault"
 fault_text NoMemory = codes "vtl: out of memory"
+
+-- a device, a file or a stream failed, or memory ran out (own)
+abbrev pub IsFailure : VtlFault → Type 0
+IsFailure Device = Unit {0}
+IsFailure NoMemory = Unit {0}
+IsFailure Words = ⊥
+IsFailure Config = ⊥
+IsFailure (Script line) = ⊥

@@ -1,7 +1,8 @@
-pub mod BuiltIn
+pub mod Checks
+pub mod Configured
+pub mod Creating
 pub mod Faults
-pub mod Held
-pub mod Inner
-pub mod OneHost
+pub mod Orders
 pub mod Program
 pub mod SideText
+pub mod Starting

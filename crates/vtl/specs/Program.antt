@@ -1,47 +1,56 @@
 -- What the program does over its streams (own).
-use Rattle.std.specs.Prelude.{◌≡◌, ℕ, ◌++◌, ◌∷◌, [], Bool, true, List, Option, Result, Ok, Err}
+use Rattle.std.specs.Prelude.{◌≡◌, ℕ, ◌++◌, ◌∷◌, [], true, List, Option, Result, Ok, Err, OnOk}
 use Rattle.std.specs.Io.KnownBytes.{Appends, Keeps}
-use Rattle.scsi_sense.specs.declared.replies.Reply.{Reply}
-use Rattle.vtl_script.specs.declared.items.Item.{Item}
 use Rattle.vtl_script.specs.declared.faults.ScriptFault.{ScriptFault}
+use Rattle.tape_disk.specs.Disk.{DiskState}
+use Rattle.library.specs.Elements.{HeldState}
+use Rattle.library.specs.Finish.{WritesOut}
+use Rattle.library.specs.OneHost.{LibraryAnswersHost}
+use Rattle.library.specs.Runs.{LibraryAnswers, is_configured_in}
+use Rattle.library.specs.declared.finishing.Unwritten.{Unwritten}
+use Rattle.vtl.specs.declared.programs.Verdict.{Verdict}
+use Rattle.vtl.specs.declared.programs.Verdict.TheVariants.{Done, Refused}
 use Rattle.vtl.specs.declared.programs.VtlFault.{VtlFault}
+use Rattle.vtl.specs.declared.programs.VtlFault.TheVariants.{Device}
 use Rattle.vtl.specs.declared.programs.Ended.{Ended}
 use Rattle.vtl.specs.Faults.{fault_of, status_of, fault_text}
 use Rattle.vtl_script.specs.Runs.{RunsScript}
 
--- the program's outcome, by that of its script (own)
-abbrev pub outcome_of : Result (Unit {0}) ScriptFault → Result (Unit {0}) VtlFault
-outcome_of (Ok done) = Ok done
-outcome_of (Err fault) = Err (fault_of fault)
+-- the program's outcome, by how its script ended and whether all was then written out: the first fault decides (own)
+abbrev pub outcome_of : Result (Unit {0}) ScriptFault → Result (Unit {0}) Unwritten → Result (Unit {0}) VtlFault
+outcome_of (Ok done) (Ok written) = Ok done
+outcome_of (Ok done) (Err unwritten) = Err Device
+outcome_of (Err fault) written = Err (fault_of fault)
 
--- a script was run from this start (own)
-pub record RunsStarted {P : Type 0}
-    (is_configured : P → ℕ → Bool) (answers : P → List Item → List Reply → P → Type 0) (old : P)
-    (left before now : Option (List ℕ)) (outcome : Result (Unit {0}) VtlFault) : Type 0 where
-  pub new : P
+-- a script was run over this library, one of one host with no move in the order of its lines, and then every buffer
+-- was written out (own)
+pub record RunsStarted {D : Type 0} (state : D → DiskState) (old : HeldState D) (left before now : Option (List ℕ))
+    (outcome : Result (Unit {0}) VtlFault) : Type 0 where
+  pub mid : HeldState D
+  pub new : HeldState D
   pub ended : Result (Unit {0}) ScriptFault
-  pub runs : RunsScript (is_configured old) answers old left before new now ended
-  pub outcome_is : outcome ≡ outcome_of ended
+  pub written : Result (Unit {0}) Unwritten
+  pub runs : RunsScript (is_configured_in old) (LibraryAnswers state) old left before mid now ended
+  pub one_host : OnOk ended (LibraryAnswersHost state old left before mid now)
+  pub finishes : WritesOut state mid written new
+  pub outcome_is : outcome ≡ outcome_of ended written
 
--- a script was run from this start; where there is none, nothing was written (own)
-abbrev pub RunsFrom : {P : Type 0} → (P → ℕ → Bool) → (P → List Item → List Reply → P → Type 0)
-    → Result P VtlFault → Option (List ℕ) → Option (List ℕ) → Option (List ℕ) → Result (Unit {0}) VtlFault → Type 0
-RunsFrom is_configured answers (Ok old) left before now outcome =
-    RunsStarted is_configured answers old left before now outcome
-RunsFrom is_configured answers (Err fault) left before now outcome = (outcome ≡ Err fault) × Keeps before now
+-- a script was run over the library that was started; where none was, nothing was written (own)
+abbrev pub RunsFrom : {D : Type 0} → (D → DiskState) → Result (HeldState D) VtlFault
+    → Option (List ℕ) → Option (List ℕ) → Option (List ℕ) → Result (Unit {0}) VtlFault → Type 0
+RunsFrom state (Ok old) left before now outcome = RunsStarted state old left before now outcome
+RunsFrom state (Err fault) left before now outcome = (outcome ≡ Err fault) × Keeps before now
+
+-- the status where nothing failed: 0, or 1 where the file that was checked is refused (own)
+abbrev pub verdict_status : Verdict → ℕ
+verdict_status Done = 0
+verdict_status Refused = 1
 
 -- the status and the line on standard error: none where nothing failed, and else the line of the fault, where it
 -- could be written (own)
-abbrev pub EndsProgram : Result (Unit {0}) VtlFault → Option (List ℕ) → Option (List ℕ) → Ended → Type 0
-EndsProgram (Ok done) before now ended = (ended ≡ record { status = 0; is_reported = true }) × Keeps before now
+abbrev pub EndsProgram : Result Verdict VtlFault → Option (List ℕ) → Option (List ℕ) → Ended → Type 0
+EndsProgram (Ok verdict) before now ended =
+    (ended ≡ record { status = verdict_status verdict; is_reported = true }) × Keeps before now
 EndsProgram (Err fault) before now ended =
     (ended.status ≡ status_of fault)
     × (ended.is_reported ≡ true → Appends before now (fault_text fault ++ 10 ∷ []))
-
--- the program ran a script from this start, and its status and line are those of the outcome (own)
-pub record RunsProgram {P : Type 0}
-    (is_configured : P → ℕ → Bool) (answers : P → List Item → List Reply → P → Type 0) (start : Result P VtlFault)
-    (left before now errors errors' : Option (List ℕ)) (ended : Ended) : Type 0 where
-  pub outcome : Result (Unit {0}) VtlFault
-  pub runs : RunsFrom is_configured answers start left before now outcome
-  pub ends : EndsProgram outcome errors errors' ended

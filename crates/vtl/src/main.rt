@@ -1,22 +1,47 @@
-//! A virtual tape library: runs a script against a drive in memory.
+//! A virtual tape library: runs scripts of commands against drives, over cartridges in files or in memory.
 #![tactic(auto)]
 
 pub mod checking;
-mod drives;
+pub mod configs;
+pub mod creating;
 pub mod laws;
-mod programs;
+pub mod orders;
+pub mod programs;
+pub mod side_checks;
+pub mod sides;
+pub mod starting;
 #[cfg(test)]
 mod tests;
+mod writing;
 
-use programs::{built_in_drive, run};
-use std::io;
+use orders::run;
+use programs::VtlFault;
+use std::env;
+use std::io::{self, ErrorKind};
 use std::process::ExitCode;
+
+// The words of the command line.
+fn words_of(rt: &HostRuntime) -> Result<Vec<String>, VtlFault> {
+    let mut words = Vec::new(rt.alloc());
+    match env::args(rt) {
+        Ok(all) => {
+            for word in all {
+                if words.push(word).is_err() {
+                    return Err(VtlFault::NoMemory);
+                }
+            }
+            Ok(words)
+        }
+        Err(error) if error.kind() == ErrorKind::OutOfMemory => Err(VtlFault::NoMemory),
+        Err(_) => Err(VtlFault::Words),
+    }
+}
 
 fn main(rt: HostRuntime) -> ExitCode {
     let mut reader = rt.reader();
     let (stdout, stderr) = (rt.stdout(), rt.stderr());
     let mut writer = io::writer(&stdout);
     let mut errors = io::writer(&stderr);
-    let drive = built_in_drive(rt.alloc());
-    ExitCode::from(run(rt.alloc(), drive, &mut reader, &mut writer, &mut errors).status)
+    let words = words_of(&rt);
+    ExitCode::from(run(&rt, words, &mut reader, &mut writer, &mut errors).status)
 }

@@ -1,25 +1,12 @@
-//! The program: the built-in configuration, and how a fault is reported.
-ghost use Rattle.std.specs.Prelude.{◌≡◌, ◌==◌, ◌∷◌, [], true, IfOk, IfErr};
-ghost use Rattle.volume_core.specs.Volume.{empty_volume};
-ghost use Rattle.vtl.specs.BuiltIn.{IsBuiltIn};
+//! How the program ends, and how a fault is reported.
+ghost use Rattle.std.specs.Prelude.{◌≡◌};
 ghost use Rattle.vtl.specs.Faults.{status_of};
-ghost use Rattle.vtl.specs.Held.{HeldAnswers};
-ghost use Rattle.vtl.specs.Program.{RunsFrom, RunsProgram};
+ghost use Rattle.vtl.specs.Program.{EndsProgram};
 
-use crate::drives::{HeldDrive, run_on_drive};
-use drive_core::Drive;
-use pr_core::{Keeper, NoKeeper, Reservations};
-use std::alloc::Global;
 use std::fmt;
-use std::io::{Read, Write};
-use volume_core::{Medium, PlainMedium};
-use vtl_base::{DriveNo, NoMemory};
+use std::io::{self, ErrorKind, Write};
+use vtl_base::NoMemory;
 use vtl_script::ScriptFault;
-
-// The drive and the capacity of the built-in configuration.
-const DRIVE: u8 = 1;
-
-const CAPACITY: u64 = 16_777_216;
 
 /// Why the program ends with a status that is not 0.
 #[derive(Clone, Copy, PartialEq, Eq, Debug)]
@@ -47,6 +34,19 @@ impl From<ScriptFault> for VtlFault {
             ScriptFault::BadLine { line } => VtlFault::Script { line },
             ScriptFault::ReadFault | ScriptFault::WriteFault => VtlFault::Device,
             ScriptFault::NoMemory => VtlFault::NoMemory,
+        }
+    }
+}
+
+impl From<io::Error> for VtlFault {
+    ghost use Rattle.vtl.specs.Faults.{IsFailure};
+
+    ghost from_gives = { λ _ result. IsFailure result };
+
+    fn from(error: io::Error) -> Self {
+        match error.kind() {
+            ErrorKind::OutOfMemory => VtlFault::NoMemory,
+            _ => VtlFault::Device,
         }
     }
 }
@@ -98,37 +98,13 @@ pub fn fault_line(fault: &VtlFault) -> (u8, FaultLine)
     (status, FaultLine { fault: *fault })
 }
 
-/// The drive of the built-in configuration: drive 1, in which a cartridge of one partition of
-/// 16,777,216 bytes is loaded. Its reservations are kept in memory alone, and none is there.
-pub fn built_in_drive(alloc: Global) -> Result<HeldDrive<PlainMedium, NoKeeper>, VtlFault>
-    ensures ok { IfOk result (λ held. IsBuiltIn
-        (record { volume = empty_volume (16777216 ∷ []); awake = true }) held) }
-    ensures fault { IfErr result (λ fault. fault ≡ VtlFault.NoMemory) }
-{
-    let Some(number) = DriveNo::new(DRIVE) else {
-        return Err(VtlFault::Config);
-    };
-    let medium = PlainMedium::new(alloc, &[CAPACITY])?;
-    match Drive::power_on(alloc, NoKeeper, Reservations::empty(), Some(medium)) {
-        Ok(drive) => Ok(HeldDrive { number, drive }),
-        Err(_) => Err(VtlFault::NoMemory),
-    }
-}
-
-// Runs a script by this drive, where there is one.
-fn run_started<M: Medium + Drop, K: Keeper + Drop, R: Read, W: Write>(
-    alloc: Global,
-    start: Result<HeldDrive<M, K>, VtlFault>,
-    reader: &mut R,
-    writer: &mut W,
-) -> Result<(), VtlFault>
-    ensures { RunsFrom (λ held number. number == held.number)
-        (HeldAnswers M.state M.below K.kept K.below) start
-        (R.remaining reader.old) (W.contents writer.old) (W.contents writer.new) result }
-{
-    let mut held = start?;
-    run_on_drive(alloc, &mut held, reader, writer)?;
-    Ok(())
+/// How the program ends where nothing failed.
+#[derive(Clone, Copy, PartialEq, Eq, Debug)]
+pub enum Verdict {
+    /// What was asked for is done.
+    Done,
+    /// The file that was checked is refused; its line says why.
+    Refused,
 }
 
 /// How the program ends: its status, and whether no fault is left without its line.
@@ -138,23 +114,17 @@ pub struct Ended {
     pub is_reported: bool,
 }
 
-/// The program over its three streams: it runs the script that the reader gives by this drive, writes
-/// the replies, and reports a fault by one line on the third stream and by its status.
-pub fn run<M: Medium + Drop, K: Keeper + Drop, R: Read, W: Write, E: Write>(
-    alloc: Global,
-    start: Result<HeldDrive<M, K>, VtlFault>,
-    reader: &mut R,
-    writer: &mut W,
-    errors: &mut E,
-) -> Ended
-    ensures { RunsProgram (λ held number. number == held.number)
-        (HeldAnswers M.state M.below K.kept K.below) start
-        (R.remaining reader.old) (W.contents writer.old) (W.contents writer.new)
-        (E.contents errors.old) (E.contents errors.new) result }
+/// Reports how the program ends: a fault by one line on the error stream and by its status, a file that was refused by
+/// status 1 alone.
+pub fn end<E: Write>(outcome: Result<Verdict, VtlFault>, errors: &mut E) -> Ended
+    ensures { EndsProgram outcome (E.contents errors.old) (E.contents errors.new) result }
 {
-    match run_started(alloc, start, reader, writer) {
-        Ok(()) => Ended {
-            status: 0,
+    match outcome {
+        Ok(verdict) => Ended {
+            status: match verdict {
+                Verdict::Done => 0,
+                Verdict::Refused => 1,
+            },
             is_reported: true,
         },
         Err(fault) => {

@@ -1,19 +1,20 @@
 //! The worked scripts, and the turns of hosts.
+mod files;
+mod libraries;
 mod motions;
 mod plain_sides;
 mod programs;
 mod sides;
 mod streams;
 
-use crate::drives::HeldDrive;
-use crate::programs::built_in_drive;
-use pr_core::NoKeeper;
+use crate::starting::built_in;
+use library::{Held, run_held};
 use std::alloc::{AllocError, Global};
 use std::process::Abort;
 use std::test::Fail;
 use streams::{BadReader, BadWriter};
-use volume_core::PlainMedium;
-use vtl_script::{ScriptFault, run_script};
+use tape_disk::MemDisk;
+use vtl_script::ScriptFault;
 
 const ATTENTION: &str = "CHECK 700006000000000a00000000290000000000\n";
 
@@ -35,14 +36,10 @@ struct Outcome {
     end: Result<(), ScriptFault>,
 }
 
-fn answered_by(
-    alloc: Global,
-    drive: &mut HeldDrive<PlainMedium, NoKeeper>,
-    script: &[u8],
-) -> Outcome {
+fn answered_by(alloc: Global, held: &mut Held<MemDisk>, script: &[u8]) -> Outcome {
     let mut reader = BadReader::new(script, None);
     let mut writer = BadWriter::new(alloc, None);
-    let end = run_script(alloc, drive, &mut reader, &mut writer);
+    let end = run_held(alloc, held, &mut reader, &mut writer);
     Outcome {
         text: writer.into_text(),
         end,
@@ -65,7 +62,7 @@ fn assert_ends(
     at: usize,
 ) -> Result<(), Fail> {
     let text = joined(alloc, wanted.0)?;
-    let outcome = answered_by(alloc, &mut built_in_drive(alloc)?, script);
+    let outcome = answered_by(alloc, &mut built_in(alloc)?, script);
     assert_eq!(rt; outcome.end, wanted.1, "end of {at}");
     assert_eq!(rt; outcome.text.as_slice(), text.as_slice(), "text of {at}");
     Ok(())

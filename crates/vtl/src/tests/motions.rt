@@ -1,13 +1,8 @@
 //! Motions, reports, erasing and early warning by worked rows, each table on a new drive.
+use super::libraries::in_memory;
 use super::{DONE, answered_by};
-use crate::drives::HeldDrive;
-use drive_core::Drive;
-use pr_core::{NoKeeper, Reservations};
 use std::alloc::{AllocError, Global};
-use std::process::Abort;
 use std::test::Fail;
-use volume_core::{PlainMedium, are_capacities};
-use vtl_base::{DriveNo, NoMemory};
 
 // A command of host 1 to drive 1 with what is sent, how many bytes of 5a are sent behind it, and the answer.
 type Row<'a> = (&'a str, usize, &'a str);
@@ -151,19 +146,12 @@ const INTO_THE_ZONE: &[Row] = &[
     (POSITION, 0, "GOOD 4000000000000005000000050000000000000000"),
 ];
 
-fn new_drive(
-    rt: &impl Abort,
-    alloc: Global,
-    capacities: &[u64],
-) -> Result<HeldDrive<PlainMedium, NoKeeper>, Fail> {
-    assert!(rt; are_capacities(capacities));
-    let medium = PlainMedium::new(alloc, capacities)?;
-    Ok(HeldDrive {
-        number: DriveNo::new(1).expect(rt, "a drive"),
-        drive: Drive::power_on(alloc, NoKeeper, Reservations::empty(), Some(medium)).map_err(
-            |_| NoMemory,
-        )?,
-    })
+// A configuration of drive 1 alone, with a cartridge of these capacities in it.
+fn config_of(alloc: Global, capacities: &str) -> Result<String, Fail> {
+    Ok(format!(in alloc;
+        "[[drive]]\nnumber = 1\nreservations = \"d1.pr\"\n[[cartridge]]\n\
+        barcode = \"T00001L6\"\nfile = \"t1.tape\"\ncapacities = [{capacities}]\nhome = 1\n"
+    )?)
 }
 
 // The script of these rows, and its text.
@@ -185,19 +173,20 @@ fn spelled(alloc: Global, rows: &[Row]) -> Result<(Vec<u8>, Vec<u8>), AllocError
 
 #[test]
 fn motions_and_reports(rt: HostRuntime) -> Result<(), Fail> {
-    let tables: [(&[u64], &[Row]); 7] = [
-        (&[16_777_216], WHAT_THE_DRIVE_IS),
-        (&[16_777_216], AN_ERASE),
-        (&[16_777_216], OVER_BLOCKS),
-        (&[16_777_216], BACK_FROM_OBJECT_0),
-        (&[16_777_216, 16_777_216], TO_PARTITIONS),
-        (&[4_096], UP_TO_THE_ZONE),
-        (&[4_096], INTO_THE_ZONE),
+    let tables: [(&str, &[Row]); 7] = [
+        ("16777216", WHAT_THE_DRIVE_IS),
+        ("16777216", AN_ERASE),
+        ("16777216", OVER_BLOCKS),
+        ("16777216", BACK_FROM_OBJECT_0),
+        ("16777216, 16777216", TO_PARTITIONS),
+        ("4096", UP_TO_THE_ZONE),
+        ("4096", INTO_THE_ZONE),
     ];
     for (at, (capacities, rows)) in tables.into_iter().enumerate() {
-        let mut drive = new_drive(&rt, rt.alloc(), capacities)?;
+        let text = config_of(rt.alloc(), capacities)?;
+        let mut held = in_memory(rt.alloc(), text.as_bytes())?;
         let (script, text) = spelled(rt.alloc(), rows)?;
-        let outcome = answered_by(rt.alloc(), &mut drive, script.as_slice());
+        let outcome = answered_by(rt.alloc(), &mut held, script.as_slice());
         assert_eq!(rt; outcome.end, DONE, "end of {at}");
         assert_eq!(rt; outcome.text.as_slice(), text.as_slice(), "text of {at}");
     }

@@ -1,7 +1,9 @@
 //! The program over streams of a test's own: its status, its line and its text at each fault.
 use super::ATTENTION;
 use super::streams::{BadCall, BadReader, BadWriter};
-use crate::programs::{Ended, VtlFault, built_in_drive, fault_line, run};
+use crate::orders::run_started;
+use crate::programs::{Ended, Verdict, VtlFault, end, fault_line};
+use crate::starting::built_in;
 use std::alloc::Global;
 use std::test::Fail;
 use vtl_script::ScriptFault;
@@ -33,12 +35,16 @@ fn ran(alloc: Global, script: &[u8], plan: Plan, has_drive: bool) -> ProgramRun 
     let mut reader = BadReader::new(script, plan.read);
     let mut writer = BadWriter::new(alloc, plan.write);
     let mut lines = BadWriter::new(alloc, plan.error);
-    let drive = if has_drive {
-        built_in_drive(alloc)
+    let start = if has_drive {
+        built_in(alloc)
     } else {
         Err(VtlFault::NoMemory)
     };
-    let ended = run(alloc, drive, &mut reader, &mut writer, &mut lines);
+    let outcome = match run_started(alloc, start, &mut reader, &mut writer) {
+        Ok(()) => Ok(Verdict::Done),
+        Err(fault) => Err(fault),
+    };
+    let ended = end(outcome, &mut lines);
     ProgramRun {
         text: writer.into_text(),
         line: lines.into_text(),

@@ -1,0 +1,9 @@
+-- The state of a disk over a file of the system.
+use Rattle.tape_disk.specs.Disk.{DiskState}
+use Rattle.file_disk.specs.Inner.SystemFile.{system_state}
+use Rattle.file_disk.specs.OpenFile.{OpenFile, file_disk_state}
+use Rattle.file_disk.specs.declared.system.SystemFile.{SystemFile}
+
+-- the state of a disk over a file of the system, of which no proof knows whether it is honest (own)
+abbrev pub file_state : OpenFile SystemFile → DiskState
+file_state = file_disk_state system_state

@@ -1,0 +1,167 @@
+//! What the program does for the words of its command line.
+ghost use Rattle.std.specs.Prelude.{◌≡◌, ℕ, List, option_map, string_bytes};
+ghost use Rattle.vtl_config.specs.Configs.{Says};
+ghost use Rattle.vtl_words.specs.Orders.{asked_of, texts_of};
+ghost use Rattle.vtl.specs.Orders.{ChecksOrder, CreatesOrder, DoesOrder, Obeys, RunsConfig, RunsOrder, RunsProgram, given_words};
+ghost use Rattle.vtl.specs.Program.{RunsFrom, outcome_of};
+
+use crate::configs::config_in;
+use crate::creating::create_missing;
+use crate::programs::{Ended, Verdict, VtlFault, end};
+use crate::side_checks::tell_side;
+use crate::sides::{FileSides, NewSides, Sides};
+use crate::starting::{built_in, start};
+use crate::writing::tell;
+use file_disk::open_to_read;
+use library::{Held, Unwritten, run_held};
+use std::alloc::Global;
+use std::io::{Read, Write};
+use tape_disk::Disk;
+use vtl_config::Config;
+use vtl_script::ScriptFault;
+use vtl_words::{Order, WordsError, read_words};
+
+// The first fault decides: one of the script before one of the buffers.
+fn outcome_of(ran: Result<(), ScriptFault>, finished: Result<(), Unwritten>) -> Result<(), VtlFault>
+    ensures { result ≡ outcome_of ran finished }
+{
+    match (ran, finished) {
+        (Err(fault), _) => Err(VtlFault::from(fault)),
+        (Ok(()), Ok(())) => Ok(()),
+        (Ok(()), Err(Unwritten)) => Err(VtlFault::Device),
+    }
+}
+
+/// Runs a script over a library, where there is one, and then writes every buffer out, whatever the script's end was.
+/// The first fault is answered: one of the script before one of the buffers.
+pub fn run_started<D: Disk + Drop, R: Read, W: Write>(
+    alloc: Global,
+    start: Result<Held<D>, VtlFault>,
+    reader: &mut R,
+    writer: &mut W,
+) -> Result<(), VtlFault>
+    ensures { RunsFrom D.state start
+        (R.remaining reader.old) (W.contents writer.old) (W.contents writer.new) result }
+{
+    let mut held = start?;
+    let ran = run_held(alloc, &mut held, reader, writer);
+    let finished = held.finish();
+    outcome_of(ran, finished)
+}
+
+// Runs a script over the library of a configuration, over these sides.
+fn run_config<D: Disk + Drop, S: Sides<D>, R: Read, W: Write>(
+    alloc: Global,
+    sides: &S,
+    config: &Config,
+    reader: &mut R,
+    writer: &mut W,
+) -> Result<(), VtlFault>
+    requires { (text : List ℕ) × Says text config.now }
+    ensures { RunsConfig D.state S.gives_cartridge S.gives_store config.now
+        (R.remaining reader.old) (W.contents writer.old) (W.contents writer.new) result }
+{
+    let (cartridges, drives) = (config.cartridges.as_slice(), config.drives.as_slice());
+    let held = start(alloc, sides, cartridges, drives);
+    run_started(alloc, held, reader, writer)
+}
+
+// Runs a script over the library of the words.
+fn run_order<R: Read, W: Write>(
+    rt: &HostRuntime,
+    memory: bool,
+    config: Option<String>,
+    reader: &mut R,
+    writer: &mut W,
+) -> Result<(), VtlFault>
+    ensures { RunsOrder memory (option_map string_bytes config)
+        (R.remaining reader.old) (W.contents writer.old) (W.contents writer.new) result }
+{
+    let alloc = rt.alloc();
+    let Some(path) = config else {
+        return run_started(alloc, built_in(alloc), reader, writer);
+    };
+    let config = config_in(rt, path.as_str())?;
+    if memory {
+        run_config(alloc, &NewSides, &config, reader, writer)
+    } else {
+        run_config(alloc, &FileSides { rt }, &config, reader, writer)
+    }
+}
+
+// Makes the missing files of the configuration that a file says.
+fn create_order<W: Write>(rt: &HostRuntime, path: &str, writer: &mut W) -> Result<(), VtlFault>
+    ensures { CreatesOrder (W.contents writer.old) (W.contents writer.new) result }
+{
+    let config = config_in(rt, path)?;
+    create_missing(rt, &config, writer)
+}
+
+// Tells what the side in a file holds.
+fn check_order<W: Write>(rt: &HostRuntime, path: &str, writer: &mut W) -> Result<Verdict, VtlFault>
+    ensures { ChecksOrder (W.contents writer.old) (W.contents writer.new) result }
+{
+    match open_to_read(rt, path) {
+        Ok(disk) => tell_side(rt.alloc(), disk, writer),
+        Err(_) => Err(VtlFault::Device),
+    }
+}
+
+// Does what an order asks for.
+fn do_order<R: Read, W: Write>(
+    rt: &HostRuntime,
+    order: Order,
+    reader: &mut R,
+    writer: &mut W,
+) -> Result<Verdict, VtlFault>
+    ensures { DoesOrder (asked_of order)
+        (R.remaining reader.old) (W.contents writer.old) (W.contents writer.new) result }
+{
+    match order {
+        Order::Run { memory, config } => run_order(rt, memory, config, reader, writer)?,
+        Order::Create { config } => create_order(rt, config.as_str(), writer)?,
+        Order::Check { file } => return check_order(rt, file.as_str(), writer),
+    }
+    Ok(Verdict::Done)
+}
+
+/// Does what the words of a command line ask for. The first word is the program's name.
+pub fn obey<R: Read, W: Write>(
+    rt: &HostRuntime,
+    words: &[String],
+    reader: &mut R,
+    writer: &mut W,
+) -> Result<Verdict, VtlFault>
+    ensures { Obeys (texts_of words.now)
+        (R.remaining reader.old) (W.contents writer.old) (W.contents writer.new) result }
+{
+    match read_words(rt.alloc(), words) {
+        Ok(order) => do_order(rt, order, reader, writer),
+        Err(WordsError::Help(text)) => {
+            tell(writer, text.as_bytes())?;
+            Ok(Verdict::Done)
+        }
+        Err(WordsError::Refused) => Err(VtlFault::Words),
+        Err(WordsError::NoMemory) => Err(VtlFault::NoMemory),
+    }
+}
+
+/// The program over its three streams: it does what its words ask for, and reports a fault by one line on the third
+/// stream and by its status. Where the system gave no words, their fault is reported.
+pub fn run<R: Read, W: Write, E: Write>(
+    rt: &HostRuntime,
+    words: Result<Vec<String>, VtlFault>,
+    reader: &mut R,
+    writer: &mut W,
+    errors: &mut E,
+) -> Ended
+    ensures { RunsProgram (given_words words)
+        (R.remaining reader.old) (W.contents writer.old) (W.contents writer.new)
+        (E.contents errors.old) (E.contents errors.new) result }
+{
+    let outcome = match words {
+        Ok(words) => obey(rt, words.as_slice(), reader, writer),
+        Err(fault) => Err(fault),
+    };
+    end(outcome, errors)
+}

@@ -1,0 +1,137 @@
+//! A library is switched on: each cartridge is at its home.
+ghost use Rattle.std.specs.Prelude.{IfOk, IfErr};
+ghost use Rattle.vtl.specs.Orders.{IsStart, built_in_barcode, built_in_capacities, memory_state};
+ghost use Rattle.vtl.specs.Starting.{IsBuiltIn, IsNotStarted, IsStarted};
+
+use crate::programs::VtlFault;
+use crate::sides::{DriveStore, Sides};
+use aptpl_store::AptplStore;
+use cartridge::Cartridge;
+use library::{Bay, Held, Parked};
+use pr_core::Reservations;
+use std::alloc::Global;
+use std::mem;
+use tape_disk::{Disk, MemDisk};
+use vtl_base::limits::DRIVES;
+use vtl_base::{Barcode, DriveNo, NoMemory};
+use vtl_config::{Address, CartridgeEntry, DriveEntry};
+
+// The drive, the barcode and the capacity of the built-in configuration.
+const DRIVE: u8 = 1;
+
+const BARCODE: &[u8] = b"T00001L6";
+
+const CAPACITY: u64 = 16_777_216;
+
+// A library whose slots are filled, and the cartridges for drives that are not switched on yet, from
+// drive 1 on.
+#[derive(Drop)]
+struct Starting<D: Disk> {
+    held: Held<D>,
+    waiting: Vec<Option<Parked<D>>>,
+}
+
+impl<D: Disk + Drop> Starting<D> {
+    fn new(alloc: Global) -> Result<Starting<D>, NoMemory> {
+        let held = Held::new(alloc)?;
+        let mut waiting = Vec::with_capacity(alloc, DRIVES as usize)?;
+        for _ in 0..DRIVES {
+            if waiting.push(None).is_err() {
+                return Err(NoMemory);
+            }
+        }
+        Ok(Starting { held, waiting })
+    }
+
+    // Puts a cartridge into its home, or beside the drive that is its home.
+    fn put(&mut self, home: Address, cartridge: Parked<D>) -> Result<(), VtlFault> {
+        match home {
+            Address::Slot(slot) => match self.held.place(slot.address() as u32, cartridge) {
+                Ok(()) => Ok(()),
+                Err(_) => Err(VtlFault::Config),
+            },
+            Address::Drive(drive) => {
+                let place = &mut self.waiting[drive.place()];
+                if place.is_some() {
+                    return Err(VtlFault::Config);
+                }
+                *place = Some(cartridge);
+                Ok(())
+            }
+        }
+    }
+
+    // Switches a drive on, with the cartridge that waits for it.
+    fn switch_on(
+        &mut self,
+        alloc: Global,
+        number: DriveNo,
+        opened: DriveStore<D>,
+    ) -> Result<(), VtlFault> {
+        let DriveStore { store, left } = opened;
+        let cartridge = mem::replace(&mut self.waiting[number.place()], None);
+        match Bay::power_on(alloc, store, left, cartridge) {
+            Ok(bay) => match self.held.install(number, bay) {
+                Ok(()) => Ok(()),
+                Err(_) => Err(VtlFault::Config),
+            },
+            Err(_) => Err(VtlFault::NoMemory),
+        }
+    }
+}
+
+/// The library of a configuration, over these sides: first its cartridges, then its drives, in the
+/// order of the configuration. What is refused first decides the fault.
+pub fn start<D: Disk + Drop, S: Sides<D>>(
+    alloc: Global,
+    sides: &S,
+    cartridges: &[CartridgeEntry],
+    drives: &[DriveEntry],
+) -> Result<Held<D>, VtlFault>
+    ensures ok { IfOk result
+        (IsStarted S.gives_cartridge D.state S.gives_store cartridges.now drives.now) }
+    ensures err { IfErr result (IsNotStarted cartridges.now drives.now) }
+{
+    let mut starting = Starting::new(alloc)?;
+    for entry in cartridges {
+        let cartridge = match sides.cartridge(alloc, entry) {
+            Ok(cartridge) => cartridge,
+            Err(fault) => return Err(fault),
+        };
+        if let Err(fault) = starting.put(entry.home, cartridge) {
+            return Err(fault);
+        }
+    }
+    for entry in drives {
+        let opened = match sides.store(alloc, entry) {
+            Ok(opened) => opened,
+            Err(fault) => return Err(fault),
+        };
+        if let Err(fault) = starting.switch_on(alloc, entry.number, opened) {
+            return Err(fault);
+        }
+    }
+    Ok(starting.held)
+}
+
+/// The library of the built-in configuration, in memory: drive 1 alone, holding `T00001L6` of one
+/// partition of 16,777,216 bytes.
+pub fn built_in(alloc: Global) -> Result<Held<MemDisk>, VtlFault>
+    ensures { IsStart (IsBuiltIn memory_state built_in_barcode built_in_capacities) result }
+{
+    let (Some(number), Ok(barcode)) = (DriveNo::new(DRIVE), Barcode::parse(BARCODE)) else {
+        return Err(VtlFault::Config);
+    };
+    let (Ok(shelved), Ok(store)) = (
+        Cartridge::create(alloc, MemDisk::new(alloc), &barcode, &[CAPACITY]),
+        AptplStore::create(alloc, MemDisk::new(alloc), number),
+    ) else {
+        return Err(VtlFault::NoMemory);
+    };
+    let cartridge = Parked::of(alloc, shelved);
+    let mut starting = Starting::new(alloc)?;
+    starting.put(Address::Drive(number), cartridge)?;
+    let left = Reservations::empty();
+    starting.switch_on(alloc, number, DriveStore { store, left })?;
+    Ok(starting.held)
+}
