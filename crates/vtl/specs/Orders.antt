@@ -7,6 +7,8 @@ use Rattle.tape_disk.specs.Disk.{DiskState}
 use Rattle.tape_disk.specs.MemDisk.{mem_failures, mem_log}
 use Rattle.tape_disk.specs.declared.memory.MemDisk.{MemDisk}
 use Rattle.file_disk.specs.FileDisk.{file_state}
+use Rattle.file_disk.specs.OpenFile.{OpenFile}
+use Rattle.file_disk.specs.declared.system.SystemFile.{SystemFile}
 use Rattle.aptpl_store.specs.State.{OpenStore}
 use Rattle.tape_buffer.specs.State.{BufferState}
 use Rattle.library.specs.Elements.{HeldState}
@@ -22,7 +24,7 @@ use Rattle.vtl.specs.declared.programs.Ended.{Ended}
 use Rattle.vtl.specs.declared.programs.Verdict.{Verdict}
 use Rattle.vtl.specs.declared.programs.Verdict.TheVariants.{Done}
 use Rattle.vtl.specs.declared.programs.VtlFault.{VtlFault}
-use Rattle.vtl.specs.declared.programs.VtlFault.TheVariants as fault
+use Rattle.vtl.specs.declared.programs.VtlFault.TheVariants as Faults
 use Rattle.vtl.specs.Checks.{TellsSide}
 use Rattle.vtl.specs.Configured.{IsNoConfig}
 use Rattle.vtl.specs.Creating.{TellsFiles, names_of}
@@ -106,7 +108,7 @@ CreatesOrder before now outcome =
 abbrev pub ChecksOrder : Option (List ℕ) → Option (List ℕ) → Result Verdict VtlFault → Type 0
 ChecksOrder before now result =
     ((fault : VtlFault) × IsFailure fault × (result ≡ Err fault) × Keeps before now)
-    ⊎ ((disk : DiskState) × TellsSide disk before now result)
+    ⊎ ((disk : OpenFile SystemFile) × TellsSide (file_state disk) before now result)
 
 -- it is done, or a fault came (own)
 abbrev pub verdict_from : Result (Unit {0}) VtlFault → Result Verdict VtlFault
@@ -127,9 +129,9 @@ DoesOrder (check file) left before now result = ChecksOrder before now result
 abbrev pub AnswersWords : WordsError → Option (List ℕ) → Option (List ℕ) → Result Verdict VtlFault → Type 0
 AnswersWords (Help text) before now (Ok verdict) = (verdict ≡ Done) × Appends before now (string_bytes text)
 AnswersWords (Help text) before now (Err fault) =
-    (fault ≡ fault.Device) × AppendsPart before now (string_bytes text)
-AnswersWords Refused before now result = (result ≡ Err fault.Words) × Keeps before now
-AnswersWords NoMemory before now result = (result ≡ Err fault.NoMemory) × Keeps before now
+    (fault ≡ Faults.Device) × AppendsPart before now (string_bytes text)
+AnswersWords Refused before now result = (result ≡ Err Faults.Words) × Keeps before now
+AnswersWords NoMemory before now result = (result ≡ Err Faults.NoMemory) × Keeps before now
 
 -- what the program does for some words: the order that they give, or else what they are answered (own)
 abbrev pub Obeys :
