@@ -1,5 +1,8 @@
 //! The worked scripts, and the turns of hosts.
+mod failing;
 mod files;
+mod folders;
+mod kept;
 mod libraries;
 mod motions;
 mod plain_sides;
