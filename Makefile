@@ -44,6 +44,7 @@ bench: need-rt
 	python3 bench/journal.py
 	python3 bench/cartridge.py
 	python3 bench/buffer.py
+	python3 bench/program.py
 
 gate: need-rt
 	python3 bench/gate.py

@@ -1,15 +1,19 @@
 #!/usr/bin/env python3
-"""Refuses each growth of the stored run, and of runs of the journal, of a cartridge and of a drive in buffered mode, in turn, on the
-toolchain's unproved run.
+"""Refuses each growth of the stored run, of runs of the journal, of a cartridge and of a drive in buffered mode, and of vtl create, vtl
+check and a run over files, in turn, on the toolchain's unproved run.
 
 The stored run: its answers are the stored ones, or it ends with 'out of memory' and status 3, or one line is answered ABORTED
 COMMAND. In the last case the line is given twice: the second time it has its stored answer, and so have all lines behind it.
+Over files the same, but that a line is not given again; create and check end with 'out of memory' and a beginning of their lines.
 The others: their answers are the stored ones, or it ends with status 1 (its words) or 2 behind some
-of them."""
+of them.
+
+With words, as 'faults.py check create', those alone. Each growth takes a build of the program, half a minute for those of vtl."""
 import os
 import re
 import subprocess
 import sys
+import tempfile
 from concurrent.futures import ThreadPoolExecutor
 
 TOP = os.path.dirname(os.path.dirname(os.path.abspath(__file__)))
@@ -24,9 +28,10 @@ def stored(crate, name):
         return [line for line in file.read().splitlines() if not line.startswith("#")]
 
 
-def attempt(crate, lines, growth):
-    """Answers, status and standard error of a run in which this growth is refused."""
-    done = subprocess.run(["rt", "try", "--fail-alloc", str(growth)], cwd=os.path.join(TOP, "crates", crate),
+def attempt(crate, lines, growth, words=(), data=()):
+    """Answers, status and standard error of a run with these words and files in which this growth is refused."""
+    given = [word for name, path in data for word in ("--data", f"{name}={path}")]
+    done = subprocess.run(["rt", "try", "--fail-alloc", str(growth), *given, "--", *words], cwd=os.path.join(TOP, "crates", crate),
                           input="".join(line + "\n" for line in lines), capture_output=True, text=True)
     status = re.search(r"run=ended status=(\d+)", done.stderr + done.stdout)
     if not status:
@@ -39,7 +44,7 @@ def script():
     ended = aborted = same = growth = 0
     while same < 3:
         growth += 1
-        answers, status, told = attempt("vtl", lines, growth)
+        answers, status, told = attempt("vtl", lines, growth, ["run"])
         if status == 0 and answers == wanted:
             same += 1
             continue
@@ -53,7 +58,7 @@ def script():
             sys.exit(f"script, growth {growth}: status {status}, answers {answers}\n{told}")
         again = wanted[:line] + [ABORTED] + wanted[line:]
         twice = lines[:line + 1] + lines[line:]
-        if not any(attempt("vtl", twice, other)[:2] == (again, 0) for other in range(growth, growth + 8)):
+        if not any(attempt("vtl", twice, other, ["run"])[:2] == (again, 0) for other in range(growth, growth + 8)):
             sys.exit(f"script, growth {growth}: line {line + 1}, given again with memory, has another answer")
         aborted += 1
         print(f"script, growth {growth}: line {line + 1} is ABORTED COMMAND, and has its answer when it is given again")
@@ -73,7 +78,51 @@ def work(crate):
     print(f"{crate}: of {growths} growths {ended} ended the run, and the others changed no answer")
 
 
-script()
-work("journal_bench")
-work("cartridge_bench")
-work("buffer_bench")
+CONFIG = """cartridge = [{ barcode = "T00001L6", file = "t1.tape", capacities = [4096], home = 1 }]
+drive = [{ number = 1, reservations = "d1.pr" }]
+"""
+TAPE = b"\xa5VTLCART1\0\x01T00001L6        " + (4096).to_bytes(8, "big") + b"\0"
+STORE = b"\xa5VTLRESV1\0\0DRIVE1          \0"
+LINES = ["1 1 000000000000", "1 1 5f000000000000001800 000000000000000000000000000000a10000000001000000",
+         "1 1 0a0000000500 68656c6c6f", "1 1 100000000100"]
+ANSWERS = ["CHECK 700006000000000a00000000290000000000", "GOOD", "GOOD", "GOOD"]
+
+
+def over_files(name, words, files, lines, wanted):
+    """Refuses each growth of a run over these files, until three in a row change nothing."""
+    with tempfile.TemporaryDirectory() as folder, ThreadPoolExecutor(4) as pool:
+        data = []
+        for file, content in files:
+            data.append((file, os.path.join(folder, file)))
+            with open(data[-1][1], "wb") as out:
+                out.write(content)
+        ended = aborted = same = growth = 0
+        while same < 3:
+            for answers, status, told in pool.map(lambda at: attempt("vtl", lines, at, words, data), range(growth + 1, growth + 9)):
+                growth += 1
+                same = same + 1 if (status, answers) == (0, wanted) else 0
+                if same:
+                    continue
+                if status == 3 and "vtl: out of memory" in told and answers == wanted[:len(answers)]:
+                    ended += 1
+                elif status == 0 and lines and [good if answer == ABORTED else answer for answer, good in zip(answers, wanted)] == wanted:
+                    aborted += 1
+                else:
+                    sys.exit(f"{name}, growth {growth}: status {status}, answers {answers}\n{told}")
+    print(f"{name}: {ended} growths ended the run, {aborted} ended a command, no answer was wrong", flush=True)
+
+
+CONFIGURED, SIDES = ("lib.toml", CONFIG.encode()), [("t1.tape", TAPE), ("d1.pr", STORE)]
+RUNS = {
+    "script": script,
+    "journal": lambda: work("journal_bench"),
+    "cartridge": lambda: work("cartridge_bench"),
+    "buffer": lambda: work("buffer_bench"),
+    "create": lambda: over_files("vtl create", ["create", "--config", "lib.toml"], [CONFIGURED], [],
+                                 ["created T00001L6", "created DRIVE1"]),
+    "check": lambda: over_files("vtl check", ["check", "t1.tape"], SIDES, [],
+                                ["cartridge T00001L6 partitions 1 frames 0", "partition 0 objects 0 used 0"]),
+    "files": lambda: over_files("vtl run", ["run", "--config", "lib.toml"], [CONFIGURED, *SIDES], LINES, ANSWERS),
+}
+for word in sys.argv[1:] or RUNS:
+    RUNS[word]()

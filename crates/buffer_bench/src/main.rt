@@ -5,6 +5,7 @@
 mod drives;
 #[cfg(test)]
 mod fault_tests;
+mod files;
 #[cfg(test)]
 mod medium_tests;
 #[cfg(test)]
@@ -17,6 +18,7 @@ mod samples;
 mod stop_tests;
 mod work;
 
+use files::appended;
 use std::env;
 use std::process::ExitCode;
 use work::{Timed, blocks, bytes, copied, marks};
@@ -32,8 +34,8 @@ fn timed(rt: &HostRuntime, word: &str, count: u32) -> Option<Timed> {
     }
 }
 
-/// With `blocks N`, `bytes N`, `marks N` or `copy N` it tells the nanoseconds and what came of it; with no words it
-/// does a little of each, and tells that alone.
+/// With `blocks N`, `bytes N`, `marks N`, `copy N` or `file N PATH` it tells the nanoseconds and what came of it; with no
+/// words it does a little of each but the last, and tells that alone.
 fn main(rt: HostRuntime) -> ExitCode {
     let Ok(words) = env::args(&rt) else {
         return ExitCode::from(1);
@@ -53,7 +55,11 @@ fn main(rt: HostRuntime) -> ExitCode {
     let Ok(count) = count.parse::<u32>() else {
         return ExitCode::from(1);
     };
-    match timed(&rt, word.as_str(), count) {
+    let done = match words.next() {
+        Some(path) if word.as_str() == "file" => appended(&rt, path.as_str(), count),
+        _ => timed(&rt, word.as_str(), count),
+    };
+    match done {
         Some((time, count)) => {
             let _ = println!(rt; "{time} {count}");
             ExitCode::from(0)

@@ -3,7 +3,7 @@ use crate::drives::{Tape, sure, switched_on};
 use scsi_sense::{Reply, Sense, Status};
 use std::alloc::Global;
 use std::time::Instant;
-use tape_disk::MemDisk;
+use tape_disk::{Disk, MemDisk};
 use vtl_base::Nexus;
 
 const BLOCK: usize = 65_536;
@@ -18,7 +18,7 @@ const WRITE_BYTE: [u8; 6] = [0x0a, 0, 0, 0, 1, 0];
 
 const MARK: [u8; 6] = [0x10, 0, 0, 0, 1, 0];
 
-const TEST_UNIT_READY: [u8; 6] = [0; 6];
+pub(crate) const TEST_UNIT_READY: [u8; 6] = [0; 6];
 
 // The side of a cartridge of one partition of 1,099,511,627,776 bytes, with no frames.
 const SIDE: [u8; 36] = *b"\xa5VTLCART1\0\x01T00001L6        \0\0\x01\0\0\0\0\0\0";
@@ -36,7 +36,7 @@ fn new_drive(alloc: Global) -> Option<(Tape<MemDisk>, Nexus)> {
 }
 
 // Asks a command, and once more where memory runs out: whether it is GOOD.
-fn ask(drive: &mut Tape<MemDisk>, host: Nexus, cdb: &[u8], sent: &[u8]) -> bool {
+fn ask<D: Disk + Drop>(drive: &mut Tape<D>, host: Nexus, cdb: &[u8], sent: &[u8]) -> bool {
     let mut reply = drive.execute(host, cdb, sent);
     if reply.sense == Some(Sense::insufficient_resources()) {
         reply = drive.execute(host, cdb, sent);
@@ -53,8 +53,8 @@ fn syncs(drive: &Tape<MemDisk>) -> u64 {
 }
 
 // So many writes of a block, with a filemark behind each group of so many, if any: whether all are GOOD.
-fn writes(
-    drive: &mut Tape<MemDisk>,
+pub(crate) fn writes<D: Disk + Drop>(
+    drive: &mut Tape<D>,
     host: Nexus,
     count: u32,
     cdb: &[u8],
