@@ -160,55 +160,59 @@ fn the_top_has_two_lists(rt: HostRuntime) {
     assert_eq!(rt; refusal(alloc, "cartridge = {}"), broken(Place::Top, kind));
 }
 
+// Lists of drives that break a rule.
+const BROKEN_DRIVES: [(&str, Rule); 15] = [
+    ("[1]", Rule::NotATable),
+    ("[[]]", Rule::NotATable),
+    ("[{}]", Rule::Missing(Key::Number)),
+    ("[{ number = 1 }]", Rule::Missing(Key::Reservations)),
+    ("[{ reservations = \"r\" }]", Rule::Missing(Key::Number)),
+    (
+        "[{ number = 1, reservations = \"r\", name = \"d\" }]",
+        Rule::OtherKey,
+    ),
+    (
+        "[{ number = 1.0, reservations = \"r\" }]",
+        Rule::OtherKind(Key::Number),
+    ),
+    (
+        "[{ number = \"1\", reservations = \"r\" }]",
+        Rule::OtherKind(Key::Number),
+    ),
+    (
+        "[{ number = true, reservations = \"r\" }]",
+        Rule::OtherKind(Key::Number),
+    ),
+    (
+        "[{ number = 1, reservations = 1 }]",
+        Rule::OtherKind(Key::Reservations),
+    ),
+    (
+        "[{ number = 1, reservations = [\"r\"] }]",
+        Rule::OtherKind(Key::Reservations),
+    ),
+    (
+        "[{ number = 0, reservations = \"r\" }]",
+        Rule::OutOfRange(Key::Number),
+    ),
+    (
+        "[{ number = 17, reservations = \"r\" }]",
+        Rule::OutOfRange(Key::Number),
+    ),
+    (
+        "[{ number = -1, reservations = \"r\" }]",
+        Rule::OutOfRange(Key::Number),
+    ),
+    (
+        "[{ number = 257, reservations = \"r\" }]",
+        Rule::OutOfRange(Key::Number),
+    ),
+];
+
 #[test]
 fn a_drive_has_a_number_and_a_file(rt: HostRuntime) {
     let alloc = rt.alloc();
-    let number = Key::Number;
-    let file = Key::Reservations;
-    for (text, rule) in [
-        ("[1]", Rule::NotATable),
-        ("[[]]", Rule::NotATable),
-        ("[{}]", Rule::Missing(number)),
-        ("[{ number = 1 }]", Rule::Missing(file)),
-        ("[{ reservations = \"r\" }]", Rule::Missing(number)),
-        (
-            "[{ number = 1, reservations = \"r\", name = \"d\" }]",
-            Rule::OtherKey,
-        ),
-        (
-            "[{ number = 1.0, reservations = \"r\" }]",
-            Rule::OtherKind(number),
-        ),
-        (
-            "[{ number = \"1\", reservations = \"r\" }]",
-            Rule::OtherKind(number),
-        ),
-        (
-            "[{ number = true, reservations = \"r\" }]",
-            Rule::OtherKind(number),
-        ),
-        ("[{ number = 1, reservations = 1 }]", Rule::OtherKind(file)),
-        (
-            "[{ number = 1, reservations = [\"r\"] }]",
-            Rule::OtherKind(file),
-        ),
-        (
-            "[{ number = 0, reservations = \"r\" }]",
-            Rule::OutOfRange(number),
-        ),
-        (
-            "[{ number = 17, reservations = \"r\" }]",
-            Rule::OutOfRange(number),
-        ),
-        (
-            "[{ number = -1, reservations = \"r\" }]",
-            Rule::OutOfRange(number),
-        ),
-        (
-            "[{ number = 257, reservations = \"r\" }]",
-            Rule::OutOfRange(number),
-        ),
-    ] {
+    for (text, rule) in BROKEN_DRIVES {
         let Ok(document) = format!(in alloc; "drive = {text}") else {
             assert!(rt; false, "memory is there");
             return;

@@ -95,55 +95,58 @@ fn other_words_are_refused(rt: HostRuntime) {
     assert!(rt; matches!(read_words(alloc, none.as_slice()), Err(WordsError::Refused)));
 }
 
+// What help has to tell behind some words.
+const HELP: [(&str, [&str; 5]); 5] = [
+    (
+        "vtl --help",
+        [
+            "run",
+            "create",
+            "check",
+            "vtl run --config",
+            "out of memory",
+        ],
+    ),
+    (
+        "vtl -h",
+        [
+            "Usage: vtl",
+            "Example:",
+            "Statuses:",
+            "  0  done",
+            "  2  device",
+        ],
+    ),
+    (
+        "vtl run --help",
+        [
+            "--memory",
+            "--config <FILE>",
+            "standard input",
+            "TOML",
+            "vtl run",
+        ],
+    ),
+    (
+        "vtl create -h",
+        [
+            "--config <FILE>",
+            "Makes",
+            "kept",
+            "configuration",
+            "vtl create",
+        ],
+    ),
+    (
+        "vtl check --help",
+        ["<FILE>", "Tells", "file", "not changed", "vtl check"],
+    ),
+];
+
 #[test]
 fn help_tells_the_words_an_example_and_the_statuses(rt: HostRuntime) -> Result<(), Fail> {
     let alloc = rt.alloc();
-    for (line, told) in [
-        (
-            "vtl --help",
-            [
-                "run",
-                "create",
-                "check",
-                "vtl run --config",
-                "out of memory",
-            ],
-        ),
-        (
-            "vtl -h",
-            [
-                "Usage: vtl",
-                "Example:",
-                "Statuses:",
-                "  0  done",
-                "  2  device",
-            ],
-        ),
-        (
-            "vtl run --help",
-            [
-                "--memory",
-                "--config <FILE>",
-                "standard input",
-                "TOML",
-                "vtl run",
-            ],
-        ),
-        (
-            "vtl create -h",
-            [
-                "--config <FILE>",
-                "Makes",
-                "kept",
-                "configuration",
-                "vtl create",
-            ],
-        ),
-        (
-            "vtl check --help",
-            ["<FILE>", "Tells", "file", "not changed", "vtl check"],
-        ),
-    ] {
+    for (line, told) in HELP {
         let Err(WordsError::Help(text)) = asked(alloc, line) else {
             assert!(rt; false, "{line}");
             return Ok(());
