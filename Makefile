@@ -2,11 +2,12 @@
 # wrong: the edits of wrong/, which the prover must refuse too (CRATE=name, EDIT=name: of one crate, that one)
 # rows: bodies that the contracts allow, which a test must refuse
 # faults: refuses each growth in turn       endings: the built program at each of its endings
+# examples: the scripts of examples/        kills: the built program is killed 1,000 times (COUNT=, SEED=)
 # bench: measures speed and memory          gate: what each crate costs the gate
 # definitions: writes docs/DEFINITIONS.md
 RT := $(shell command -v rt)
 
-.PHONY: demo vtl check wrong rows faults endings bench gate definitions need-rt
+.PHONY: demo vtl check wrong rows faults endings examples kills bench gate definitions need-rt
 .DEFAULT_GOAL := demo
 
 need-rt:
@@ -38,6 +39,12 @@ faults: need-rt
 
 endings: vtl
 	python3 bench/endings.py
+
+examples: vtl
+	python3 bench/examples.py
+
+kills: vtl
+	python3 bench/kills.py $(if $(COUNT),--count $(COUNT)) $(if $(SEED),--seed $(SEED))
 
 bench: need-rt
 	python3 bench/script.py
