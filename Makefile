@@ -1,4 +1,4 @@
-# demo: runs the stored script, unproved    vtl: proves and builds the program    check: the gate
+# demo: a library over files, unproved      vtl: proves and builds the program    check: the gate
 # wrong: the edits of wrong/, which the prover must refuse too (CRATE=name, EDIT=name: of one crate, that one)
 # rows: bodies that the contracts allow, which a test must refuse
 # faults: refuses each growth in turn       endings: the built program at each of its endings
@@ -17,9 +17,7 @@ ifeq ($(RT),)
 endif
 
 demo: need-rt
-	@cd crates/vtl && rt try -- run < stdin 2> ../../.demo.log || { cat ../../.demo.log >&2; rm -f ../../.demo.log; exit 1; }
-	@rm -f .demo.log
-	@echo "(this run was not proved; 'make check' proves it, and 'make vtl' builds the proved program)"
+	@python3 bench/demo.py
 
 vtl: need-rt
 	@cd crates/vtl && rt run -- run < stdin > /dev/null

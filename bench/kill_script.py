@@ -21,8 +21,8 @@ class Script:
         self.slots = {1001: at[1001]}
         # how many changes of each tape, and orders of each drive, are acknowledged after each answer
         self.tape_acks, self.order_acks = [dict.fromkeys(TAPES, 0)], [{1: 0, 2: 0}]
-        for _ in range(chance.randint(3, 12)):
-            self.phase(chance.choice([1, 3, 8, 30, 70]))
+        for most in [1, *chance.choices([1, 3, 8, 30, 70], k=chance.randint(3, 12))]:
+            self.phase(most)
 
     def answered(self, answer, stored=None, ordered=None):
         self.answers.append(answer)

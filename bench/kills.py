@@ -73,18 +73,19 @@ class Life:
             volumes[name], found = objects_of(found[skipped:skipped + count]), found[skipped + count:]
         return volumes, {1: tuple(reserved[1:3]), 2: tuple(reserved[4:6])}
 
-    def judge(self, script, told):
-        """Compares what is read now with what a first part of the script leaves, and goes on from it. For each tape and drive, how
-        many changes or orders were acknowledged, are there, and were given."""
+    def judge(self, script, told, killed):
+        """Compares what is read now with what a first part of the script leaves, and goes on from it; a script that ran to its end
+        leaves all of it. For each tape and drive, how many changes or orders were acknowledged, are there, and were given."""
         states = {name: tape.states() for name, tape in script.tapes.items()}
         volumes, reserved = self.read_back({name: max(map(len, those)) for name, those in states.items()})
         parts = []
         for name in TAPES:
-            acked = script.tape_acks[told][name]
+            acked = script.tape_acks[told][name] if killed else len(states[name]) - 1
             parts.append(self.part(name, acked, [state == volumes[name] for state in states[name]]))
             self.volumes[name] = volumes[name] or []
         for number, drive in script.drives.items():
-            acked, wanted = script.order_acks[told][number], [state.seen_later() for state in drive.orders]
+            wanted = [state.seen_later() for state in drive.orders]
+            acked = script.order_acks[told][number] if killed else len(wanted) - 1
             parts.append(self.part(f"drive {number}", acked, [state == reserved[number] for state in wanted]))
             self.reservations[number] = drive.orders[parts[-1][1] or 0]
             self.reservations[number].lose_power()
@@ -217,12 +218,14 @@ def live(program, seed, kills):
             pace.learn(seconds, len(told) / len(script.answers), script)
             compared(life, told, script)
             cut = any([is_cut(read(path), old) for path, old in zip(files_of(room), before)])
-            found.add(killed, len(told), cut, life.judge(script, len(told)))
+            if not killed and len(told) < len(script.answers):
+                life.wrong.append(f"it ended by itself after {len(told)} of {len(script.answers)} answers")
+            found.add(killed, len(told), cut, life.judge(script, len(told), killed))
         found.wrong = [f"seed {seed}, kill {found.kills}: {wrong}" for wrong in life.wrong]
     return found
 
 
-def doctored(program, seed):
+def doctored(program):
     """Changes files behind the program's back after a script was run to its end; which changes were not found."""
     def close_last(side):
         last = end_of(side)[0]
@@ -234,14 +237,14 @@ def doctored(program, seed):
         for name in ("KILL1L6.tape", "drive1.pr"):
             with tempfile.TemporaryDirectory(prefix="vtl-kills-") as room:
                 life = Life(program, room)
-                script = Script(random.Random(seed), life.volumes, life.reservations)
+                script = Script(random.Random(1), life.volumes, life.reservations)
                 life.run(script, None)
                 with open(os.path.join(room, name), "r+b") as file:
                     side = change(file.read())
                     file.seek(0)
                     file.truncate()
                     file.write(side)
-                life.judge(script, len(script.answers))
+                life.judge(script, len(script.answers), False)
                 tried += 1
                 if bool(life.wrong) != (way != "nothing"):
                     missed.append(f"{name}: {way}: {life.wrong or 'not found'}")
@@ -261,7 +264,7 @@ def main():
     if not os.path.exists(program):
         sys.exit(f"{program} is not there; build the program first: make vtl")
     if said.selftest:
-        return doctored(program, said.seed)
+        return doctored(program)
     lives = [(f"{said.seed}.{at}", min(LIVES, said.count - at)) for at in range(0, said.count, LIVES)]
     with concurrent.futures.ProcessPoolExecutor(said.jobs) as pool:
         founds = list(pool.map(live, [program] * len(lives), [seed for seed, _ in lives], [kills for _, kills in lives]))

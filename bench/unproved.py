@@ -1,7 +1,7 @@
 #!/usr/bin/env python3
 """Builds the program without its proofs: `rt try` builds it and runs it, with a pipe in the place of a configuration; while
 the program waits for that it is copied to .unproved/, and .unproved/vtl starts it. It stops where a proof would have refused
-a step, and is slower than the proved program. With --new it is built again where it is there."""
+a step, and is slower than the proved program. It is built again where a source is newer, or with --new."""
 import os
 import shlex
 import shutil
@@ -61,6 +61,15 @@ def opened(pipe, child):
     return None
 
 
+def is_fresh():
+    """Whether the program is there, and no source is newer."""
+    if not os.path.exists(STARTED):
+        return False
+    made, crates = os.path.getmtime(STARTED), os.path.join(TOP, "crates")
+    return all(os.path.getmtime(os.path.join(folder, name)) < made
+               for folder, _, names in os.walk(crates) if "/src" in folder for name in names)
+
+
 def build():
     with tempfile.TemporaryDirectory(prefix="vtl-unproved-") as room:
         os.chmod(room, 0o711)
@@ -83,7 +92,7 @@ def build():
 
 
 def main(words):
-    if "--new" in words or not os.path.exists(STARTED):
+    if "--new" in words or not is_fresh():
         build()
     print(os.path.relpath(STARTED, os.getcwd()))
 
