@@ -2,6 +2,8 @@
 from drive_model import Cartridge, Drive, move
 
 TAPES = {"KILL1L6": 1, "KILL2L6": 2, "KILL3L6": 1001}
+MIXED = {"write": 40, "marks": 14, "locate": 9, "end": 6, "space": 6, "read": 9, "other": 8, "load": 3, "mode": 2}
+STREAM = {"write": 80, "marks": 14, "mode": 1, "locate": 1}
 
 
 def configuration(stores):
@@ -14,13 +16,15 @@ class Script:
     """A random script: its lines and, answer by answer, what the drives' model says."""
 
     def __init__(self, chance, volumes, reservations):
-        self.chance, self.text, self.answers = chance, [], []
+        self.chance, self.text, self.answers, self.phases = chance, [], [], 0
         self.tapes = {name: Cartridge(volumes[name]) for name in TAPES}
         at = {home: self.tapes[name] for name, home in TAPES.items()}
         self.drives = {number: Drive(reservations[number], at[number]) for number in (1, 2)}
         self.slots = {1001: at[1001]}
         # how many changes of each tape, and orders of each drive, are acknowledged after each answer
         self.tape_acks, self.order_acks = [dict.fromkeys(TAPES, 0)], [{1: 0, 2: 0}]
+        # how often which kinds come; in the first of the kinds little stores what waits, but for marks
+        self.kinds, self.orders = chance.choice([(STREAM, 0.05), (MIXED, 0.15), (MIXED, 0.15), (STREAM, 0.6)])
         for most in [1, *chance.choices([1, 3, 8, 30, 70], k=chance.randint(3, 12))]:
             self.phase(most)
 
@@ -38,12 +42,13 @@ class Script:
     def phase(self, most):
         """A phase, in which each drive has commands of one host, and sometimes a move behind it."""
         chance = self.chance
+        self.phases += 1
         hosts = {number: chance.choice([1, 1, 2, 3]) for number in self.drives}
         turns = [(hosts[number], number) for number in self.drives for _ in range(chance.randint(0, most))]
         chance.shuffle(turns)
         for host, number in sorted(turns, key=lambda turn: turn[0]):
             self.command(host, number)
-        if chance.random() < 0.3:
+        if chance.random() < (0.3 if self.kinds is MIXED else 0.05):
             source, target = chance.choice([(1, 1001), (1001, 1), (2, 1), (1, 2), (2, 1002), (1002, 2)])
             self.text.append(f"move {source} {target}\n")
             self.answered(*move(self.drives, self.slots, source, target))
@@ -52,7 +57,7 @@ class Script:
 
     def command(self, host, number):
         drive = self.drives[number]
-        block, sent = self.tape_command(drive) if self.chance.random() < 0.85 else self.order(host, drive)
+        block, sent = self.tape_command(drive) if self.chance.random() >= self.orders else self.order(host, drive)
         self.text.append(f"{host} {number} {block.hex()} {sent.hex()}\n")
         tape = drive.cartridge
         answer, stored, ordered = drive.execute(host, block, sent)
@@ -60,8 +65,7 @@ class Script:
 
     def tape_command(self, drive):
         chance, count = self.chance, len(drive.cartridge.objects) if drive.cartridge else 0
-        kind = chance.choices(["write", "marks", "locate", "end", "space", "read", "other", "load", "mode"],
-                              [40, 14, 9, 6, 6, 9, 8, 3, 2])[0]
+        kind = chance.choices(list(self.kinds), list(self.kinds.values()))[0]
         if kind == "write":
             size = chance.randint(1, chance.choices([40, 2000, 30_000], [50, 45, 5])[0])
             return b"\x0a\x00" + size.to_bytes(3, "big") + b"\x00", chance.randbytes(size)

@@ -46,20 +46,25 @@ class Life:
             self.wrong.append(f"{words} ended with status {done.returncode}: {done.stderr.decode(errors='replace')}")
         return done.stdout.decode().splitlines()
 
-    def run(self, script, delay):
-        """The answers of a run that is killed after this time, and whether it was; without a time it runs to its end."""
-        with open(os.path.join(self.room, "script"), "w+b") as given, open(os.path.join(self.room, "answers"), "w+b") as told:
+    def run(self, script, moment):
+        """The answers of a run that is killed so long after so many of its answers were read, and whether it was; without such a
+        moment it runs to its end."""
+        told, (count, delay) = b"", moment or (sys.maxsize, 0)
+        with open(os.path.join(self.room, "script"), "w+b") as given:
             given.write("".join(script.text).encode())
             given.seek(0)
-            child = subprocess.Popen([self.program, "run", "--config", "drive.toml"], cwd=self.room, stdin=given, stdout=told,
-                                     stderr=subprocess.DEVNULL)
-            try:
-                child.wait(delay)
-            except subprocess.TimeoutExpired:
-                child.kill()
-                child.wait()
-            told.seek(0)
-            return told.read().decode(), child.returncode == -9
+            child = subprocess.Popen([self.program, "run", "--config", "drive.toml"], cwd=self.room, stdin=given,
+                                     stdout=subprocess.PIPE, stderr=subprocess.DEVNULL)
+        while told.count(b"\n") < count:
+            piece = os.read(child.stdout.fileno(), 65536)
+            if not piece:
+                break
+            told += piece
+        if moment:
+            time.sleep(delay)
+            child.kill()
+        told += child.communicate()[0]
+        return told.decode().split("\n")[:-1], child.returncode == -9
 
     def read_back(self, counts):
         """Each volume, of so many objects at most, or None where it is not read; and what is read of each drive's reservations."""
@@ -148,9 +153,14 @@ class Pace:
     def __init__(self, opening, seconds, script):
         self.opening, self.byte = opening, max(seconds - opening, 0) / size_of(script)
 
-    def delay(self, chance, script):
-        whole = self.opening + self.byte * size_of(script)
-        return chance.random() * (self.opening if chance.random() < 0.1 else 1.05 * whole)
+    def moment(self, chance, script):
+        """After how many answers to kill, and how long after: in the opening, at any time, or near the end of a phase."""
+        whole, way = self.byte * size_of(script), chance.random()
+        if way < 0.1:
+            return 0, chance.random() * self.opening
+        if way < 0.3:
+            return 0, chance.random() * (self.opening + whole)
+        return chance.randint(1, len(script.answers)), chance.random() * 2 * whole / script.phases
 
     def learn(self, seconds, part, script):
         """Of a script this part was answered, in so many seconds."""
@@ -185,13 +195,6 @@ def files_of(room):
     return [os.path.join(room, name) for name in [*(f"{tape}.tape" for tape in TAPES), "drive1.pr", "drive2.pr"]]
 
 
-def timed(life, script, delay):
-    """The answers, whether it was killed, and the seconds."""
-    began = time.monotonic()
-    answers, killed = life.run(script, delay)
-    return answers.split("\n")[:-1], killed, time.monotonic() - began
-
-
 def compared(life, told, script):
     wanted = script.answers[:len(told)]
     if told != wanted:
@@ -213,7 +216,9 @@ def live(program, seed, kills):
                 break
             script = Script(chance, life.volumes, life.reservations)
             before = [read(path) for path in files_of(room)]
-            told, killed, seconds = timed(life, script, pace.delay(chance, script) if pace else None)
+            began = time.monotonic()
+            told, killed = life.run(script, pace.moment(chance, script) if pace else None)
+            seconds = time.monotonic() - began
             pace = pace or Pace(opening, seconds, script)
             pace.learn(seconds, len(told) / len(script.answers), script)
             compared(life, told, script)
