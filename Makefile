@@ -42,6 +42,7 @@ examples: vtl
 	python3 bench/examples.py
 
 kills: vtl
+	python3 bench/kills.py --selftest
 	python3 bench/kills.py $(if $(COUNT),--count $(COUNT)) $(if $(SEED),--seed $(SEED))
 
 bench: need-rt

@@ -10,8 +10,10 @@ import tempfile
 import unproved
 
 EXAMPLES = os.path.join(unproved.TOP, "examples")
-STEPS = [("create --config library.toml", None, "create.expected"), ("run --config library.toml", "01-backup.script", "01-backup.expected"),
-         ("run --config library.toml", "02-append.script", "02-append.expected"), ("check daily1.tape", None, "02-append.check")]
+STEPS = [("create --config library.toml", None, "create.expected"),
+         ("run --config library.toml", "01-backup.script", "01-backup.expected"),
+         ("run --config library.toml", "02-append.script", "02-append.expected"),
+         ("check daily1.tape", None, "02-append.check")]
 
 
 def stored(name):
@@ -22,7 +24,8 @@ def stored(name):
 def step(room, words, script, expected):
     """Whether the command printed what is expected."""
     print(f"\n$ vtl {words}" + (f" < {script}" if script else ""), flush=True)
-    done = subprocess.run([unproved.STARTED, *words.split()], cwd=room, input=stored(script) if script else b"", stdout=subprocess.PIPE)
+    given = stored(script) if script else b""
+    done = subprocess.run([unproved.STARTED, *words.split()], cwd=room, input=given, stdout=subprocess.PIPE)
     print(done.stdout.decode(errors="replace"), end="", flush=True)
     wanted = stored(expected)
     return done.returncode == 0 and done.stdout == (wanted.partition(b"\n")[2] if expected.endswith(".check") else wanted)

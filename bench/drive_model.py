@@ -48,7 +48,8 @@ class Reservations:
         head = self.generation.to_bytes(4, "big")
         if not self.type:
             return head + bytes(4)
-        return head + (16).to_bytes(4, "big") + self.keys.get(self.holder, 0).to_bytes(8, "big") + bytes([0] * 5 + [self.type, 0, 0])
+        holder = self.keys.get(self.holder, 0).to_bytes(8, "big")
+        return head + (16).to_bytes(4, "big") + holder + bytes([0] * 5 + [self.type, 0, 0])
 
     def seen_later(self):
         """What is answered to READ KEYS and to READ RESERVATION after a loss of power."""

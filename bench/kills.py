@@ -176,10 +176,10 @@ class Found:
     """What was found."""
 
     def __init__(self):
-        self.kills = self.opening = self.cut = self.ended = self.beyond = self.lost = self.answers = 0
+        self.kills = self.opening = self.cut = self.ended = self.beyond = self.lost = self.answers = self.standing = 0
         self.prefixes, self.wrong = set(), []
 
-    def add(self, killed, read, cut, parts):
+    def add(self, killed, read, cut, parts, stands):
         self.answers += read
         self.kills += killed
         self.ended += not killed
@@ -187,6 +187,7 @@ class Found:
             self.opening += read == 0
             self.cut += cut
             self.beyond += any(there is not None and there > acked for acked, there, _ in parts)
+            self.standing += stands
             self.lost += any(there is not None and there < given for _, there, given in parts)
             self.prefixes.add(tuple(parts))
 
@@ -225,7 +226,8 @@ def live(program, seed, kills):
             cut = any([is_cut(read(path), old) for path, old in zip(files_of(room), before)])
             if not killed and len(told) < len(script.answers):
                 life.wrong.append(f"it ended by itself after {len(told)} of {len(script.answers)} answers")
-            found.add(killed, len(told), cut, life.judge(script, len(told), killed))
+            parts = life.judge(script, len(told), killed)
+            found.add(killed, len(told), cut, parts, any(it.keys for it in life.reservations.values()))
         found.wrong = [f"seed {seed}, kill {found.kills}: {wrong}" for wrong in life.wrong]
     return found
 
@@ -272,7 +274,7 @@ def main():
         return doctored(program)
     lives = [(f"{said.seed}.{at}", min(LIVES, said.count - at)) for at in range(0, said.count, LIVES)]
     with concurrent.futures.ProcessPoolExecutor(said.jobs) as pool:
-        founds = list(pool.map(live, [program] * len(lives), [seed for seed, _ in lives], [kills for _, kills in lives]))
+        founds = list(pool.map(live, [program] * len(lives), *zip(*lives)))
     return tell(founds)
 
 
@@ -287,6 +289,7 @@ def tell(founds):
           "none was under way")
     print(f"in {total('lost')} kills a part of what was given is gone, in {total('beyond')} more is there than was acknowledged; "
           f"{len(prefixes)} different prefixes")
+    print(f"after {total('standing')} kills registrations and reservations stood")
     print(f"kills: {len(wrong)} violations")
     return 1 if wrong else 0
 
