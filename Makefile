@@ -1,12 +1,13 @@
-# demo: runs the stored script, unproved    vtl: proves and builds the program    check: the gate
+# demo: a library over files, unproved      vtl: proves and builds the program    check: the gate
 # wrong: the edits of wrong/, which the prover must refuse too (CRATE=name, EDIT=name: of one crate, that one)
 # rows: bodies that the contracts allow, which a test must refuse
 # faults: refuses each growth in turn       endings: the built program at each of its endings
+# examples: the scripts of examples/        kills: the built program is killed 1,000 times (COUNT=, SEED=)
 # bench: measures speed and memory          gate: what each crate costs the gate
 # definitions: writes docs/DEFINITIONS.md
 RT := $(shell command -v rt)
 
-.PHONY: demo vtl check wrong rows faults endings bench gate definitions need-rt
+.PHONY: demo vtl check wrong rows faults endings examples kills bench gate definitions need-rt
 .DEFAULT_GOAL := demo
 
 need-rt:
@@ -16,9 +17,7 @@ ifeq ($(RT),)
 endif
 
 demo: need-rt
-	@cd crates/vtl && rt try -- run < stdin 2> ../../.demo.log || { cat ../../.demo.log >&2; rm -f ../../.demo.log; exit 1; }
-	@rm -f .demo.log
-	@echo "(this run was not proved; 'make check' proves it, and 'make vtl' builds the proved program)"
+	@python3 bench/demo.py
 
 vtl: need-rt
 	@cd crates/vtl && rt run -- run < stdin > /dev/null
@@ -38,6 +37,13 @@ faults: need-rt
 
 endings: vtl
 	python3 bench/endings.py
+
+examples: vtl
+	python3 bench/examples.py
+
+kills: vtl
+	python3 bench/kills.py --selftest
+	python3 bench/kills.py $(if $(COUNT),--count $(COUNT)) $(if $(SEED),--seed $(SEED))
 
 bench: need-rt
 	python3 bench/script.py
