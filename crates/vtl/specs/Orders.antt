@@ -75,10 +75,11 @@ RunsConfig state gives_cartridge gives_store config left before now outcome =
     RunsOver state (IsStarted gives_cartridge state gives_store config.cartridges.items config.drives.items)
     left before now outcome
 
--- the barcode and the capacity of the built-in configuration (own)
+-- the barcode of the built-in configuration's cartridge (own)
 abbrev pub built_in_barcode : List ℕ
 built_in_barcode = codes "T00001L6"
 
+-- the capacities of the built-in configuration's cartridge: one, of 16 MiB (own)
 abbrev pub built_in_capacities : List ℕ
 built_in_capacities = 16777216 ∷ []
 
