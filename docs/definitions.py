@@ -121,7 +121,7 @@ WORDS = {
     "nexus": ["NEXUSES", "attention_of"],
     "not ours": ["IsNotOurs", "IsNotOf", "IsNoCartridge"],
     "object": ["Part", "IsObject", "cost_of", "MAX_OBJECTS"],
-    "one host": ["OneHostInOrder", "AnswersOneHost"],
+    "one host": ["OneHostInOrder", "LibraryAnswersHost"],
     "open a cartridge": ["IsNotOpened", "IsAnswered"],
     "open a side": ["NotOpened", "NotOpenedAs", "IsDecided"],
     "operation code": ["opcode_of", "row_of"],
@@ -218,10 +218,11 @@ def definitions(path):
     comment, indent = [], 0
     for line in read(path).splitlines():
         said, named = re.match(r"\s*-- ?(.*)", line), DEFINED.match(line)
-        if line.startswith("module _"):
-            indent = 2
-        elif line and not line.startswith(" ") and not said:
-            indent = 0
+        column = len(line) - len(line.lstrip())
+        if line.lstrip().startswith("module _"):
+            indent = column + 2
+        elif line and not said:
+            indent = min(indent, column)
         # a field of a record, or a case, is further in
         is_one = named and len(named[1]) <= indent
         if said:

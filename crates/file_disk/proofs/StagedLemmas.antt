@@ -1,7 +1,7 @@
 -- What a call of a staged file does, by what it does to the log of the disk below.
 use Rattle.std.proofs.Common.{◌≡◌, ℕ, ◌≤◌, List, length, take, drop, refl, sym, ap, ◌∙◌, subst, arith, Ok, Err, take-append-drop}
 use Rattle.std.proofs.lemmas.List.{length-take}
-use Rattle.tape_disk.specs.CallLog.{CallLog, idled, logged, state_of}
+use Rattle.tape_disk.specs.CallLog.{CallLog, idled, logged, log_state}
 use Rattle.tape_disk.specs.Disk.{WriteAt}
 use Rattle.file_disk.specs.declared.raw.CallFailed.{CallFailed}
 use Rattle.file_disk.specs.declared.raw.Stop.{Stop}
@@ -11,10 +11,10 @@ use Rattle.file_disk.proofs.SmearLemmas.{smeared_same, smeared_wider}
 module _ (log mid new : CallLog) (same : mid ≡ log) where
   -- the first of the bytes were written
   pub staged_wrote : (at count : ℕ) (bytes : List ℕ) → new ≡ logged (WriteAt at (take count bytes)) mid
-      → WritesSomeBytes at bytes (Ok count) (state_of log 0) (state_of new 0)
+      → WritesSomeBytes at bytes (Ok count) (log_state log 0) (log_state new 0)
   staged_wrote at count bytes is =
       let size : length (take count bytes) ≤ length bytes = omega (arith, length-take count bytes) in
-      subst (λ (l : CallLog). WritesSomeBytes at bytes (Ok count) (state_of log 0) (state_of l 0))
+      subst (λ (l : CallLog). WritesSomeBytes at bytes (Ok count) (log_state log 0) (log_state l 0))
       (sym (is ∙ ap (λ (l : CallLog). logged (WriteAt at (take count bytes)) l) same)) (record {
         written = refl;
         none = tt;
@@ -30,24 +30,24 @@ module _ (log mid new : CallLog) (same : mid ≡ log) where
 
   -- nothing was written
   pub staged_stopped : (at : ℕ) (bytes : List ℕ) (stop : Stop) → new ≡ idled mid
-      → WritesSomeBytes at bytes (Err stop) (state_of log 0) (state_of new 0)
+      → WritesSomeBytes at bytes (Err stop) (log_state log 0) (log_state new 0)
   staged_stopped at bytes stop is =
-      subst (λ (l : CallLog). WritesSomeBytes at bytes (Err stop) (state_of log 0) (state_of l 0))
+      subst (λ (l : CallLog). WritesSomeBytes at bytes (Err stop) (log_state log 0) (log_state l 0))
       (sym (is ∙ ap idled same)) (record {
         written = tt;
         none = λ interrupted. refl;
-        smeared = smeared_same at (length bytes) (state_of log 0).seen;
+        smeared = smeared_same at (length bytes) (log_state log 0).seen;
         crash = λ image left. (image, left, smeared_same at (length bytes) image);
         keeps = λ image left. left;
       })
 
   -- nothing was cut
   pub staged_not_cut : (len : ℕ) (failed : CallFailed) → new ≡ idled mid
-      → CutsFile len (Err failed) (state_of log 0) (state_of new 0)
+      → CutsFile len (Err failed) (log_state log 0) (log_state new 0)
   staged_not_cut len failed is =
-      subst (λ (l : CallLog). CutsFile len (Err failed) (state_of log 0) (state_of l 0))
+      subst (λ (l : CallLog). CutsFile len (Err failed) (log_state log 0) (log_state l 0))
       (sym (is ∙ ap idled same)) (record {
         done = tt;
-        smeared = (drop len (state_of log 0).seen, sym (take-append-drop len (state_of log 0).seen));
+        smeared = (drop len (log_state log 0).seen, sym (take-append-drop len (log_state log 0).seen));
         crash = λ image left. (image, left, (drop len image, sym (take-append-drop len image)));
       })

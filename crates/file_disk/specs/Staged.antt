@@ -1,6 +1,6 @@
 -- A file for tests, as its contracts see it.
 use Rattle.std.specs.Prelude.{List}
-use Rattle.tape_disk.specs.CallLog.{CallLog, state_of}
+use Rattle.tape_disk.specs.CallLog.{CallLog, log_state}
 use Rattle.tape_disk.specs.Disk.{DiskState}
 use Rattle.tape_disk.specs.MemDisk.{mem_log}
 use Rattle.tape_disk.specs.declared.memory.MemDisk.{MemDisk}
@@ -21,4 +21,4 @@ staged_log file = mem_log file.disk
 
 -- that of the disk below; a file counts no failures (own)
 abbrev pub staged_file_state : StagedFile → DiskState
-staged_file_state file = state_of (staged_log file) 0
+staged_file_state file = log_state (staged_log file) 0

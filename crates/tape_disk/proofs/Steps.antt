@@ -3,7 +3,7 @@ use Rattle.std.proofs.Common.{◌≡◌, ℕ, ◌+◌, List, [], length, drop, r
 use Rattle.std.proofs.lemmas.List.{append-nil}
 use Rattle.vtl_base.specs.declared.faults.DevFault.{DevFault}
 use Rattle.tape_disk.specs.Disk.{DiskState, Same, Smeared, Cut, Writes, Cuts, Syncs}
-use Rattle.tape_disk.specs.CallLog.{Synced, CallLog, IsImage, idled, kept, state_of, reads}
+use Rattle.tape_disk.specs.CallLog.{Synced, CallLog, IsImage, idled, kept, log_state, reads}
 
 all_stays : (at n : ℕ) (xs : List ℕ) → Smeared at n xs xs
 all_stays at n xs = record {
@@ -31,13 +31,13 @@ module _ (old new : DiskState) (same : Same old new) (fault : DevFault) where
   }
 
 module _ (log mid new : CallLog) (f f' : ℕ) where
-  pub same_log : mid ≡ log → new ≡ idled mid → Same (state_of log f) (state_of new f')
-  same_log same rests = subst (λ (l : CallLog). Same (state_of log f) (state_of l f')) (sym (rests ∙ ap idled same))
+  pub same_log : mid ≡ log → new ≡ idled mid → Same (log_state log f) (log_state new f')
+  same_log same rests = subst (λ (l : CallLog). Same (log_state log f) (log_state l f')) (sym (rests ∙ ap idled same))
       (record { seen = refl; crash = λ image left. left })
 
 module _ (log new : CallLog) (f f' : ℕ) where
-  pub is_synced : new ≡ kept (Synced log.idle) log → Syncs (Ok tt) (state_of log f) (state_of new f')
-  is_synced is = subst (λ (p : CallLog). Syncs (Ok tt) (state_of log f) (state_of p f')) (sym is) (record {
+  pub is_synced : new ≡ kept (Synced log.idle) log → Syncs (Ok tt) (log_state log f) (log_state new f')
+  is_synced is = subst (λ (p : CallLog). Syncs (Ok tt) (log_state log f) (log_state p f')) (sym is) (record {
     durable = λ image left. left;
     crash = λ image left. subst (IsImage log.base log.calls) (sym left) (reads log.base log.calls);
   })

@@ -105,8 +105,8 @@ logged (CutAt len) log = kept (CutTo log.idle len) log
 logged SyncAll log = kept (Synced log.idle) log
 
 -- the disk of this log, which is always honest (own)
-abbrev pub state_of : CallLog → ℕ → DiskState
-state_of log failures = record {
+abbrev pub log_state : CallLog → ℕ → DiskState
+log_state log failures = record {
   honest = Unit {0};
   seen = bytes_after log.base log.calls;
   may_leave = IsImage log.base log.calls;
@@ -169,7 +169,7 @@ module _ (base : List ℕ) where
   only_now (call ∷ older) since image (inr before) = absurd (omega (arith, before.0))
 
 -- the laws of a disk
-pub is_disk : (log : CallLog) (failures : ℕ) → IsDisk (state_of log failures)
+pub is_disk : (log : CallLog) (failures : ℕ) → IsDisk (log_state log failures)
 is_disk log failures = record {
   reads = reads log.base log.calls;
   counts_now = λ t image le now. counts_now log.base log.calls t image now;

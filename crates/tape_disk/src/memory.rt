@@ -1,6 +1,6 @@
 //! A disk in memory, which keeps a log of its calls, and so knows what a crash may leave.
 ghost use Rattle.std.specs.Prelude.{◌≡◌, ◌+◌, ◌-◌, ◌^◌, min, [], OnOk, OnErr, IfOk};
-ghost use Rattle.tape_disk.specs.CallLog.{CallLog, IsImage, bytes_after, syncs_of, torn, new_log, idled, logged, state_of, is_disk};
+ghost use Rattle.tape_disk.specs.CallLog.{CallLog, IsImage, bytes_after, syncs_of, torn, new_log, idled, logged, log_state, is_disk};
 ghost use Rattle.tape_disk.specs.Disk.{Only, WriteAt, overwritten};
 ghost use Rattle.tape_disk.specs.Log.{log_of};
 
@@ -136,7 +136,7 @@ fn write(bytes: &mut Vec<u8>, log: &mut Log, at: u64, new: &[u8]) -> Result<(), 
 impl Disk for MemDisk {
     ghost use Rattle.tape_disk.specs.MemDisk.{MemEffect, mem_log, mem_failures};
 
-    ghost state = { λ disk. state_of (mem_log disk) (mem_failures disk) };
+    ghost state = { λ disk. log_state (mem_log disk) (mem_failures disk) };
 
     ghost effect = { MemEffect };
 

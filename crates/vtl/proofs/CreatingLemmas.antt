@@ -1,6 +1,6 @@
 -- Files that are made one after another.
-use Rattle.std.proofs.Common.{◌≡◌, ℕ, List, [], ◌∷◌, ◌++◌, Option, Result, Ok, Err, OnOk, OnErr, IfErr, refl, sym, ap, ◌∙◌, append_assoc}
-use Rattle.std.proofs.lemmas.List.{append-nil}
+use Rattle.std.proofs.Common.{◌≡◌, ℕ, ◌+◌, ◌<◌, List, [], ◌∷◌, ◌++◌, map, take, drop, length, get_or, Option, Result, Ok, Err, OnOk, OnErr, IfErr, refl, sym, ap, ◌∙◌, append_assoc, take-append-drop}
+use Rattle.std.proofs.lemmas.List.{append-nil, map-append, take_more}
 use Rattle.std.specs.Io.KnownBytes.{Appends}
 use Rattle.vtl_script.proofs.TextLemmas.{appends_none, appends_on}
 use Rattle.vtl_script.specs.Text.{AppendsPart}
@@ -106,8 +106,9 @@ part_told name fate before now fault failure written = (
 
 -- what became of a file was told, or a beginning of that
 pub file_result : (name : List ℕ) (fate : Fate) (before now : Option (List ℕ)) (result : Result (Unit {0}) VtlFault)
-    → OnOk result (Appends before now (fate_line name fate)) → OnErr result (AppendsPart before now (fate_line name fate))
-    → IfErr result IsFailure → TellsFiles (name ∷ []) before now result
+    → OnOk result (Appends before now (fate_line name fate))
+    → OnErr result (AppendsPart before now (fate_line name fate)) → IfErr result IsFailure
+    → TellsFiles (name ∷ []) before now result
 file_result name fate before now (Ok done) written part failure = file_told name fate before now written
 file_result name fate before now (Err fault) written part failure = part_told name fate before now fault failure part
 
@@ -116,3 +117,22 @@ pub none_told : (name : List ℕ) (known : Option (List ℕ)) (fault : VtlFault)
     → TellsFiles (name ∷ []) known known (Err fault)
 none_told name known fault failure =
     part_told name Kept known known fault failure ([], refl, appends_none known)
+
+-- the files of the first of some entries, one more, and all
+module _ {A : Type 0} (name : A → List ℕ) (entries : List A) (at : ℕ) where
+  pub files_more : (entry : A) (before mid now : Option (List ℕ)) (result : Result (Unit {0}) VtlFault)
+      → at < length entries → entry ≡ get_or entries at entry
+      → TellsFiles (map name (take at entries)) before mid (Ok tt) → TellsFiles (name entry ∷ []) mid now result
+      → TellsFiles (map name (take (at + 1) entries)) before now result
+  files_more entry before mid now result within is told more =
+      let one : take (at + 1) entries ≡ take at entries ++ entry ∷ [] =
+      take_more entries at entry within ∙ ap (λ (x : A). take at entries ++ x ∷ []) (sym is) in
+      rw (one, map-append name (take at entries) (entry ∷ []))
+      (files_on (map name (take at entries)) (name entry ∷ []) before mid now result told more)
+
+  pub files_first : (before now : Option (List ℕ)) (fault : VtlFault)
+      → TellsFiles (map name (take at entries)) before now (Err fault)
+      → TellsFiles (map name entries) before now (Err fault)
+  files_first before now fault told =
+      let some = files_of (map name (take at entries)) (map name (drop at entries)) before now fault told in
+      rw (← map-append name (take at entries) (drop at entries), take-append-drop at entries) at some

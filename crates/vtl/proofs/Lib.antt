@@ -1,4 +1,5 @@
 pub mod CheckLemmas
 mod CreatingLemmas
 pub mod OneTextLemmas
+mod OrdersLemmas
 pub mod SideTextLemmas

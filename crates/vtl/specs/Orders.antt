@@ -2,7 +2,7 @@
 use Rattle.std.specs.Prelude.{◌≡◌, ◌⊎◌, ℕ, Bool, true, false, List, [], ◌∷◌, Option, None, Some, Result, Ok, Err, IfOk, IfErr, String, Vec, codes, string_bytes}
 use Rattle.std.specs.Io.KnownBytes.{Appends, Keeps}
 use Rattle.std.specs.declared.alloc.Global.{Global}
-use Rattle.tape_disk.specs.CallLog.{state_of}
+use Rattle.tape_disk.specs.CallLog.{log_state}
 use Rattle.tape_disk.specs.Disk.{DiskState}
 use Rattle.tape_disk.specs.MemDisk.{mem_failures, mem_log}
 use Rattle.tape_disk.specs.declared.memory.MemDisk.{MemDisk}
@@ -34,7 +34,7 @@ use Rattle.vtl.specs.Starting.{IsBuiltIn, IsFoundCartridge, IsFoundStore, IsNewC
 
 -- the state of a disk in memory (own)
 abbrev pub memory_state : MemDisk → DiskState
-memory_state disk = state_of (mem_log disk) (mem_failures disk)
+memory_state disk = log_state (mem_log disk) (mem_failures disk)
 
 -- the sides that files hold: a cartridge that was found (own)
 abbrev pub found_cartridge : {D : Type 0} → CartridgeEntry → BufferState D → Type 0
@@ -75,10 +75,11 @@ RunsConfig state gives_cartridge gives_store config left before now outcome =
     RunsOver state (IsStarted gives_cartridge state gives_store config.cartridges.items config.drives.items)
     left before now outcome
 
--- the barcode and the capacity of the built-in configuration (own)
+-- the barcode of the built-in configuration's cartridge (own)
 abbrev pub built_in_barcode : List ℕ
 built_in_barcode = codes "T00001L6"
 
+-- the capacities of the built-in configuration's cartridge: one, of 16 MiB (own)
 abbrev pub built_in_capacities : List ℕ
 built_in_capacities = 16777216 ∷ []
 

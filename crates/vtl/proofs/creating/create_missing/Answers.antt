@@ -1,4 +1,4 @@
-use Rattle.std.proofs.Common.{map, Ok, Err}
+use Rattle.std.proofs.Common.{map}
 use Rattle.vtl.proofs.CreatingLemmas.{files_on, files_of}
 use Rattle.vtl.specs.Creating.{cartridge_name, store_name}
 use Rattle.vtl.proofs.creating.create_missing.Goals as goal

@@ -5,5 +5,5 @@ use Rattle.vtl.proofs.creating.make_cartridges.Given as goal
 -- the files so far are told of
 abbrev pub invariant-loop-entry : goal.invariant-loop-entry
 invariant-loop-entry g l =
-    TellsFiles (map cartridge_name (take l.entry-index l.entries)) (g.W.Write.contents l.fn.writer) (g.W.Write.contents l.writer)
-    (Ok tt)
+    TellsFiles (map cartridge_name (take l.entry-index l.entries)) (g.W.Write.contents l.fn.writer)
+    (g.W.Write.contents l.writer) (Ok tt)

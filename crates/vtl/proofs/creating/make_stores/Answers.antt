@@ -1,7 +1,5 @@
-use Rattle.std.proofs.Common.{◌≡◌, ◌∷◌, ◌++◌, [], ◌+◌, take, drop, map, ap, sym, ◌∙◌, Ok, Err, take-append-drop}
-use Rattle.std.proofs.lemmas.List.{take_more, map-append}
-use Rattle.vtl_config.specs.declared.entries.DriveEntry.{DriveEntry}
-use Rattle.vtl.proofs.CreatingLemmas.{files_on, files_of}
+use Rattle.std.proofs.Common.{◌+◌, Ok, Err}
+use Rattle.vtl.proofs.CreatingLemmas.{files_more, files_first}
 use Rattle.vtl.specs.Creating.{store_name}
 use Rattle.vtl.proofs.creating.make_stores.Goals as goal
 
@@ -9,23 +7,11 @@ pub returns-in-Err : goal.returns-in-Err
 returns-in-Err g c =
     let entries = c.args.entries.now in
     let at = c.loop-entry.entry-index in
-    let one : take (at + 1) entries ≡ take at entries ++ c.entry-item.result ∷ [] =
-    take_more entries at c.entry-item.result c.loop-entry-test.true
-    ∙ ap (λ (x : DriveEntry). take at entries ++ x ∷ []) (sym c.entry-item.is) in
-    let told = files_on (map store_name (take at entries)) (store_name c.entry-item.result ∷ []) _ _ _ (Err c.in-Err.fault)
-    c.loop-entry.invariant c.in-Err.ensures in
-    let some = files_of (map store_name (take (at + 1) entries)) (map store_name (drop (at + 1) entries)) (g.W.Write.contents c.args.writer.now)
-    (g.W.Write.contents c.make_store.new.writer) c.in-Err.fault
-    (rw (one, map-append store_name (take at entries) (c.entry-item.result ∷ [])) told) in
-    rw (← map-append store_name (take (at + 1) entries) (drop (at + 1) entries), take-append-drop (at + 1) entries) at some
+    files_first store_name entries (at + 1) _ _ c.in-Err.fault
+    (files_more store_name entries at _ _ _ _ (Err c.in-Err.fault) c.loop-entry-test.true c.entry-item.is
+    c.loop-entry.invariant c.in-Err.ensures)
 
 pub loop-entry-preserved : goal.loop-entry-preserved
 loop-entry-preserved g c =
-    let entries = c.args.entries.now in
-    let at = c.loop-entry.entry-index in
-    let one : take (at + 1) entries ≡ take at entries ++ c.entry-item.result ∷ [] =
-    take_more entries at c.entry-item.result c.loop-entry-test.true
-    ∙ ap (λ (x : DriveEntry). take at entries ++ x ∷ []) (sym c.entry-item.is) in
-    let told = files_on (map store_name (take at entries)) (store_name c.entry-item.result ∷ []) _ _ _ (Ok tt)
-    c.loop-entry.invariant c.in_default.ensures in
-    rw (one, map-append store_name (take at entries) (c.entry-item.result ∷ [])) told
+    files_more store_name c.args.entries.now c.loop-entry.entry-index _ _ _ _ (Ok tt) c.loop-entry-test.true
+    c.entry-item.is c.loop-entry.invariant c.in_default.ensures

@@ -1,0 +1,7 @@
+-- What the program does where it writes nothing.
+use Rattle.std.proofs.Common.{ℕ, List, Option, Some, None, refl}
+use Rattle.std.specs.Io.KnownBytes.{Keeps}
+
+pub keeps_same : (known : Option (List ℕ)) → Keeps known known
+keeps_same None = tt
+keeps_same (Some bytes) = refl
