@@ -34,8 +34,8 @@ fn timed(rt: &HostRuntime, word: &str, count: u32) -> Option<Timed> {
     }
 }
 
-/// With `blocks N`, `bytes N`, `marks N`, `copy N` or `file N PATH` it tells the nanoseconds and what came of it; with no
-/// words it does a little of each but the last, and tells that alone.
+/// With `blocks N`, `bytes N`, `marks N`, `copy N` or `file N PATH` it tells the nanoseconds and what came of it; with
+/// no words it does a little of each but the last, and tells that alone.
 fn main(rt: HostRuntime) -> ExitCode {
     let Ok(words) = env::args(&rt) else {
         return ExitCode::from(1);
