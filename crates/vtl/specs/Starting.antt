@@ -44,6 +44,12 @@ module _ {D : Type 0} where
     pub works : IsFoundStore store
 
   module _ (state : D → DiskState) where
+    -- the cartridge that was found on a disk: closed, and a read of its disk gives what one gave before (own)
+    abbrev pub IsFoundOn : D → BufferState D → Type 0
+    IsFoundOn disk cartridge =
+        (shelved : ClosedCartridge D) × (cartridge ≡ closed_buffer shelved)
+        × ((state disk).honest → (state shelved.disk).seen ≡ (state disk).seen)
+
     -- The library of the built-in configuration: drive 1 alone, switched on over a new store, with a new cartridge of
     -- this barcode and these capacities; no slot holds anything (own).
     pub record IsBuiltIn (barcode capacities : List ℕ) (held : HeldState D) : Type 0 where
@@ -60,7 +66,8 @@ module _ {D : Type 0} where
           (Ok bay)
 
   module _ (gives_cartridge : CartridgeEntry → BufferState D → Type 0) where
-    -- what stands at a home: the cartridge that was given for an entry of this home, nothing where no entry has it (own)
+    -- what stands at a home: the cartridge that was given for an entry of this home; nothing where no entry has it
+    -- (own)
     abbrev pub StandsAt : List CartridgeEntry → ℕ → Option (BufferState D) → Type 0
     StandsAt entries address None = ¬ Contains (homes_of entries) address
     StandsAt entries address (Some cartridge) =

@@ -1,11 +1,12 @@
 //! Where the sides of a library come from: out of files, or made in memory.
 ghost use Rattle.std.specs.Prelude.{◌≡◌, IfOk, IfErr};
+ghost use Rattle.aptpl_store.specs.Contents.{GivesStates};
 ghost use Rattle.aptpl_store.specs.Kept.{store_kept};
 ghost use Rattle.aptpl_store.specs.State.{OpenStore};
 ghost use Rattle.drive_core.specs.State.{left_of};
 ghost use Rattle.tape_buffer.specs.State.{BufferState};
 ghost use Rattle.vtl.specs.Faults.{IsFailure};
-ghost use Rattle.vtl.specs.Starting.{IsFoundCartridge, IsFoundStore};
+ghost use Rattle.vtl.specs.Starting.{IsFoundCartridge, IsFoundOn, IsFoundStore};
 ghost use Rattle.vtl_config.specs.declared.entries.CartridgeEntry.{CartridgeEntry};
 ghost use Rattle.vtl_config.specs.declared.entries.DriveEntry.{DriveEntry};
 
@@ -58,6 +59,7 @@ pub struct NewSides;
 // A closed cartridge of which nothing is known but what the disk holds.
 fn settled<D: Disk + Drop>(alloc: Global, mut disk: D) -> Result<Parked<D>, VtlFault>
     ensures ok { IfOk result IsFoundCartridge }
+    ensures found { IfOk result (IsFoundOn D.state disk) }
     ensures err { IfErr result IsFailure }
 {
     match disk.sync() {
@@ -69,6 +71,8 @@ fn settled<D: Disk + Drop>(alloc: Global, mut disk: D) -> Result<Parked<D>, VtlF
 // The store that a disk holds.
 fn opened<D: Disk + Drop>(alloc: Global, disk: D) -> Result<DriveStore<D>, VtlFault>
     ensures ok { IfOk result (λ opened. IsFoundStore opened.store) }
+    ensures gives { IfOk result (λ opened. (D.state disk).honest →
+        GivesStates opened.store.heading opened.store.states (D.state disk).seen) }
     ensures left { IfOk result (λ opened.
         opened.left ≡ left_of (store_kept opened.store).saved) }
     ensures err { IfErr result IsFailure }
