@@ -4,6 +4,8 @@
 #[cfg(test)]
 mod moving;
 #[cfg(test)]
+mod running;
+#[cfg(test)]
 mod samples;
 #[cfg(test)]
 mod writing;
