@@ -1,7 +1,7 @@
 //! A library that one thread holds.
 ghost use Rattle.std.specs.Prelude.{◌≡◌, ◌≢◌, [], ℕ, None, Some, true, IfOk, IfErr, OnOk, is_some, option_map, length};
 ghost use Rattle.vtl_base.specs.declared.limits.TheConstants.{DRIVES, SLOTS};
-ghost use Rattle.changer.specs.Slots.{Puts, held_at};
+ghost use Rattle.changer.specs.Slots.{Puts, held_at, refusal_of_placing};
 ghost use Rattle.drive_core.specs.Execute.{asked};
 ghost use Rattle.library.specs.Commands.{Commands};
 ghost use Rattle.library.specs.Elements.{Becomes, bay_at};
@@ -78,12 +78,14 @@ impl<D: Disk + Drop> Held<D> {
         Ok(())
     }
 
-    /// Puts a closed cartridge into the slot of this element address, as `Slots::place` does.
+    /// Puts a closed cartridge into the slot of this element address, which holds nothing, as `Slots::place` does.
     pub fn place(&mut self, address: u32, cartridge: Parked<D>) -> Result<(), NotPlaced<Parked<D>>>
-        ensures ok { OnOk result (Puts address (Some cartridge) self.old.slots self.new.slots
+        ensures ok { OnOk result ((refusal_of_placing self.old.slots address ≡ None)
+            × Puts address (Some cartridge) self.old.slots self.new.slots
             × (self.new.bays ≡ self.old.bays)) }
         ensures err { IfErr result (λ refused.
-            (refused.value ≡ cartridge) × (self.new ≡ self.old)) }
+            (refusal_of_placing self.old.slots address ≡ Some refused.error)
+            × (refused.value ≡ cartridge) × (self.new ≡ self.old)) }
     {
         self.slots.place(address, cartridge)
     }
