@@ -1,5 +1,8 @@
 pub mod CheckLemmas
 mod CreatingLemmas
+mod DistinctLemmas
 pub mod OneTextLemmas
 mod OrdersLemmas
 pub mod SideTextLemmas
+mod StartingLemmas
+mod WaitingLemmas

@@ -2,6 +2,7 @@ pub mod Checks
 pub mod Configured
 pub mod Creating
 pub mod Faults
+pub mod Inner
 pub mod Orders
 pub mod Program
 pub mod SideText

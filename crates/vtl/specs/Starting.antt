@@ -1,5 +1,5 @@
 -- What a library holds when it was just switched on.
-use Rattle.std.specs.Prelude.{◌≡◌, ℕ, [], true, false, List, Option, None, Some, Result, Ok}
+use Rattle.std.specs.Prelude.{◌≡◌, ℕ, [], true, false, List, Option, None, Some, Ok}
 use Rattle.std.specs.List.{Contains}
 use Rattle.tape_disk.specs.Disk.{DiskState}
 use Rattle.cartridge.specs.Contents.{contents_from, heading_with}

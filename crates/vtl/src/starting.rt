@@ -1,7 +1,13 @@
 //! A library is switched on: each cartridge is at its home.
-ghost use Rattle.std.specs.Prelude.{IfOk, IfErr};
+ghost use Rattle.std.specs.Prelude.{◌≡◌, ◌⊎◌, [], true, IfOk, IfErr, OnOk, is_some};
+ghost use Rattle.aptpl_store.specs.Kept.{store_kept};
+ghost use Rattle.drive_core.specs.State.{left_of};
+ghost use Rattle.library.specs.Elements.{bay_at};
+ghost use Rattle.vtl_config.specs.Entries.{address_of};
+ghost use Rattle.vtl.specs.Inner.Waiting.{AreHome, IsBare, PutsHome, SwitchesOnAt, home_at};
 ghost use Rattle.vtl.specs.Orders.{IsStart, built_in_barcode, built_in_capacities, memory_state};
 ghost use Rattle.vtl.specs.Starting.{IsBuiltIn, IsNotStarted, IsStarted};
+ghost use Rattle.vtl.specs.declared.programs.VtlFault.TheVariants as Faults;
 
 use crate::programs::VtlFault;
 use crate::sides::{DriveStore, Sides};
@@ -10,10 +16,11 @@ use cartridge::Cartridge;
 use library::{Bay, Held, Parked};
 use pr_core::Reservations;
 use std::alloc::Global;
+use std::marker::Model;
 use std::mem;
 use tape_disk::{Disk, MemDisk};
 use vtl_base::limits::DRIVES;
-use vtl_base::{Barcode, DriveNo, NoMemory};
+use vtl_base::{Barcode, DriveNo, NoMemory, SlotNo};
 use vtl_config::{Address, CartridgeEntry, DriveEntry};
 
 // The drive, the barcode and the capacity of the built-in configuration.
@@ -31,8 +38,23 @@ struct Starting<D: Disk> {
     waiting: Vec<Option<Parked<D>>>,
 }
 
+impl<D: Disk> Model for Starting<D> {
+    ghost use Rattle.std.specs.Prelude.{◌≡◌, length};
+    ghost use Rattle.vtl_base.specs.declared.limits.TheConstants.{DRIVES};
+    ghost use Rattle.vtl.specs.Inner.Waiting.{StartingState};
+
+    ghost Value = { StartingState D };
+
+    ghost view = { λ s. record { held = s.held; waiting = s.waiting.items } };
+
+    ghost invariant = { λ s. length s.waiting.items ≡ DRIVES };
+}
+
 impl<D: Disk + Drop> Starting<D> {
-    fn new(alloc: Global) -> Result<Starting<D>, NoMemory> {
+    // A library of no drive, with no cartridge.
+    fn new(alloc: Global) -> Result<Starting<D>, NoMemory>
+        ensures { IfOk result IsBare }
+    {
         let held = Held::new(alloc)?;
         let mut waiting = Vec::with_capacity(alloc, DRIVES as usize)?;
         for _ in 0..DRIVES {
@@ -43,22 +65,44 @@ impl<D: Disk + Drop> Starting<D> {
         Ok(Starting { held, waiting })
     }
 
-    // Puts a cartridge into its home, or beside the drive that is its home.
-    fn put(&mut self, home: Address, cartridge: Parked<D>) -> Result<(), VtlFault> {
+    // Puts a cartridge into its home, or has it wait for the drive that is its home.
+    fn put(&mut self, home: Address, cartridge: Parked<D>) -> Result<(), VtlFault>
+        ensures ok { OnOk result (PutsHome (address_of home) cartridge self.old self.new) }
+        ensures err { IfErr result (λ fault.
+            (fault ≡ Faults.Config) × (is_some (home_at self.old (address_of home)) ≡ true)) }
+    {
         match home {
-            Address::Slot(slot) => match self.held.place(slot.address() as u32, cartridge) {
-                Ok(()) => Ok(()),
-                Err(_) => Err(VtlFault::Config),
-            },
-            Address::Drive(drive) => {
-                let place = &mut self.waiting[drive.place()];
-                if place.is_some() {
-                    return Err(VtlFault::Config);
-                }
-                *place = Some(cartridge);
-                Ok(())
-            }
+            Address::Slot(slot) => self.put_in(slot, cartridge),
+            Address::Drive(drive) => self.put_beside(drive, cartridge),
         }
+    }
+
+    // Puts a cartridge into the slot that is its home.
+    fn put_in(&mut self, slot: SlotNo, cartridge: Parked<D>) -> Result<(), VtlFault>
+        ensures ok { OnOk result (PutsHome slot cartridge self.old self.new) }
+        ensures err { IfErr result (λ fault.
+            (fault ≡ Faults.Config) × (is_some (home_at self.old slot) ≡ true)) }
+    {
+        match self.held.place(slot.address() as u32, cartridge) {
+            Ok(()) => Ok(()),
+            Err(_) => Err(VtlFault::Config),
+        }
+    }
+
+    // Has a cartridge wait for the drive that is its home.
+    fn put_beside(&mut self, drive: DriveNo, cartridge: Parked<D>) -> Result<(), VtlFault>
+        ensures ok { OnOk result (PutsHome drive cartridge self.old self.new) }
+        ensures err { IfErr result (λ fault.
+            (fault ≡ Faults.Config) × (is_some (home_at self.old drive) ≡ true)) }
+    {
+        // Asked for the proof's sake: the numbers of drives begin with 1.
+        let _ = drive.number();
+        let place = &mut self.waiting[drive.place()];
+        if place.is_some() {
+            return Err(VtlFault::Config);
+        }
+        *place = Some(cartridge);
+        Ok(())
     }
 
     // Switches a drive on, with the cartridge that waits for it.
@@ -67,7 +111,14 @@ impl<D: Disk + Drop> Starting<D> {
         alloc: Global,
         number: DriveNo,
         opened: DriveStore<D>,
-    ) -> Result<(), VtlFault> {
+    ) -> Result<(), VtlFault>
+        requires { opened.left ≡ left_of (store_kept opened.store).saved }
+        ensures ok { OnOk result (SwitchesOnAt D.state number opened.store self.old self.new) }
+        ensures err { IfErr result (λ fault. (fault ≡ Faults.NoMemory)
+            ⊎ (fault ≡ Faults.Config) × (is_some (bay_at self.old.held.bays number) ≡ true)) }
+    {
+        // Asked for the proof's sake: the numbers of drives begin with 1.
+        let _ = number.number();
         let DriveStore { store, left } = opened;
         let cartridge = mem::replace(&mut self.waiting[number.place()], None);
         match Bay::power_on(alloc, store, left, cartridge) {
@@ -78,6 +129,23 @@ impl<D: Disk + Drop> Starting<D> {
             Err(_) => Err(VtlFault::NoMemory),
         }
     }
+}
+
+// Gets the cartridges, in the order of the configuration, each into its home.
+fn place_all<D: Disk + Drop, S: Sides<D>>(
+    alloc: Global,
+    sides: &S,
+    cartridges: &[CartridgeEntry],
+) -> Result<Starting<D>, VtlFault>
+    ensures ok { IfOk result (AreHome S.gives_cartridge cartridges.now) }
+    ensures err { IfErr result (IsNotStarted cartridges.now []) }
+{
+    let mut starting = Starting::new(alloc)?;
+    for entry in cartridges {
+        let cartridge = sides.cartridge(alloc, entry)?;
+        starting.put(entry.home, cartridge)?;
+    }
+    Ok(starting)
 }
 
 /// The library of a configuration, over these sides: first its cartridges, then its drives, in the
@@ -92,24 +160,10 @@ pub fn start<D: Disk + Drop, S: Sides<D>>(
         (IsStarted S.gives_cartridge D.state S.gives_store cartridges.now drives.now) }
     ensures err { IfErr result (IsNotStarted cartridges.now drives.now) }
 {
-    let mut starting = Starting::new(alloc)?;
-    for entry in cartridges {
-        let cartridge = match sides.cartridge(alloc, entry) {
-            Ok(cartridge) => cartridge,
-            Err(fault) => return Err(fault),
-        };
-        if let Err(fault) = starting.put(entry.home, cartridge) {
-            return Err(fault);
-        }
-    }
+    let mut starting = place_all(alloc, sides, cartridges)?;
     for entry in drives {
-        let opened = match sides.store(alloc, entry) {
-            Ok(opened) => opened,
-            Err(fault) => return Err(fault),
-        };
-        if let Err(fault) = starting.switch_on(alloc, entry.number, opened) {
-            return Err(fault);
-        }
+        let opened = sides.store(alloc, entry)?;
+        starting.switch_on(alloc, entry.number, opened)?;
     }
     Ok(starting.held)
 }
