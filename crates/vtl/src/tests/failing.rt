@@ -95,7 +95,7 @@ fn the_first_fault_is_told(rt: HostRuntime) -> Result<(), Fail> {
             Ok(()) => {}
             Err(fault) => {
                 assert_eq!(rt; fault, VtlFault::Device, "fault at {calls}");
-                unwritten += 1;
+                unwritten = unwritten.saturating_add(1);
             }
         }
     }
