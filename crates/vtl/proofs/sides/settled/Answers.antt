@@ -9,5 +9,5 @@ returns-in-Ok-clause-found g c = (
       let there = c.in-Ok.ensures.passes.stays_honest honest in
       ap (λ disk. (g.D.Disk.state disk).seen) c.of.ensures.disk
       ∙ (c.in-Ok.ensures.syncs honest).durable (g.D.Disk.state c.sync.new.self).seen
-        (g.met.D.Disk.is_disk c.sync.new.self there).reads,
+      (g.met.D.Disk.is_disk c.sync.new.self there).reads,
 )
