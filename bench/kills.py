@@ -272,9 +272,13 @@ def main():
         sys.exit(f"{program} is not there; build the program first: make vtl")
     if said.selftest:
         return doctored(program)
-    lives = [(f"{said.seed}.{at}", min(LIVES, said.count - at)) for at in range(0, said.count, LIVES)]
+    founds, left = [], said.count
     with concurrent.futures.ProcessPoolExecutor(said.jobs) as pool:
-        founds = list(pool.map(live, [program] * len(lives), *zip(*lives)))
+        # some scripts of a library end before their kill more often than it tries; others take their place
+        while left > 0 and not any(found.wrong for found in founds):
+            lives = [(f"{said.seed}.{said.count - left}.{at}", min(LIVES, left - at)) for at in range(0, left, LIVES)]
+            founds += pool.map(live, [program] * len(lives), *zip(*lives))
+            left = said.count - sum(found.kills for found in founds)
     return tell(founds)
 
 
