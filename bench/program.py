@@ -16,7 +16,8 @@ import time
 TOP = os.path.dirname(os.path.dirname(os.path.abspath(__file__)))
 PROGRAM = os.path.join(TOP, "crates", "vtl", "out", "vtl")
 LIBRARY = os.path.join(TOP, "crates", "buffer_bench", "out", "buffer_bench")
-BLOCK, COUNT, GROUP, MARKS, SMALL = 262_144, 1_024, 256, 200, 100_000
+# as many blocks of a frame wait in a drive's buffer at most: 4,194,304 bytes
+BLOCK, COUNT, GROUP, WAIT, MARKS, SMALL = 262_144, 1_024, 256, 16, 200, 100_000
 READY = b"1 1 000000000000\n"
 ATTENTION = b"CHECK 700006000000000a00000000290000000000\n"
 CONFIG = """cartridge = [{ barcode = "T00001L6", file = "t1.tape", capacities = [1_099_511_627_776], home = 1 }]
@@ -60,7 +61,8 @@ def scripted(folder, name, pieces):
     return path
 
 
-def raw_append(folder):
+def raw_append(folder, group=GROUP, syncs=1):
+    """The blocks to a new file, with so many syncs behind each group of them."""
     block = b"\x5a" * BLOCK
     path = os.path.join(folder, "raw")
     if os.path.exists(path):
@@ -69,8 +71,9 @@ def raw_append(folder):
     file = os.open(path, os.O_WRONLY | os.O_CREAT | os.O_EXCL, 0o600)
     for i in range(COUNT):
         os.write(file, block)
-        if i % GROUP == GROUP - 1:
-            os.fsync(file)
+        if i % group == group - 1:
+            for _ in range(syncs):
+                os.fsync(file)
     seconds = time.perf_counter() - start
     os.close(file)
     return seconds
@@ -129,8 +132,10 @@ def blocks(folder):
     group = [(write, GROUP), (mark, 1), (b"--\n", 1)]
     script = scripted(folder, "blocks", [(READY, 1), *group * (COUNT // GROUP)])
     wanted = [(ATTENTION, 1), (b"GOOD\n", COUNT + COUNT // GROUP)]
-    raw, library, through = best([lambda: raw_append(folder), lambda: by_library(folder), lambda: by_script(folder, script, wanted)])
+    raw, often, library, through = best([lambda: raw_append(folder), lambda: raw_append(folder, WAIT, 2), lambda: by_library(folder),
+                                         lambda: by_script(folder, script, wanted)])
     speed(f"{COUNT:,} blocks of {BLOCK:,} bytes, a sync each {GROUP}, to a raw file", raw)
+    speed(f"the same with two syncs each {WAIT}, as many as wait at most and make a frame", often, raw)
     speed("the same, a filemark each, by a program that calls the library", library, raw)
     speed("the same through vtl run", through, raw)
     # an operation code that no drive knows
