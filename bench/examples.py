@@ -3,8 +3,8 @@
 
 `vtl create` must print create.expected, and the same with `kept` when it is asked again. Each NAME.script must write the bytes of
 NAME.expected and nothing on standard error, with status 0; where there is a NAME.ends, its first line is the status and the rest
-standard error. Then each command of NAME.check, a line `$ vtl WORDS`, must print the lines below it. --program PATH: another
-program than the proved one."""
+standard error. Then each command of NAME.check, a line `$ vtl WORDS`, must print the lines below it, and write no file; nor may the
+second `create`. --program PATH: another program than the proved one."""
 import argparse
 import os
 import shutil
@@ -25,6 +25,11 @@ def example(name, missing=None):
         return file.read()
 
 
+def file_bytes(path):
+    with open(path, "rb") as file:
+        return file.read()
+
+
 class Library:
     """A folder with the files of the examples' library."""
 
@@ -35,6 +40,18 @@ class Library:
         """Status, standard output and standard error."""
         done = subprocess.run([self.program, *words], cwd=self.room, input=given, stdout=subprocess.PIPE, stderr=subprocess.PIPE)
         return done.returncode, done.stdout, done.stderr
+
+    def touch_nothing(self, what, wanted, words):
+        """The same, and no file is written by it: none has another time or other bytes."""
+        old, paths = 1_000_000_000, sorted(os.path.join(self.room, name) for name in os.listdir(self.room))
+        for path in paths:
+            os.utime(path, (old, old))
+        before = [file_bytes(path) for path in paths]
+        self.compare(what, wanted, words)
+        touched = [path for path, was in zip(paths, before) if os.stat(path).st_mtime != old or file_bytes(path) != was]
+        if touched or sorted(os.path.join(self.room, name) for name in os.listdir(self.room)) != paths:
+            self.wrong += 1
+            print(f"{what}: a file was written: {', '.join(map(os.path.basename, touched)) or 'one more or fewer'}")
 
     def compare(self, what, wanted, words, given=b""):
         self.compared += 1
@@ -60,7 +77,7 @@ class Library:
         made = example("create.expected")
         words = ["create", "--config", "library.toml"]
         self.compare("vtl create", (0, made, b""), words)
-        self.compare("vtl create, again", (0, made.replace(b"created", b"kept"), b""), words)
+        self.touch_nothing("vtl create, again", (0, made.replace(b"created", b"kept"), b""), words)
 
     def run(self, name):
         status, _, said = example(f"{name}.ends", b"0\n").partition(b"\n")
@@ -68,7 +85,7 @@ class Library:
         self.compare(name, wanted, ["run", "--config", "library.toml"], example(f"{name}.script"))
         for command in example(f"{name}.check").decode().split("$ vtl ")[1:]:
             words, _, lines = command.partition("\n")
-            self.compare(f"vtl {words} after {name}", (0, lines.encode(), b""), words.split())
+            self.touch_nothing(f"vtl {words} after {name}", (0, lines.encode(), b""), words.split())
 
 
 def main():
