@@ -1,13 +1,16 @@
 #!/usr/bin/env python3
 """Runs the built program to each of its endings, and compares status, standard output and standard error.
 
-Done; a bad line; a reader that fails (a folder); a writer that fails (a full device, a closed pipe); memory that runs out, by
+Done; a bad line; a reader that fails (a folder); a writer that fails (a full device, a closed pipe); words that are refused, files
+that are missing, that can't be written (and are gone again), and full devices under create and check; memory that runs out, by
 limits of the system over a range: at each at which a script of no line ends well a long one does so too, or memory runs out
 in the program or in the command, and at some it does. But for --short, a script of 2,147,483,648 bytes, and one of a byte more."""
 import os
 import resource
+import signal
 import subprocess
 import sys
+import tempfile
 
 TOP = os.path.dirname(os.path.dirname(os.path.abspath(__file__)))
 PROGRAM = os.path.join(TOP, "crates", "vtl", "out", "vtl")
@@ -50,6 +53,45 @@ def ended_on(size):
     return child.wait(), out, said
 
 
+CONFIG = b"""cartridge = [{ barcode = "T00001L6", file = "t1.tape", capacities = [4096], home = 1 }]
+drive = [{ number = 1, reservations = "d1.pr" }]
+"""
+
+
+def ended_in(room, words, stdout=None, size=None):
+    """Status, standard output, standard error and the files of a run in this folder; no file may be longer than that size."""
+    def limit():
+        signal.signal(signal.SIGXFSZ, signal.SIG_IGN)
+        resource.setrlimit(resource.RLIMIT_FSIZE, (size, size))
+    done = subprocess.run([PROGRAM, *words], cwd=room, stdin=subprocess.DEVNULL, stdout=stdout or subprocess.PIPE,
+                          stderr=subprocess.PIPE, preexec_fn=limit if size is not None else None)
+    return done.returncode, done.stdout or b"", done.stderr, sorted(os.listdir(room))
+
+
+def over_files(full):
+    """Endings of the other words, each in a folder that has the configuration."""
+    with tempfile.TemporaryDirectory(prefix="vtl-endings-") as room:
+        with open(os.path.join(room, "lib.toml"), "wb") as file:
+            file.write(CONFIG)
+        create, refused = ["create", "--config", "lib.toml"], b"vtl: command line refused\n"
+        made, tape = ["d1.pr", "lib.toml", "t1.tape"], os.path.join(room, "t1.tape")
+        rows = [
+            ("a word that is none", (1, b"", refused, ["lib.toml"]), ended_in(room, ["walk"])),
+            ("a word that is no text", (1, b"", refused, ["lib.toml"]), ended_in(room, [b"run", b"--config", b"\xff"])),
+            ("files that are missing", (2, b"", DEVICE, ["lib.toml"]), ended_in(room, ["run", "--config", "lib.toml"])),
+            ("a cartridge that can't be made is gone again", (2, b"", DEVICE, ["lib.toml"]), ended_in(room, create, size=20)),
+        ]
+        with open(tape, "wb") as file:
+            file.write(b"mine")
+        rows.append(("so is a store", (2, b"kept T00001L6\n", DEVICE, ["lib.toml", "t1.tape"]), ended_in(room, create, size=20)))
+        os.remove(tape)
+        rows.append(("a full device for create", (2, b"", DEVICE, ["lib.toml", "t1.tape"]), ended_in(room, create, stdout=full)))
+        rows.append(("create goes on", (0, b"kept T00001L6\ncreated DRIVE1\n", b"", made), ended_in(room, create)))
+        rows.append(("a full device for check", (2, b"", DEVICE, made), ended_in(room, ["check", "t1.tape"], stdout=full)))
+        rows.append(("a script over files", (0, b"", b"", made), ended_in(room, ["run", "--config", "lib.toml"])))
+        return rows
+
+
 def ends_out_of_memory():
     """How often memory ran out over a range of limits, and what ended otherwise than it should."""
     fine, times, wrong = (0, ATTENTION + b"GOOD\n", b""), 0, []
@@ -79,6 +121,7 @@ def main(words):
         ("a writer that is full", (2, b"", DEVICE), ended(PHASE, stdout=full)),
         ("a writer that is closed", (2, b"", DEVICE), ended(PHASE, stdout=closed)),
     ]
+    rows += over_files(full)
     if words != ["--short"]:
         rows.append((f"a script of {MOST:,} bytes", (0, ATTENTION, b""), ended_on(MOST)))
         rows.append((f"a script of {MOST + 1:,} bytes", (2, ATTENTION, DEVICE), ended_on(MOST + 1)))
