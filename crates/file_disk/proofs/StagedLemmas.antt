@@ -1,6 +1,6 @@
 -- What a call of a staged file does, by what it does to the log of the disk below.
 use Rattle.std.proofs.Common.{◌≡◌, ℕ, ◌≤◌, List, length, take, drop, refl, sym, ap, ◌∙◌, subst, arith, Ok, Err, take-append-drop}
-use Rattle.std.proofs.lemmas.List.{length-take}
+use Rattle.std.proofs.lemmas.List.{length-take, take_all}
 use Rattle.tape_disk.specs.CallLog.{CallLog, idled, logged, log_state}
 use Rattle.tape_disk.specs.Disk.{WriteAt}
 use Rattle.file_disk.specs.declared.raw.CallFailed.{CallFailed}
@@ -27,6 +27,12 @@ module _ (log mid new : CallLog) (same : mid ≡ log) where
         );
         keeps = λ image left. (image, left, smeared_same at (length (take count bytes)) image);
       })
+
+  -- all bytes were written
+  pub staged_wrote_all : (at : ℕ) (bytes : List ℕ) → new ≡ logged (WriteAt at bytes) mid
+      → WritesSomeBytes at bytes (Ok (length bytes)) (log_state log 0) (log_state new 0)
+  staged_wrote_all at bytes is = staged_wrote at (length bytes) bytes
+      (is ∙ ap (λ (l : List ℕ). logged (WriteAt at l) mid) (sym (take_all (length bytes) bytes (omega arith))))
 
   -- nothing was written
   pub staged_stopped : (at : ℕ) (bytes : List ℕ) (stop : Stop) → new ≡ idled mid

@@ -1,4 +1,5 @@
 pub mod FileDisk
+pub mod Forgetful
 pub mod Inner
 pub mod OpenFile
 pub mod Opening

@@ -1,5 +1,5 @@
 -- A file for tests, as its contracts see it.
-use Rattle.std.specs.Prelude.{List}
+use Rattle.std.specs.Prelude.{ℕ, List}
 use Rattle.tape_disk.specs.CallLog.{CallLog, log_state}
 use Rattle.tape_disk.specs.Disk.{DiskState}
 use Rattle.tape_disk.specs.MemDisk.{mem_log}
@@ -22,3 +22,7 @@ staged_log file = mem_log file.disk
 -- that of the disk below; a file counts no failures (own)
 abbrev pub staged_file_state : StagedFile → DiskState
 staged_file_state file = log_state (staged_log file) 0
+
+-- Its sync passes over no place: one that failed did nothing, and the next one makes all sure (own).
+abbrev pub staged_passed_over : StagedFile → ℕ → Type 0
+staged_passed_over file place = ⊥

@@ -1,7 +1,7 @@
 //! A disk over an open file.
 ghost use Rattle.std.specs.Prelude.{◌≡◌, ◌↔◌, ◌+◌, ◌-◌, ◌<◌, ◌≤◌, ◌^◌, min, true, length, IsTrue};
 ghost use Rattle.tape_disk.specs.Disk.{Elapses, Same};
-ghost use Rattle.file_disk.specs.RawFile.{IsAsHonest};
+ghost use Rattle.file_disk.specs.RawFile.{IsAsHonest, ReachesAll};
 
 use crate::raw::RawFile;
 use crate::transfers::{read_all, write_all};
@@ -29,14 +29,15 @@ pub struct DiskOver<F: RawFile> {
     file: F,
     size: Size,
     failures: Failures,
-    // what the system then has in memory it may take for written
+    // a later sync then passes over places
     sync_failed: bool,
 }
 
 impl<F: RawFile> Model for DiskOver<F> {
-    ghost use Rattle.std.specs.Prelude.{◌≡◌, true, length};
+    ghost use Rattle.std.specs.Prelude.{◌≡◌, false, true, length};
     ghost use Rattle.tape_disk.specs.Failures.{failure_count};
     ghost use Rattle.file_disk.specs.OpenFile.{OpenFile, open_file_code};
+    ghost use Rattle.file_disk.specs.RawFile.{ReachesAll};
 
     ghost Value = { OpenFile F };
 
@@ -45,7 +46,8 @@ impl<F: RawFile> Model for DiskOver<F> {
     ghost view = { λ d. record { file = d.file; failures = failure_count d.failures } };
 
     ghost invariant = { λ d. (F.state d.file).honest →
-        (d.size.is_told ≡ true) × (d.size.bytes ≡ length (F.state d.file).seen) };
+        (d.size.is_told ≡ true) × (d.size.bytes ≡ length (F.state d.file).seen)
+        × (d.sync_failed ≡ false → ReachesAll (F.passed_over d.file)) };
 }
 
 // What the system tells of a file's length, or else the length that it told last.
@@ -73,8 +75,10 @@ pub(crate) fn fits(at: u64, count: usize) -> bool
 }
 
 impl<F: RawFile> DiskOver<F> {
-    /// A disk over an open file, with no failure yet.
+    /// A disk over an open file, with no failure yet. No sync of the file has failed since its last
+    /// bytes were written again.
     pub fn new(file: F) -> DiskOver<F>
+        requires { (F.state file).honest → ReachesAll (F.passed_over file) }
         ensures file { result.file ≡ file }
         ensures failures { result.failures ≡ 0 }
     {

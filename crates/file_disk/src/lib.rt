@@ -3,6 +3,8 @@
 
 pub mod disk;
 pub mod error;
+pub mod forgetful;
+pub mod laws;
 pub mod opening;
 pub mod raw;
 pub mod settling;
@@ -14,6 +16,7 @@ mod transfers;
 
 pub use disk::DiskOver;
 pub use error::FileError;
+pub use forgetful::ForgetfulFile;
 pub use opening::{create, open, open_to_read};
 pub use raw::{CallFailed, RawFile, Stop};
 pub use staged::{StagedFile, Turn};

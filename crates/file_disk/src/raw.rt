@@ -1,7 +1,7 @@
 //! An open file by the calls that a system has for it, and what an honest system makes of each.
-ghost use Rattle.std.specs.Prelude.{◌≡◌, ◌≤◌, ◌+◌, length, take, IfOk, Result, Some, slice_range};
+ghost use Rattle.std.specs.Prelude.{◌≡◌, ◌≤◌, ◌+◌, ℕ, length, take, IfOk, OnOk, Result, Some, slice_range};
 ghost use Rattle.tape_disk.specs.Disk.{DiskState, IsDisk, Elapses, Same};
-ghost use Rattle.file_disk.specs.RawFile.{IsAsHonest, WritesSomeBytes, CutsFile, SyncsFile};
+ghost use Rattle.file_disk.specs.RawFile.{IsAsHonest, ReachesRange, ReachesStill, WritesSomeBytes, CutsFile, SyncsFile};
 
 use std::fmt::Debug;
 
@@ -25,6 +25,10 @@ pub trait RawFile {
     // That of a disk. A file counts no failures.
     ghost state: { Self → DiskState };
 
+    // The places whose bytes a sync may pass over and yet answer Ok, until they are written again:
+    // none, while no sync of the file has failed.
+    ghost passed_over: { Self → ℕ → Type 0 };
+
     /// The bytes of the file, or nothing where the system does not tell.
     fn size(&self) -> Option<u64>
         ensures { (state self.now).honest → result ≡ Some (length (state self.now).seen) };
@@ -37,7 +41,9 @@ pub trait RawFile {
         ensures time { (state self.old).honest → Elapses (state self.old) (state self.new) }
         ensures same { (state self.old).honest → Same (state self.old) (state self.new) }
         ensures bytes { (state self.old).honest → IfOk result
-            (λ count. take count buffer.new ≡ slice_range (state self.old).seen at (at + count)) };
+            (λ count. take count buffer.new ≡ slice_range (state self.old).seen at (at + count)) }
+        ensures reaches { (state self.old).honest →
+            ReachesStill (passed_over self.old) (passed_over self.new) };
 
     /// Writes the first of the bytes from a place on: how many. The place is the end at most.
     fn write_some(&mut self, at: u64, bytes: &[u8]) -> Result<usize, Stop>
@@ -46,7 +52,11 @@ pub trait RawFile {
         ensures honesty { IsAsHonest (state self.old) (state self.new) }
         ensures time { (state self.old).honest → Elapses (state self.old) (state self.new) }
         ensures writes { (state self.old).honest →
-            WritesSomeBytes at bytes.now result (state self.old) (state self.new) };
+            WritesSomeBytes at bytes.now result (state self.old) (state self.new) }
+        ensures reaches { (state self.old).honest →
+            ReachesStill (passed_over self.old) (passed_over self.new) }
+        ensures again { (state self.old).honest →
+            IfOk result (λ count. ReachesRange at (at + count) (passed_over self.new)) };
 
     /// Takes away the bytes from a place on. The place is the end at most.
     fn cut(&mut self, len: u64) -> Result<(), CallFailed>
@@ -54,14 +64,19 @@ pub trait RawFile {
         ensures honesty { IsAsHonest (state self.old) (state self.new) }
         ensures time { (state self.old).honest → Elapses (state self.old) (state self.new) }
         ensures cuts { (state self.old).honest →
-            CutsFile len result (state self.old) (state self.new) };
+            CutsFile len result (state self.old) (state self.new) }
+        ensures reaches { (state self.old).honest →
+            ReachesStill (passed_over self.old) (passed_over self.new) };
 
-    /// Makes bytes and length sure.
+    /// Makes bytes and length sure, but for the places that it passes over. Which these are after a
+    /// fault is not known.
     fn sync(&mut self) -> Result<(), CallFailed>
         ensures honesty { IsAsHonest (state self.old) (state self.new) }
         ensures time { (state self.old).honest → Elapses (state self.old) (state self.new) }
         ensures syncs { (state self.old).honest →
-            SyncsFile result (state self.old) (state self.new) };
+            SyncsFile (passed_over self.old) result (state self.old) (state self.new) }
+        ensures reaches { (state self.old).honest →
+            OnOk result (ReachesStill (passed_over self.old) (passed_over self.new)) };
 
     ghost is_file: { (file : Self) → (state file).honest → IsDisk (state file) };
 }

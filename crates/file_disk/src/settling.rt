@@ -1,20 +1,21 @@
 //! The last bytes of a file, written again where they are.
-ghost use Rattle.std.specs.Prelude.{◌≡◌, ◌+◌, ◌-◌, ◌<◌, ◌≤◌, ◌^◌, length, OnOk};
+ghost use Rattle.std.specs.Prelude.{◌≡◌, ◌+◌, ◌<◌, ◌≤◌, ◌^◌, length, IfOk, OnOk};
 ghost use Rattle.tape_disk.specs.Disk.{Only};
 ghost use Rattle.tape_disk.specs.Moments.{LeavesOnly};
-ghost use Rattle.file_disk.specs.RawFile.{IsAsHonest};
-ghost use Rattle.file_disk.specs.Settling.{IsUnsettled};
+ghost use Rattle.file_disk.specs.RawFile.{IsAsHonest, ReachesAll, ReachesRange, ReachesStill};
+ghost use Rattle.file_disk.specs.Settling.{IsUnsettled, PassesOverOnly, rewritten_from};
 
-use crate::disk::MAX_FILE;
+use crate::disk::{DiskOver, MAX_FILE};
 use crate::raw::{CallFailed, RawFile};
 use crate::transfers::{read_all, write_all};
+use vtl_base::limits::MAX_BODY;
 
-/// The bytes at the end of a file that an opening writes again: the longest body of a frame, which
-/// has 8,388,608, and 64 for what stands around it.
-pub const REWRITTEN: u64 = 8_388_672;
+/// The bytes at the end of a file that an opening writes again at least: the longest body of a
+/// frame, and 64 for what stands around it.
+pub const REWRITTEN: u64 = MAX_BODY as u64 + 64;
 
-// The bytes that are read and written again at once: few enough to stand on the stack, so that this
-// needs no memory.
+// The bytes that are read and written again at once, a page: few enough to stand on the stack, so
+// that this needs no memory.
 const PIECE: usize = 4096;
 
 // Writes so many bytes of the file again as the buffer has.
@@ -27,6 +28,10 @@ fn rewrite_piece<F: RawFile>(file: &mut F, at: u64, buffer: &mut [u8]) -> Result
         OnOk result ((F.state file.new).seen ≡ (F.state file.old).seen) }
     ensures any_moment { (F.state file.old).honest → LeavesOnly (F.state file.old) (F.state file.new)
         (IsUnsettled at (at + length buffer.old) (F.state file.old)) }
+    ensures reaches { (F.state file.old).honest →
+        ReachesStill (F.passed_over file.old) (F.passed_over file.new) }
+    ensures again { (F.state file.old).honest →
+        OnOk result (ReachesRange at (at + length buffer.old) (F.passed_over file.new)) }
 {
     read_all(file, at, buffer)?;
     write_all(file, at, buffer)
@@ -42,6 +47,10 @@ fn rewrite<F: RawFile>(file: &mut F, from: u64, end: u64) -> Result<(), CallFail
         OnOk result ((F.state file.new).seen ≡ (F.state file.old).seen) }
     ensures any_moment { (F.state file.old).honest → LeavesOnly (F.state file.old) (F.state file.new)
         (IsUnsettled from end (F.state file.old)) }
+    ensures reaches { (F.state file.old).honest →
+        ReachesStill (F.passed_over file.old) (F.passed_over file.new) }
+    ensures again { (F.state file.old).honest →
+        OnOk result (ReachesRange from end (F.passed_over file.new)) }
 {
     let mut buffer = [0; PIECE];
     let mut at = from;
@@ -60,18 +69,47 @@ pub(crate) fn settle<F: RawFile>(file: &mut F) -> Result<(), CallFailed>
     ensures honesty { IsAsHonest (F.state file.old) (F.state file.new) }
     ensures same { (F.state file.old).honest →
         OnOk result ((F.state file.new).seen ≡ (F.state file.old).seen) }
+
+    // What a sync passed over lies in the bytes that are written again, or there is none.
     ensures sure { (F.state file.old).honest →
+        PassesOverOnly (rewritten_from (length (F.state file.old).seen))
+        (length (F.state file.old).seen) (F.passed_over file.old) →
         OnOk result (Only (F.state file.old).seen (F.state file.new).may_leave) }
+    ensures reaches { (F.state file.old).honest →
+        PassesOverOnly (rewritten_from (length (F.state file.old).seen))
+        (length (F.state file.old).seen) (F.passed_over file.old) →
+        OnOk result (ReachesAll (F.passed_over file.new)) }
 
     // What a crash inside may leave.
     ensures any_moment { (F.state file.old).honest → LeavesOnly (F.state file.old) (F.state file.new)
-        (IsUnsettled (length (F.state file.old).seen - REWRITTEN) (length (F.state file.old).seen)
-        (F.state file.old)) }
+        (IsUnsettled (rewritten_from (length (F.state file.old).seen))
+        (length (F.state file.old).seen) (F.state file.old)) }
 {
     let end = match file.size() {
         Some(end) if end <= MAX_FILE => end,
         _ => return Err(CallFailed),
     };
-    rewrite(file, end.saturating_sub(REWRITTEN), end)?;
+    let last = end.saturating_sub(REWRITTEN);
+    // Whole pages are written.
+    rewrite(file, last.saturating_sub(last % PIECE as u64), end)?;
     file.sync()
+}
+
+/// A disk over a file that was just opened. Its last bytes are written again, so that all of it is
+/// sure and its syncs pass over nothing. At a fault the file comes back.
+pub(crate) fn settled<F: RawFile>(file: F) -> Result<DiskOver<F>, F>
+    requires { (F.state file).honest →
+        PassesOverOnly (rewritten_from (length (F.state file).seen)) (length (F.state file).seen)
+        (F.passed_over file) }
+    ensures failures { IfOk result (λ disk. disk.failures ≡ 0) }
+    ensures same { (F.state file).honest →
+        IfOk result (λ disk. (F.state disk.file).seen ≡ (F.state file).seen) }
+    ensures sure { (F.state file).honest →
+        IfOk result (λ disk. Only (F.state file).seen (F.state disk.file).may_leave) }
+{
+    let mut file = file;
+    match settle(&mut file) {
+        Ok(()) => Ok(DiskOver::new(file)),
+        Err(_) => Err(file),
+    }
 }

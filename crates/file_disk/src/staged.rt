@@ -75,9 +75,11 @@ fn allowed(turn: Turn, count: usize) -> Result<usize, Stop>
 
 impl RawFile for StagedFile {
     ghost use Rattle.tape_disk.specs.CallLog.{is_disk};
-    ghost use Rattle.file_disk.specs.Staged.{staged_file_state, staged_log};
+    ghost use Rattle.file_disk.specs.Staged.{staged_file_state, staged_log, staged_passed_over};
 
     ghost state = { staged_file_state };
+
+    ghost passed_over = { staged_passed_over };
 
     ghost is_file = { λ file honest. is_disk (staged_log file) 0 };
 

@@ -34,9 +34,11 @@ impl SystemFile {
 }
 
 impl RawFile for SystemFile {
-    ghost use Rattle.file_disk.specs.Inner.SystemFile.{system_state, of_honest};
+    ghost use Rattle.file_disk.specs.Inner.SystemFile.{system_state, system_passed_over, of_honest};
 
     ghost state = { system_state };
+
+    ghost passed_over = { system_passed_over };
 
     ghost is_file = { λ file honest. of_honest file honest };
 

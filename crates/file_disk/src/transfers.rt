@@ -1,7 +1,7 @@
 //! Reads and writes that go on where a call moved fewer bytes than were asked for.
 ghost use Rattle.std.specs.Prelude.{◌≡◌, ◌+◌, ◌<◌, ◌≤◌, ◌^◌, ℕ, List, length, take, IfOk, OnOk, OnErr, slice_range};
 ghost use Rattle.tape_disk.specs.Disk.{Elapses, Follows, Same, Smeared, overwritten};
-ghost use Rattle.file_disk.specs.RawFile.{IsAsHonest, WritesSomeBytes};
+ghost use Rattle.file_disk.specs.RawFile.{IsAsHonest, ReachesRange, ReachesStill};
 
 use crate::raw::{CallFailed, RawFile, Stop};
 
@@ -21,6 +21,8 @@ fn read_on<F: RawFile>(
     ensures honesty { IsAsHonest (F.state file.old) (F.state file.new) }
     ensures time { (F.state file.old).honest → Elapses (F.state file.old) (F.state file.new) }
     ensures same { (F.state file.old).honest → Same (F.state file.old) (F.state file.new) }
+    ensures reaches { (F.state file.old).honest →
+        ReachesStill (F.passed_over file.old) (F.passed_over file.new) }
     ensures bound { IfOk result (λ count. (done ≤ count) × (count ≤ length buffer.new)) }
     ensures bytes { (F.state file.old).honest →
         take done buffer.old ≡ slice_range (F.state file.old).seen at (at + done) →
@@ -51,6 +53,8 @@ pub(crate) fn read_all<F: RawFile>(
     ensures same { (F.state file.old).honest → Same (F.state file.old) (F.state file.new) }
     ensures bytes { (F.state file.old).honest → OnOk result
         (buffer.new ≡ slice_range (F.state file.old).seen at (at + length buffer.old)) }
+    ensures reaches { (F.state file.old).honest →
+        ReachesStill (F.passed_over file.old) (F.passed_over file.new) }
 {
     let mut done = 0;
     let mut left = CALLS;
@@ -86,6 +90,10 @@ fn write_on<F: RawFile>(
         (F.state file.old).may_leave (F.state file.new).may_leave }
     ensures keeps { (F.state file.old).honest →
         (image : List ℕ) → (F.state file.old).may_leave image → (F.state file.new).may_leave image }
+    ensures reaches { (F.state file.old).honest →
+        ReachesStill (F.passed_over file.old) (F.passed_over file.new) }
+    ensures again { (F.state file.old).honest →
+        IfOk result (λ count. ReachesRange (at + done) (at + count) (F.passed_over file.new)) }
 {
     match file.write_some(at + done as u64, &bytes[done..]) {
         Ok(count) => {
@@ -111,6 +119,10 @@ pub(crate) fn write_all<F: RawFile>(file: &mut F, at: u64, bytes: &[u8]) -> Resu
         OnErr result (Smeared at (length bytes.now) (F.state file.old).seen (F.state file.new).seen) }
     ensures crash { (F.state file.old).honest → Follows (Smeared at (length bytes.now))
         (F.state file.old).may_leave (F.state file.new).may_leave }
+    ensures reaches { (F.state file.old).honest →
+        ReachesStill (F.passed_over file.old) (F.passed_over file.new) }
+    ensures again { (F.state file.old).honest →
+        OnOk result (ReachesRange at (at + length bytes.now) (F.passed_over file.new)) }
 {
     let mut done = 0;
     let mut left = CALLS;

@@ -1,5 +1,5 @@
 -- The state of a file of the system, which no proof knows.
-use Rattle.std.specs.Prelude.{[]}
+use Rattle.std.specs.Prelude.{ℕ, []}
 use Rattle.tape_disk.specs.Disk.{DiskState}
 use Rattle.file_disk.specs.RawFile.{IsAsHonest}
 use Rattle.file_disk.specs.declared.system.SystemFile.{SystemFile}
@@ -16,6 +16,10 @@ system_state file = record {
   left_since = λ t image. ⊥;
   failures = 0;
 }
+
+-- the places that its sync passes over, of which nothing is known either
+pub system_passed_over : SystemFile → ℕ → Type 0
+system_passed_over file place = ⊥
 
 -- what follows from an empty proposition
 pub of_honest : {P : Type 0} (file : SystemFile) → (system_state file).honest → P

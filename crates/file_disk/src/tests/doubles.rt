@@ -19,6 +19,8 @@ impl RawFile for Untold {
       failures = 0;
     } };
 
+    ghost passed_over = { λ file place. ⊥ };
+
     ghost is_file = { λ file honest. absurd honest };
 
     fn size(&self) -> Option<u64> {
@@ -48,7 +50,7 @@ impl RawFile for Untold {
 }
 
 /// A file of any length, of which the places are noted that are written: in a row, each behind the
-/// last one.
+/// last one and at the start of a page.
 #[derive(Drop)]
 pub struct Noted {
     pub size: u64,
@@ -68,6 +70,8 @@ impl RawFile for Noted {
       failures = 0;
     } };
 
+    ghost passed_over = { λ file place. ⊥ };
+
     ghost is_file = { λ file honest. absurd honest };
 
     fn size(&self) -> Option<u64> {
@@ -79,7 +83,7 @@ impl RawFile for Noted {
     }
 
     fn write_some(&mut self, at: u64, bytes: &[u8]) -> Result<usize, Stop> {
-        if self.from.is_some() && self.end != at {
+        if at % 4096 != 0 || self.from.is_some() && self.end != at {
             return Err(Stop::Failed);
         }
         if self.from.is_none() {
@@ -94,69 +98,6 @@ impl RawFile for Noted {
     }
 
     fn sync(&mut self) -> Result<(), CallFailed> {
-        Ok(())
-    }
-}
-
-/// A file of four bytes, of a system whose first sync fails: it then takes what it has in memory for
-/// written, as systems do.
-#[derive(Drop)]
-pub struct Forgetful {
-    pub memory: [u8; 4],
-    pub device: [u8; 4],
-    pub is_written: bool,
-    pub has_failed: bool,
-}
-
-impl RawFile for Forgetful {
-    ghost use Rattle.std.specs.Prelude.{[]};
-
-    ghost state = { λ file. record {
-      honest = ⊥;
-      seen = [];
-      may_leave = λ image. ⊥;
-      moment = 0;
-      left_since = λ t image. ⊥;
-      failures = 0;
-    } };
-
-    ghost is_file = { λ file honest. absurd honest };
-
-    fn size(&self) -> Option<u64> {
-        Some(4)
-    }
-
-    fn read_some(&mut self, at: u64, buffer: &mut [u8]) -> Result<usize, Stop> {
-        if at != 0 || buffer.len() != 4 {
-            return Err(Stop::Failed);
-        }
-        buffer.copy_from_slice(&self.memory);
-        Ok(4)
-    }
-
-    fn write_some(&mut self, at: u64, bytes: &[u8]) -> Result<usize, Stop> {
-        if at != 0 || bytes.len() != 4 {
-            return Err(Stop::Failed);
-        }
-        self.memory.copy_from_slice(bytes);
-        self.is_written = true;
-        Ok(4)
-    }
-
-    fn cut(&mut self, _len: u64) -> Result<(), CallFailed> {
-        Err(CallFailed)
-    }
-
-    fn sync(&mut self) -> Result<(), CallFailed> {
-        let is_written = self.is_written;
-        self.is_written = false;
-        if !self.has_failed {
-            self.has_failed = true;
-            return Err(CallFailed);
-        }
-        if is_written {
-            self.device = self.memory;
-        }
         Ok(())
     }
 }

@@ -1,15 +1,13 @@
 //! What is written again, and over which files.
-use super::doubles::{Forgetful, Noted, Untold};
+use super::doubles::{Noted, Untold};
 use super::staged::staged;
-use super::steps::{named, new_folder};
+use super::steps::{Step, act, failures, forget_time, is_written, named, new_folder};
 use crate::raw::{CallFailed, RawFile};
 use crate::settling::settle;
-use crate::{Turn, open, open_to_read};
+use crate::{DiskOver, ForgetfulFile, Turn, open, open_to_read};
 use std::fs;
-use std::fs::File;
-use std::os::unix::fs::MetadataExt;
 use std::test::Fail;
-use std::time::UNIX_EPOCH;
+use tape_disk::MemDisk;
 
 // Two pieces: a read and a write of each, and the sync.
 #[test]
@@ -39,9 +37,11 @@ fn which_bytes_are_written_again(rt: HostRuntime) {
         (4096, Some(0)),
         (4097, Some(0)),
         (8_388_672, Some(0)),
-        (8_388_673, Some(1)),
-        (1_099_511_627_776, Some(1_099_503_239_104)),
-        (9_223_372_036_854_775_807, Some(9_223_372_036_846_387_135)),
+        (8_388_673, Some(0)),
+        (8_392_767, Some(0)),
+        (8_392_768, Some(4096)),
+        (1_099_511_627_776, Some(1_099_503_235_072)),
+        (9_223_372_036_854_775_807, Some(9_223_372_036_846_383_104)),
     ] {
         let end = 0;
         let mut file = Noted {
@@ -67,24 +67,65 @@ fn no_length_or_too_long(rt: HostRuntime) {
     assert_eq!(rt; (settle(&mut file), file.from), (Err(CallFailed), None));
 }
 
+// Nothing is written or cut then: a crash would leave other bytes where something was.
 #[test]
-fn what_a_sync_left_behind(rt: HostRuntime) {
-    let mut file = Forgetful {
-        memory: *b"old ",
-        device: *b"old ",
-        is_written: false,
-        has_failed: false,
-    };
-    assert_eq!(rt; file.write_some(0, b"new "), Ok(4));
-    assert_eq!(rt; (file.sync(), file.device), (Err(CallFailed), *b"old "));
-    // A sync alone passes over them.
-    assert_eq!(rt; (file.sync(), file.device), (Ok(()), *b"old "));
-    assert_eq!(rt; (settle(&mut file), file.device), (Ok(()), *b"new "));
+fn a_piece_that_is_not_read(rt: HostRuntime) -> Result<(), Fail> {
+    let turns: [&[Turn]; 3] = [
+        &[Turn::Part(0)],
+        &[Turn::Part(9), Turn::Part(0)],
+        &[Turn::Part(9), Turn::Failed],
+    ];
+    for turns in turns {
+        let mut file = staged(rt.alloc(), &[b'x'; 5000], turns)?;
+        assert_eq!(rt; settle(&mut file), Err(CallFailed));
+        assert_eq!(rt; file.disk().bytes(), [b'x'; 5000].as_slice());
+        let left = file.disk().copy()?.crash(0, b'.')?;
+        assert_eq!(rt; left.bytes(), [b'x'; 5000].as_slice());
+        assert_eq!(rt; file.disk().syncs(), 0);
+    }
+    Ok(())
 }
 
-// Whether a file was changed since its time was set to the beginning of 1970.
-fn is_written(rt: &HostRuntime, path: &str) -> Result<bool, Fail> {
-    Ok(fs::metadata(rt, path)?.mtime() != 0)
+// What a crash leaves at worst.
+fn left(file: &ForgetfulFile) -> Result<[u8; 4], Fail> {
+    let left = file.disk().copy()?.crash(0, b'.')?;
+    let mut bytes = *b"????";
+    for (byte, found) in bytes.iter_mut().zip(left.bytes()) {
+        *byte = *found;
+    }
+    Ok(bytes)
+}
+
+#[test]
+fn what_a_sync_left_behind(rt: HostRuntime) -> Result<(), Fail> {
+    let mut file = ForgetfulFile::new(MemDisk::from_bytes(rt.alloc(), b"old ")?);
+    assert_eq!(rt; file.write_some(0, b"new "), Ok(4));
+    assert_eq!(rt; (file.sync(), left(&file)?), (Err(CallFailed), *b"...."));
+    // A sync alone passes over them, and over what was not written again.
+    assert_eq!(rt; (file.sync(), left(&file)?), (Ok(()), *b"...."));
+    assert_eq!(rt; file.write_some(0, b"ne"), Ok(2));
+    assert_eq!(rt; (file.sync(), left(&file)?), (Ok(()), *b"...."));
+    assert_eq!(rt; (settle(&mut file), left(&file)?), (Ok(()), *b"new "));
+    Ok(())
+}
+
+#[test]
+fn a_disk_makes_no_sync_after_one_that_failed(rt: HostRuntime) -> Result<(), Fail> {
+    let file = ForgetfulFile::new(MemDisk::from_bytes(rt.alloc(), b"old ")?);
+    let mut disk = DiskOver::new(file);
+    for (step, failed) in [
+        (Step::Put(0, b"new "), 0),
+        (Step::Sync, 1),
+        (Step::Sync, 2),
+        // Written again it would be made sure, but the disk does not know that all was.
+        (Step::Put(0, b"new "), 0),
+        (Step::Sync, 3),
+    ] {
+        assert_eq!(rt; failures(act(&mut disk, step)), failed);
+    }
+    assert_eq!(rt; disk.file().disk().syncs(), 0);
+    assert_eq!(rt; left(disk.file())?, *b"....");
+    Ok(())
 }
 
 #[test]
@@ -95,7 +136,7 @@ fn a_file_is_written_again(rt: HostRuntime) -> Result<(), Fail> {
     bytes[4095] = b'y';
     bytes[9_999] = b'z';
     fs::write(&rt, path.as_str(), bytes.as_slice())?;
-    File::open(&rt, path.as_str())?.set_modified(UNIX_EPOCH)?;
+    forget_time(&rt, path.as_str())?;
     drop(open_to_read(&rt, path.as_str())?);
     assert!(rt; !is_written(&rt, path.as_str())?);
     drop(open(&rt, path.as_str())?);

@@ -1,6 +1,9 @@
 //! Calls of a disk at places that are its end at most, and folders for real files.
+use std::fs::File;
 use std::hash::{BuildHasher, RandomState};
+use std::os::unix::fs::MetadataExt;
 use std::test::Fail;
+use std::time::UNIX_EPOCH;
 use std::{env, fs};
 use tape_disk::Disk;
 use vtl_base::DevFault;
@@ -58,4 +61,15 @@ pub fn new_folder(rt: &HostRuntime) -> Result<String, Fail> {
 /// A file's name in that folder.
 pub fn named(rt: &HostRuntime, folder: &str, name: &str) -> Result<String, Fail> {
     Ok(format!(in rt.alloc(); "{folder}/{name}")?)
+}
+
+/// Sets the time of a file's last change to the beginning of 1970.
+pub fn forget_time(rt: &HostRuntime, path: &str) -> Result<(), Fail> {
+    File::open(rt, path)?.set_modified(UNIX_EPOCH)?;
+    Ok(())
+}
+
+/// Whether a file was changed since then.
+pub fn is_written(rt: &HostRuntime, path: &str) -> Result<bool, Fail> {
+    Ok(fs::metadata(rt, path)?.mtime() != 0)
 }

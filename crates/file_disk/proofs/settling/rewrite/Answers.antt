@@ -12,6 +12,8 @@ loop-at-init g c = (
   λ honest. refl,
   λ honest. unsettled_none c.args.from c.args.end (g.F.RawFile.state c.args.file.now)
       (g.met.F.RawFile.is_file c.args.file.now honest),
+  λ honest place passed. passed,
+  λ honest place passed after. after,
 )
 
 pub returns-in_err-rewrite_piece-clause-any_moment : goal.returns-in_err-rewrite_piece-clause-any_moment
@@ -42,4 +44,16 @@ loop-at-preserved g c =
           old between new so.1 (omega arith)
           (omega (arith, c.loop-at-test.true, c.min-count.ensures, length-take count c.loop-at.buffer))
           (g.met.F.RawFile.is_file c.loop-at.file still) (so.4 honest) (c.rewrite_piece.ensures.any_moment still),
+      λ honest place passed.
+          so.5 honest place (c.rewrite_piece.ensures.reaches (so.0.stays_honest honest) place passed),
+      λ honest place passed after.
+          let still = so.0.stays_honest honest in
+          omega (
+            arith,
+            c.loop-at-test.true,
+            c.min-count.ensures,
+            length-take count c.loop-at.buffer,
+            c.in_ok-rewrite_piece.ensures.again still place passed
+                (so.6 honest place (c.rewrite_piece.ensures.reaches still place passed) after),
+          ),
     )

@@ -13,6 +13,8 @@ loop-left-init g c = (
   omega arith,
   omega arith,
   λ honest. written_none c.args.at c.args.bytes.now (g.F.RawFile.state c.args.file.now),
+  λ honest place passed. passed,
+  λ honest place passed after. omega (arith, after),
 )
 
 pub returns-in_err-done-clause-smeared : goal.returns-in_err-done-clause-smeared
@@ -44,6 +46,17 @@ returns-then-done-bytes-clause-written g c = λ honest.
     ∙ ap (λ l. overwritten c.args.at l (g.F.RawFile.state c.args.file.now).seen)
     (take_all c.in_ok-done.done bytes (omega (arith, c.if-done-bytes.true)))
 
+pub returns-then-done-bytes-clause-again : goal.returns-then-done-bytes-clause-again
+returns-then-done-bytes-clause-again g c = λ honest place passed after.
+    let so = c.loop-left.invariant in
+    let mid = so.0.stays_honest honest in
+    omega (
+      arith,
+      c.if-done-bytes.true,
+      c.in_ok-done.ensures.again mid place passed
+          (so.5 honest place (c.write_on.ensures.reaches mid place passed) after),
+    )
+
 pub returns-then-done-bytes-clause-crash : goal.returns-then-done-bytes-clause-crash
 returns-then-done-bytes-clause-crash g c = λ honest.
     let so = c.loop-left.invariant in
@@ -69,4 +82,10 @@ loop-left-preserved g c =
           c.in_ok-done.done (c.requires.inside honest) c.in_ok-done.ensures.bound.0 c.in_ok-done.ensures.bound.1
           (so.3 honest) (c.write_on.ensures.time mid) (c.in_ok-done.ensures.written mid)
           (c.write_on.ensures.smeared mid) (c.write_on.ensures.crash mid) (c.write_on.ensures.keeps mid)),
+      λ honest place passed.
+          so.4 honest place (c.write_on.ensures.reaches (so.0.stays_honest honest) place passed),
+      λ honest place passed after.
+          let mid = so.0.stays_honest honest in
+          c.in_ok-done.ensures.again mid place passed
+          (so.5 honest place (c.write_on.ensures.reaches mid place passed) after),
     )

@@ -1,5 +1,5 @@
-use Rattle.std.proofs.Common.{◌-◌, ◌≤◌, length}
-use Rattle.file_disk.specs.RawFile.{IsAsHonest}
+use Rattle.std.proofs.Common.{◌+◌, ◌-◌, ◌≤◌, length}
+use Rattle.file_disk.specs.RawFile.{IsAsHonest, ReachesRange, ReachesStill}
 use Rattle.file_disk.specs.Inner.Transfers.{HasWritten}
 use Rattle.file_disk.specs.declared.transfers.TheConstants.{CALLS}
 use Rattle.file_disk.proofs.transfers.write_all.Given as goal
@@ -11,6 +11,9 @@ invariant-loop-left g l =
     × (l.left ≤ CALLS) × (l.done ≤ length l.bytes)
     × ((g.F.RawFile.state l.fn.file).honest → HasWritten (CALLS - l.left) l.at l.done l.bytes
     (g.F.RawFile.state l.fn.file) (g.F.RawFile.state l.file))
+    × ((g.F.RawFile.state l.fn.file).honest →
+    ReachesStill (g.F.RawFile.passed_over l.fn.file) (g.F.RawFile.passed_over l.file))
+    × ((g.F.RawFile.state l.fn.file).honest → ReachesRange l.at (l.at + l.done) (g.F.RawFile.passed_over l.file))
 
 abbrev pub decreases-loop-left : goal.decreases-loop-left
 decreases-loop-left g l = l.left

@@ -12,3 +12,6 @@ returns-in-Err-clause-time c = λ honest. of_honest c.args.self.now honest
 
 pub returns-in-Err-clause-writes : goal.returns-in-Err-clause-writes
 returns-in-Err-clause-writes c = λ honest. of_honest c.args.self.now honest
+
+pub returns-in-Ok-clause-again : goal.returns-in-Ok-clause-again
+returns-in-Ok-clause-again c = λ honest. of_honest c.args.self.now honest

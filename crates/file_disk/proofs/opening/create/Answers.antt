@@ -1,0 +1,5 @@
+use Rattle.file_disk.specs.Inner.SystemFile.{of_honest}
+use Rattle.file_disk.proofs.opening.create.Goals as goal
+
+pub settled-requires : goal.settled-requires
+settled-requires c = λ honest. of_honest _ honest

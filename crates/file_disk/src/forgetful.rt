@@ -1,0 +1,120 @@
+//! A file for tests, in memory, of a system that forgets what a failed sync left: it takes for
+//! written what never reached the device.
+ghost use Rattle.std.specs.Prelude.{◌≡◌};
+ghost use Rattle.tape_disk.specs.CallLog.{idled};
+ghost use Rattle.tape_disk.specs.MemDisk.{mem_log};
+
+use crate::raw::{CallFailed, RawFile, Stop};
+use tape_disk::{Disk, MemDisk};
+
+/// A file for tests, over a disk in memory. Its first sync fails. Each later one answers Ok, and makes
+/// nothing sure while some of the bytes that it had then were not written again.
+#[derive(Drop)]
+pub struct ForgetfulFile {
+    disk: MemDisk,
+    has_failed: bool,
+    // the bytes that are taken for written
+    from: u64,
+    to: u64,
+}
+
+impl ForgetfulFile {
+    ghost use Rattle.file_disk.specs.Forgetful.{forgetful_disk, forgetful_passed_over};
+    ghost use Rattle.file_disk.specs.RawFile.{ReachesAll, ReachesRange, ReachesStill};
+
+    /// A file that holds what the disk does.
+    pub fn new(disk: MemDisk) -> ForgetfulFile
+        ensures disk { forgetful_disk result ≡ disk }
+        ensures reaches { ReachesAll (forgetful_passed_over result) }
+    {
+        ForgetfulFile {
+            disk,
+            has_failed: false,
+            from: 0,
+            to: 0,
+        }
+    }
+
+    /// The disk below.
+    pub fn disk(&self) -> &MemDisk
+        ensures { result.now ≡ forgetful_disk self.now }
+    {
+        &self.disk
+    }
+
+    // The bytes from a place to another were written: a sync reaches them. Of bytes in the middle
+    // those behind them count as written, too.
+    fn written(&mut self, at: u64, end: u64)
+        ensures disk { self.new.disk ≡ self.old.disk }
+        ensures reaches { ReachesStill (forgetful_passed_over self.old) (forgetful_passed_over self.new) }
+        ensures again { ReachesRange at end (forgetful_passed_over self.new) }
+    {
+        if at <= self.from {
+            self.from = self.from.max(end);
+        } else {
+            self.to = self.to.min(at);
+        }
+    }
+
+    // A call that does nothing: the disk is asked for no bytes, which moves its clock on.
+    fn rest(&mut self)
+        ensures log { mem_log self.new.disk ≡ idled (mem_log self.old.disk) }
+        ensures from { self.new.from ≡ self.old.from }
+        ensures to { self.new.to ≡ self.old.to }
+    {
+        let _ = self.disk.read_at(0, &mut []);
+    }
+}
+
+impl RawFile for ForgetfulFile {
+    ghost use Rattle.tape_disk.specs.CallLog.{is_disk};
+    ghost use Rattle.file_disk.specs.Forgetful.{forgetful_file_state, forgetful_log, forgetful_passed_over};
+
+    ghost state = { forgetful_file_state };
+
+    ghost passed_over = { forgetful_passed_over };
+
+    ghost is_file = { λ file honest. is_disk (forgetful_log file) 0 };
+
+    fn size(&self) -> Option<u64> {
+        Some(self.disk.len())
+    }
+
+    fn read_some(&mut self, at: u64, buffer: &mut [u8]) -> Result<usize, Stop> {
+        let place = self.disk.len().min(at);
+        let count = buffer.len().min((self.disk.len() - place) as usize);
+        match self.disk.read_at(place, &mut buffer[..count]) {
+            Ok(()) => Ok(count),
+            Err(_) => Err(Stop::Failed),
+        }
+    }
+
+    fn write_some(&mut self, at: u64, bytes: &[u8]) -> Result<usize, Stop> {
+        match self.disk.write_at(at, bytes) {
+            Ok(()) => {
+                self.written(at, at.saturating_add(bytes.len() as u64));
+                Ok(bytes.len())
+            }
+            Err(_) => Err(Stop::Failed),
+        }
+    }
+
+    fn cut(&mut self, len: u64) -> Result<(), CallFailed> {
+        self.disk.cut(len).map_err(|_| CallFailed)
+    }
+
+    fn sync(&mut self) -> Result<(), CallFailed> {
+        if !self.has_failed {
+            self.has_failed = true;
+            self.from = 0;
+            self.to = self.disk.len();
+            self.rest();
+            return Err(CallFailed);
+        }
+        if self.from < self.to {
+            self.rest();
+            return Ok(());
+        }
+        self.disk.sync().map_err(|_| CallFailed)
+    }
+}
