@@ -1,2 +1,3 @@
+pub mod Causes
 pub mod SystemFile
 pub mod Transfers

@@ -1,5 +1,7 @@
 //! Making and opening the file of a disk.
 ghost use Rattle.std.specs.Prelude.{◌≡◌, IfOk, IfErr};
+ghost use Rattle.std.specs.IoError.{error_kind};
+ghost use Rattle.file_disk.specs.Inner.Causes.{IsErrorOfKind, IsLockAnswer};
 ghost use Rattle.file_disk.specs.Opening.{IsOneFailure};
 ghost use Rattle.file_disk.specs.declared.error.FileError.{FileError};
 
@@ -7,7 +9,7 @@ use crate::FileDisk;
 use crate::disk::DiskOver;
 use crate::error::FileError;
 use crate::raw::RawFile;
-use crate::settling::settle;
+use crate::settling::settled;
 use crate::system::SystemFile;
 use std::fs::{File, OpenOptions, TryLockError};
 use std::io::ErrorKind;
@@ -31,9 +33,17 @@ fn device() -> FileError
 
 // What an error of the system means for a name.
 fn error_of(error: &io::Error) -> FileError
-    ensures { IsOneFailure result }
+    ensures one { IsOneFailure result }
+    ensures cause { IsErrorOfKind (error_kind error.now) result }
 {
-    match error.kind() {
+    error_of_kind(error.kind())
+}
+
+fn error_of_kind(kind: ErrorKind) -> FileError
+    ensures one { IsOneFailure result }
+    ensures cause { IsErrorOfKind kind result }
+{
+    match kind {
         ErrorKind::AlreadyExists => FileError::Exists,
         ErrorKind::NotFound => FileError::Missing,
         ErrorKind::IsADirectory => FileError::NotAFile,
@@ -53,36 +63,37 @@ pub fn create(rt: &HostRuntime, path: &str) -> Result<FileDisk, FileError>
         Ok(file) => file,
         Err(error) => return Err(error_of(&error)),
     };
-    match named(rt, path, file) {
-        Ok(disk) => Ok(disk),
+    let file = match locked(file) {
+        Ok(file) => file,
         // Another process has opened it meanwhile.
-        Err(FileError::InUse) => Err(FileError::InUse),
+        Err(FileError::InUse) => return Err(FileError::InUse),
         Err(error) => {
             let _ = fs::remove_file(rt, path);
-            Err(error)
+            return Err(error);
         }
-    }
-}
-
-// A disk over a file that was just made, whose name is then sure.
-fn named(rt: &HostRuntime, path: &str, file: File) -> Result<FileDisk, FileError>
-    ensures ok { IfOk result (λ disk. disk.failures ≡ 0) }
-    ensures device { IfErr result IsOneFailure }
-{
-    let disk = match prepared(file, Access::Change) {
-        Ok(disk) => disk,
-        Err(error) => return Err(error),
     };
-    match sync_folder(rt, path) {
-        Ok(()) => Ok(disk),
-        Err(error) => Err(error),
+    // Where it fails the lock is held until the name is gone: nobody else opens the file before that.
+    let disk = match settled(SystemFile::over(file)) {
+        Ok(disk) => disk,
+        Err(file) => {
+            let _ = fs::remove_file(rt, path);
+            drop(file);
+            return Err(device());
+        }
+    };
+    if let Err(error) = sync_folder(rt, path) {
+        let _ = fs::remove_file(rt, path);
+        drop(disk);
+        return Err(error);
     }
+    Ok(disk)
 }
 
 /// Opens a file, for this process alone. Its last 8,388,672 bytes are written again where they are
-/// before its sync, or all where it has fewer: where a sync failed before, an earlier process may
-/// have left bytes in the system's memory that never reached the device, and that a sync alone
-/// passes over. A fault in that is `Device`. What a crash in it leaves stands in docs/PREMISES.md.
+/// before its sync, from the start of their first page of 4,096 on, or all where it has fewer: where
+/// a sync failed before, an earlier process may have left bytes in the system's memory that never
+/// reached the device, and that a sync alone passes over. A fault in that is `Device`. What a crash
+/// in it leaves stands in docs/PREMISES.md.
 pub fn open(rt: &HostRuntime, path: &str) -> Result<FileDisk, FileError>
     ensures ok { IfOk result (λ disk. disk.failures ≡ 0) }
     ensures device { IfErr result IsOneFailure }
@@ -117,10 +128,30 @@ fn open_as(rt: &HostRuntime, path: &str, access: Access) -> Result<FileDisk, Fil
     }
 }
 
-// A disk over an open file that is a regular one, above the standard streams, locked and settled.
+// A disk over an open file, which is locked, and settled where it may be changed.
 fn prepared(file: File, access: Access) -> Result<FileDisk, FileError>
     ensures ok { IfOk result (λ disk. disk.failures ≡ 0) }
     ensures device { IfErr result IsOneFailure }
+{
+    let mut file = match locked(file) {
+        Ok(file) => SystemFile::over(file),
+        Err(error) => return Err(error),
+    };
+    match access {
+        Access::Change => match settled(file) {
+            Ok(disk) => Ok(disk),
+            Err(_file) => Err(device()),
+        },
+        Access::Read => match file.sync() {
+            Ok(()) => Ok(DiskOver::new(file)),
+            Err(_) => Err(device()),
+        },
+    }
+}
+
+// An open file that is a regular one, above the standard streams and locked.
+fn locked(file: File) -> Result<File, FileError>
+    ensures { IfErr result IsOneFailure }
 {
     let Ok(file) = above_streams(file) else {
         return Err(device());
@@ -130,17 +161,9 @@ fn prepared(file: File, access: Access) -> Result<FileDisk, FileError>
         Ok(_) => return Err(FileError::NotAFile),
         Err(_) => return Err(device()),
     }
-    if let Err(error) = lock(&file) {
-        return Err(error);
-    }
-    let mut file = SystemFile::over(file);
-    let sure = match access {
-        Access::Change => settle(&mut file),
-        Access::Read => file.sync(),
-    };
-    match sure {
-        Ok(()) => Ok(DiskOver::new(file)),
-        Err(_) => Err(device()),
+    match lock(&file) {
+        Ok(()) => Ok(file),
+        Err(error) => Err(error),
     }
 }
 
@@ -154,15 +177,24 @@ fn above_streams(file: File) -> io::Result<File> {
     }
 }
 
-// Where the file system has no locks the file is taken without one.
 fn lock(file: &File) -> Result<(), FileError>
     ensures { IfErr result IsOneFailure }
 {
     match file.try_lock() {
         Ok(()) => Ok(()),
-        Err(TryLockError::WouldBlock) => Err(FileError::InUse),
-        Err(TryLockError::Error(error)) if error.kind() == ErrorKind::Unsupported => Ok(()),
-        Err(TryLockError::Error(_)) => Err(device()),
+        Err(error) => lock_answer(&error),
+    }
+}
+
+// Where the file system has no locks the file is taken without one.
+fn lock_answer(error: &TryLockError) -> Result<(), FileError>
+    ensures one { IfErr result IsOneFailure }
+    ensures cause { IsLockAnswer error.now result }
+{
+    match error {
+        TryLockError::WouldBlock => Err(FileError::InUse),
+        TryLockError::Error(error) if error.kind() == ErrorKind::Unsupported => Ok(()),
+        TryLockError::Error(_) => Err(device()),
     }
 }
 
