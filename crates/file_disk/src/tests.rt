@@ -5,3 +5,4 @@ mod refusals;
 mod settling;
 mod staged;
 mod steps;
+mod system;

@@ -1,5 +1,5 @@
 //! Which name is no disk, and a file that is only read.
-use super::steps::{cut_to, failures, get, named, new_folder, put};
+use super::steps::{cut_to, failures, forget_time, get, is_written, named, new_folder, put};
 use crate::{FileDisk, FileError, create, open, open_to_read};
 use std::fs;
 use std::test::Fail;
@@ -55,6 +55,29 @@ fn a_file_is_opened_once(rt: HostRuntime) -> Result<(), Fail> {
     assert_eq!(rt; answers(&rt, path.as_str()), expected);
     drop(disk);
     let disk = open_to_read(&rt, path.as_str())?;
+    assert_eq!(rt; answers(&rt, path.as_str()), expected);
+    drop(disk);
+    assert_eq!(rt; refusal(open(&rt, path.as_str())), None);
+    fs::remove_dir_all(&rt, folder.as_str())?;
+    Ok(())
+}
+
+// The lock is asked for before anything is written.
+#[test]
+fn a_refused_opening_writes_nothing(rt: HostRuntime) -> Result<(), Fail> {
+    let folder = new_folder(&rt)?;
+    let path = named(&rt, folder.as_str(), "t1.tape")?;
+    let mut disk = create(&rt, path.as_str())?;
+    put(&mut disk, 0, b"abc")?;
+    forget_time(&rt, path.as_str())?;
+    let in_use = Some(FileError::InUse);
+    let expected = [Some(FileError::Exists), in_use, in_use];
+    assert_eq!(rt; answers(&rt, path.as_str()), expected);
+    assert!(rt; !is_written(&rt, path.as_str())?);
+    let bytes = fs::read(&rt, path.as_str())?;
+    assert_eq!(rt; bytes.as_slice(), b"abc".as_slice());
+    // Nor does it take the lock of the first one.
+    put(&mut disk, 3, b"d")?;
     assert_eq!(rt; answers(&rt, path.as_str()), expected);
     drop(disk);
     assert_eq!(rt; refusal(open(&rt, path.as_str())), None);

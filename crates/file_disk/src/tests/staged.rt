@@ -39,6 +39,50 @@ fn short_and_interrupted_calls_are_gone_on_with(rt: HostRuntime) -> Result<(), F
     Ok(())
 }
 
+// 1,500 bytes: 1,000 calls are interrupted, 1,000 move a byte each, and one moves the rest.
+#[test]
+fn many_calls_make_one(rt: HostRuntime) -> Result<(), Fail> {
+    let mut turns = [Turn::Interrupted; 2000];
+    for turn in turns.iter_mut().skip(1000) {
+        *turn = Turn::Part(1);
+    }
+    let mut bytes = [b'x'; 1500];
+    bytes[999] = b'y';
+    bytes[1000] = b'z';
+    bytes[1499] = b'e';
+    let mut disk = DiskOver::new(staged(rt.alloc(), b"", &turns)?);
+    assert_eq!(rt; failures(put(&mut disk, 0, &bytes)), 0);
+    assert_eq!(rt; disk.file().disk().bytes(), bytes.as_slice());
+    let mut disk = DiskOver::new(staged(rt.alloc(), &bytes, &turns)?);
+    let mut buffer = [0; 1500];
+    assert_eq!(rt; failures(get(&mut disk, 0, &mut buffer)), 0);
+    assert_eq!(rt; buffer.as_slice(), bytes.as_slice());
+    Ok(())
+}
+
+// What of a failed write reached the file stays, and is made sure.
+#[test]
+fn a_sync_after_a_failed_write(rt: HostRuntime) -> Result<(), Fail> {
+    let turns = [Turn::Part(2), Turn::Failed, Turn::Whole, Turn::Failed];
+    let mut disk = DiskOver::new(staged(rt.alloc(), b"abcdef", &turns)?);
+    for (step, failed) in [
+        (Step::Put(1, b"WXYZ"), 1),
+        (Step::Sync, 0),
+        (Step::Get(0), 2),
+    ] {
+        assert_eq!(rt; failures(act(&mut disk, step)), failed);
+    }
+    let mut buffer = [0; 6];
+    assert_eq!(rt; failures(get(&mut disk, 0, &mut buffer)), 0);
+    assert_eq!(rt; (buffer, disk.len()), (*b"aWXdef", 6));
+    let left = disk.file().disk().copy()?.crash(0, b'.')?;
+    assert_eq!(rt;
+        (left.bytes(), disk.file().disk().syncs()),
+        (b"aWXdef".as_slice(), 1)
+    );
+    Ok(())
+}
+
 #[test]
 fn each_error_is_counted(rt: HostRuntime) -> Result<(), Fail> {
     let turns = [
