@@ -17,16 +17,15 @@ EDITS = [
      ["writes_wait_for_one_frame", "a_turn_tells_how_many_waited", "what_waits_is_counted"]),
     ("a change is stored one change early", "tape_buffer", "src/adding.rt", "    if !pending.is_full_for(change) {",
      "    if pending.len() < 63 && !pending.is_full_for(change) {", "buffer_bench", ["a_turn_tells_how_many_waited", "what_waits_is_counted"]),
-    ("an opening of a file writes nothing again", "file_disk", "src/settling.rt", "    rewrite(file, end.saturating_sub(REWRITTEN), end)?;\n",
-     "", "file_disk", ["a_fault_of_each_call", "a_file_is_written_again", "what_a_sync_left_behind", "which_bytes_are_written_again"]),
-    ("one byte fewer is written again", "file_disk", "src/settling.rt", "8_388_672;", "8_388_671;", "file_disk", ["which_bytes_are_written_again"]),
-    ("a sync of a file after one that failed", "file_disk", "src/disk.rt", "                self.sync_failed = true;\n", "", "file_disk",
-     ["each_error_is_counted"]),
+    ("an opening of a file writes nothing again", "file_disk", "src/opening.rt", "    match access {\n", "    match Access::Read {\n",
+     "file_disk", ["a_file_is_written_again"]),
     ("a read of a file that failed is tried again", "file_disk", "src/disk.rt", "        match read_all(&mut self.file, at, buffer) {",
      "        let mut said = read_all(&mut self.file, at, buffer);\n        if said.is_err() {\n"
      "            said = read_all(&mut self.file, at, buffer);\n        }\n        match said {", "file_disk", ["each_error_is_counted"]),
-    ("a file is opened twice", "file_disk", "src/opening.rt", "Err(TryLockError::WouldBlock) => Err(FileError::InUse),",
-     "Err(TryLockError::WouldBlock) => Ok(()),", "file_disk", ["a_file_is_opened_once"]),
+    ("a file is opened twice", "file_disk", "src/opening.rt", "    match lock(&file) {\n", "    match Ok::<(), FileError>(()) {\n", "file_disk",
+     ["a_file_is_opened_once", "a_refused_opening_writes_nothing"]),
+    ("a file is written before its lock is asked for", "file_disk", "src/opening.rt", "    match lock(&file) {\n",
+     "    let _ = file.set_len(3);\n    match lock(&file) {\n", "file_disk", ["a_refused_opening_writes_nothing"]),
 ]
 
 
