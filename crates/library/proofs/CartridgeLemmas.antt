@@ -31,23 +31,23 @@ use Rattle.library.specs.Doings.{Commanded, Does, Doing, DoesAll, Turned}
 
 module _ {D : Type 0} (state : D → DiskState) (is_disk : (disk : D) → (state disk).honest → IsDisk (state disk)) where
   -- from what may be in a bay to what may be there later just these were accepted
-  abbrev Moved : Option (BufferState D) → Option (BufferState D) → List Change → Type 0
+  abbrev pub Moved : Option (BufferState D) → Option (BufferState D) → List Change → Type 0
   Moved (Some old) (Some new) made = MediumMoves state old made new
   Moved None None made = made ≡ []
   Moved _ _ made = ⊥
 
-  moved_by : (old new : Option (BufferState D)) (made : List Change) (fault : Bool)
+  pub moved_by : (old new : Option (BufferState D)) (made : List Change) (fault : Bool)
       → AdvancesIn (buffer_below state) old made fault new → Moved old new made
   moved_by (Some old) (Some new) made fault advances = advances.moved
   moved_by None None made fault advances = advances.0
   moved_by None (Some new) made fault advances = absurd advances
   moved_by (Some old) None made fault advances = absurd advances
 
-  moved_nowhere : (medium : Option (BufferState D)) → Moved medium medium []
+  pub moved_nowhere : (medium : Option (BufferState D)) → Moved medium medium []
   moved_nowhere None = refl
   moved_nowhere (Some medium) = medium_moves_nowhere state is_disk medium
 
-  moved_on : (a b c : Option (BufferState D)) (first second : List Change) → Moved a b first → Moved b c second
+  pub moved_on : (a b c : Option (BufferState D)) (first second : List Change) → Moved a b first → Moved b c second
       → Moved a c (first ++ second)
   moved_on None None None first second one two = (λ i. one i ++ second) ∙ two
   moved_on None None (Some c) first second one two = absurd two
@@ -56,11 +56,12 @@ module _ {D : Type 0} (state : D → DiskState) (is_disk : (disk : D) → (state
   moved_on (Some a) (Some b) None first second one two = absurd two
   moved_on (Some a) (Some b) (Some c) first second one two = medium_moves_on state a b c first second one two
 
-  moved_as : (a b : Option (BufferState D)) (made more : List Change) → more ≡ made → Moved a b made → Moved a b more
+  pub moved_as : (a b : Option (BufferState D)) (made more : List Change) → more ≡ made → Moved a b made
+      → Moved a b more
   moved_as a b made more same moved = subst (λ (l : List Change). Moved a b l) (sym same) moved
 
   module _ {K : Type 0} (kept : K → KeeperState) (keeps : Below K PrState) where
-    moved_doing : (old new : DriveState (BufferState D) K) (doing : Doing) (made : Made)
+    pub moved_doing : (old new : DriveState (BufferState D) K) (doing : Doing) (made : Made)
         → Does (state_of state) (buffer_below state) kept keeps old doing made new
         → Moved (medium_in old.bay) (medium_in new.bay) made.changes
     moved_doing old new (Commanded request reply) made (answers, same) =
@@ -117,7 +118,7 @@ module _ {D : Type 0} (state : D → DiskState) (is_disk : (disk : D) → (state
   safe_parked Between pending parked sure = ((refl, refl), refl)
 
   module _ {K : Type 0} (kept : K → KeeperState) (honest : Type 0) where
-    safe_in : (drive : DriveState (BufferState D) K) (bay : Bay (BufferState D)) (medium : BufferState D)
+    pub safe_in : (drive : DriveState (BufferState D) K) (bay : Bay (BufferState D)) (medium : BufferState D)
         → drive.bay ≡ bay → medium_in bay ≡ Some medium → honest
         → IsBayPositioned (state_of state) bay drive.position
         → NothingPending honest (machine_of (state_of state) kept (record drive { bay = bay }))
@@ -152,8 +153,8 @@ module _ {D : Type 0} (state : D → DiskState) (is_disk : (disk : D) → (state
         let found = crash y z second third more (one.keeps.stays_honest honest_x) kept.0 safe goes.1 two in
         (y, refl, z, refl, found.0, found.1)
 
-    keep_media : (a b c : Option (BufferState D)) (medium : BufferState D) (made more : List Change) → a ≡ Some medium
-        → IsKnown state medium → Moved a b made → Moved b c more
+    pub keep_media : (a b c : Option (BufferState D)) (medium : BufferState D) (made more : List Change)
+        → a ≡ Some medium → IsKnown state medium → Moved a b made → Moved b c more
         → ((left : BufferState D) → b ≡ Some left → CanAcknowledge (medium_core state left))
         → KeepsIn state b c more
     keep_media None b c medium made more is known one two safe = absurd (cc)
@@ -177,7 +178,7 @@ module _ {D : Type 0} (state : D → DiskState) (is_disk : (disk : D) → (state
         }
 
     module _ {K : Type 0} (kept : K → KeeperState) (keeps : Below K PrState) where
-      honest_in : (a : Option (BufferState D)) (medium : BufferState D) → a ≡ Some medium → IsKnown state medium
+      pub honest_in : (a : Option (BufferState D)) (medium : BufferState D) → a ≡ Some medium → IsKnown state medium
           → HonestIn (buffer_below state) a
       honest_in None medium is known = tt
       honest_in (Some a) medium is known =

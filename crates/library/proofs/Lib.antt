@@ -2,6 +2,7 @@ pub mod BayLemmas
 pub mod CartridgeLemmas
 pub mod CoreLemmas
 pub mod FinishLemmas
+pub mod JourneyLemmas
 pub mod MachineLemmas
 pub mod MoveLemmas
 pub mod StopLemmas

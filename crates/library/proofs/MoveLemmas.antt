@@ -26,7 +26,7 @@ use Rattle.library.specs.Inner.Going.{IsAwakeAt, IsAwakeBay, IsAwakeIn}
 use Rattle.library.specs.Moves.{AnswersMove, BayIs, Carries, GoesBackTo, GoesInAt, GoesOutAt, IsSameAt, IsSameCartridge, KeepsBays, KeepsCartridges, MovesMedium, SlotHolds, refusal_of_move, volume_given}
 
 -- two numbers are the same or not
-same_or_not : (a b : ℕ) → (a ≡ b) ⊎ (a ≢ b)
+pub same_or_not : (a b : ℕ) → (a ≡ b) ⊎ (a ≢ b)
 same_or_not a b = by (a == b) refl
   where
     by : (test : Bool) → (a == b) ≡ test → (a ≡ b) ⊎ (a ≢ b)
@@ -38,7 +38,7 @@ some_of : {X : Type 0} (found : Option X) → is_some found ≡ true → (x : X)
 some_of (Some x) there = (x, refl)
 some_of None there = absurd (cc)
 
-none_of : {X : Type 0} (found : Option X) → is_some found ≡ false → found ≡ None
+pub none_of : {X : Type 0} (found : Option X) → is_some found ≡ false → found ≡ None
 none_of (Some x) there = absurd (cc)
 none_of None there = refl
 
@@ -50,10 +50,10 @@ the_same {X = X} x y is = ap (λ (found : Option X). some_or found) is
     some_or (Some other) = other
 
 -- no refusal is GOOD
-check_is_not_good : (sense : Sense) (bytes : List ℕ) → check_with sense bytes ≢ good_with []
+pub check_is_not_good : (sense : Sense) (bytes : List ℕ) → check_with sense bytes ≢ good_with []
 check_is_not_good sense bytes is = let status : Check ≡ Good = ap (λ (r : Reply). r.status) is in absurd (cc)
 
-conflict_is_not_good : conflict ≢ good_with []
+pub conflict_is_not_good : conflict ≢ good_with []
 conflict_is_not_good is = let status : Conflict ≡ Good = ap (λ (r : Reply). r.status) is in absurd (cc)
 
 wake_is_not_good : (error : MediumError) → reply_of (wake_answer error) ≢ good_with []
@@ -65,7 +65,7 @@ wake_is_not_good Errors.Failed = check_is_not_good _ _
 wake_is_not_good (Errors.Refused cause) = check_is_not_good _ _
 
 -- four tests in their order
-all_passed : (a b c d : Bool) (w x y z : Reply)
+pub all_passed : (a b c d : Bool) (w x y z : Reply)
     → cond (not a) (Some w) (cond b (Some x) (cond (not c) (Some y) (cond d (Some z) None))) ≡ None
     → (c ≡ true) × (d ≡ false)
 all_passed true false true false w x y z is = (refl, refl)
@@ -74,7 +74,7 @@ all_passed true false false d w x y z is = absurd (cc)
 all_passed true true c d w x y z is = absurd (cc)
 all_passed false b c d w x y z is = absurd (cc)
 
-one_failed : (a b c d : Bool) (w x y z good r : Reply) → w ≢ good → x ≢ good → y ≢ good → z ≢ good
+pub one_failed : (a b c d : Bool) (w x y z good r : Reply) → w ≢ good → x ≢ good → y ≢ good → z ≢ good
     → cond (not a) (Some w) (cond b (Some x) (cond (not c) (Some y) (cond d (Some z) None))) ≡ Some r → r ≢ good
 one_failed true false true false w x y z good r dw dx dy dz is = absurd (cc)
 one_failed true false true true w x y z good r dw dx dy dz is = λ same. dz (the_same z r is ∙ same)
@@ -114,13 +114,13 @@ module _ {D : Type 0} where
       ∙ ap (λ (bays : List (Option (BayState D))). cond (is_slot other) (held_at old.slots other)
       (cartridge_in (bay_at bays other))) is.bays
 
-  bay_here : (address : ℕ) (bay : BayState D) (old new : HeldState D) → is_slot address ≡ false
+  pub bay_here : (address : ℕ) (bay : BayState D) (old new : HeldState D) → is_slot address ≡ false
       → BayIs address bay old new → cartridge_at new address ≡ medium_in bay.bay
   bay_here address bay old new slot is =
       ap (λ (b : Bool). cond b (held_at new.slots address) (cartridge_in (bay_at new.bays address))) slot
       ∙ ap cartridge_in is.bays.here
 
-  bay_elsewhere : (address : ℕ) (bay : BayState D) (old new : HeldState D) → BayIs address bay old new
+  pub bay_elsewhere : (address : ℕ) (bay : BayState D) (old new : HeldState D) → BayIs address bay old new
       → (other : ℕ) → other ≢ address → cartridge_at new other ≡ cartridge_at old other
   bay_elsewhere address bay old new is other apart =
       ap (λ (b : Option (BayState D)). cond (is_slot other) (held_at new.slots other) (cartridge_in b))
@@ -128,7 +128,7 @@ module _ {D : Type 0} where
       ∙ ap (λ (slots : List (Option (BufferState D))). cond (is_slot other) (held_at slots other)
       (cartridge_in (bay_at old.bays other))) is.slots
 
-  in_bay : (address : ℕ) (bay : BayState D) (held : HeldState D) → is_slot address ≡ false
+  pub in_bay : (address : ℕ) (bay : BayState D) (held : HeldState D) → is_slot address ≡ false
       → bay_at held.bays address ≡ Some bay → cartridge_at held address ≡ medium_in bay.bay
   in_bay address bay held slot is =
       ap (λ (b : Bool). cond b (held_at held.slots address) (cartridge_in (bay_at held.bays address))) slot

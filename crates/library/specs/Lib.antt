@@ -4,6 +4,7 @@ pub mod Doings
 pub mod Elements
 pub mod Finish
 pub mod Inner
+pub mod Journeys
 pub mod Moves
 pub mod OneHost
 pub mod Reservations

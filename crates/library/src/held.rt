@@ -103,6 +103,14 @@ impl<D: Disk + Drop> Held<D> {
         }
     }
 
+    /// What each slot holds, from element address 1001 on: 256 of them. It takes no memory.
+    pub fn inventory(&self) -> &[Option<Parked<D>>]
+        ensures row { result.now ≡ self.now.slots }
+        ensures all { length result.now ≡ SLOTS }
+    {
+        self.slots.inventory()
+    }
+
     /// The drive of this number, where it is configured.
     pub fn bay(&self, drive: DriveNo) -> Option<&Bay<D>>
         ensures { option_map (λ bay. bay.now) result ≡ bay_at self.now.bays drive }

@@ -25,11 +25,11 @@ pub const GOOD: Answer = (Status::Good, 0, 0, 0);
 
 pub const CONFLICT: Answer = (Status::Conflict, 0, 0, 0);
 
-// A new cartridge of 4,096 bytes on a disk whose call of this number fails. Its creation makes five.
-fn cartridge(alloc: Global, fails: u64) -> Result<Shelved<Disk>, Fail>
+/// A new cartridge of this barcode and 4,096 bytes, on a disk whose call of this number fails. Its creation makes five.
+pub fn cartridge(alloc: Global, barcode: &[u8], fails: u64) -> Result<Shelved<Disk>, Fail>
     ensures { IfOk result (λ shelved. shelved.known ≡ true) }
 {
-    let Ok(barcode) = Barcode::parse(b"T00001L6") else {
+    let Ok(barcode) = Barcode::parse(barcode) else {
         return Err(Fail::from("no barcode"));
     };
     let disk = OnceDisk::new(MemDisk::new(alloc), fails);
@@ -64,10 +64,10 @@ fn add_drive(alloc: Global, held: &mut Held<Disk>, number: u8) -> Result<(), Fai
     }
 }
 
-/// Drives 1 and 2, and in slot 1001 a new cartridge on a disk whose call of this number fails.
+/// Drives 1 and 2, and in slot 1001 a new cartridge T00001L6 on a disk whose call of this number fails.
 pub fn library(alloc: Global, fails: u64) -> Result<Held<Disk>, Fail> {
     let mut held = Held::new(alloc)?;
-    let shelved = cartridge(alloc, fails)?;
+    let shelved = cartridge(alloc, b"T00001L6", fails)?;
     if held.place(1001, Parked::of(alloc, shelved)).is_err() {
         return Err(Fail::from("not placed"));
     }

@@ -3,6 +3,7 @@
 
 pub mod faults;
 mod hosts;
+pub mod interruptions;
 pub mod items;
 pub mod laws;
 mod line_readers;
@@ -17,6 +18,7 @@ mod tests;
 mod texts;
 
 pub use faults::ScriptFault;
+pub use interruptions::is_interrupted;
 pub use items::{Commands, Item};
 pub use lines::Line;
 pub use runners::Runner;

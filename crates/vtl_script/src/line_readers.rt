@@ -1,13 +1,14 @@
-//! The bytes of a script, read in line_reader.
+//! How far a script was read: its bytes come in chunks, within limits, and are taken up line by line.
 ghost use Rattle.std.specs.Prelude.{◌≡◌, ◌<◌, ◌≤◌, ◌+◌, ◌==◌, ◌++◌, ◌⊎◌, [], ℕ, length, take, drop, vec_len, position, Some, None, Ok, false, IfOk, IfErr, OnOk, OnErr};
 ghost use Rattle.std.specs.Io.KnownBytes.{Consumes, IsAtEnd};
 ghost use Rattle.vtl_script.specs.Inner.Reading.{unbegun, bytes_read, Comes, Ends};
 
 use crate::faults::ScriptFault;
+use crate::interruptions::is_interrupted;
 use crate::script_limits::{within_bytes, within_reads};
 use crate::splits::place_of;
 use std::alloc::Global;
-use std::io::{ErrorKind, Read};
+use std::io::Read;
 use std::marker::Model;
 use vtl_base::limits::{LINE_BYTES, SCRIPT_BYTES, SCRIPT_READS};
 
@@ -66,7 +67,7 @@ fn read_once<R: Read>(reader: &mut R, slice: &mut [u8]) -> Result<Option<usize>,
 {
     match reader.read(slice) {
         Ok(count) => Ok(Some(count)),
-        Err(e) if e.kind() == ErrorKind::Interrupted => Ok(None),
+        Err(e) if is_interrupted(e.kind()) => Ok(None),
         Err(_) => Err(ScriptFault::ReadFault),
     }
 }

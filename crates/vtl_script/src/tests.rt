@@ -2,6 +2,7 @@
 mod borders;
 mod echoes;
 mod failing;
+mod long_answers;
 mod moves;
 mod wires;
 

@@ -4,9 +4,10 @@ ghost use Rattle.std.specs.Io.KnownBytes.{Appends};
 ghost use Rattle.vtl_script.specs.Text.{hex_word, reply_text, text_of, AppendsPart};
 
 use crate::faults::ScriptFault;
+use crate::interruptions::is_interrupted;
 use scsi_sense::{Reply, Status};
 use std::alloc::{AllocError, Global};
-use std::io::{ErrorKind, Write};
+use std::io::Write;
 
 // The bytes that are written at once, but for one answer more.
 const WRITE_CHUNK: usize = 65_536;
@@ -55,7 +56,7 @@ fn write_text<W: Write>(writer: &mut W, text: &[u8]) -> Result<(), ScriptFault>
         match writer.write(&text[written..]) {
             Ok(0) => return Err(ScriptFault::WriteFault),
             Ok(count) => written += count,
-            Err(e) if e.kind() == ErrorKind::Interrupted => {}
+            Err(e) if is_interrupted(e.kind()) => {}
             Err(_) => return Err(ScriptFault::WriteFault),
         }
     }

@@ -1,5 +1,6 @@
-//! The cartridge in a drive, through a stop.
+//! A cartridge, through a stop.
 ghost use Rattle.library.specs.Cartridges.{StopsKeepChanges};
+ghost use Rattle.library.specs.Journeys.{StopsKeepWhatIsMoved};
 
 use accepting::laws::{a_crash_leaves_what_was_acknowledged, steps_keep_cores};
 use pr_core::Keeper;
@@ -11,6 +12,17 @@ use tape_disk::Disk;
 /// leaves it, which holds every change that was accepted up to that command.
 pub fn a_stop_keeps_acknowledged_changes<D: Disk, K: Keeper>()
     ensures { StopsKeepChanges D.state K.kept K.below }
+{
+    a_crash_leaves_what_was_acknowledged::<Buffered<D>, D>();
+    steps_keep_cores::<Buffered<D>>();
+}
+
+/// The same of a cartridge that is moved: once a synchronizing command was acknowledged, a stop at any moment of
+/// whatever commands, turns, moves and writings out come then, of this drive and of others, leaves the cartridge,
+/// wherever it is, as a first part of its accepted changes leaves it, which holds every change that was accepted up to
+/// that command.
+pub fn a_stop_keeps_acknowledged_changes_of_what_is_moved<D: Disk>()
+    ensures { StopsKeepWhatIsMoved D.state }
 {
     a_crash_leaves_what_was_acknowledged::<Buffered<D>, D>();
     steps_keep_cores::<Buffered<D>>();

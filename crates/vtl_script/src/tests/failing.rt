@@ -59,9 +59,10 @@ fn writes_that_fail(rt: HostRuntime) -> Result<(), Fail> {
     let whole = joined(rt.alloc(), &[FIRST, SECOND])?;
     // The bytes of a write at most, and how many are written where each call fails: a phase is some
     // writes and one flush.
-    let rows: [(usize, &[usize]); 3] = [
+    let rows: [(usize, &[usize]); 4] = [
         (usize::MAX, &[0, 22, 22, 44, 44]),
         (20, &[0, 20, 22, 22, 42, 44, 44]),
+        (7, &[0, 7, 14, 21, 22, 22, 29, 36, 43, 44, 44]),
         (5, &[0, 5, 10, 15, 20, 22, 22, 27, 32, 37, 42, 44, 44]),
     ];
     for (taken, lengths) in rows {
@@ -83,6 +84,78 @@ fn writes_that_fail(rt: HostRuntime) -> Result<(), Fail> {
                 failed.text.as_slice(),
                 &whole.as_slice()[..(*length).min(whole.len())],
                 "write {call}"
+            );
+        }
+    }
+    Ok(())
+}
+
+// The kinds of fault after which a caller might be tempted to call again, and must not.
+const NOT_INTERRUPTED: [ErrorKind; 2] = [ErrorKind::WouldBlock, ErrorKind::TimedOut];
+
+#[test]
+fn reads_that_would_block_or_time_out(rt: HostRuntime) -> Result<(), Fail> {
+    let whole = joined(rt.alloc(), &[FIRST, SECOND])?;
+    // The bytes of a read at most, the read that fails, and how many bytes are out then. The script is read whole by
+    // the first read, or by nine with its end; the first phase ends with the first read, or with the fourth.
+    let rows = [
+        (usize::MAX, 1, 0),
+        (usize::MAX, 2, 22),
+        (5, 1, 0),
+        (5, 4, 0),
+        (5, 5, 22),
+        (5, 9, 22),
+    ];
+    for kind in NOT_INTERRUPTED {
+        for (piece, call, length) in rows {
+            let plan = Plan {
+                piece,
+                bad_read: Some((call, kind)),
+                ..Plan::whole()
+            };
+            let failed = answered(rt.alloc(), TWO_PHASES, plan);
+            assert_eq!(rt; failed.end, Err(ScriptFault::ReadFault), "read {call}");
+            assert_eq!(rt; failed.reads, call, "reads at read {call}");
+            assert_eq!(rt;
+                failed.text.as_slice(),
+                &whole.as_slice()[..length.min(whole.len())],
+                "text at read {call}"
+            );
+        }
+    }
+    Ok(())
+}
+
+#[test]
+fn writes_that_would_block_or_time_out(rt: HostRuntime) -> Result<(), Fail> {
+    let whole = joined(rt.alloc(), &[FIRST, SECOND])?;
+    // The bytes of a write at most, the call that fails, and how many bytes are out then; the last of each is a flush.
+    let rows = [
+        (usize::MAX, 1, 0),
+        (usize::MAX, 3, 22),
+        (usize::MAX, 4, 44),
+        (7, 2, 7),
+        (7, 4, 21),
+        (7, 9, 43),
+        (7, 10, 44),
+    ];
+    for kind in NOT_INTERRUPTED {
+        for (taken, call, length) in rows {
+            let plan = Plan {
+                taken,
+                bad_write: Some((call, kind)),
+                ..Plan::whole()
+            };
+            let failed = answered(rt.alloc(), TWO_PHASES, plan);
+            assert_eq!(rt;
+                failed.end,
+                Err(ScriptFault::WriteFault),
+                "write {call} of {taken} bytes"
+            );
+            assert_eq!(rt;
+                failed.text.as_slice(),
+                &whole.as_slice()[..length.min(whole.len())],
+                "text at write {call} of {taken} bytes"
             );
         }
     }

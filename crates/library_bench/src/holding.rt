@@ -1,0 +1,72 @@
+//! What the slots of a library hold.
+use crate::samples::{Answer, Disk, GOOD, NEVER, cartridge, is_answer, library};
+use library::{Held, Parked};
+use scsi_sense::Status;
+use std::process::Abort;
+use std::test::Fail;
+
+const FIRST: &[u8] = b"T00001L6        ";
+
+const SECOND: &[u8] = b"T00002L6        ";
+
+const NO_ROOM: Answer = (Status::Check, 5, 0x3b, 0x0d);
+
+// The barcode that a cartridge's side has on its disk: bytes 11 to 26.
+fn barcode(parked: &Parked<Disk>) -> &[u8] {
+    match parked.medium().disk().inner().bytes().get(11..27) {
+        Some(name) => name,
+        None => &[],
+    }
+}
+
+// Just these places hold a cartridge, of these barcodes.
+fn assert_held(rt: &impl Abort, held: &Held<Disk>, wanted: &[(usize, &[u8])]) {
+    let row = held.inventory();
+    assert_eq!(rt; row.len(), 256);
+    let mut found = 0usize;
+    for (at, place) in row.iter().enumerate() {
+        if let Some(parked) = place {
+            match wanted.get(found) {
+                Some((place, name)) => {
+                    assert_eq!(rt; at, *place);
+                    assert_eq!(rt; barcode(parked), *name, "at {at}");
+                }
+                None => assert!(rt; false, "a cartridge at {at}"),
+            }
+            found = found.saturating_add(1);
+        }
+    }
+    assert_eq!(rt; found, wanted.len());
+}
+
+// A move, how it is answered, and what the slots hold then.
+type Row<'a> = (u32, u32, Answer, &'a [(usize, &'a [u8])]);
+
+fn moves(rt: &impl Abort, held: &mut Held<Disk>, rows: &[Row]) {
+    for (at, row) in rows.iter().enumerate() {
+        let (from, to, answer, wanted) = *row;
+        is_answer(rt, &held.move_medium(from, to), answer, at);
+        assert_held(rt, held, wanted);
+    }
+}
+
+#[test]
+fn each_slot_is_shown(rt: HostRuntime) -> Result<(), Fail> {
+    let mut held = library(rt.alloc(), NEVER)?;
+    assert_held(&rt, &held, &[(0, FIRST)]);
+    let second = cartridge(rt.alloc(), b"T00002L6", NEVER)?;
+    if held.place(1256, Parked::of(rt.alloc(), second)).is_err() {
+        return Err(Fail::from("not placed"));
+    }
+    assert_held(&rt, &held, &[(0, FIRST), (255, SECOND)]);
+    let rows: [Row; 6] = [
+        (1001, 1, GOOD, &[(255, SECOND)]),
+        (1256, 1001, GOOD, &[(0, SECOND)]),
+        (1, 1001, NO_ROOM, &[(0, SECOND)]),
+        (1, 1100, GOOD, &[(0, SECOND), (99, FIRST)]),
+        (1001, 1002, GOOD, &[(1, SECOND), (99, FIRST)]),
+        (1002, 2, GOOD, &[(99, FIRST)]),
+    ];
+    moves(&rt, &mut held, &rows);
+    Ok(())
+}
