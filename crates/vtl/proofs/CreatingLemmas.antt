@@ -1,138 +1,155 @@
 -- Files that are made one after another.
-use Rattle.std.proofs.Common.{◌≡◌, ℕ, ◌+◌, ◌<◌, List, [], ◌∷◌, ◌++◌, map, take, drop, length, get_or, Option, Result, Ok, Err, OnOk, OnErr, IfErr, refl, sym, ap, ◌∙◌, append_assoc, take-append-drop}
+use Rattle.std.proofs.Common.{◌≡◌, ℕ, ◌+◌, ◌<◌, inl, inr, List, [], ◌∷◌, ◌++◌, map, take, drop, length, get_or, Option, Result, Ok, Err, OnOk, IfErr, refl, sym, ap, ◌∙◌, append_assoc, take-append-drop}
 use Rattle.std.proofs.lemmas.List.{append-nil, map-append, take_more}
 use Rattle.std.specs.Io.KnownBytes.{Appends}
-use Rattle.vtl_script.proofs.TextLemmas.{appends_none, appends_on}
-use Rattle.vtl_script.specs.Text.{AppendsPart}
+use Rattle.tape_disk.specs.Disk.{DiskState}
+use Rattle.file_disk.specs.declared.error.FileError.{FileError}
+use Rattle.vtl_script.proofs.TextLemmas.{appends_kept, appends_none, appends_on}
 use Rattle.vtl.specs.declared.creating.Fate.{Fate}
-use Rattle.vtl.specs.declared.creating.Fate.TheVariants.{Kept}
 use Rattle.vtl.specs.declared.programs.VtlFault.{VtlFault}
-use Rattle.vtl.specs.Creating.{TellsAll, TellsSome, TellsFiles, fate_line}
-use Rattle.vtl.specs.Faults.{IsFailure}
+use Rattle.vtl.specs.declared.programs.VtlFault.TheVariants.{Words, Config, Script, Device, NoMemory}
+use Rattle.vtl.specs.Creating.{FailsAt, IsMadeOrKept, IsNotMade, IsNotOut, SideFile, TellsAll, TellsFiles, TellsSome, fate_line, label_of}
 
-pub all_on : (first second : List (List ℕ)) (a b : List ℕ) → TellsAll first a → TellsAll second b
-    → TellsAll (first ++ second) (a ++ b)
-all_on [] second a b told more = rw told more
-all_on (name ∷ first) second a b told more = (
-  told.0,
-  told.1 ++ b,
-  ap (λ (xs : List ℕ). xs ++ b) told.2 ∙ append_assoc (fate_line name told.0) told.1 b,
-  all_on first second told.1 b told.3 more,
-)
+module _ {D : Type 0} (state : D → DiskState) (makes : List ℕ → Result D FileError → Type 0)
+    (leaves takes_away : List ℕ → D → Type 0) where
+  all_on : (first second : List SideFile) (a b : List ℕ)
+      → TellsAll state makes leaves takes_away first a → TellsAll state makes leaves takes_away second b
+      → TellsAll state makes leaves takes_away (first ++ second) (a ++ b)
+  all_on [] second a b told more = rw told more
+  all_on (file ∷ first) second a b told more = (
+    told.0,
+    told.1,
+    (
+      told.2.0 ++ b,
+      ap (λ (xs : List ℕ). xs ++ b) told.2.1 ∙ append_assoc (fate_line (label_of file) told.0) told.2.0 b,
+      all_on first second told.2.0 b told.2.2 more,
+    ),
+  )
 
-pub some_on : (first second : List (List ℕ)) (a b : List ℕ) → TellsAll first a → TellsSome second b
-    → TellsSome (first ++ second) (a ++ b)
-some_on first second a b told more = record {
-  before = first ++ more.before;
-  name = more.name;
-  behind = more.behind;
-  are = ap (λ (xs : List (List ℕ)). first ++ xs) more.are
-      ∙ sym (append_assoc first more.before (more.name ∷ more.behind));
-  lines = a ++ more.lines;
-  told = all_on first more.before a more.lines told more.told;
-  fate = more.fate;
-  part = more.part;
-  begins = more.begins;
-  is = ap (λ (xs : List ℕ). a ++ xs) more.is ∙ sym (append_assoc a more.lines more.part);
-}
+  some_on : (first second : List SideFile) (fault : VtlFault) (a b : List ℕ)
+      → TellsAll state makes leaves takes_away first a → TellsSome state makes leaves takes_away second fault b
+      → TellsSome state makes leaves takes_away (first ++ second) fault (a ++ b)
+  some_on first second fault a b told more = record {
+    before = first ++ more.before;
+    file = more.file;
+    behind = more.behind;
+    are = ap (λ (xs : List SideFile). first ++ xs) more.are
+        ∙ sym (append_assoc first more.before (more.file ∷ more.behind));
+    lines = a ++ more.lines;
+    told = all_on first more.before a more.lines told more.told;
+    part = more.part;
+    fails = more.fails;
+    is = ap (λ (xs : List ℕ). a ++ xs) more.is ∙ sym (append_assoc a more.lines more.part);
+  }
 
-pub some_of : (first second : List (List ℕ)) (a : List ℕ) → TellsSome first a → TellsSome (first ++ second) a
-some_of first second a so = record {
-  before = so.before;
-  name = so.name;
-  behind = so.behind ++ second;
-  are = ap (λ (xs : List (List ℕ)). xs ++ second) so.are
-      ∙ append_assoc so.before (so.name ∷ so.behind) second;
-  lines = so.lines;
-  told = so.told;
-  fate = so.fate;
-  part = so.part;
-  begins = so.begins;
-  is = so.is;
-}
+  some_of : (first second : List SideFile) (fault : VtlFault) (a : List ℕ)
+      → TellsSome state makes leaves takes_away first fault a
+      → TellsSome state makes leaves takes_away (first ++ second) fault a
+  some_of first second fault a so = record {
+    before = so.before;
+    file = so.file;
+    behind = so.behind ++ second;
+    are = ap (λ (xs : List SideFile). xs ++ second) so.are
+        ∙ append_assoc so.before (so.file ∷ so.behind) second;
+    lines = so.lines;
+    told = so.told;
+    part = so.part;
+    fails = so.fails;
+    is = so.is;
+  }
 
-pub files_none : (known : Option (List ℕ)) → TellsFiles [] known known (Ok tt)
-files_none known = ([], refl, appends_none known)
+  pub files_none : (known : Option (List ℕ)) → TellsFiles state makes leaves takes_away [] known known (Ok tt)
+  files_none known = ([], refl, appends_none known)
 
-pub files_on : (first second : List (List ℕ)) (before mid now : Option (List ℕ)) (result : Result (Unit {0}) VtlFault)
-    → TellsFiles first before mid (Ok tt) → TellsFiles second mid now result
-    → TellsFiles (first ++ second) before now result
-files_on first second before mid now (Ok done) told more = (
-  told.0 ++ more.0,
-  all_on first second told.0 more.0 told.1 more.1,
-  appends_on before mid now told.0 more.0 told.2 more.2,
-)
-files_on first second before mid now (Err fault) told more = (
-  more.0,
-  (
-    told.0 ++ more.1.0,
-    some_on first second told.0 more.1.0 told.1 more.1.1,
-    appends_on before mid now told.0 more.1.0 told.2 more.1.2,
-  ),
-)
+  pub files_on : (first second : List SideFile) (before mid now : Option (List ℕ))
+      (result : Result (Unit {0}) VtlFault) → TellsFiles state makes leaves takes_away first before mid (Ok tt)
+      → TellsFiles state makes leaves takes_away second mid now result
+      → TellsFiles state makes leaves takes_away (first ++ second) before now result
+  files_on first second before mid now (Ok done) told more = (
+    told.0 ++ more.0,
+    all_on first second told.0 more.0 told.1 more.1,
+    appends_on before mid now told.0 more.0 told.2 more.2,
+  )
+  files_on first second before mid now (Err fault) told more = (
+    told.0 ++ more.0,
+    some_on first second fault told.0 more.0 told.1 more.1,
+    appends_on before mid now told.0 more.0 told.2 more.2,
+  )
 
-pub files_of : (first second : List (List ℕ)) (before now : Option (List ℕ)) (fault : VtlFault)
-    → TellsFiles first before now (Err fault) → TellsFiles (first ++ second) before now (Err fault)
-files_of first second before now fault told =
-    (told.0, (told.1.0, some_of first second told.1.0 told.1.1, told.1.2))
+  pub files_of : (first second : List SideFile) (before now : Option (List ℕ)) (fault : VtlFault)
+      → TellsFiles state makes leaves takes_away first before now (Err fault)
+      → TellsFiles state makes leaves takes_away (first ++ second) before now (Err fault)
+  files_of first second before now fault told = (told.0, some_of first second fault told.0 told.1, told.2)
 
--- a line of a file was written, or a beginning of it
-pub file_told : (name : List ℕ) (fate : Fate) (before now : Option (List ℕ)) → Appends before now (fate_line name fate)
-    → TellsFiles (name ∷ []) before now (Ok tt)
-file_told name fate before now written =
-    (fate_line name fate, (fate, [], sym (append-nil (fate_line name fate)), refl), written)
-
-pub part_told : (name : List ℕ) (fate : Fate) (before now : Option (List ℕ)) (fault : VtlFault) → IsFailure fault
-    → AppendsPart before now (fate_line name fate) → TellsFiles (name ∷ []) before now (Err fault)
-part_told name fate before now fault failure written = (
-  failure,
-  (
-    written.0,
+  -- a fault came at a file, with this much of its line written
+  part_told : (file : SideFile) (before now : Option (List ℕ)) (fault : VtlFault) (part : List ℕ)
+      → FailsAt state makes leaves takes_away file fault part → Appends before now part
+      → TellsFiles state makes leaves takes_away (file ∷ []) before now (Err fault)
+  part_told file before now fault part fails written = (
+    part,
     record {
       before = [];
-      name = name;
+      file = file;
       behind = [];
       are = refl;
       lines = [];
       told = refl;
-      fate = fate;
-      part = written.0;
-      begins = written.1;
+      part = part;
+      fails = fails;
       is = refl;
     },
-    written.2,
-  ),
-)
+    written,
+  )
 
--- what became of a file was told, or a beginning of that
-pub file_result : (name : List ℕ) (fate : Fate) (before now : Option (List ℕ)) (result : Result (Unit {0}) VtlFault)
-    → OnOk result (Appends before now (fate_line name fate))
-    → OnErr result (AppendsPart before now (fate_line name fate)) → IfErr result IsFailure
-    → TellsFiles (name ∷ []) before now result
-file_result name fate before now (Ok done) written part failure = file_told name fate before now written
-file_result name fate before now (Err fault) written part failure = part_told name fate before now fault failure part
+  -- what became of a file was told, or its line is not out
+  pub file_result : (file : SideFile) (fate : Fate) (before now : Option (List ℕ))
+      (result : Result (Unit {0}) VtlFault) → IsMadeOrKept state makes leaves file fate
+      → OnOk result (Appends before now (fate_line (label_of file) fate))
+      → IfErr result (IsNotOut (fate_line (label_of file) fate) before now)
+      → TellsFiles state makes leaves takes_away (file ∷ []) before now result
+  file_result file fate before now (Ok done) became written out = (
+    fate_line (label_of file) fate,
+    (fate, became, ([], sym (append-nil (fate_line (label_of file) fate)), refl)),
+    written,
+  )
+  file_result file fate before now (Err NoMemory) became written out =
+      part_told file before now NoMemory [] (inr (fate, became, inl (refl, refl)))
+      (appends_kept before before now [] (appends_none before) out)
+  file_result file fate before now (Err Device) became written out =
+      part_told file before now Device out.0 (inr (fate, became, inr (refl, out.1))) out.2
+  file_result file fate before now (Err Words) became written out = absurd out
+  file_result file fate before now (Err Config) became written out = absurd out
+  file_result file fate before now (Err (Script number)) became written out = absurd out
 
--- a fault before anything is told of a file
-pub none_told : (name : List ℕ) (known : Option (List ℕ)) (fault : VtlFault) → IsFailure fault
-    → TellsFiles (name ∷ []) known known (Err fault)
-none_told name known fault failure =
-    part_told name Kept known known fault failure ([], refl, appends_none known)
+  -- a file was not made
+  pub none_made : (file : SideFile) (known : Option (List ℕ)) (fault : VtlFault)
+      → IsNotMade state makes takes_away file fault
+      → TellsFiles state makes leaves takes_away (file ∷ []) known known (Err fault)
+  none_made file known fault why = part_told file known known fault [] (inl (why, refl)) (appends_none known)
 
--- the files of the first of some entries, one more, and all
-module _ {A : Type 0} (name : A → List ℕ) (entries : List A) (at : ℕ) where
-  pub files_more : (entry : A) (before mid now : Option (List ℕ)) (result : Result (Unit {0}) VtlFault)
-      → at < length entries → entry ≡ get_or entries at entry
-      → TellsFiles (map name (take at entries)) before mid (Ok tt) → TellsFiles (name entry ∷ []) mid now result
-      → TellsFiles (map name (take (at + 1) entries)) before now result
-  files_more entry before mid now result within is told more =
-      let one : take (at + 1) entries ≡ take at entries ++ entry ∷ [] =
-      take_more entries at entry within ∙ ap (λ (x : A). take at entries ++ x ∷ []) (sym is) in
-      rw (one, map-append name (take at entries) (entry ∷ []))
-      (files_on (map name (take at entries)) (name entry ∷ []) before mid now result told more)
+  -- memory ran out before the line of a file
+  pub none_told : (file : SideFile) (fate : Fate) (known : Option (List ℕ))
+      → IsMadeOrKept state makes leaves file fate
+      → TellsFiles state makes leaves takes_away (file ∷ []) known known (Err NoMemory)
+  none_told file fate known became =
+      part_told file known known NoMemory [] (inr (fate, became, inl (refl, refl))) (appends_none known)
 
-  pub files_first : (before now : Option (List ℕ)) (fault : VtlFault)
-      → TellsFiles (map name (take at entries)) before now (Err fault)
-      → TellsFiles (map name entries) before now (Err fault)
-  files_first before now fault told =
-      let some = files_of (map name (take at entries)) (map name (drop at entries)) before now fault told in
-      rw (← map-append name (take at entries) (drop at entries), take-append-drop at entries) at some
+  -- the files of the first of some entries, one more, and all
+  module _ {A : Type 0} (file : A → SideFile) (entries : List A) (at : ℕ) where
+    pub files_more : (entry : A) (before mid now : Option (List ℕ)) (result : Result (Unit {0}) VtlFault)
+        → at < length entries → entry ≡ get_or entries at entry
+        → TellsFiles state makes leaves takes_away (map file (take at entries)) before mid (Ok tt)
+        → TellsFiles state makes leaves takes_away (file entry ∷ []) mid now result
+        → TellsFiles state makes leaves takes_away (map file (take (at + 1) entries)) before now result
+    files_more entry before mid now result within is told more =
+        let one : take (at + 1) entries ≡ take at entries ++ entry ∷ [] =
+        take_more entries at entry within ∙ ap (λ (x : A). take at entries ++ x ∷ []) (sym is) in
+        rw (one, map-append file (take at entries) (entry ∷ []))
+        (files_on (map file (take at entries)) (file entry ∷ []) before mid now result told more)
+
+    pub files_first : (before now : Option (List ℕ)) (fault : VtlFault)
+        → TellsFiles state makes leaves takes_away (map file (take at entries)) before now (Err fault)
+        → TellsFiles state makes leaves takes_away (map file entries) before now (Err fault)
+    files_first before now fault told =
+        let some = files_of (map file (take at entries)) (map file (drop at entries)) before now fault told in
+        rw (← map-append file (take at entries) (drop at entries), take-append-drop at entries) at some

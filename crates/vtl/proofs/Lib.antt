@@ -4,5 +4,6 @@ mod DistinctLemmas
 pub mod OneTextLemmas
 mod OrdersLemmas
 pub mod SideTextLemmas
+mod SidesLemmas
 mod StartingLemmas
 mod WaitingLemmas

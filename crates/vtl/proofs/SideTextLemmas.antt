@@ -1,5 +1,5 @@
 -- The lines of a side.
-use Rattle.std.proofs.Common.{◌≡◌, ◌≢◌, ℕ, ◌+◌, ◌-◌, ◌≤◌, ◌<◌, ◌==◌, nat_lt, cond, Bool, true, false, List, [], ◌∷◌, ◌++◌, length, map, take, replicate, get_or, Option, Some, None, is_some, flat_map, filter, count_by, position, codes, decimal, refl, sym, ap, ◌∙◌, subst, arith, append_assoc, Result, Ok, Err, IfOk, MatchResult, string_bytes, String, Global, zero, suc, add-one}
+use Rattle.std.proofs.Common.{◌≡◌, ◌≢◌, ℕ, ◌+◌, ◌-◌, ◌≤◌, ◌<◌, ◌==◌, nat_lt, cond, Bool, true, false, List, [], ◌∷◌, ◌++◌, length, map, take, replicate, Option, Some, None, is_some, flat_map, filter, count_by, position, codes, decimal, refl, sym, ap, ◌∙◌, subst, arith, append_assoc, Result, Ok, Err, IfOk, MatchResult, string_bytes, String, Global, zero, suc, add-one}
 use Rattle.std.specs.declared.alloc.AllocError.{AllocError}
 use Rattle.std.specs.Prelude.{IsTrue}
 use Rattle.std.specs.List.{All, position_or_len, range_with_len}
@@ -20,7 +20,6 @@ use Rattle.pr_core.specs.Sets.{nexuses}
 use Rattle.pr_core.specs.States.{key_of, power_loss}
 use Rattle.aptpl_store.specs.Contents.{latest}
 use Rattle.vtl.specs.declared.programs.VtlFault.{VtlFault}
-use Rattle.vtl.specs.declared.programs.VtlFault.TheVariants as told
 use Rattle.vtl.specs.SideText.{TellsStates, cartridge_line, partition_line, registrations_in, store_line}
 
 -- a text without spaces

@@ -1,7 +1,7 @@
 -- A library that is switched on, entry by entry.
 use Rattle.std.proofs.Common.{◌≡◌, ◌≢◌, ◌⊎◌, inl, inr, ℕ, ◌-◌, ◌<◌, Bool, true, false, List, [], ◌∷◌, ◌++◌, length, get_or, Option, None, Some, is_some, Ok, refl, sym, ap, ◌∙◌, arith, cond, subst, take, drop, append_assoc, take-append-drop, ◌+◌}
 use Rattle.std.proofs.lemmas.List.{map-append, take_more}
-use Rattle.std.proofs.lemmas.List.Elements.{Contains-append_left, Contains-push, Contains-push_cases}
+use Rattle.std.proofs.lemmas.List.Elements.{All-nil, All-push, Contains-append_left, Contains-push, Contains-push_cases}
 use Rattle.std.specs.List.{Contains}
 use Rattle.tape_disk.specs.Disk.{DiskState}
 use Rattle.tape_buffer.specs.Moves.{buffer_below}
@@ -17,8 +17,10 @@ use Rattle.vtl_config.specs.declared.entries.CartridgeEntry.{CartridgeEntry}
 use Rattle.vtl_config.specs.declared.entries.DriveEntry.{DriveEntry}
 use Rattle.vtl.specs.declared.programs.VtlFault.{VtlFault}
 use Rattle.vtl.specs.declared.programs.VtlFault.TheVariants.{Words, Config, Script, Device, NoMemory}
-use Rattle.vtl.specs.Inner.Waiting.{AreHome, AreOn, IsBare, PutsHome, StartingState, SwitchesOnAt, home_at, waits_at}
-use Rattle.vtl.specs.Starting.{IsBuiltIn, IsDriveOf, IsNewCartridge, IsNewStore, IsNotStarted, IsStarted, StandsAt}
+use Rattle.vtl.specs.Faults.{IsFailure}
+use Rattle.vtl.specs.Inner.Waiting.{AreHome, AreOn, IsBare, IsNotHome, PutsHome, StartingState, SwitchesOnAt, home_at, waits_at}
+use Rattle.vtl.specs.Sides.{IsNewCartridge, IsNewStore, SidesGiven}
+use Rattle.vtl.specs.Starting.{AreGiven, IsBuiltIn, IsDriveOf, IsNotStarted, IsRefusedIn, IsStarted, StandsAt}
 use Rattle.vtl.proofs.DistinctLemmas.{contains_map, same_or_not, twice}
 use Rattle.vtl.proofs.WaitingLemmas.{home_in_slot, home_waits}
 
@@ -27,6 +29,7 @@ module _ {D : Type 0} where
   pub home_yet : (gives : CartridgeEntry → BufferState D → Type 0) (starting : StartingState D) → IsBare starting
       → AreHome gives [] starting
   home_yet gives starting bare = record {
+    given = All-nil _;
     homes = λ address. by address (home_at starting address) (bare.homes address);
     bays = bare.bays;
   }
@@ -67,10 +70,14 @@ module _ {D : Type 0} (gives : CartridgeEntry → BufferState D → Type 0) wher
       (old new : StartingState D) → AreHome gives before old → gives entry cartridge
       → PutsHome (address_of entry.home) cartridge old new → AreHome gives (before ++ entry ∷ []) new
   home_on before entry cartridge old new home given puts = record {
+    given = All-push (λ (e : CartridgeEntry). (x : BufferState D) × gives e x) before entry home.given one;
     homes = λ address. by address (same_or_not address (address_of entry.home));
     bays = λ number. ap (λ (bays : List (Option (BayState D))). bay_at bays number) puts.bays ∙ home.bays number;
   }
     where
+      one : (x : BufferState D) × gives entry x
+      one = (cartridge, given)
+
       by : (address : ℕ) → (address ≡ address_of entry.home) ⊎ (address ≢ address_of entry.home)
           → StandsAt gives (before ++ entry ∷ []) address (home_at new address)
       by address (inl same) =
@@ -104,6 +111,8 @@ module _ {D : Type 0} (gives : CartridgeEntry → BufferState D → Type 0) wher
     pub on_yet : (entries : List CartridgeEntry) (starting : StartingState D) → AreHome gives entries starting
         → AreOn gives state gives_store entries [] starting
     on_yet entries starting home = record {
+      given = home.given;
+      stores = All-nil _;
       slots = λ address on.
           subst (λ (found : Option (BufferState D)). StandsAt gives entries address found)
           (home_in_slot starting address on) (home.homes address);
@@ -142,6 +151,8 @@ module _ {D : Type 0} (gives : CartridgeEntry → BufferState D → Type 0) wher
         → SwitchesOnAt state entry.number store old new
         → AreOn gives state gives_store entries (before ++ entry ∷ []) new
     on_more entries before entry store old new on given switched = record {
+      given = on.given;
+      stores = All-push (λ (e : DriveEntry). (x : OpenStore D) × gives_store e x) before entry on.stores one;
       slots = λ address is.
           subst (λ (slots : List (Option (BufferState D))). StandsAt gives entries address (held_at slots address))
           (sym switched.slots) (on.slots address is);
@@ -155,6 +166,9 @@ module _ {D : Type 0} (gives : CartridgeEntry → BufferState D → Type 0) wher
           (on.waiting number off (sym (switched.here.elsewhere number differs) ∙ none));
     }
       where
+        one : (x : OpenStore D) × gives_store entry x
+        one = (store, given)
+
         by : (number : ℕ) → (number ≡ entry.number) ⊎ (number ≢ entry.number)
             → IsDriveOf gives state gives_store entries (before ++ entry ∷ []) number (bay_at new.held.bays number)
         by number (inl same) =
@@ -211,26 +225,67 @@ parted {A = A} entries at entry below is =
     (ap (λ (x : A). take at entries ++ x ∷ []) is ∙ sym (take_more entries at entry below))
     ∙ take-append-drop (at + 1) entries
 
--- why a library is not switched on
-pub not_home : (entries : List CartridgeEntry) (fault : VtlFault) (taken : Bool) → (fault ≡ Config) × (taken ≡ true)
-    → (taken ≡ true → ¬ AreDistinct (homes_of entries)) → IsNotStarted entries [] fault
-not_home entries Config taken is double = λ distinct. double is.1 distinct.0
-not_home entries Words taken is double = absurd (cc)
-not_home entries (Script line) taken is double = absurd (cc)
-not_home entries Device taken is double = tt
-not_home entries NoMemory taken is double = tt
+-- an entry was refused, and those before it were given something
+pub refused_at : {E G : Type 0} (gives : E → G → Type 0) (refuses : E → Type 0) (entries : List E) (at : ℕ) (entry : E)
+    → at < length entries → entry ≡ get_or entries at entry → AreGiven gives (take at entries) → refuses entry
+    → IsRefusedIn gives refuses entries
+refused_at gives refuses entries at entry below is given refused = record {
+  before = take at entries;
+  entry = entry;
+  behind = drop (at + 1) entries;
+  are = sym (parted entries at entry below is);
+  given = given;
+  refused = refused;
+}
 
-pub not_on : (entries : List CartridgeEntry) (drives : List DriveEntry) (fault : VtlFault) (taken : Bool)
-    → (fault ≡ NoMemory) ⊎ (fault ≡ Config) × (taken ≡ true) → (taken ≡ true → ¬ AreDistinct (numbers_of drives))
-    → IsNotStarted entries drives fault
-not_on entries drives Device taken is double = tt
-not_on entries drives NoMemory taken is double = tt
-not_on entries drives Config taken (inl is) double = absurd (cc)
-not_on entries drives Config taken (inr is) double = λ distinct. double is.1 distinct.1
-not_on entries drives Words taken (inl is) double = absurd (cc)
-not_on entries drives Words taken (inr is) double = absurd (cc)
-not_on entries drives (Script line) taken (inl is) double = absurd (cc)
-not_on entries drives (Script line) taken (inr is) double = absurd (cc)
+module _ {D : Type 0} (sides : SidesGiven D) (entries : List CartridgeEntry) where
+  -- why not all cartridges are at their homes
+  pub refused_home : (fault : VtlFault) → IsFailure fault
+      → IsRefusedIn sides.gives_cartridge (λ entry. sides.refuses_cartridge entry fault) entries
+      → IsNotHome sides entries fault
+  refused_home Device failure refused = refused
+  refused_home NoMemory failure refused = tt
+  refused_home Config failure refused = absurd failure
+  refused_home Words failure refused = absurd failure
+  refused_home (Script line) failure refused = absurd failure
+
+  pub not_home : (fault : VtlFault) (taken : Bool) → (fault ≡ Config) × (taken ≡ true)
+      → (taken ≡ true → ¬ AreDistinct (homes_of entries)) → IsNotHome sides entries fault
+  not_home Config taken is double = double is.1
+  not_home Words taken is double = absurd (cc)
+  not_home (Script line) taken is double = absurd (cc)
+  not_home Device taken is double = absurd (cc)
+  not_home NoMemory taken is double = absurd (cc)
+
+  module _ (drives : List DriveEntry) where
+    -- why a library is not switched on
+    pub off_of : (fault : VtlFault) → IsNotHome sides entries fault → IsNotStarted sides entries drives fault
+    off_of Device why = inl why
+    off_of NoMemory why = tt
+    off_of Config why = λ distinct. why distinct.0
+    off_of Words why = why
+    off_of (Script line) why = why
+
+    pub refused_on : (fault : VtlFault) → IsFailure fault → AreGiven sides.gives_cartridge entries
+        → IsRefusedIn sides.gives_store (λ entry. sides.refuses_store entry fault) drives
+        → IsNotStarted sides entries drives fault
+    refused_on Device failure given refused = inr (given, refused)
+    refused_on NoMemory failure given refused = tt
+    refused_on Config failure given refused = absurd failure
+    refused_on Words failure given refused = absurd failure
+    refused_on (Script line) failure given refused = absurd failure
+
+    pub not_on : (fault : VtlFault) (taken : Bool) → (fault ≡ NoMemory) ⊎ (fault ≡ Config) × (taken ≡ true)
+        → (taken ≡ true → ¬ AreDistinct (numbers_of drives)) → IsNotStarted sides entries drives fault
+    not_on NoMemory taken is double = tt
+    not_on Config taken (inl is) double = absurd (cc)
+    not_on Config taken (inr is) double = λ distinct. double is.1 distinct.1
+    not_on Device taken (inl is) double = absurd (cc)
+    not_on Device taken (inr is) double = absurd (cc)
+    not_on Words taken (inl is) double = absurd (cc)
+    not_on Words taken (inr is) double = absurd (cc)
+    not_on (Script line) taken (inl is) double = absurd (cc)
+    not_on (Script line) taken (inr is) double = absurd (cc)
 
 -- the built-in library: a cartridge was put beside drive 1, and it was switched on
 pub built_in_is : {D : Type 0} (state : D → DiskState) (barcode capacities : List ℕ) (cartridge : BufferState D)

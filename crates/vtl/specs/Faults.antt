@@ -1,5 +1,7 @@
 -- How a fault is reported (own).
 use Rattle.std.specs.Prelude.{ℕ, List, ◌++◌, codes, decimal}
+use Rattle.std.specs.declared.io.ErrorKind.{ErrorKind}
+use Rattle.std.specs.declared.io.ErrorKind.TheVariants as kinds
 use Rattle.vtl_script.specs.declared.faults.ScriptFault.{ScriptFault}
 use Rattle.vtl_script.specs.declared.faults.ScriptFault.TheVariants as script
 use Rattle.vtl.specs.declared.programs.VtlFault.{VtlFault}
@@ -11,6 +13,11 @@ fault_of (script.BadLine line) = Script line
 fault_of script.ReadFault = Device
 fault_of script.WriteFault = Device
 fault_of script.NoMemory = NoMemory
+
+-- the program's fault that an error of the system is (own)
+abbrev pub fault_of_error : ErrorKind → VtlFault
+fault_of_error kinds.OutOfMemory = NoMemory
+fault_of_error _ = Device
 
 -- the status: 1 where something is refused, 2 at a device, a file or a stream, 3 where memory ran out (own)
 abbrev pub status_of : VtlFault → ℕ

@@ -2,8 +2,10 @@ pub mod Checks
 pub mod Configured
 pub mod Creating
 pub mod Faults
+pub mod Files
 pub mod Inner
 pub mod Orders
 pub mod Program
 pub mod SideText
+pub mod Sides
 pub mod Starting

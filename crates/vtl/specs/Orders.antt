@@ -1,21 +1,12 @@
 -- What the program does for the words of its command line (own).
-use Rattle.std.specs.Prelude.{◌≡◌, ◌⊎◌, ℕ, Bool, true, false, List, [], ◌∷◌, Option, None, Some, Result, Ok, Err, IfOk, IfErr, String, Vec, codes, string_bytes}
+use Rattle.std.specs.Prelude.{◌≡◌, ◌⊎◌, ℕ, Bool, true, false, List, [], ◌∷◌, Option, None, Some, Result, Ok, Err, String, Vec, codes, string_bytes}
 use Rattle.std.specs.Io.KnownBytes.{Appends, Keeps}
 use Rattle.std.specs.declared.alloc.Global.{Global}
-use Rattle.tape_disk.specs.CallLog.{log_state}
+use Rattle.std.specs.declared.io.Error.{Error}
 use Rattle.tape_disk.specs.Disk.{DiskState}
-use Rattle.tape_disk.specs.MemDisk.{mem_failures, mem_log}
-use Rattle.tape_disk.specs.declared.memory.MemDisk.{MemDisk}
-use Rattle.file_disk.specs.FileDisk.{file_state}
-use Rattle.file_disk.specs.OpenFile.{OpenFile}
-use Rattle.file_disk.specs.declared.system.SystemFile.{SystemFile}
-use Rattle.aptpl_store.specs.State.{OpenStore}
-use Rattle.tape_buffer.specs.State.{BufferState}
+use Rattle.file_disk.specs.declared.error.FileError.{FileError}
 use Rattle.library.specs.Elements.{HeldState}
 use Rattle.vtl_script.specs.Text.{AppendsPart}
-use Rattle.vtl_config.specs.Configs.{Says}
-use Rattle.vtl_config.specs.declared.entries.CartridgeEntry.{CartridgeEntry}
-use Rattle.vtl_config.specs.declared.entries.DriveEntry.{DriveEntry}
 use Rattle.vtl_config.specs.declared.entries.Config.{Config}
 use Rattle.vtl_words.specs.Orders.{Asked, Asks, RefusesWords, check, create, run, texts_of}
 use Rattle.vtl_words.specs.declared.orders.WordsError.{WordsError}
@@ -25,55 +16,36 @@ use Rattle.vtl.specs.declared.programs.Verdict.{Verdict}
 use Rattle.vtl.specs.declared.programs.Verdict.TheVariants.{Done}
 use Rattle.vtl.specs.declared.programs.VtlFault.{VtlFault}
 use Rattle.vtl.specs.declared.programs.VtlFault.TheVariants as Faults
-use Rattle.vtl.specs.Checks.{TellsSide}
-use Rattle.vtl.specs.Configured.{IsNoConfig}
-use Rattle.vtl.specs.Creating.{TellsFiles, names_of}
+use Rattle.vtl.specs.Checks.{LooksAt, TellsLines}
+use Rattle.vtl.specs.Creating.{TellsFiles, files_of}
 use Rattle.vtl.specs.Faults.{IsFailure}
-use Rattle.vtl.specs.Program.{EndsProgram, RunsFrom}
-use Rattle.vtl.specs.Starting.{IsBuiltIn, IsFoundCartridge, IsFoundStore, IsNewCartridge, IsNewStore, IsStarted}
+use Rattle.vtl.specs.Files.{FileAnswers, ReadsConfig}
+use Rattle.vtl.specs.Program.{EndsProgram, IsIdle, RunsFrom}
+use Rattle.vtl.specs.Sides.{SidesGiven, file_sides, memory_state, new_sides}
+use Rattle.vtl.specs.Starting.{IsBuiltIn, IsNotStarted, IsStarted}
 
--- the state of a disk in memory (own)
-abbrev pub memory_state : MemDisk → DiskState
-memory_state disk = log_state (mem_log disk) (mem_failures disk)
-
--- the sides that files hold: a cartridge that was found (own)
-abbrev pub found_cartridge : {D : Type 0} → CartridgeEntry → BufferState D → Type 0
-found_cartridge entry cartridge = IsFoundCartridge cartridge
-
--- the sides that files hold: a store that was found (own)
-abbrev pub found_store : {D : Type 0} → DriveEntry → OpenStore D → Type 0
-found_store entry store = IsFoundStore store
-
--- new sides: a cartridge that was made as its entry says (own)
-abbrev pub new_cartridge : {D : Type 0} → CartridgeEntry → BufferState D → Type 0
-new_cartridge entry cartridge = IsNewCartridge entry.barcode entry.capacities cartridge
-
--- new sides: a store that was made as its entry says (own)
-abbrev pub new_store : {D : Type 0} → DriveEntry → OpenStore D → Type 0
-new_store entry store = IsNewStore entry.number store
-
--- why there is no configuration: its file is not read; or its text is refused, or memory runs out (own)
-abbrev pub IsNotConfigured : VtlFault → Type 0
-IsNotConfigured fault = IsFailure fault ⊎ ((text : List ℕ) × IsNoConfig text fault)
-
--- a library is like this, or it was not switched on: a device or a file failed, or memory ran out (own)
-abbrev pub IsStart : {D : Type 0} → (HeldState D → Type 0) → Result (HeldState D) VtlFault → Type 0
-IsStart Is (Ok held) = Is held
-IsStart Is (Err fault) = IsFailure fault
+-- a library is like this, or it was not switched on for such a fault (own)
+abbrev pub IsStart : {D : Type 0} → (HeldState D → Type 0) → (VtlFault → Type 0)
+    → Result (HeldState D) VtlFault → Type 0
+IsStart Is IsNot (Ok held) = Is held
+IsStart Is IsNot (Err fault) = IsNot fault
 
 -- a library is switched on, a script is run over it, and every buffer is written out (own)
-abbrev pub RunsOver : {D : Type 0} → (D → DiskState) → (HeldState D → Type 0)
-    → Option (List ℕ) → Option (List ℕ) → Option (List ℕ) → Result (Unit {0}) VtlFault → Type 0
-RunsOver {D} state Is left before now outcome =
-    (start : Result (HeldState D) VtlFault) × IsStart Is start × RunsFrom state start left before now outcome
+abbrev pub RunsOver : {D : Type 0} → (D → DiskState) → (HeldState D → Type 0) → (VtlFault → Type 0)
+    → (left left' before now : Option (List ℕ)) → Result (Unit {0}) VtlFault → Type 0
+RunsOver {D} state Is IsNot left left' before now outcome =
+    (start : Result (HeldState D) VtlFault) × IsStart Is IsNot start
+    × RunsFrom state start left left' before now outcome
 
--- a script is run over the library of a configuration, over sides that are given so (own)
-abbrev pub RunsConfig : {D : Type 0} → (D → DiskState) → (CartridgeEntry → BufferState D → Type 0)
-    → (DriveEntry → OpenStore D → Type 0) → Config
-    → Option (List ℕ) → Option (List ℕ) → Option (List ℕ) → Result (Unit {0}) VtlFault → Type 0
-RunsConfig state gives_cartridge gives_store config left before now outcome =
-    RunsOver state (IsStarted gives_cartridge state gives_store config.cartridges.items config.drives.items)
-    left before now outcome
+-- a script is run over the library of a configuration, over such sides; that homes or numbers are double is no reason
+-- (own)
+abbrev pub RunsConfig : {D : Type 0} → (D → DiskState) → SidesGiven D → Config
+    → (left left' before now : Option (List ℕ)) → Result (Unit {0}) VtlFault → Type 0
+RunsConfig state sides config left left' before now outcome =
+    RunsOver state
+    (IsStarted sides.gives_cartridge state sides.gives_store config.cartridges.items config.drives.items)
+    (λ fault. IsFailure fault × IsNotStarted sides config.cartridges.items config.drives.items fault)
+    left left' before now outcome
 
 -- the barcode of the built-in configuration's cartridge (own)
 abbrev pub built_in_barcode : List ℕ
@@ -83,48 +55,77 @@ built_in_barcode = codes "T00001L6"
 abbrev pub built_in_capacities : List ℕ
 built_in_capacities = 16777216 ∷ []
 
--- what `vtl run` does: over the built-in configuration in memory; over that of a file, in memory where that is asked
--- for, and else over its files; where there is none, nothing is written (own)
-abbrev pub RunsOrder : Bool → Option (List ℕ)
-    → Option (List ℕ) → Option (List ℕ) → Option (List ℕ) → Result (Unit {0}) VtlFault → Type 0
-RunsOrder memory None left before now outcome =
-    RunsOver memory_state (IsBuiltIn memory_state built_in_barcode built_in_capacities) left before now outcome
-RunsOrder true (Some path) left before now outcome =
-    ((fault : VtlFault) × IsNotConfigured fault × (outcome ≡ Err fault) × Keeps before now)
-    ⊎ ((text : List ℕ) × (config : Config) × Says text config
-    × RunsConfig memory_state new_cartridge new_store config left before now outcome)
-RunsOrder false (Some path) left before now outcome =
-    ((fault : VtlFault) × IsNotConfigured fault × (outcome ≡ Err fault) × Keeps before now)
-    ⊎ ((text : List ℕ) × (config : Config) × Says text config
-    × RunsConfig file_state found_cartridge found_store config left before now outcome)
+-- a script is run over the library of the configuration that a file says, over such sides; where there is no
+-- configuration, nothing is read or written (own)
+abbrev pub RunsNamed : {D : Type 0} → (D → DiskState) → SidesGiven D → Result Config VtlFault
+    → (left left' before now : Option (List ℕ)) → Result (Unit {0}) VtlFault → Type 0
+RunsNamed state sides (Ok config) left left' before now outcome =
+    RunsConfig state sides config left left' before now outcome
+RunsNamed state sides (Err fault) left left' before now outcome =
+    (outcome ≡ Err fault) × IsIdle left left' before now
 
--- what `vtl create` does: the missing files are made, and each is told of; where there is no configuration, nothing is
--- written (own)
-abbrev pub CreatesOrder : Option (List ℕ) → Option (List ℕ) → Result (Unit {0}) VtlFault → Type 0
-CreatesOrder before now outcome =
-    ((fault : VtlFault) × IsNotConfigured fault × (outcome ≡ Err fault) × Keeps before now)
-    ⊎ ((text : List ℕ) × (config : Config) × Says text config × TellsFiles (names_of config) before now outcome)
+module _ {D : Type 0} (state : D → DiskState) where
+  module _ (reads : List ℕ → Result (Vec ℕ Global) Error → Type 0) where
+    -- what `vtl run` does: over the built-in configuration in memory; over that of a file, in memory where that is
+    -- asked for, and else over its files (own)
+    abbrev pub RunsOrder : (List ℕ → Result D FileError → Type 0) → Bool → Option (List ℕ)
+        → (left left' before now : Option (List ℕ)) → Result (Unit {0}) VtlFault → Type 0
+    RunsOrder opens memory None left left' before now outcome =
+        RunsOver memory_state (IsBuiltIn memory_state built_in_barcode built_in_capacities)
+        (λ fault. fault ≡ Faults.NoMemory) left left' before now outcome
+    RunsOrder opens true (Some name) left left' before now outcome =
+        (config : Result Config VtlFault) × ReadsConfig reads name config
+        × RunsNamed memory_state new_sides config left left' before now outcome
+    RunsOrder opens false (Some name) left left' before now outcome =
+        (config : Result Config VtlFault) × ReadsConfig reads name config
+        × RunsNamed state (file_sides state opens) config left left' before now outcome
 
--- what `vtl check` does: the side on a disk is told, or the file is not opened, and nothing is written (own)
-abbrev pub ChecksOrder : Option (List ℕ) → Option (List ℕ) → Result Verdict VtlFault → Type 0
-ChecksOrder before now result =
-    ((fault : VtlFault) × IsFailure fault × (result ≡ Err fault) × Keeps before now)
-    ⊎ ((disk : OpenFile SystemFile) × TellsSide (file_state disk) before now result)
+  module _ (makes : List ℕ → Result D FileError → Type 0) (leaves takes_away : List ℕ → D → Type 0) where
+    -- the missing files of a configuration are made, and each is told of; where there is no configuration, nothing is
+    -- written (own)
+    abbrev pub CreatesNamed :
+        Result Config VtlFault → (before now : Option (List ℕ)) → Result (Unit {0}) VtlFault → Type 0
+    CreatesNamed (Ok config) before now outcome =
+        TellsFiles state makes leaves takes_away (files_of config) before now outcome
+    CreatesNamed (Err fault) before now outcome = (outcome ≡ Err fault) × Keeps before now
+
+  -- what `vtl create` does, by the configuration that a file says (own)
+  abbrev pub CreatesOrder : (List ℕ → Result (Vec ℕ Global) Error → Type 0)
+      → (List ℕ → Result D FileError → Type 0) → (leaves takes_away : List ℕ → D → Type 0) → List ℕ
+      → (before now : Option (List ℕ)) → Result (Unit {0}) VtlFault → Type 0
+  CreatesOrder reads makes leaves takes_away name before now outcome =
+      (config : Result Config VtlFault) × ReadsConfig reads name config
+      × CreatesNamed makes leaves takes_away config before now outcome
+
+  -- what `vtl check` does: the disk of the file is looked at and handed back, and the side on it is told; or the file
+  -- is not opened, and nothing is written (own)
+  abbrev pub ChecksOrder : (List ℕ → Result D FileError → Type 0) → (List ℕ → D → Type 0) → List ℕ
+      → (before now : Option (List ℕ)) → Result Verdict VtlFault → Type 0
+  ChecksOrder opens_to_read closes name before now result =
+      (((error : FileError) × opens_to_read name (Err error)) × (result ≡ Err Faults.Device) × Keeps before now)
+      ⊎ ((disk : D) × opens_to_read name (Ok disk)
+      × ((last : D) × closes name last
+      × ((lines : Result (List ℕ) VtlFault) × LooksAt (state disk) (state last) lines
+      × TellsLines lines before now result)))
 
 -- it is done, or a fault came (own)
 abbrev pub verdict_from : Result (Unit {0}) VtlFault → Result Verdict VtlFault
 verdict_from (Ok done) = Ok Done
 verdict_from (Err fault) = Err fault
 
--- what an order does (own)
-abbrev pub DoesOrder :
-    Asked → Option (List ℕ) → Option (List ℕ) → Option (List ℕ) → Result Verdict VtlFault → Type 0
-DoesOrder (run memory config) left before now result =
-    (outcome : Result (Unit {0}) VtlFault) × RunsOrder memory config left before now outcome
-    × (result ≡ verdict_from outcome)
-DoesOrder (create config) left before now result =
-    (outcome : Result (Unit {0}) VtlFault) × CreatesOrder before now outcome × (result ≡ verdict_from outcome)
-DoesOrder (check file) left before now result = ChecksOrder before now result
+module _ {D : Type 0} (state : D → DiskState) (files : FileAnswers D) where
+  -- what an order does; but for a run no script is read (own)
+  abbrev pub DoesOrder : Asked → (left left' before now : Option (List ℕ)) → Result Verdict VtlFault → Type 0
+  DoesOrder (run memory config) left left' before now result =
+      (outcome : Result (Unit {0}) VtlFault)
+      × RunsOrder state files.reads files.opens memory config left left' before now outcome
+      × (result ≡ verdict_from outcome)
+  DoesOrder (create config) left left' before now result =
+      (outcome : Result (Unit {0}) VtlFault)
+      × CreatesOrder state files.reads files.makes files.leaves files.takes_away config before now outcome
+      × (result ≡ verdict_from outcome) × Keeps left left'
+  DoesOrder (check file) left left' before now result =
+      ChecksOrder state files.opens_to_read files.closes file before now result × Keeps left left'
 
 -- what is done where words give no order: help is written; or a fault is answered, and nothing is written (own)
 abbrev pub AnswersWords : WordsError → Option (List ℕ) → Option (List ℕ) → Result Verdict VtlFault → Type 0
@@ -134,18 +135,18 @@ AnswersWords (Help text) before now (Err fault) =
 AnswersWords Refused before now result = (result ≡ Err Faults.Words) × Keeps before now
 AnswersWords NoMemory before now result = (result ≡ Err Faults.NoMemory) × Keeps before now
 
--- what the program does for some words: the order that they give, or else what they are answered (own)
-abbrev pub Obeys :
-    List (List ℕ) → Option (List ℕ) → Option (List ℕ) → Option (List ℕ) → Result Verdict VtlFault → Type 0
-Obeys words left before now result =
-    ((asked : Asked) × Asks words asked × DoesOrder asked left before now result)
-    ⊎ ((error : WordsError) × RefusesWords words error × AnswersWords error before now result)
+module _ {D : Type 0} (state : D → DiskState) (files : FileAnswers D) where
+  -- what the program does for some words: the order that they give, or else what they are answered (own)
+  abbrev pub Obeys : List (List ℕ) → (left left' before now : Option (List ℕ)) → Result Verdict VtlFault → Type 0
+  Obeys words left left' before now result =
+      ((asked : Asked) × Asks words asked × DoesOrder state files asked left left' before now result)
+      ⊎ ((error : WordsError) × RefusesWords words error × AnswersWords error before now result × Keeps left left')
 
--- what the program does for the words that the system gave, and for none that it did not (own)
-abbrev pub ObeysGiven : Result (List (List ℕ)) VtlFault
-    → Option (List ℕ) → Option (List ℕ) → Option (List ℕ) → Result Verdict VtlFault → Type 0
-ObeysGiven (Ok words) left before now result = Obeys words left before now result
-ObeysGiven (Err fault) left before now result = (result ≡ Err fault) × Keeps before now
+  -- what the program does for the words that the system gave, and for none that it did not (own)
+  abbrev pub ObeysGiven :
+      Result (List (List ℕ)) VtlFault → (left left' before now : Option (List ℕ)) → Result Verdict VtlFault → Type 0
+  ObeysGiven (Ok words) left left' before now result = Obeys words left left' before now result
+  ObeysGiven (Err fault) left left' before now result = (result ≡ Err fault) × IsIdle left left' before now
 
 -- the words that the system gave, as bytes, or why it gave none (own)
 abbrev pub given_words : Result (Vec (String Global) Global) VtlFault → Result (List (List ℕ)) VtlFault
@@ -154,9 +155,9 @@ given_words (Err fault) = Err fault
 
 -- the whole program over its streams: it does what its words ask for, and its status and line are those of the outcome
 -- (own)
-pub record RunsProgram
-    (words : Result (List (List ℕ)) VtlFault) (left before now errors errors' : Option (List ℕ)) (ended : Ended) :
-    Type 0 where
+pub record RunsProgram {D : Type 0} (state : D → DiskState) (files : FileAnswers D)
+    (words : Result (List (List ℕ)) VtlFault) (left left' before now errors errors' : Option (List ℕ))
+    (ended : Ended) : Type 0 where
   pub outcome : Result Verdict VtlFault
-  pub obeys : ObeysGiven words left before now outcome
+  pub obeys : ObeysGiven state files words left left' before now outcome
   pub ends : EndsProgram outcome errors errors' ended

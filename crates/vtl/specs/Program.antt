@@ -1,7 +1,8 @@
 -- What the program does over its streams (own).
-use Rattle.std.specs.Prelude.{◌≡◌, ℕ, ◌++◌, ◌∷◌, [], true, List, Option, Result, Ok, Err, OnOk}
+use Rattle.std.specs.Prelude.{◌≡◌, ◌≢◌, ℕ, ◌++◌, ◌∷◌, [], true, List, Option, Result, Ok, Err, OnOk}
 use Rattle.std.specs.Io.KnownBytes.{Appends, Keeps}
 use Rattle.vtl_script.specs.declared.faults.ScriptFault.{ScriptFault}
+use Rattle.vtl_script.specs.declared.faults.ScriptFault.TheVariants.{ReadFault}
 use Rattle.tape_disk.specs.Disk.{DiskState}
 use Rattle.library.specs.Elements.{HeldState}
 use Rattle.library.specs.Finish.{WritesOut}
@@ -14,7 +15,7 @@ use Rattle.vtl.specs.declared.programs.VtlFault.{VtlFault}
 use Rattle.vtl.specs.declared.programs.VtlFault.TheVariants.{Device}
 use Rattle.vtl.specs.declared.programs.Ended.{Ended}
 use Rattle.vtl.specs.Faults.{fault_of, status_of, fault_text}
-use Rattle.vtl_script.specs.Runs.{RunsScript}
+use Rattle.vtl_script.specs.Runs.{RunsScript, TakesWithin}
 
 -- the program's outcome, by how its script ended and whether all was then written out: the first fault decides (own)
 abbrev pub outcome_of : Result (Unit {0}) ScriptFault → Result (Unit {0}) Unwritten → Result (Unit {0}) VtlFault
@@ -23,23 +24,28 @@ outcome_of (Ok done) (Err unwritten) = Err Device
 outcome_of (Err fault) written = Err (fault_of fault)
 
 -- a script was run over this library, one of one host with no move in the order of its lines, and then every buffer
--- was written out (own)
-pub record RunsStarted {D : Type 0} (state : D → DiskState) (old : HeldState D) (left before now : Option (List ℕ))
-    (outcome : Result (Unit {0}) VtlFault) : Type 0 where
+-- was written out; no more was read than a script may have (own)
+pub record RunsStarted {D : Type 0} (state : D → DiskState) (old : HeldState D)
+    (left left' before now : Option (List ℕ)) (outcome : Result (Unit {0}) VtlFault) : Type 0 where
   pub mid : HeldState D
   pub new : HeldState D
   pub ended : Result (Unit {0}) ScriptFault
   pub written : Result (Unit {0}) Unwritten
   pub runs : RunsScript (is_configured_in old) (LibraryAnswers state) old left before mid now ended
   pub one_host : OnOk ended (LibraryAnswersHost state old left before mid now)
+  pub takes : ended ≢ Err ReadFault → TakesWithin left 0 left'
   pub finishes : WritesOut state mid written new
   pub outcome_is : outcome ≡ outcome_of ended written
 
--- a script was run over the library that was started; where none was, nothing was written (own)
+-- nothing was read, and nothing was written (own)
+abbrev pub IsIdle : (left left' before now : Option (List ℕ)) → Type 0
+IsIdle left left' before now = Keeps left left' × Keeps before now
+
+-- a script was run over the library that was started; where none was, nothing was read or written (own)
 abbrev pub RunsFrom : {D : Type 0} → (D → DiskState) → Result (HeldState D) VtlFault
-    → Option (List ℕ) → Option (List ℕ) → Option (List ℕ) → Result (Unit {0}) VtlFault → Type 0
-RunsFrom state (Ok old) left before now outcome = RunsStarted state old left before now outcome
-RunsFrom state (Err fault) left before now outcome = (outcome ≡ Err fault) × Keeps before now
+    → (left left' before now : Option (List ℕ)) → Result (Unit {0}) VtlFault → Type 0
+RunsFrom state (Ok old) left left' before now outcome = RunsStarted state old left left' before now outcome
+RunsFrom state (Err fault) left left' before now outcome = (outcome ≡ Err fault) × IsIdle left left' before now
 
 -- the status where nothing failed: 0, or 1 where the file that was checked is refused (own)
 abbrev pub verdict_status : Verdict → ℕ

@@ -1,12 +1,9 @@
 -- What a library holds when it was just switched on.
-use Rattle.std.specs.Prelude.{◌≡◌, ℕ, [], true, false, List, Option, None, Some, Ok}
-use Rattle.std.specs.List.{Contains}
+use Rattle.std.specs.Prelude.{◌≡◌, ◌⊎◌, ℕ, ◌∷◌, ◌++◌, true, List, Option, None, Some, Ok}
+use Rattle.std.specs.List.{All, Contains}
 use Rattle.tape_disk.specs.Disk.{DiskState}
-use Rattle.cartridge.specs.Contents.{contents_from, heading_with}
-use Rattle.cartridge.specs.State.{ClosedCartridge}
 use Rattle.tape_buffer.specs.Moves.{buffer_below}
-use Rattle.tape_buffer.specs.State.{BufferState, closed_buffer, state_of}
-use Rattle.aptpl_store.specs.Contents.{heading_for}
+use Rattle.tape_buffer.specs.State.{BufferState, state_of}
 use Rattle.aptpl_store.specs.Kept.{store_kept}
 use Rattle.aptpl_store.specs.State.{OpenStore}
 use Rattle.changer.specs.Slots.{held_at, is_slot}
@@ -16,40 +13,12 @@ use Rattle.library.specs.Elements.{BayState, HeldState, bay_at}
 use Rattle.vtl_config.specs.Entries.{AreDistinct, address_of, homes_of, numbers_of}
 use Rattle.vtl_config.specs.declared.entries.CartridgeEntry.{CartridgeEntry}
 use Rattle.vtl_config.specs.declared.entries.DriveEntry.{DriveEntry}
+use Rattle.vtl.specs.Sides.{IsNewCartridge, IsNewStore, SidesGiven}
 use Rattle.vtl.specs.declared.programs.VtlFault.{VtlFault}
 use Rattle.vtl.specs.declared.programs.VtlFault.TheVariants.{Words, Config, Script, Device, NoMemory}
 
 module _ {D : Type 0} where
-  -- a cartridge that was just made, closed: it has this barcode and these capacities, and no object (own)
-  pub record IsNewCartridge (barcode capacities : List ℕ) (cartridge : BufferState D) : Type 0 where
-    pub shelved : ClosedCartridge D
-    pub closed : cartridge ≡ closed_buffer shelved
-    pub known : shelved.known ≡ true
-    pub torn : shelved.torn ≡ []
-    pub contents : shelved.contents ≡ contents_from (heading_with barcode capacities) []
-
-  -- a cartridge that was found, closed: what its side gives is not known yet (own)
-  abbrev pub IsFoundCartridge : BufferState D → Type 0
-  IsFoundCartridge cartridge =
-      (shelved : ClosedCartridge D) × (cartridge ≡ closed_buffer shelved) × (shelved.known ≡ false)
-
-  -- a store of a drive that works, with no save under way (own)
-  abbrev pub IsFoundStore : OpenStore D → Type 0
-  IsFoundStore store = (store.torn ≡ None) × (store.failed ≡ false)
-
-  -- the store of the drive of this number that was just made: nothing was saved (own)
-  pub record IsNewStore (number : ℕ) (store : OpenStore D) : Type 0 where
-    pub heading : store.heading ≡ heading_for number
-    pub states : store.states ≡ []
-    pub works : IsFoundStore store
-
   module _ (state : D → DiskState) where
-    -- the cartridge that was found on a disk: closed, and a read of its disk gives what one gave before (own)
-    abbrev pub IsFoundOn : D → BufferState D → Type 0
-    IsFoundOn disk cartridge =
-        (shelved : ClosedCartridge D) × (cartridge ≡ closed_buffer shelved)
-        × ((state disk).honest → (state shelved.disk).seen ≡ (state disk).seen)
-
     -- The library of the built-in configuration: drive 1 alone, switched on over a new store, with a new cartridge of
     -- this barcode and these capacities; no slot holds anything (own).
     pub record IsBuiltIn (barcode capacities : List ℕ) (held : HeldState D) : Type 0 where
@@ -99,11 +68,29 @@ module _ {D : Type 0} where
         pub slots : (address : ℕ) → is_slot address ≡ true → StandsAt entries address (held_at held.slots address)
         pub bays : (number : ℕ) → IsDriveOf entries drives number (bay_at held.bays number)
 
--- why a library is not switched on: a device or a file failed; memory ran out; or homes or numbers are double, which
--- they are not in a configuration (own)
-abbrev pub IsNotStarted : List CartridgeEntry → List DriveEntry → VtlFault → Type 0
-IsNotStarted entries drives Device = Unit {0}
-IsNotStarted entries drives NoMemory = Unit {0}
-IsNotStarted entries drives Config = ¬ (AreDistinct (homes_of entries) × AreDistinct (numbers_of drives))
-IsNotStarted entries drives Words = ⊥
-IsNotStarted entries drives (Script line) = ⊥
+-- each of these entries was given something (own)
+abbrev pub AreGiven : {E G : Type 0} → (E → G → Type 0) → List E → Type 0
+AreGiven {E} {G} gives entries = All (λ entry. (given : G) × gives entry given) entries
+
+-- each of these entries before one was given something, and that one was refused so (own)
+pub record IsRefusedIn {E G : Type 0} (gives : E → G → Type 0) (refuses : E → Type 0) (entries : List E) :
+    Type 0 where
+  pub before : List E
+  pub entry : E
+  pub behind : List E
+  pub are : entries ≡ before ++ entry ∷ behind
+  pub given : AreGiven gives before
+  pub refused : refuses entry
+
+module _ {D : Type 0} (sides : SidesGiven D) (entries : List CartridgeEntry) (drives : List DriveEntry) where
+  -- why a library is not switched on over such sides: one is refused, the first in the order of cartridges and then of
+  -- drives; memory runs out; or homes or numbers are double, which they are not in a configuration (own)
+  abbrev pub IsNotStarted : VtlFault → Type 0
+  IsNotStarted Device =
+      IsRefusedIn sides.gives_cartridge (λ entry. sides.refuses_cartridge entry Device) entries
+      ⊎ (AreGiven sides.gives_cartridge entries
+      × IsRefusedIn sides.gives_store (λ entry. sides.refuses_store entry Device) drives)
+  IsNotStarted NoMemory = Unit {0}
+  IsNotStarted Config = ¬ (AreDistinct (homes_of entries) × AreDistinct (numbers_of drives))
+  IsNotStarted Words = ⊥
+  IsNotStarted (Script line) = ⊥

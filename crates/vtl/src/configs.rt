@@ -1,12 +1,12 @@
 //! The configuration that a file says.
-ghost use Rattle.std.specs.Prelude.{ℕ, List, IfOk, IfErr};
+ghost use Rattle.std.specs.Prelude.{IfOk, IfErr};
 ghost use Rattle.vtl_config.specs.Configs.{Says};
 ghost use Rattle.vtl.specs.Configured.{IsNoConfig};
-ghost use Rattle.vtl.specs.Orders.{IsNotConfigured};
+ghost use Rattle.vtl.specs.Files.{ReadsConfig};
 
+use crate::files::TextFiles;
 use crate::programs::VtlFault;
 use std::alloc::Global;
-use std::fs;
 use vtl_config::{Config, ConfigError, read_config};
 
 /// The configuration that a text says, as `read_config` reads it. A text that it refuses is a `Config`
@@ -22,13 +22,12 @@ pub fn config_of(alloc: Global, text: &[u8]) -> Result<Config, VtlFault>
     }
 }
 
-/// The configuration that a file says. One that can't be read is a `Device` fault.
-pub fn config_in(rt: &HostRuntime, path: &str) -> Result<Config, VtlFault>
-    ensures ok { IfOk result (λ config. (text : List ℕ) × Says text config) }
-    ensures err { IfErr result IsNotConfigured }
+/// The configuration that the file of this name says. One that can't be read is a `Device` fault.
+pub fn config_in<F: TextFiles>(alloc: Global, files: &F, name: &str) -> Result<Config, VtlFault>
+    ensures { ReadsConfig F.reads name.now result }
 {
-    match fs::read(rt, path) {
-        Ok(text) => config_of(rt.alloc(), text.as_slice()),
+    match files.read(name) {
+        Ok(text) => config_of(alloc, text.as_slice()),
         Err(error) => Err(VtlFault::from(error)),
     }
 }

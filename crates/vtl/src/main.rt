@@ -4,6 +4,7 @@
 pub mod checking;
 pub mod configs;
 pub mod creating;
+pub mod files;
 pub mod laws;
 pub mod orders;
 pub mod programs;
@@ -14,6 +15,7 @@ pub mod starting;
 mod tests;
 mod writing;
 
+use files::SystemFiles;
 use orders::run;
 use programs::VtlFault;
 use std::env;
@@ -43,5 +45,14 @@ fn main(rt: HostRuntime) -> ExitCode {
     let mut writer = io::writer(&stdout);
     let mut errors = io::writer(&stderr);
     let words = words_of(&rt);
-    ExitCode::from(run(&rt, words, &mut reader, &mut writer, &mut errors).status)
+    let files = SystemFiles { rt: &rt };
+    let ended = run(
+        rt.alloc(),
+        &files,
+        words,
+        &mut reader,
+        &mut writer,
+        &mut errors,
+    );
+    ExitCode::from(ended.status)
 }

@@ -2,17 +2,19 @@
 ghost use Rattle.std.specs.Prelude.{◌≡◌, ℕ, List, option_map, string_bytes};
 ghost use Rattle.vtl_config.specs.Configs.{Says};
 ghost use Rattle.vtl_words.specs.Orders.{asked_of, texts_of};
-ghost use Rattle.vtl.specs.Orders.{ChecksOrder, CreatesOrder, DoesOrder, Obeys, RunsConfig, RunsOrder, RunsProgram, given_words};
+ghost use Rattle.vtl.specs.Files.{answers_of};
+ghost use Rattle.vtl.specs.Orders.{AnswersWords, ChecksOrder, CreatesOrder, DoesOrder, Obeys, RunsConfig, RunsOrder, RunsProgram, given_words};
 ghost use Rattle.vtl.specs.Program.{RunsFrom, outcome_of};
 
+use crate::checking::{Checked, check_side};
 use crate::configs::config_in;
 use crate::creating::create_missing;
+use crate::files::{ChangeFiles, MakeFiles, ReadFiles, TextFiles};
 use crate::programs::{Ended, Verdict, VtlFault, end};
-use crate::side_checks::tell_side;
+use crate::side_checks::tell_lines;
 use crate::sides::{FileSides, NewSides, Sides};
 use crate::starting::{built_in, start};
 use crate::writing::tell;
-use file_disk::open_to_read;
 use library::{Held, Unwritten, run_held};
 use std::alloc::Global;
 use std::io::{Read, Write};
@@ -40,8 +42,8 @@ pub fn run_started<D: Disk + Drop, R: Read, W: Write>(
     reader: &mut R,
     writer: &mut W,
 ) -> Result<(), VtlFault>
-    ensures { RunsFrom D.state start
-        (R.remaining reader.old) (W.contents writer.old) (W.contents writer.new) result }
+    ensures { RunsFrom D.state start (R.remaining reader.old) (R.remaining reader.new)
+        (W.contents writer.old) (W.contents writer.new) result }
 {
     let mut held = start?;
     let ran = run_held(alloc, &mut held, reader, writer);
@@ -58,8 +60,8 @@ fn run_config<D: Disk + Drop, S: Sides<D>, R: Read, W: Write>(
     writer: &mut W,
 ) -> Result<(), VtlFault>
     requires { (text : List ℕ) × Says text config.now }
-    ensures { RunsConfig D.state S.gives_cartridge S.gives_store config.now
-        (R.remaining reader.old) (W.contents writer.old) (W.contents writer.new) result }
+    ensures { RunsConfig D.state S.given config.now (R.remaining reader.old) (R.remaining reader.new)
+        (W.contents writer.old) (W.contents writer.new) result }
 {
     let (cartridges, drives) = (config.cartridges.as_slice(), config.drives.as_slice());
     let held = start(alloc, sides, cartridges, drives);
@@ -67,100 +69,160 @@ fn run_config<D: Disk + Drop, S: Sides<D>, R: Read, W: Write>(
 }
 
 // Runs a script over the library of the words.
-fn run_order<R: Read, W: Write>(
-    rt: &HostRuntime,
+fn run_order<D: Disk + Drop, F: TextFiles + ChangeFiles<D>, R: Read, W: Write>(
+    alloc: Global,
+    files: &F,
     memory: bool,
     config: Option<String>,
     reader: &mut R,
     writer: &mut W,
 ) -> Result<(), VtlFault>
-    ensures { RunsOrder memory (option_map string_bytes config)
-        (R.remaining reader.old) (W.contents writer.old) (W.contents writer.new) result }
+    ensures { RunsOrder D.state F.reads F.opens memory (option_map string_bytes config)
+        (R.remaining reader.old) (R.remaining reader.new)
+        (W.contents writer.old) (W.contents writer.new) result }
 {
-    let alloc = rt.alloc();
-    let Some(path) = config else {
+    let Some(name) = config else {
         return run_started(alloc, built_in(alloc), reader, writer);
     };
-    let config = config_in(rt, path.as_str())?;
+    let config = config_in(alloc, files, name.as_str())?;
     if memory {
         run_config(alloc, &NewSides, &config, reader, writer)
     } else {
-        run_config(alloc, &FileSides { rt }, &config, reader, writer)
+        run_config::<D, FileSides<F>, R, W>(alloc, &FileSides { files }, &config, reader, writer)
     }
 }
 
 // Makes the missing files of the configuration that a file says.
-fn create_order<W: Write>(rt: &HostRuntime, path: &str, writer: &mut W) -> Result<(), VtlFault>
-    ensures { CreatesOrder (W.contents writer.old) (W.contents writer.new) result }
+fn create_order<D: Disk + Drop, F: TextFiles + MakeFiles<D>, W: Write>(
+    alloc: Global,
+    files: &F,
+    name: &str,
+    writer: &mut W,
+) -> Result<(), VtlFault>
+    ensures { CreatesOrder D.state F.reads F.makes F.leaves F.takes_away name.now
+        (W.contents writer.old) (W.contents writer.new) result }
 {
-    let config = config_in(rt, path)?;
-    create_missing(rt, &config, writer)
+    let config = config_in(alloc, files, name)?;
+    create_missing::<D, F, W>(alloc, files, &config, writer)
 }
 
 // Tells what the side in a file holds.
-fn check_order<W: Write>(rt: &HostRuntime, path: &str, writer: &mut W) -> Result<Verdict, VtlFault>
-    ensures { ChecksOrder (W.contents writer.old) (W.contents writer.new) result }
+fn check_order<D: Disk + Drop, F: ReadFiles<D>, W: Write>(
+    alloc: Global,
+    files: &F,
+    name: &str,
+    writer: &mut W,
+) -> Result<Verdict, VtlFault>
+    ensures { ChecksOrder D.state F.opens_to_read F.closes name.now
+        (W.contents writer.old) (W.contents writer.new) result }
 {
-    match open_to_read(rt, path) {
-        Ok(disk) => tell_side(rt.alloc(), disk, writer),
+    match files.open_to_read(name) {
+        Ok(disk) => {
+            let Checked { lines, disk } = check_side(alloc, disk);
+            files.close(name, disk);
+            tell_lines(lines, writer)
+        }
         Err(_) => Err(VtlFault::Device),
     }
 }
 
 // Does what an order asks for.
-fn do_order<R: Read, W: Write>(
-    rt: &HostRuntime,
+fn do_order<
+    D: Disk + Drop,
+    F: TextFiles + ReadFiles<D> + ChangeFiles<D> + MakeFiles<D>,
+    R: Read,
+    W: Write,
+>(
+    alloc: Global,
+    files: &F,
     order: Order,
     reader: &mut R,
     writer: &mut W,
 ) -> Result<Verdict, VtlFault>
-    ensures { DoesOrder (asked_of order)
-        (R.remaining reader.old) (W.contents writer.old) (W.contents writer.new) result }
+    ensures { DoesOrder D.state
+        (answers_of F.reads F.opens_to_read F.closes F.opens F.makes F.leaves F.takes_away)
+        (asked_of order)
+        (R.remaining reader.old) (R.remaining reader.new)
+        (W.contents writer.old) (W.contents writer.new) result }
 {
     match order {
-        Order::Run { memory, config } => run_order(rt, memory, config, reader, writer)?,
-        Order::Create { config } => create_order(rt, config.as_str(), writer)?,
-        Order::Check { file } => return check_order(rt, file.as_str(), writer),
+        Order::Run { memory, config } => {
+            run_order::<D, F, R, W>(alloc, files, memory, config, reader, writer)?
+        }
+        Order::Create { config } => {
+            create_order::<D, F, W>(alloc, files, config.as_str(), writer)?
+        }
+        Order::Check { file } => {
+            return check_order::<D, F, W>(alloc, files, file.as_str(), writer);
+        }
     }
     Ok(Verdict::Done)
 }
 
-/// Does what the words of a command line ask for. The first word is the program's name.
-pub fn obey<R: Read, W: Write>(
-    rt: &HostRuntime,
+// Answers words that give no order.
+fn answer_words<W: Write>(error: WordsError, writer: &mut W) -> Result<Verdict, VtlFault>
+    ensures { AnswersWords error (W.contents writer.old) (W.contents writer.new) result }
+{
+    match error {
+        WordsError::Help(text) => {
+            tell(writer, text.as_bytes())?;
+            Ok(Verdict::Done)
+        }
+        WordsError::Refused => Err(VtlFault::Words),
+        WordsError::NoMemory => Err(VtlFault::NoMemory),
+    }
+}
+
+/// Does what the words of a command line ask for, over these files. The first word is the program's name.
+pub fn obey<
+    D: Disk + Drop,
+    F: TextFiles + ReadFiles<D> + ChangeFiles<D> + MakeFiles<D>,
+    R: Read,
+    W: Write,
+>(
+    alloc: Global,
+    files: &F,
     words: &[String],
     reader: &mut R,
     writer: &mut W,
 ) -> Result<Verdict, VtlFault>
-    ensures { Obeys (texts_of words.now)
-        (R.remaining reader.old) (W.contents writer.old) (W.contents writer.new) result }
+    ensures { Obeys D.state
+        (answers_of F.reads F.opens_to_read F.closes F.opens F.makes F.leaves F.takes_away)
+        (texts_of words.now)
+        (R.remaining reader.old) (R.remaining reader.new)
+        (W.contents writer.old) (W.contents writer.new) result }
 {
-    match read_words(rt.alloc(), words) {
-        Ok(order) => do_order(rt, order, reader, writer),
-        Err(WordsError::Help(text)) => {
-            tell(writer, text.as_bytes())?;
-            Ok(Verdict::Done)
-        }
-        Err(WordsError::Refused) => Err(VtlFault::Words),
-        Err(WordsError::NoMemory) => Err(VtlFault::NoMemory),
+    match read_words(alloc, words) {
+        Ok(order) => do_order::<D, F, R, W>(alloc, files, order, reader, writer),
+        Err(error) => answer_words(error, writer),
     }
 }
 
-/// The program over its three streams: it does what its words ask for, and reports a fault by one line on the third
-/// stream and by its status. Where the system gave no words, their fault is reported.
-pub fn run<R: Read, W: Write, E: Write>(
-    rt: &HostRuntime,
+/// The program over its files and its three streams: it does what its words ask for, and reports a fault by one line on
+/// the third stream and by its status. Where the system gave no words, their fault is reported.
+pub fn run<
+    D: Disk + Drop,
+    F: TextFiles + ReadFiles<D> + ChangeFiles<D> + MakeFiles<D>,
+    R: Read,
+    W: Write,
+    E: Write,
+>(
+    alloc: Global,
+    files: &F,
     words: Result<Vec<String>, VtlFault>,
     reader: &mut R,
     writer: &mut W,
     errors: &mut E,
 ) -> Ended
-    ensures { RunsProgram (given_words words)
-        (R.remaining reader.old) (W.contents writer.old) (W.contents writer.new)
+    ensures { RunsProgram D.state
+        (answers_of F.reads F.opens_to_read F.closes F.opens F.makes F.leaves F.takes_away)
+        (given_words words)
+        (R.remaining reader.old) (R.remaining reader.new)
+        (W.contents writer.old) (W.contents writer.new)
         (E.contents errors.old) (E.contents errors.new) result }
 {
     let outcome = match words {
-        Ok(words) => obey(rt, words.as_slice(), reader, writer),
+        Ok(words) => obey::<D, F, R, W>(alloc, files, words.as_slice(), reader, writer),
         Err(fault) => Err(fault),
     };
     end(outcome, errors)

@@ -39,9 +39,11 @@ impl From<ScriptFault> for VtlFault {
 }
 
 impl From<io::Error> for VtlFault {
-    ghost use Rattle.vtl.specs.Faults.{IsFailure};
+    ghost use Rattle.std.specs.Prelude.{◌≡◌};
+    ghost use Rattle.std.specs.IoError.{error_kind};
+    ghost use Rattle.vtl.specs.Faults.{fault_of_error};
 
-    ghost from_gives = { λ _ result. IsFailure result };
+    ghost from_gives = { λ error result. result ≡ fault_of_error (error_kind error) };
 
     fn from(error: io::Error) -> Self {
         match error.kind() {

@@ -1,14 +1,12 @@
 //! What the side on a disk holds is told.
 ghost use Rattle.std.specs.Prelude.{◌≡◌, ◌==◌, ◌||◌, List, ℕ, IfOk, IfErr, codes};
 ghost use Rattle.std.specs.List.{starts_with};
-ghost use Rattle.vtl.specs.Checks.{TellsSide, verdict_of};
+ghost use Rattle.vtl.specs.Checks.{TellsLines, verdict_of};
 
-use crate::checking::{Checked, check_side};
 use crate::programs::{Verdict, VtlFault};
 use crate::writing::tell;
-use std::alloc::Global;
 use std::io::Write;
-use tape_disk::Disk;
+use vtl_base::Bytes;
 
 // Whether the lines of a side tell what it holds, or else why it holds nothing.
 fn verdict_of(lines: &[u8]) -> Verdict
@@ -21,16 +19,14 @@ fn verdict_of(lines: &[u8]) -> Verdict
     }
 }
 
-/// Writes the lines of the side on a disk: `Done` where they tell what it holds, `Refused` where they
-/// tell why it gives nothing. A disk or a writer that fails is a `Device` fault.
-pub fn tell_side<D: Disk + Drop, W: Write>(
-    alloc: Global,
-    disk: D,
+/// Writes the lines of a side: `Done` where they tell what it holds, `Refused` where they tell why it gives nothing. A
+/// writer that fails is a `Device` fault. Where no lines are told nothing is written, and the fault is why.
+pub fn tell_lines<W: Write>(
+    lines: Result<Bytes, VtlFault>,
     writer: &mut W,
 ) -> Result<Verdict, VtlFault>
-    ensures { TellsSide (D.state disk) (W.contents writer.old) (W.contents writer.new) result }
+    ensures { TellsLines lines (W.contents writer.old) (W.contents writer.new) result }
 {
-    let Checked { lines, disk: _ } = check_side(alloc, disk);
     let lines = match lines {
         Ok(lines) => lines,
         Err(fault) => return Err(fault),

@@ -1,19 +1,15 @@
 //! Where the sides of a library come from: out of files, or made in memory.
 ghost use Rattle.std.specs.Prelude.{◌≡◌, IfOk, IfErr};
-ghost use Rattle.aptpl_store.specs.Contents.{GivesStates};
 ghost use Rattle.aptpl_store.specs.Kept.{store_kept};
-ghost use Rattle.aptpl_store.specs.State.{OpenStore};
 ghost use Rattle.drive_core.specs.State.{left_of};
-ghost use Rattle.tape_buffer.specs.State.{BufferState};
 ghost use Rattle.vtl.specs.Faults.{IsFailure};
-ghost use Rattle.vtl.specs.Starting.{IsFoundCartridge, IsFoundOn, IsFoundStore};
-ghost use Rattle.vtl_config.specs.declared.entries.CartridgeEntry.{CartridgeEntry};
-ghost use Rattle.vtl_config.specs.declared.entries.DriveEntry.{DriveEntry};
+ghost use Rattle.vtl.specs.Files.{HasFailed};
+ghost use Rattle.vtl.specs.Sides.{IsFoundOn, IsNoStoreOn, IsStoreOn, SidesGiven};
 
+use crate::files::ChangeFiles;
 use crate::programs::VtlFault;
 use aptpl_store::{AptplStore, StoreError, StoreRefused};
 use cartridge::{Cartridge, CartridgeError, NotCreated, Shelved};
-use file_disk::{FileDisk, open};
 use library::Parked;
 use pr_core::Reservations;
 use std::alloc::Global;
@@ -29,27 +25,28 @@ pub struct DriveStore<D: Disk> {
 
 /// What gives the sides of a library, entry by entry.
 pub trait Sides<D: Disk> {
-    ghost gives_cartridge: { CartridgeEntry → BufferState D → Type 0 };
-
-    ghost gives_store: { DriveEntry → OpenStore D → Type 0 };
+    // What a side may be, and why one may be refused.
+    ghost given: { SidesGiven D };
 
     /// The cartridge of this entry, closed.
     fn cartridge(&self, alloc: Global, entry: &CartridgeEntry) -> Result<Parked<D>, VtlFault>
-        ensures ok { IfOk result (gives_cartridge entry.now) }
-        ensures err { IfErr result IsFailure };
+        ensures ok { IfOk result (given.gives_cartridge entry.now) }
+        ensures err { IfErr result (given.refuses_cartridge entry.now) }
+        ensures failure { IfErr result IsFailure };
 
     /// The store of this entry, and what a loss of power leaves of the state that it saved last.
     fn store(&self, alloc: Global, entry: &DriveEntry) -> Result<DriveStore<D>, VtlFault>
-        ensures ok { IfOk result (λ opened. gives_store entry.now opened.store) }
+        ensures ok { IfOk result (λ opened. given.gives_store entry.now opened.store) }
         ensures left { IfOk result (λ opened.
             opened.left ≡ left_of (store_kept opened.store).saved) }
-        ensures err { IfErr result IsFailure };
+        ensures err { IfErr result (given.refuses_store entry.now) }
+        ensures failure { IfErr result IsFailure };
 }
 
 /// The sides that files hold.
 #[derive(Clone, Copy)]
-pub struct FileSides<'a> {
-    pub rt: &'a HostRuntime,
+pub struct FileSides<'a, F> {
+    pub files: &'a F,
 }
 
 /// New sides, in memory.
@@ -58,9 +55,8 @@ pub struct NewSides;
 
 // A closed cartridge of which nothing is known but what the disk holds.
 fn settled<D: Disk + Drop>(alloc: Global, mut disk: D) -> Result<Parked<D>, VtlFault>
-    ensures ok { IfOk result IsFoundCartridge }
-    ensures found { IfOk result (IsFoundOn D.state disk) }
-    ensures err { IfErr result IsFailure }
+    ensures ok { IfOk result (IsFoundOn D.state disk) }
+    ensures err { IfErr result (λ fault. (fault ≡ VtlFault.Device) × HasFailed D.state disk) }
 {
     match disk.sync() {
         Ok(()) => Ok(Parked::of(alloc, Shelved::of(disk))),
@@ -70,12 +66,10 @@ fn settled<D: Disk + Drop>(alloc: Global, mut disk: D) -> Result<Parked<D>, VtlF
 
 // The store that a disk holds.
 fn opened<D: Disk + Drop>(alloc: Global, disk: D) -> Result<DriveStore<D>, VtlFault>
-    ensures ok { IfOk result (λ opened. IsFoundStore opened.store) }
-    ensures gives { IfOk result (λ opened. (D.state disk).honest →
-        GivesStates opened.store.heading opened.store.states (D.state disk).seen) }
+    ensures ok { IfOk result (λ opened. IsStoreOn D.state disk opened.store) }
     ensures left { IfOk result (λ opened.
         opened.left ≡ left_of (store_kept opened.store).saved) }
-    ensures err { IfErr result IsFailure }
+    ensures err { IfErr result (IsNoStoreOn D.state disk) }
 {
     match AptplStore::open(alloc, disk) {
         Ok((store, left)) => Ok(DriveStore { store, left }),
@@ -86,26 +80,20 @@ fn opened<D: Disk + Drop>(alloc: Global, disk: D) -> Result<DriveStore<D>, VtlFa
     }
 }
 
-impl<'a> Sides<FileDisk> for FileSides<'a> {
-    ghost use Rattle.vtl.specs.Orders.{found_cartridge, found_store};
+impl<'a, D: Disk + Drop, F: ChangeFiles<D>> Sides<D> for FileSides<'a, F> {
+    ghost use Rattle.vtl.specs.Sides.{file_sides};
 
-    ghost gives_cartridge = { found_cartridge };
+    ghost given = { file_sides D.state F.opens };
 
-    ghost gives_store = { found_store };
-
-    fn cartridge(
-        &self,
-        alloc: Global,
-        entry: &CartridgeEntry,
-    ) -> Result<Parked<FileDisk>, VtlFault> {
-        match open(self.rt, entry.file.as_str()) {
+    fn cartridge(&self, alloc: Global, entry: &CartridgeEntry) -> Result<Parked<D>, VtlFault> {
+        match self.files.open(entry.file.as_str()) {
             Ok(disk) => settled(alloc, disk),
             Err(_) => Err(VtlFault::Device),
         }
     }
 
-    fn store(&self, alloc: Global, entry: &DriveEntry) -> Result<DriveStore<FileDisk>, VtlFault> {
-        match open(self.rt, entry.reservations.as_str()) {
+    fn store(&self, alloc: Global, entry: &DriveEntry) -> Result<DriveStore<D>, VtlFault> {
+        match self.files.open(entry.reservations.as_str()) {
             Ok(disk) => opened(alloc, disk),
             Err(_) => Err(VtlFault::Device),
         }
@@ -113,11 +101,9 @@ impl<'a> Sides<FileDisk> for FileSides<'a> {
 }
 
 impl Sides<MemDisk> for NewSides {
-    ghost use Rattle.vtl.specs.Orders.{new_cartridge, new_store};
+    ghost use Rattle.vtl.specs.Sides.{new_sides};
 
-    ghost gives_cartridge = { new_cartridge };
-
-    ghost gives_store = { new_store };
+    ghost given = { new_sides };
 
     // The one failure of a disk in memory is a growth that was refused.
     fn cartridge(

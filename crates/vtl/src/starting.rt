@@ -1,11 +1,12 @@
 //! A library is switched on: each cartridge is at its home.
-ghost use Rattle.std.specs.Prelude.{◌≡◌, ◌⊎◌, [], true, IfOk, IfErr, OnOk, is_some};
+ghost use Rattle.std.specs.Prelude.{◌≡◌, ◌⊎◌, true, IfOk, IfErr, OnOk, is_some};
 ghost use Rattle.aptpl_store.specs.Kept.{store_kept};
 ghost use Rattle.drive_core.specs.State.{left_of};
 ghost use Rattle.library.specs.Elements.{bay_at};
 ghost use Rattle.vtl_config.specs.Entries.{address_of};
-ghost use Rattle.vtl.specs.Inner.Waiting.{AreHome, IsBare, PutsHome, SwitchesOnAt, home_at};
-ghost use Rattle.vtl.specs.Orders.{IsStart, built_in_barcode, built_in_capacities, memory_state};
+ghost use Rattle.vtl.specs.Inner.Waiting.{AreHome, IsBare, IsNotHome, PutsHome, SwitchesOnAt, home_at};
+ghost use Rattle.vtl.specs.Orders.{IsStart, built_in_barcode, built_in_capacities};
+ghost use Rattle.vtl.specs.Sides.{memory_state};
 ghost use Rattle.vtl.specs.Starting.{IsBuiltIn, IsNotStarted, IsStarted};
 ghost use Rattle.vtl.specs.declared.programs.VtlFault.TheVariants as Faults;
 
@@ -137,8 +138,8 @@ fn place_all<D: Disk + Drop, S: Sides<D>>(
     sides: &S,
     cartridges: &[CartridgeEntry],
 ) -> Result<Starting<D>, VtlFault>
-    ensures ok { IfOk result (AreHome S.gives_cartridge cartridges.now) }
-    ensures err { IfErr result (IsNotStarted cartridges.now []) }
+    ensures ok { IfOk result (AreHome S.given.gives_cartridge cartridges.now) }
+    ensures err { IfErr result (IsNotHome S.given cartridges.now) }
 {
     let mut starting = Starting::new(alloc)?;
     for entry in cartridges {
@@ -157,8 +158,8 @@ pub fn start<D: Disk + Drop, S: Sides<D>>(
     drives: &[DriveEntry],
 ) -> Result<Held<D>, VtlFault>
     ensures ok { IfOk result
-        (IsStarted S.gives_cartridge D.state S.gives_store cartridges.now drives.now) }
-    ensures err { IfErr result (IsNotStarted cartridges.now drives.now) }
+        (IsStarted S.given.gives_cartridge D.state S.given.gives_store cartridges.now drives.now) }
+    ensures err { IfErr result (IsNotStarted S.given cartridges.now drives.now) }
 {
     let mut starting = place_all(alloc, sides, cartridges)?;
     for entry in drives {
@@ -171,7 +172,8 @@ pub fn start<D: Disk + Drop, S: Sides<D>>(
 /// The library of the built-in configuration, in memory: drive 1 alone, holding `T00001L6` of one
 /// partition of 16,777,216 bytes.
 pub fn built_in(alloc: Global) -> Result<Held<MemDisk>, VtlFault>
-    ensures { IsStart (IsBuiltIn memory_state built_in_barcode built_in_capacities) result }
+    ensures { IsStart (IsBuiltIn memory_state built_in_barcode built_in_capacities)
+        (λ fault. fault ≡ Faults.NoMemory) result }
 {
     let (Some(number), Ok(barcode)) = (DriveNo::new(DRIVE), Barcode::parse(BARCODE)) else {
         return Err(VtlFault::Config);

@@ -1,10 +1,12 @@
 //! The worked scripts, and the turns of hosts.
+mod calls;
 mod failing;
 mod files;
 mod folders;
 mod kept;
 mod libraries;
 mod motions;
+mod noted_files;
 mod plain_sides;
 mod programs;
 mod sides;

@@ -4,7 +4,8 @@ ghost use Rattle.std.specs.Io.KnownBytes.{Appends};
 ghost use Rattle.vtl_script.specs.Text.{AppendsPart};
 
 use crate::programs::VtlFault;
-use std::io::{ErrorKind, Write};
+use std::io::Write;
+use vtl_script::is_interrupted;
 
 // Writes a text. Where a write fails, a beginning of it is written. An interrupted write is made again.
 fn write_text<W: Write>(writer: &mut W, text: &[u8]) -> Result<(), VtlFault>
@@ -21,7 +22,7 @@ fn write_text<W: Write>(writer: &mut W, text: &[u8]) -> Result<(), VtlFault>
         match writer.write(&text[written..]) {
             Ok(0) => return Err(VtlFault::Device),
             Ok(count) => written += count,
-            Err(e) if e.kind() == ErrorKind::Interrupted => {}
+            Err(e) if is_interrupted(e.kind()) => {}
             Err(_) => return Err(VtlFault::Device),
         }
     }

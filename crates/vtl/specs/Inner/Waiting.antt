@@ -11,7 +11,11 @@ use Rattle.drive_core.specs.State.{left_of}
 use Rattle.library.specs.Elements.{BayState, Becomes, HeldState, bay_at}
 use Rattle.vtl_config.specs.declared.entries.CartridgeEntry.{CartridgeEntry}
 use Rattle.vtl_config.specs.declared.entries.DriveEntry.{DriveEntry}
-use Rattle.vtl.specs.Starting.{IsDriveOf, StandsAt}
+use Rattle.vtl_config.specs.Entries.{AreDistinct, homes_of}
+use Rattle.vtl.specs.Sides.{SidesGiven}
+use Rattle.vtl.specs.Starting.{AreGiven, IsDriveOf, IsRefusedIn, StandsAt}
+use Rattle.vtl.specs.declared.programs.VtlFault.{VtlFault}
+use Rattle.vtl.specs.declared.programs.VtlFault.TheVariants.{Words, Config, Script, Device, NoMemory}
 
 -- a library, and the cartridges for drives that are not switched on yet, from drive 1 on
 pub record StartingState (D : Type 0) : Type 0 where
@@ -57,6 +61,7 @@ module _ {D : Type 0} where
   module _ (gives_cartridge : CartridgeEntry → BufferState D → Type 0) where
     -- each of these cartridges is at its home, and no drive is on
     pub record AreHome (entries : List CartridgeEntry) (starting : StartingState D) : Type 0 where
+      pub given : AreGiven gives_cartridge entries
       pub homes : (address : ℕ) → StandsAt gives_cartridge entries address (home_at starting address)
       pub bays : (number : ℕ) → bay_at starting.held.bays number ≡ None
 
@@ -64,9 +69,21 @@ module _ {D : Type 0} where
       -- these drives are on, and the cartridges for the others wait
       pub record AreOn (entries : List CartridgeEntry) (drives : List DriveEntry) (starting : StartingState D) :
           Type 0 where
+        pub given : AreGiven gives_cartridge entries
+        pub stores : AreGiven gives_store drives
         pub slots : (address : ℕ) → is_slot address ≡ true
             → StandsAt gives_cartridge entries address (held_at starting.held.slots address)
         pub bays : (number : ℕ)
             → IsDriveOf gives_cartridge state gives_store entries drives number (bay_at starting.held.bays number)
         pub waiting : (number : ℕ) → is_slot number ≡ false → bay_at starting.held.bays number ≡ None
             → StandsAt gives_cartridge entries number (waits_at starting.waiting number)
+
+module _ {D : Type 0} (sides : SidesGiven D) (entries : List CartridgeEntry) where
+  -- why not all of these cartridges are at their homes, over such sides: the first that is refused; memory runs out; or
+  -- homes are double
+  abbrev pub IsNotHome : VtlFault → Type 0
+  IsNotHome Device = IsRefusedIn sides.gives_cartridge (λ entry. sides.refuses_cartridge entry Device) entries
+  IsNotHome NoMemory = Unit {0}
+  IsNotHome Config = ¬ AreDistinct (homes_of entries)
+  IsNotHome Words = ⊥
+  IsNotHome (Script line) = ⊥

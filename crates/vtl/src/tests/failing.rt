@@ -20,9 +20,12 @@ struct FailingSides {
 }
 
 impl Sides<OnceDisk<MemDisk>> for FailingSides {
-    ghost gives_cartridge = { λ entry cartridge. Unit {0} };
-
-    ghost gives_store = { λ entry store. Unit {0} };
+    ghost given = { record {
+      gives_cartridge = λ entry cartridge. Unit {0};
+      refuses_cartridge = λ entry fault. Unit {0};
+      gives_store = λ entry store. Unit {0};
+      refuses_store = λ entry fault. Unit {0};
+    } };
 
     fn cartridge(
         &self,

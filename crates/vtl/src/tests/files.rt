@@ -128,3 +128,37 @@ fn what_is_refused_before_a_script(rt: HostRuntime) -> Result<(), Fail> {
     fs::remove_dir_all(&rt, name)?;
     Ok(())
 }
+
+#[test]
+fn a_cartridge_of_two_partitions_is_made(rt: HostRuntime) -> Result<(), Fail> {
+    let folder = new_folder(&rt)?;
+    let name = folder.as_str();
+    let text = format!(in rt.alloc();
+        "[[cartridge]]\nbarcode = \"AB12\"\nfile = \"{name}/two.tape\"\n\
+        capacities = [4096, 8192]\nhome = 1256\n"
+    )?;
+    put(&rt, name, "lib.toml", text.as_bytes())?;
+    assert_steps(
+        &rt,
+        &rt,
+        name,
+        &[
+            told(CREATE, 0, "created AB12\n"),
+            told(
+                "check @two.tape",
+                0,
+                "cartridge AB12 partitions 2 frames 0\npartition 0 objects 0 used 0\n\
+                partition 1 objects 0 used 0\n",
+            ),
+        ],
+    )?;
+    assert_holds(
+        &rt,
+        &rt,
+        name,
+        "two.tape",
+        b"\xa5VTLCART1\0\x02AB12            \0\0\0\0\0\0\x10\0\0\0\0\0\0\0\x20\0\0",
+    )?;
+    fs::remove_dir_all(&rt, name)?;
+    Ok(())
+}

@@ -1,5 +1,6 @@
 //! Runs of the program over files, in a folder of a test's own.
 use super::streams::{BadReader, BadWriter};
+use crate::files::SystemFiles;
 use crate::orders::run;
 use crate::programs::Ended;
 use std::collections::hash_map::RandomState;
@@ -84,7 +85,15 @@ pub fn assert_step(
     let mut reader = BadReader::new(step.script.as_bytes(), None);
     let mut writer = BadWriter::new(rt.alloc(), None);
     let mut lines = BadWriter::new(rt.alloc(), None);
-    let ended = run(rt, Ok(words), &mut reader, &mut writer, &mut lines);
+    let files = SystemFiles { rt };
+    let ended = run(
+        rt.alloc(),
+        &files,
+        Ok(words),
+        &mut reader,
+        &mut writer,
+        &mut lines,
+    );
     let (text, line) = (writer.into_text(), lines.into_text());
     assert_eq!(abort;
         text.as_slice(),

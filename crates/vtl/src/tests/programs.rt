@@ -1,10 +1,12 @@
 //! The program over streams of a test's own: its status, its line and its text at each fault.
 use super::ATTENTION;
-use super::streams::{BadCall, BadReader, BadWriter};
+use super::streams::{BadCall, BadReader, BadWriter, PartWriter};
 use crate::orders::run_started;
 use crate::programs::{Ended, Verdict, VtlFault, end, fault_line};
 use crate::starting::built_in;
+use crate::writing::tell;
 use std::alloc::Global;
+use std::io::ErrorKind;
 use std::test::Fail;
 use vtl_script::ScriptFault;
 
@@ -147,6 +149,62 @@ fn fault_lines(rt: HostRuntime) -> Result<(), Fail> {
         let (given, line) = fault_line(&fault);
         assert_eq!(rt; given, status, "{text}");
         assert_eq!(rt; format!(in rt.alloc(); "{line}")?.as_str(), text);
+    }
+    Ok(())
+}
+
+// How many bytes a writer takes at once and what its first calls answer; what is then out of `abcdef`, and whether that
+// is all.
+type Parts<'a> = (usize, &'a [Option<ErrorKind>], &'a [u8], bool);
+
+#[test]
+fn a_text_is_written_in_parts(rt: HostRuntime) -> Result<(), Fail> {
+    let rows: [Parts; 7] = [
+        (1, &[], b"abcdef", true),
+        (4, &[None, Some(ErrorKind::Interrupted)], b"abcdef", true),
+        (
+            4,
+            &[Some(ErrorKind::Interrupted), Some(ErrorKind::Interrupted)],
+            b"abcdef",
+            true,
+        ),
+        (4, &[None, Some(ErrorKind::WouldBlock)], b"abcd", false),
+        (4, &[None, Some(ErrorKind::TimedOut)], b"abcd", false),
+        (4, &[Some(ErrorKind::BrokenPipe)], b"", false),
+        (0, &[], b"", false),
+    ];
+    for (at, (most, errors, text, is_all)) in rows.into_iter().enumerate() {
+        let mut writer = PartWriter::new(rt.alloc(), most, errors);
+        let outcome = tell(&mut writer, b"abcdef");
+        let wanted = if is_all {
+            Ok(())
+        } else {
+            Err(VtlFault::Device)
+        };
+        assert_eq!(rt; outcome, wanted, "outcome of {at}");
+        let written = writer.into_text();
+        assert_eq!(rt; written.as_slice(), text, "text of {at}");
+    }
+    Ok(())
+}
+
+#[test]
+fn a_line_is_taken_in_parts(rt: HostRuntime) -> Result<(), Fail> {
+    let rows: [Parts; 3] = [
+        (4, &[], b"vtl: out of memory\n", true),
+        (4, &[None, Some(ErrorKind::Other)], b"vtl:", false),
+        (0, &[], b"", false),
+    ];
+    for (at, (most, errors, text, is_reported)) in rows.into_iter().enumerate() {
+        let mut writer = PartWriter::new(rt.alloc(), most, errors);
+        let ended = end(Err(VtlFault::NoMemory), &mut writer);
+        let wanted = Ended {
+            status: 3,
+            is_reported,
+        };
+        assert_eq!(rt; ended, wanted, "end of {at}");
+        let written = writer.into_text();
+        assert_eq!(rt; written.as_slice(), text, "text of {at}");
     }
     Ok(())
 }

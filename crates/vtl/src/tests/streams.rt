@@ -1,4 +1,4 @@
-//! A reader and a writer that fail at a call.
+//! A reader and a writer that fail at a call, and a writer that takes parts.
 use std::alloc::Global;
 use std::io;
 use std::io::{ErrorKind, Read, Write};
@@ -73,5 +73,46 @@ impl Write for BadWriter {
 
     fn flush(&mut self) -> io::Result<()> {
         call(&mut self.calls, self.bad)
+    }
+}
+
+/// A writer that takes so many bytes of a write at most, and whose first calls answer with these errors, where there
+/// are some.
+#[derive(Drop)]
+pub struct PartWriter<'a> {
+    text: Vec<u8>,
+    most: usize,
+    errors: &'a [Option<ErrorKind>],
+}
+
+impl<'a> PartWriter<'a> {
+    pub fn new(alloc: Global, most: usize, errors: &'a [Option<ErrorKind>]) -> Self {
+        PartWriter {
+            text: Vec::new(alloc),
+            most,
+            errors,
+        }
+    }
+
+    pub fn into_text(self) -> Vec<u8> {
+        self.text
+    }
+}
+
+impl Write for PartWriter<'_> {
+    fn write(&mut self, buf: &[u8]) -> io::Result<usize> {
+        if let Some((first, rest)) = self.errors.split_first() {
+            self.errors = rest;
+            if let Some(kind) = first {
+                return Err(io::Error::from(*kind));
+            }
+        }
+        let count = buf.len().min(self.most);
+        self.text.extend_from_slice(&buf[..count])?;
+        Ok(count)
+    }
+
+    fn flush(&mut self) -> io::Result<()> {
+        Ok(())
     }
 }

@@ -1,7 +1,5 @@
-use Rattle.std.proofs.Common.{inr}
+use Rattle.std.proofs.Common.{Ok}
 use Rattle.vtl.proofs.orders.create_order.Goals as goal
 
 pub returns : goal.returns
-returns g c =
-    let said = c.in_ok-config.ensures.ok in
-    inr (said.0, c.in_ok-config.config, said.1, c.create_missing.ensures)
+returns g c = (Ok c.in_ok-config.config, c.in_ok-config.ensures, c.create_missing.ensures)

@@ -8,8 +8,9 @@ returns g c = record {
   outcome = c.match-words.outcome;
   obeys =
       elim c.match-words.branch [
-        | in-Ok w ↦ rw (w.in-Ok.is, w.writer-is, w.outcome-is) (rw w.as_slice.ensures.value at w.obey-outcome.ensures)
-        | in-Err w ↦ rw (w.in-Err.is, w.writer-is, w.outcome-is) (refl, keeps_same _)
+        | in-Ok w ↦ rw (w.in-Ok.is, w.reader-is, w.writer-is, w.outcome-is)
+            (rw w.as_slice.ensures.value at w.obey-outcome.ensures)
+        | in-Err w ↦ rw (w.in-Err.is, w.reader-is, w.writer-is, w.outcome-is) (refl, (keeps_same _, keeps_same _))
       ];
   ends = c.end.ensures;
 }

@@ -1,12 +1,20 @@
-use Rattle.std.proofs.Common.{inr}
+use Rattle.std.proofs.Common.{Ok}
+use Rattle.std.proofs.lemmas.Result.{err_from_is_err_and}
+use Rattle.vtl.proofs.OrdersLemmas.{not_configured}
 use Rattle.vtl.proofs.orders.run_order.Goals as goal
+
+pub returns-in_err-config : goal.returns-in_err-config
+returns-in_err-config g c =
+    let told = err_from_is_err_and c.from_residual.result c.from_residual.ensures.1 in
+    rw (c.in-Some.is, told.1, told.2) (not_configured g.D.Disk.state g.F.TextFiles.reads g.F.ChangeFiles.opens
+    c.args.memory _ c.in_err-config.field-0.0 _ _ (rw c.as_str.ensures.value at c.in_err-config.ensures))
 
 pub returns-then-memory : goal.returns-then-memory
 returns-then-memory g c =
-    let said = c.in_ok-config.ensures.ok in
-    rw (c.if-memory.true, c.in-Some.is) (inr (said.0, c.in_ok-config.config, said.1, c.run_config.ensures))
+    rw (c.if-memory.true, c.in-Some.is)
+    (Ok c.in_ok-config.config, rw c.as_str.ensures.value at c.in_ok-config.ensures, c.run_config.ensures)
 
 pub returns : goal.returns
 returns g c =
-    let said = c.in_ok-config.ensures.ok in
-    rw (c.if-memory.false, c.in-Some.is) (inr (said.0, c.in_ok-config.config, said.1, c.run_config-else-memory.ensures))
+    rw (c.if-memory.false, c.in-Some.is)
+    (Ok c.in_ok-config.config, rw c.as_str.ensures.value at c.in_ok-config.ensures, c.run_config-else-memory.ensures)

@@ -8,6 +8,7 @@ returns g c = rw c.in_ok-held.was record {
   written = c.finish-finished.result;
   runs = c.run_held-ran.ensures.runs;
   one_host = c.run_held-ran.ensures.one_host;
+  takes = c.run_held-ran.ensures.past;
   finishes = c.finish-finished.ensures;
   outcome_is = c.outcome_of.ensures;
 }

@@ -2,8 +2,9 @@ use Rattle.std.proofs.Common.{◌≡◌, ◌∙◌, [], ap, sym, subst, List, �
 use Rattle.cartridge.specs.Contents.{contents_from, heading_with}
 use Rattle.tape_disk.specs.declared.memory.MemDisk.{MemDisk}
 use Rattle.vtl.specs.Inner.Waiting.{PutsHome, StartingState, SwitchesOnAt}
-use Rattle.vtl.specs.Orders.{built_in_barcode, built_in_capacities, memory_state}
-use Rattle.vtl.specs.Starting.{IsBuiltIn, IsNewCartridge, IsNewStore}
+use Rattle.vtl.specs.Orders.{built_in_barcode, built_in_capacities}
+use Rattle.vtl.specs.Sides.{IsNewCartridge, IsNewStore, memory_state}
+use Rattle.vtl.specs.Starting.{IsBuiltIn}
 use Rattle.vtl.proofs.StartingLemmas.{built_in_is}
 use Rattle.vtl.proofs.starting.built_in.Goals as goal
 

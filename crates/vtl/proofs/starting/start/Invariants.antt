@@ -5,5 +5,6 @@ use Rattle.vtl.proofs.starting.start.Given as goal
 -- the drives so far are on
 abbrev pub invariant-loop-entry : goal.invariant-loop-entry
 invariant-loop-entry g l =
-    AreOn g.S.Sides.gives_cartridge g.D.Disk.state g.S.Sides.gives_store l.cartridges (take l.entry-index l.drives)
+    AreOn g.S.Sides.given.gives_cartridge g.D.Disk.state g.S.Sides.given.gives_store l.cartridges
+    (take l.entry-index l.drives)
     l.starting

@@ -1,0 +1,128 @@
+//! The calls for files that the program makes, by the files' names. The traits say what a function may do with files:
+//! each order's function has just those that it needs.
+ghost use Rattle.std.specs.Prelude.{◌≡◌, ℕ, List, Result, Ok, Vec};
+ghost use Rattle.std.specs.declared.alloc.Global.{Global};
+ghost use Rattle.std.specs.declared.io.Error.{Error};
+ghost use Rattle.file_disk.specs.declared.error.FileError.{FileError};
+
+use file_disk::{FileDisk, FileError};
+use std::{fs, io};
+
+/// Files whose bytes are read.
+pub trait TextFiles {
+    // The answers that a call may have, by the name.
+    ghost reads: { List ℕ → Result (Vec ℕ Global) Error → Type 0 };
+
+    /// The bytes of the file of this name.
+    fn read(&self, name: &str) -> io::Result<Vec<u8>>
+        ensures { reads name.now result };
+}
+
+/// Files that are looked at.
+pub trait ReadFiles<D> {
+    // The answers that a call may have, by the name.
+    ghost opens_to_read: { List ℕ → Result D FileError → Type 0 };
+
+    // The disk that was handed back for a name.
+    ghost closes: { List ℕ → D → Type 0 };
+
+    /// A disk over the file of this name, which fails at each call that would change it.
+    fn open_to_read(&self, name: &str) -> Result<D, FileError>
+        ensures { opens_to_read name.now result };
+
+    /// Takes a disk back, as it is.
+    fn close(&self, name: &str, disk: D)
+        ensures { closes name.now disk };
+}
+
+/// Files that are changed.
+pub trait ChangeFiles<D> {
+    // The answers that a call may have, by the name.
+    ghost opens: { List ℕ → Result D FileError → Type 0 };
+
+    /// A disk over the file of this name.
+    fn open(&self, name: &str) -> Result<D, FileError>
+        ensures { opens name.now result };
+}
+
+/// Files that are made.
+pub trait MakeFiles<D> {
+    // The answers that a call may have, by the name.
+    ghost makes: { List ℕ → Result D FileError → Type 0 };
+
+    // The disk that was handed back for a name: its file stays, or it is taken away.
+    ghost leaves: { List ℕ → D → Type 0 };
+
+    ghost takes_away: { List ℕ → D → Type 0 };
+
+    /// A disk over a new file of this name. What has the name already is not touched.
+    fn make(&self, name: &str) -> Result<D, FileError>
+        ensures { makes name.now result };
+
+    /// Takes a disk back, as it is. Its file stays.
+    fn leave(&self, name: &str, disk: D)
+        ensures { leaves name.now disk };
+
+    /// Takes a disk back, and its file away, where the system can: one that a call of `make` gave.
+    fn take_away(&self, name: &str, disk: D)
+        requires { (made : D) × makes name.now (Ok made) }
+        ensures { takes_away name.now disk };
+}
+
+/// The files of the operating system. What they hold no contract of its calls says, so any answer is taken as it comes.
+#[derive(Clone, Copy)]
+pub struct SystemFiles<'a> {
+    pub rt: &'a HostRuntime,
+}
+
+impl<'a> TextFiles for SystemFiles<'a> {
+    ghost reads = { λ name answer. Unit {0} };
+
+    fn read(&self, name: &str) -> io::Result<Vec<u8>> {
+        fs::read(self.rt, name)
+    }
+}
+
+impl<'a> ReadFiles<FileDisk> for SystemFiles<'a> {
+    ghost opens_to_read = { λ name answer. Unit {0} };
+
+    ghost closes = { λ name disk. Unit {0} };
+
+    fn open_to_read(&self, name: &str) -> Result<FileDisk, FileError> {
+        file_disk::open_to_read(self.rt, name)
+    }
+
+    fn close(&self, _: &str, disk: FileDisk) {
+        drop(disk);
+    }
+}
+
+impl<'a> ChangeFiles<FileDisk> for SystemFiles<'a> {
+    ghost opens = { λ name answer. Unit {0} };
+
+    fn open(&self, name: &str) -> Result<FileDisk, FileError> {
+        file_disk::open(self.rt, name)
+    }
+}
+
+impl<'a> MakeFiles<FileDisk> for SystemFiles<'a> {
+    ghost makes = { λ name answer. Unit {0} };
+
+    ghost leaves = { λ name disk. Unit {0} };
+
+    ghost takes_away = { λ name disk. Unit {0} };
+
+    fn make(&self, name: &str) -> Result<FileDisk, FileError> {
+        file_disk::create(self.rt, name)
+    }
+
+    fn leave(&self, _: &str, disk: FileDisk) {
+        drop(disk);
+    }
+
+    // The disk has the lock, until the file is gone.
+    fn take_away(&self, name: &str, disk: FileDisk) {
+        let _ = fs::remove_file(self.rt, name);
+        drop(disk);
+    }
+}
