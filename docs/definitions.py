@@ -3,7 +3,7 @@
 
 definitions.py           writes the file
 definitions.py --check   says where the file differs, where two definitions share a name, where one has no comment, and which
-                         lines of .rt, .antt and .md files are over 120 columns; ends with 1 where there is any of these
+                         lines of .rt, .antt and .md files are over 120 columns or left of a merge; ends with 1 where there is any of these
 definitions.py --unreached   lists definitions that no public contract or law seems to reach, by their names
 """
 import difflib
@@ -319,6 +319,8 @@ def long_lines():
                 for number, line in enumerate(read(path).splitlines(), 1):
                     if len(line) > WIDTH and not re.match(r"\||\s*(pub )?(ghost )?use ", line):
                         yield f"{os.path.relpath(path, TOP)}:{number} has {len(line)} columns"
+                    if re.match(r"<<<<<<< |>>>>>>> ", line):
+                        yield f"{os.path.relpath(path, TOP)}:{number} is left of a merge"
 
 
 def unreached():

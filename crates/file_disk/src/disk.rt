@@ -20,10 +20,10 @@ struct Size {
 }
 
 /// A disk over an open file, honest where the file is. Short reads and writes are gone on with, an
-/// interrupted one is made again, and every other error of the system is a counted failure. After
-/// one the length is asked for anew; while the system does not tell it, each call fails. After a
-/// sync that failed each later one fails: what it would answer is not to be relied on before the
-/// file is opened again.
+/// interrupted one is made again, and every other error of the system is a counted failure. After a
+/// write, a cut or a sync that failed the length is asked for anew; while the system does not tell
+/// it, each call fails. After a sync that failed each later one fails: what it would answer is not
+/// to be relied on before the file is opened again.
 #[derive(Drop)]
 pub struct DiskOver<F: RawFile> {
     file: F,

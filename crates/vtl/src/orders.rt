@@ -1,5 +1,7 @@
 //! What the program does for the words of its command line.
 ghost use Rattle.std.specs.Prelude.{◌≡◌, ℕ, List, option_map, string_bytes};
+ghost use Rattle.library.specs.Elements.{HeldState};
+ghost use Rattle.library.specs.Finish.{WritesOut};
 ghost use Rattle.vtl_config.specs.Configs.{Says};
 ghost use Rattle.vtl_words.specs.Orders.{asked_of, texts_of};
 ghost use Rattle.vtl.specs.Files.{answers_of};
@@ -34,6 +36,13 @@ fn outcome_of(ran: Result<(), ScriptFault>, finished: Result<(), Unwritten>) -> 
     }
 }
 
+// Writes every buffer out. The library is gone then.
+fn wrote_out<D: Disk + Drop>(mut held: Held<D>) -> Result<(), Unwritten>
+    ensures { (new : HeldState D) × WritesOut D.state held result new }
+{
+    held.finish()
+}
+
 /// Runs a script over a library, where there is one, and then writes every buffer out, whatever the script's end was.
 /// The first fault is answered: one of the script before one of the buffers.
 pub fn run_started<D: Disk + Drop, R: Read, W: Write>(
@@ -47,8 +56,7 @@ pub fn run_started<D: Disk + Drop, R: Read, W: Write>(
 {
     let mut held = start?;
     let ran = run_held(alloc, &mut held, reader, writer);
-    let finished = held.finish();
-    outcome_of(ran, finished)
+    outcome_of(ran, wrote_out(held))
 }
 
 // Runs a script over the library of a configuration, over these sides.

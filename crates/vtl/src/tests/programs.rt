@@ -208,3 +208,21 @@ fn a_line_is_taken_in_parts(rt: HostRuntime) -> Result<(), Fail> {
     }
     Ok(())
 }
+
+#[test]
+fn a_text_is_flushed(rt: HostRuntime) -> Result<(), Fail> {
+    // The first call is the write, the second the flush.
+    let rows: [(BadCall, &[u8], Result<(), VtlFault>); 3] = [
+        (Some(1), b"", Err(VtlFault::Device)),
+        (Some(2), b"abcdef", Err(VtlFault::Device)),
+        (Some(3), b"abcdef", Ok(())),
+    ];
+    for (at, (bad, text, wanted)) in rows.into_iter().enumerate() {
+        let mut writer = BadWriter::new(rt.alloc(), bad);
+        let outcome = tell(&mut writer, b"abcdef");
+        assert_eq!(rt; outcome, wanted, "outcome of {at}");
+        let written = writer.into_text();
+        assert_eq!(rt; written.as_slice(), text, "text of {at}");
+    }
+    Ok(())
+}
