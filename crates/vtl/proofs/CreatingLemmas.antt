@@ -1,10 +1,10 @@
 -- Files that are made one after another.
 use Rattle.std.proofs.Common.{◌≡◌, ℕ, ◌+◌, ◌<◌, inl, inr, List, [], ◌∷◌, ◌++◌, map, take, drop, length, get_or, Option, Result, Ok, Err, OnOk, IfErr, refl, sym, ap, ◌∙◌, append_assoc, take-append-drop}
 use Rattle.std.proofs.lemmas.List.{append-nil, map-append, take_more}
+use Rattle.std.proofs.KnownBytes.{Appends-kept, Appends-nil, Appends-trans}
 use Rattle.std.specs.Io.KnownBytes.{Appends}
 use Rattle.tape_disk.specs.Disk.{DiskState}
 use Rattle.file_disk.specs.declared.error.FileError.{FileError}
-use Rattle.vtl_script.proofs.TextLemmas.{appends_kept, appends_none, appends_on}
 use Rattle.vtl.specs.declared.creating.Fate.{Fate}
 use Rattle.vtl.specs.declared.programs.VtlFault.{VtlFault}
 use Rattle.vtl.specs.declared.programs.VtlFault.TheVariants.{Words, Config, Script, Device, NoMemory}
@@ -59,7 +59,7 @@ module _ {D : Type 0} (state : D → DiskState) (makes : List ℕ → Result D F
   }
 
   pub files_none : (known : Option (List ℕ)) → TellsFiles state makes leaves takes_away [] known known (Ok tt)
-  files_none known = ([], refl, appends_none known)
+  files_none known = ([], refl, Appends-nil known)
 
   pub files_on : (first second : List SideFile) (before mid now : Option (List ℕ))
       (result : Result (Unit {0}) VtlFault) → TellsFiles state makes leaves takes_away first before mid (Ok tt)
@@ -68,12 +68,12 @@ module _ {D : Type 0} (state : D → DiskState) (makes : List ℕ → Result D F
   files_on first second before mid now (Ok done) told more = (
     told.0 ++ more.0,
     all_on first second told.0 more.0 told.1 more.1,
-    appends_on before mid now told.0 more.0 told.2 more.2,
+    Appends-trans before mid now told.0 more.0 told.2 more.2,
   )
   files_on first second before mid now (Err fault) told more = (
     told.0 ++ more.0,
     some_on first second fault told.0 more.0 told.1 more.1,
-    appends_on before mid now told.0 more.0 told.2 more.2,
+    Appends-trans before mid now told.0 more.0 told.2 more.2,
   )
 
   pub files_of : (first second : List SideFile) (before now : Option (List ℕ)) (fault : VtlFault)
@@ -114,7 +114,7 @@ module _ {D : Type 0} (state : D → DiskState) (makes : List ℕ → Result D F
   )
   file_result file fate before now (Err NoMemory) became written out =
       part_told file before now NoMemory [] (inr (fate, became, inl (refl, refl)))
-      (appends_kept before before now [] (appends_none before) out)
+      (Appends-kept before before now [] (Appends-nil before) out)
   file_result file fate before now (Err Device) became written out =
       part_told file before now Device out.0 (inr (fate, became, inr (refl, out.1))) out.2
   file_result file fate before now (Err Words) became written out = absurd out
@@ -125,14 +125,14 @@ module _ {D : Type 0} (state : D → DiskState) (makes : List ℕ → Result D F
   pub none_made : (file : SideFile) (known : Option (List ℕ)) (fault : VtlFault)
       → IsNotMade state makes takes_away file fault
       → TellsFiles state makes leaves takes_away (file ∷ []) known known (Err fault)
-  none_made file known fault why = part_told file known known fault [] (inl (why, refl)) (appends_none known)
+  none_made file known fault why = part_told file known known fault [] (inl (why, refl)) (Appends-nil known)
 
   -- memory ran out before the line of a file
   pub none_told : (file : SideFile) (fate : Fate) (known : Option (List ℕ))
       → IsMadeOrKept state makes leaves file fate
       → TellsFiles state makes leaves takes_away (file ∷ []) known known (Err NoMemory)
   none_told file fate known became =
-      part_told file known known NoMemory [] (inr (fate, became, inl (refl, refl))) (appends_none known)
+      part_told file known known NoMemory [] (inr (fate, became, inl (refl, refl))) (Appends-nil known)
 
   -- the files of the first of some entries, one more, and all
   module _ {A : Type 0} (file : A → SideFile) (entries : List A) (at : ℕ) where

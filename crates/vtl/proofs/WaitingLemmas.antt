@@ -1,5 +1,5 @@
 -- What a library holds before its drives are all on: a cartridge is put into its home, and a drive is switched on.
-use Rattle.std.proofs.Common.{◌≡◌, ◌≢◌, ℕ, ◌-◌, ◌≤◌, ◌<◌, nat_le, not, Bool, true, false, List, length, set, get_or, replicate, Option, None, Some, is_some, Ok, refl, sym, ap, ◌∙◌, arith, cond, subst}
+use Rattle.std.proofs.Common.{◌≡◌, ◌≢◌, ℕ, zero, suc, ◌-◌, ◌≤◌, ◌<◌, nat_le, not, Bool, true, false, List, [], ◌∷◌, ◌++◌, length, set, get_or, replicate, Option, None, Some, is_some, Result, Ok, Err, is_ok, is_err, refl, sym, ap, ◌∙◌, arith, cond, subst}
 use Rattle.std.proofs.lemmas.Bool.Decides.{nat_tests}
 use Rattle.std.proofs.lemmas.List.{get_or_default, get_or-set_same, get_or-set_other}
 use Rattle.tape_disk.specs.Disk.{DiskState}
@@ -14,7 +14,6 @@ use Rattle.pr_core.specs.declared.states.PrState.{PrState}
 use Rattle.drive_core.specs.Media.{SwitchesOn}
 use Rattle.drive_core.specs.State.{left_of}
 use Rattle.library.specs.Elements.{BayState, Becomes, HeldState, bay_at}
-use Rattle.library.proofs.BayLemmas.{none_in, nothing}
 use Rattle.vtl.specs.Inner.Waiting.{IsBare, PutsHome, StartingState, SwitchesOnAt, home_at, waits_at}
 
 -- the number of a drive is no slot's address
@@ -25,12 +24,12 @@ pub slot_address : (address : ℕ) → 1001 ≤ address → address - 1001 < 256
 slot_address address from within = grind (arith, nat_tests)
 
 -- what the slots refuse
-free_slot : (slot full : Bool) (bad : SlotError)
-    → cond (not slot) (Some bad) (cond full (Some Errors.Full) None) ≡ None
-    → slot ≡ true → full ≡ false
-free_slot true false bad is on = refl
-free_slot true true bad is on = absurd (cc)
-free_slot false full bad is on = absurd (cc)
+free_slot : {C : Type 0} (slot : Bool) (found : Option C) (bad : SlotError)
+    → cond (not slot) (Some bad) (cond (is_some found) (Some Errors.Full) None) ≡ None
+    → slot ≡ true → found ≡ None
+free_slot true None bad is on = refl
+free_slot true (Some cartridge) bad is on = absurd (cc)
+free_slot false found bad is on = absurd (cc)
 
 full_slot : (slot full : Bool) (error : SlotError)
     → cond (not slot) (Some Errors.BadAddress) (cond full (Some Errors.Full) None) ≡ Some error
@@ -38,6 +37,12 @@ full_slot : (slot full : Bool) (error : SlotError)
 full_slot true true error is on = refl
 full_slot true false error is on = absurd (cc)
 full_slot false full error is on = absurd (cc)
+
+-- a push that did not fail
+pub pushed : {T E X : Type 0} (result : Result T E) (items longer : List X) (item : X) → false ≡ is_err result
+    → longer ≡ cond (is_ok result) (items ++ item ∷ []) items → longer ≡ items ++ item ∷ []
+pushed (Ok done) items longer item fine is = is
+pushed (Err error) items longer item fine is = absurd (cc)
 
 -- what waits for drives
 module _ {C : Type 0} where
@@ -81,12 +86,21 @@ module _ {C : Type 0} where
           ap (λ (b : Bool). cond b (get_or (set waiting place new) (other - 1) None) None) is
           ∙ sym (ap (λ (b : Bool). cond b (get_or waiting (other - 1) None) None) is)
 
+  none_in : (count place : ℕ) → get_or (replicate {A = Option C} count None) place None ≡ None
+  none_in zero place = refl
+  none_in (suc count) zero = refl
+  none_in (suc count) (suc place) = none_in count place
+
   no_one_waits : (count number : ℕ) → waits_at (replicate {A = Option C} count None) number ≡ None
   no_one_waits count number = by (nat_le 1 number) (none_in count (number - 1))
     where
       by : (b : Bool) {found : Option C} → found ≡ None → cond b found None ≡ None
       by true none = none
       by false none = refl
+
+  none_lent : (lent : Option C) → is_some lent ≡ false → lent ≡ None
+  none_lent None none = refl
+  none_lent (Some cartridge) none = absurd (cc)
 
 module _ {D : Type 0} where
   pub home_in_slot : (starting : StartingState D) (address : ℕ) → is_slot address ≡ true
@@ -135,8 +149,7 @@ module _ {D : Type 0} where
       subst (λ (s : StartingState D). PutsHome address cartridge s now) is (record {
         free =
             home_in_slot was address on
-            ∙ nothing (held_at held.slots address)
-            (free_slot (is_slot address) (is_some (held_at held.slots address)) Errors.BadAddress passed on);
+            ∙ free_slot (is_slot address) (held_at held.slots address) Errors.BadAddress passed on;
         here = home_in_slot now address on ∙ puts.here;
         elsewhere = λ other differs. same_home was now other (puts.elsewhere other differs) refl;
         bays = bays;
@@ -165,7 +178,7 @@ module _ {D : Type 0} where
         free =
             home_waits was number off
             ∙ found_waiting waiting number place lent least most long at value
-            ∙ nothing lent none;
+            ∙ none_lent lent none;
         here = home_waits now number off ∙ waits_here waiting number place (Some cartridge) least most long at;
         elsewhere = λ other differs.
             same_home was now other refl

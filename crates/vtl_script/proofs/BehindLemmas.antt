@@ -2,6 +2,7 @@
 use Rattle.std.proofs.Common.{◌≡◌, ℕ, Bool, true, false, List, [], ◌++◌, Option, Some, None, IfSome, refl, sym, ap, ◌∙◌, append_assoc}
 use Rattle.std.proofs.lemmas.List.{append-nil}
 use Rattle.std.proofs.lemmas.Grind.{flat_map-append}
+use Rattle.std.proofs.KnownBytes.{Appends-trans}
 use Rattle.std.specs.Io.KnownBytes.{Appends, Consumes}
 use Rattle.scsi_sense.specs.declared.replies.Reply.{Reply}
 use Rattle.vtl_script.specs.declared.items.Item.{Item}
@@ -13,7 +14,6 @@ use Rattle.vtl_script.specs.Runs.{WritesPart, RunsPart, WritesSome}
 use Rattle.vtl_script.specs.Inner.Reading.{Reading}
 use Rattle.vtl_script.specs.Inner.ReadItem.{rest_of, ParsesFirst, AreItems, ReadsLines}
 use Rattle.vtl_script.proofs.LineLemmas.{at_end}
-use Rattle.vtl_script.proofs.TextLemmas.{appends_on}
 
 -- what is read, and then the rest that is known
 pub known_on : (left left' : Option (List ℕ)) (read text : List ℕ) → Consumes left left' read
@@ -45,7 +45,7 @@ first_behind front parsed_list items more behind to_run is =
 longer : (before during now : Option (List ℕ)) (front text part : List ℕ) → Appends before during front
     → Appends during now (text ++ part) → Appends before now ((front ++ text) ++ part)
 longer before during now front text part one two =
-    rw (append_assoc front text part) (appends_on before during now front (text ++ part) one two)
+    rw (append_assoc front text part) (Appends-trans before during now front (text ++ part) one two)
 
 pub writes_part_behind : {P : Type 0} (answers : P → List Item → List Reply → P → Type 0) (behind : List Item)
     (front text : List ℕ) (mid : P) (before during : Option (List ℕ)) (new : P) (now : Option (List ℕ))
@@ -71,7 +71,7 @@ runs_part_behind answers behind front text mid before during new now one two = r
   rest = two.rest;
   is = two.is;
   some = two.some;
-  written = appends_on before during now front text one two.written;
+  written = Appends-trans before during now front text one two.written;
 }
 
 pub writes_some_behind : {P : Type 0} (answers : P → List Item → List Reply → P → Type 0) (behind : List Item)

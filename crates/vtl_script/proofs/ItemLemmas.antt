@@ -1,6 +1,7 @@
 -- Items that are read, run and answered, and where that ends.
 use Rattle.std.proofs.Common.{◌≡◌, ℕ, ◌+◌, Bool, true, false, not, List, [], ◌∷◌, ◌++◌, length, Option, Ok, Err, refl, sym, ap, ◌∙◌, arith, append_assoc, inl, inr}
 use Rattle.std.proofs.lemmas.List.{append-nil}
+use Rattle.std.proofs.KnownBytes.{Appends-nil}
 use Rattle.scsi_sense.specs.declared.replies.Reply.{Reply}
 use Rattle.vtl_script.specs.declared.items.Item.{Item}
 use Rattle.vtl_script.specs.declared.items.Item.TheVariants.{Phase}
@@ -13,7 +14,6 @@ use Rattle.vtl_script.specs.Inner.Reading.{Reading}
 use Rattle.vtl_script.specs.Inner.ReadItem.{rest_of, AreEmpty, ReadsLines, RefusesItem}
 use Rattle.vtl_script.specs.Inner.RunItem.{AnswersItems, AnswersFirst, FinishesScript, GoesOn, RunsNext}
 use Rattle.vtl_script.proofs.LineLemmas.{at_end}
-use Rattle.vtl_script.proofs.TextLemmas.{appends_none}
 use Rattle.vtl_script.proofs.RefusedLemmas.{none_refused, first_refused}
 use Rattle.vtl_script.proofs.BehindLemmas.{known_on, known_rest, in_script}
 use Rattle.vtl_script.proofs.RunLemmas.{stops_sooner}
@@ -33,7 +33,7 @@ module _ {P : Type 0} (is_configured : ℕ → Bool) (answers : P → List Item 
     replies = [];
     mid = old;
     answered = nothing old;
-    ended = (_, refl, (refl, appends_none before));
+    ended = (_, refl, (refl, Appends-nil before));
   }
 
   pub finish_short : (reading : Reading) (old : P) (left before : Option (List ℕ))
@@ -45,7 +45,7 @@ module _ {P : Type 0} (is_configured : ℕ → Bool) (answers : P → List Item 
     replies = [];
     mid = old;
     answered = nothing old;
-    ended = (_, refl, inl (refl, appends_none before));
+    ended = (_, refl, inl (refl, Appends-nil before));
   }
 
   -- a line of an item is refused
@@ -69,7 +69,7 @@ module _ {P : Type 0} (is_configured : ℕ → Bool) (answers : P → List Item 
             ap refused_line says ∙ first_refused refuses.parsed_list refuses.behind refuses.accepted,
             sym
                 (ap items_to_run says ∙ refuses.not_run),
-            (refl, appends_none before),
+            (refl, Appends-nil before),
           ),
         );
       }

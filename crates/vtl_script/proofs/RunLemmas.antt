@@ -1,5 +1,6 @@
 -- Items that are run one after another, and where that stops.
 use Rattle.std.proofs.Common.{◌≡◌, ℕ, List, [], ◌∷◌, ◌++◌, take, Option, Some, None, Result, Ok, Err, OnOk, IfErr, refl, sym, ap, ◌∙◌, append_assoc, ◌⊎◌, inl, inr}
+use Rattle.std.proofs.KnownBytes.{Appends-nil, Appends-trans}
 use Rattle.std.specs.Io.KnownBytes.{Appends}
 use Rattle.scsi_sense.specs.declared.replies.Reply.{Reply}
 use Rattle.vtl_script.specs.declared.items.Item.{Item}
@@ -9,7 +10,6 @@ use Rattle.vtl_script.specs.Text.{text_of, AppendsPart}
 use Rattle.vtl_script.specs.Runs.{AnswersSome, WritesPart, RunsPart, WritesSome}
 use Rattle.vtl_script.specs.Inner.ReadItem.{with_move}
 use Rattle.vtl_script.specs.Inner.RunItem.{StopsIn, RunsItems}
-use Rattle.vtl_script.proofs.TextLemmas.{appends_none, appends_on}
 use Rattle.vtl_script.proofs.BehindLemmas.{text_of-append, writes_part_behind, runs_part_behind, writes_some_behind}
 
 -- more items behind those among which a run stops
@@ -92,7 +92,7 @@ module _ {P : Type 0} (answers : P → List Item → List Reply → P → Type 0
     replies = [];
     mid = old;
     answered = nothing old;
-    stops = inl (record { item = item; rest = []; is = refl; some = some; written = appends_none before });
+    stops = inl (record { item = item; rest = []; is = refl; some = some; written = Appends-nil before });
   }
 
   -- it was run, and a write failed
@@ -168,7 +168,7 @@ module _ {P : Type 0} (answers : P → List Item → List Reply → P → Type 0
     replies = one.replies ++ two.replies;
     answered = on old mid new first rest one.replies two.replies one.answered two.answered;
     written = rw (text_of-append one.replies two.replies)
-        (appends_on before during now (text_of one.replies) (text_of two.replies) one.written two.written);
+        (Appends-trans before during now (text_of one.replies) (text_of two.replies) one.written two.written);
   }
   runs_on old first rest before during now mid new (Err fault) one two = record {
     first = first ++ two.first;

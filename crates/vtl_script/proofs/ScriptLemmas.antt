@@ -2,6 +2,7 @@
 use Rattle.std.proofs.Common.{◌≡◌, ℕ, ◌+◌, Bool, List, [], ◌∷◌, ◌++◌, length, Option, Result, Ok, Err, refl, sym, ap, ◌∙◌, arith, append_assoc, ◌⊎◌, inl, inr}
 use Rattle.std.proofs.lemmas.List.{append-nil, length-append}
 use Rattle.std.proofs.lemmas.List.Folds.{list_any-append}
+use Rattle.std.proofs.KnownBytes.{Appends-nil, Appends-trans}
 use Rattle.std.specs.Io.KnownBytes.{Appends}
 use Rattle.scsi_sense.specs.declared.replies.Reply.{Reply}
 use Rattle.vtl_script.specs.declared.lines.ParsedLine.{ParsedLine}
@@ -17,7 +18,6 @@ use Rattle.vtl_script.specs.Runs.{ScriptEnds, RunsScript, RunsPart, WritesSome, 
 use Rattle.vtl_script.specs.Inner.RunItem.{EndsFrom, FinishesScript, GoesOn}
 use Rattle.vtl_script.proofs.ReadingLemmas.{consumes_on, consumes_none}
 use Rattle.vtl_script.proofs.PhaseLemmas.{texts}
-use Rattle.vtl_script.proofs.TextLemmas.{appends_none, appends_on}
 use Rattle.vtl_script.proofs.RefusedLemmas.{refused_behind, none_behind}
 use Rattle.vtl_script.proofs.BehindLemmas.{known_on, text_of-append, items_behind, first_behind, writes_part_behind, runs_part_behind, writes_some_behind}
 
@@ -41,7 +41,7 @@ module _ {P : Type 0} (is_configured : ℕ → Bool) (answers : P → List Item 
     to_run = λ more. refl;
     replies = [];
     answered = nothing old;
-    written = appends_none before;
+    written = Appends-nil before;
   }
 
   -- some items, and then more
@@ -70,7 +70,7 @@ module _ {P : Type 0} (is_configured : ℕ → Bool) (answers : P → List Item 
     replies = one.replies ++ two.replies;
     answered = on old between last one.items two.items one.replies two.replies one.answered two.answered;
     written = rw (text_of-append one.replies two.replies)
-        (appends_on before during after (text_of one.replies) (text_of two.replies) one.written two.written);
+        (Appends-trans before during after (text_of one.replies) (text_of two.replies) one.written two.written);
   }
 
   -- where memory ran out
@@ -82,7 +82,7 @@ module _ {P : Type 0} (is_configured : ℕ → Bool) (answers : P → List Item 
       (RunsPart answers behind (front ++ text) mid before new now ⊎ WritesSome answers behind (front ++ text) mid
       before new now)
   short_behind behind front text mid before during new now one (inl stops) = inl
-      (stops.0, appends_on before during now front text one stops.1)
+      (stops.0, Appends-trans before during now front text one stops.1)
   short_behind behind front text mid before during new now one (inr (inl runs)) = inr
       (inl (runs_part_behind answers behind front text mid before during new now one runs))
   short_behind behind front text mid before during new now one (inr (inr writes)) = inr
@@ -102,7 +102,7 @@ module _ {P : Type 0} (is_configured : ℕ → Bool) (answers : P → List Item 
         none_behind one.parsed_list parsed_list one.accepted ends.1,
         items_behind
             one.parsed_list parsed_list one.items items (one.to_run parsed_list) ends.2,
-        (ends.3.0, appends_on before during now (text_of one.replies) text one.written ends.3.1),
+        (ends.3.0, Appends-trans before during now (text_of one.replies) text one.written ends.3.1),
       )
   ends_behind reading mid old between new a b before during now one size parsed_list items text middle
       (Err (BadLine number)) ends = (
@@ -112,14 +112,14 @@ module _ {P : Type 0} (is_configured : ℕ → Bool) (answers : P → List Item 
           refused_behind one.parsed_list parsed_list ends.0 one.accepted ends.2.0,
           items_behind one.parsed_list
               parsed_list one.items items (one.to_run parsed_list) ends.2.1,
-          (ends.2.2.0, appends_on before during now (text_of one.replies) text one.written ends.2.2.1),
+          (ends.2.2.0, Appends-trans before during now (text_of one.replies) text one.written ends.2.2.1),
         ),
       )
   ends_behind reading mid old between new a b before during now one size parsed_list items text middle (Err ReadFault)
       ends = (
         ends.0,
         first_behind one.parsed_list parsed_list one.items items ends.0 (one.to_run parsed_list) ends.1,
-        (ends.2.0, appends_on before during now (text_of one.replies) text one.written ends.2.1),
+        (ends.2.0, Appends-trans before during now (text_of one.replies) text one.written ends.2.1),
       )
   ends_behind reading mid old between new a b before during now one size parsed_list items text middle (Err WriteFault)
       ends = (

@@ -1,30 +1,13 @@
 -- Answers that are written one after another.
-use Rattle.std.proofs.Common.{◌≡◌, ℕ, ◌+◌, ◌-◌, ◌≤◌, List, [], ◌∷◌, ◌++◌, length, take, drop, Option, Some, None, refl, sym, ap, ◌∙◌, arith, append_assoc, take-append-drop, take_all, length-drop}
+use Rattle.std.proofs.Common.{◌≡◌, ℕ, ◌+◌, ◌-◌, ◌≤◌, List, [], ◌∷◌, ◌++◌, length, take, drop, Option, refl, sym, ap, ◌∙◌, arith, append_assoc, take-append-drop, take_all, length-drop}
 use Rattle.std.proofs.lemmas.List.{append-nil, length-append, length-take, take-append-le}
+use Rattle.std.proofs.KnownBytes.{Appends-kept, Appends-nil, Appends-trans}
 use Rattle.std.proofs.Math.Seq.{take-add, take-append-add, take-append_seam, take-length}
 use Rattle.std.specs.Io.{StartsWith}
 use Rattle.std.proofs.lemmas.Grind.{flat_map-append}
 use Rattle.std.specs.Io.KnownBytes.{Appends, Keeps}
 use Rattle.scsi_sense.specs.declared.replies.Reply.{Reply}
 use Rattle.vtl_script.specs.Text.{reply_text, text_of, AppendsPart}
-
-pub appends_none : (a : Option (List ℕ)) → Appends a a []
-appends_none None = tt
-appends_none (Some xs) = sym (append-nil xs)
-
-pub appends_on : (a b c : Option (List ℕ)) (first second : List ℕ) → Appends a b first → Appends b c second
-    → Appends a c (first ++ second)
-appends_on None b c first second h k = tt
-appends_on (Some xs) None c first second h k = absurd h
-appends_on (Some xs) (Some ys) None first second h k = absurd k
-appends_on (Some xs) (Some ys) (Some zs) first second h k = k ∙ ap (λ (front : List ℕ). front ++ second) h
-    ∙ append_assoc xs first second
-
-pub appends_kept : (a b c : Option (List ℕ)) (written : List ℕ) → Appends a b written → Keeps b c → Appends a c written
-appends_kept None b c written h k = tt
-appends_kept (Some xs) None c written h k = absurd h
-appends_kept (Some xs) (Some ys) None written h k = absurd k
-appends_kept (Some xs) (Some ys) (Some zs) written h k = k ∙ h
 
 -- the first answers were written, and the text of those behind them is held
 pub record IsPrinted (before now : Option (List ℕ)) (text : List ℕ) (replies : List Reply) (at : ℕ) : Type 0 where
@@ -33,7 +16,7 @@ pub record IsPrinted (before now : Option (List ℕ)) (text : List ℕ) (replies
   pub held : text_of (take count replies) ++ text ≡ text_of (take at replies)
 
 pub printed_none : (known : Option (List ℕ)) (replies : List Reply) → IsPrinted known known [] replies 0
-printed_none known replies = record { count = 0; written = appends_none known; held = refl }
+printed_none known replies = record { count = 0; written = Appends-nil known; held = refl }
 
 -- the text of one answer more is held
 pub printed_more : (before now : Option (List ℕ)) (text text' : List ℕ) (replies : List Reply) (at : ℕ) (reply : Reply)
@@ -55,7 +38,7 @@ printed_more before now text text' replies at reply so one more = record {
 pub printed_all : (before mid now : Option (List ℕ)) (text : List ℕ) (replies : List Reply) (at : ℕ)
     → IsPrinted before mid text replies at → Appends mid now text → Appends before now (text_of (take at replies))
 printed_all before mid now text replies at so h = rw (← so.held)
-    (appends_on before mid now (text_of (take so.count replies)) text so.written h)
+    (Appends-trans before mid now (text_of (take so.count replies)) text so.written h)
 
 pub printed_put : (before mid now : Option (List ℕ)) (text text' : List ℕ) (replies : List Reply) (at : ℕ)
     → IsPrinted before mid text replies at → Appends mid now text → text' ≡ [] → IsPrinted before now text' replies at
@@ -89,7 +72,7 @@ pub record IsWritten (before now : Option (List ℕ)) (text : List ℕ) (at : �
   pub written : Appends before now (take at text)
 
 pub written_none : (known : Option (List ℕ)) (text : List ℕ) → IsWritten known known text 0
-written_none known text = record { within = omega arith; written = appends_none known }
+written_none known text = record { within = omega arith; written = Appends-nil known }
 
 pub written_more : (before mid now : Option (List ℕ)) (text : List ℕ) (at count : ℕ)
     → count ≤ length (take (length text - at) (drop at text)) → IsWritten before mid text at
@@ -103,14 +86,14 @@ written_more before mid now text at count fits so more =
     record {
       within = omega (arith, long, room, within);
       written = rw (take-add at count text)
-          (appends_on before mid now (take at text) (take count (drop at text)) so.written (rw all at more));
+          (Appends-trans before mid now (take at text) (take count (drop at text)) so.written (rw all at more));
     }
 
 pub written_kept : (before mid now : Option (List ℕ)) (text : List ℕ) (at : ℕ)
     → IsWritten before mid text at → Keeps mid now → IsWritten before now text at
 written_kept before mid now text at so keeps = record {
   within = so.within;
-  written = appends_kept before mid now (take at text) so.written keeps;
+  written = Appends-kept before mid now (take at text) so.written keeps;
 }
 
 pub written_all : (before now : Option (List ℕ)) (text : List ℕ) (at : ℕ) → at ≡ length text
@@ -131,11 +114,11 @@ printed_part before mid now text replies at so part =
     let starts = rw so.held at (starts_more front text part.0 part.1) in (
       front ++ part.0,
       rw all (starts_longer (text_of (take at replies)) (text_of (drop at replies)) (front ++ part.0) starts),
-      appends_on before mid now front part.0 so.written part.2,
+      Appends-trans before mid now front part.0 so.written part.2,
     )
 
 -- all was written, and what follows keeps it
 pub printed_whole : (before mid now : Option (List ℕ)) (replies : List Reply)
     → Appends before mid (text_of replies) → Keeps mid now → AppendsPart before now (text_of replies)
 printed_whole before mid now replies all keeps =
-    (text_of replies, take-length (text_of replies), appends_kept before mid now (text_of replies) all keeps)
+    (text_of replies, take-length (text_of replies), Appends-kept before mid now (text_of replies) all keeps)

@@ -3,7 +3,7 @@
 
 pub mod faults;
 mod hosts;
-pub mod interruptions;
+mod interruptions;
 pub mod items;
 pub mod laws;
 mod line_readers;
@@ -18,8 +18,8 @@ mod tests;
 mod texts;
 
 pub use faults::ScriptFault;
-pub use interruptions::is_interrupted;
 pub use items::{Commands, Item};
 pub use lines::Line;
 pub use runners::Runner;
 pub use scripts::run_script;
+pub use texts::write_text;

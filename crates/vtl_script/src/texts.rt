@@ -41,8 +41,9 @@ fn add_reply(alloc: Global, text: &mut Vec<u8>, reply: &Reply) -> Result<(), All
     Ok(())
 }
 
-// Writes a text. Where a write fails, a beginning of it is written. An interrupted write is made again.
-fn write_text<W: Write>(writer: &mut W, text: &[u8]) -> Result<(), ScriptFault>
+/// Writes a text. Where a write fails, which is a `WriteFault`, a beginning of it is written. An interrupted write is
+/// made again; it is not flushed.
+pub fn write_text<W: Write>(writer: &mut W, text: &[u8]) -> Result<(), ScriptFault>
     ensures ok { OnOk result (Appends (W.contents writer.old) (W.contents writer.new) text.now) }
     ensures err { OnErr result
         (AppendsPart (W.contents writer.old) (W.contents writer.new) text.now) }

@@ -1,8 +1,7 @@
 use Rattle.std.proofs.Common.{◌∙◌, ◌++◌, ◌∷◌, [], ap, length, List, Option, None, arith}
 use Rattle.std.proofs.lemmas.List.{length-replicate, replicate-append-replicate}
 use Rattle.tape_buffer.specs.State.{BufferState}
-use Rattle.library.proofs.BayLemmas.{pushed}
-use Rattle.vtl.proofs.WaitingLemmas.{bare}
+use Rattle.vtl.proofs.WaitingLemmas.{bare, pushed}
 use Rattle.vtl.proofs.starting.Starting.new.Goals as goal
 
 pub loop-preserved : goal.loop-preserved
