@@ -1,7 +1,7 @@
 # demo: a library over files, unproved      vtl: proves and builds the program    check: the gate
 # wrong: the edits of wrong/, which the prover must refuse too (CRATE=name, EDIT=name: of one crate, that one)
 # rows: bodies that the contracts allow, which a test must refuse
-# faults: refuses each growth in turn       endings: the built program at each of its endings
+# faults: each call that fails, in turn     endings: the built program at each of its endings
 # examples: the scripts of examples/        kills: the built program is killed 1,000 times (COUNT=, SEED=)
 # bench: measures speed and memory          gate: what each crate costs the gate
 # definitions: writes docs/DEFINITIONS.md
@@ -32,7 +32,9 @@ wrong: need-rt
 rows: need-rt
 	python3 bench/rows.py
 
-faults: need-rt
+faults: vtl
+	@for crate in journal_bench cartridge_bench buffer_bench; do (cd crates/$$crate && rt run > /dev/null) || exit 1; done
+	python3 bench/faults.py --selftest
 	python3 bench/faults.py
 
 endings: vtl

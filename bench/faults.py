@@ -1,128 +1,288 @@
 #!/usr/bin/env python3
-"""Refuses each growth of the stored run, of runs of the journal, of a cartridge and of a drive in buffered mode, and of vtl create, vtl
-check and a run over files, in turn, on the toolchain's unproved run.
+"""Lets each call that the proved programs make of the system end otherwise, in turn, over real files.
 
-The stored run: its answers are the stored ones, or it ends with 'out of memory' and status 3, or one line is answered ABORTED
-COMMAND. In the last case the line is given twice: the second time it has its stored answer, and so have all lines behind it.
-Over files the same, but that a line is not given again; create and check end with 'out of memory' and a beginning of their lines.
-The others: their answers are the stored ones, or it ends with status 1 (its words) or 2 behind some
-of them.
+For vtl create, vtl check, vtl run and the stored run in memory, by a file that stands before the C library (faults.c, which takes
+`cc`): each growth gets no memory; each call for a file or a stream fails; each is interrupted; each read or write moves one byte.
 
-With words, as 'faults.py check create', those alone. Each growth takes a build of the program, half a minute for those of vtl."""
+Interruptions and short moves change nothing. Where a call fails or memory runs out the program ends with its status and line behind a
+beginning of its lines, or commands end, or nothing changes. Each cartridge then holds what a first part of the accepted changes leaves,
+with all up to the last acknowledged synchronizing command, and all of them at status 0 where none of its commands failed; the
+reservations are those of a first part of the orders, with each acknowledged one; what create told of is there, each file that is
+there is whole, and it goes on; check changes no byte. In the stored run one command at most is ended by want of memory, and has its
+stored answer when it is given again. The journal, the cartridge and the buffer, in memory, end with status 1 (their words) or 2 behind
+some of their stored answers, or change nothing.
+
+--program PATH another program than the proved one; --selftest: writes are lost behind the program's back, which must be found."""
+import argparse
+import collections
+import concurrent.futures
 import os
-import re
+import shutil
 import subprocess
 import sys
 import tempfile
-from concurrent.futures import ThreadPoolExecutor
 
-TOP = os.path.dirname(os.path.dirname(os.path.abspath(__file__)))
-# by valgrind's count the run of the journal has 144 growths, that of a cartridge 113; of that of a drive all behind the last are alike
-GROWTHS = {"journal_bench": 150, "cartridge_bench": 120, "buffer_bench": 120}
-ABORTED = "CHECK 70000b000000000a00000000550300000000"
+from drive_model import MARK, check, good
+from kills import LONGEST, PROVED, TOP, objects_of
+
+FIRST, SECOND, STORE = "T00001L6", "T00002L6", "DRIVE1"
+FILES = {FIRST: "1.tape", SECOND: "2.tape", STORE: "drive1.pr"}
+CONFIG = "".join(f'[[cartridge]]\nbarcode = "{name}"\nfile = "{FILES[name]}"\ncapacities = [65_536]\nhome = {home}\n'
+                 for name, home in [(FIRST, 1), (SECOND, 1001)]) + "[[drive]]\nnumber = 1\nreservations = "
+NEW = {name: f"cartridge {name} partitions 1 frames 0\npartition 0 objects 0 used 0\n" for name in (FIRST, SECOND)}
+NEW[STORE] = "reservations DRIVE1 frames 0 registrations 0\n"
+STATUS = {"fault": (2, "vtl: device fault\n"), "memory": (3, "vtl: out of memory\n")}
+WORKS = ["journal_bench", "cartridge_bench", "buffer_bench"]
+ABORTED, NOT_PRESENT, WRITE_ERROR, HAS_FAILED = check(0xB, 0x5503), check(2, 0x3A00), check(3, 0x0C00), check(4, 0x4400)
+READY, READ = "64 1 000000000000\n", f"64 1 {LONGEST.hex()}\n"
+
+# A line of the script and its answer. What it does to the cartridge that is loaded: the objects that it adds, and whether all is
+# stored then; which cartridge is loaded behind it; whether it is an order to the reservations.
+Line = collections.namedtuple("Line", "text answer adds stores loads orders", defaults=[good(), [], False, False, False])
 
 
-def stored(crate, name):
+def order(action, own, new, kind):
+    return Line(f"1 1 5f{action:02x}{kind:02x}00000000001800 {own:016x}{new:016x}0000000001000000", orders=True)
+
+
+def write(block):
+    return Line(f"1 1 0a00{len(block):06x}00 {block.hex()}", adds=[block])
+
+
+MARKED = Line("1 1 100000000100", adds=[MARK], stores=True)
+LATER = Line("1 1 100100000100", adds=[MARK])
+STORED = Line("1 1 100000000000", stores=True)
+PHASE = Line("--", None)
+SCRIPT = [
+    Line("1 1 000000000000", check(6, 0x2900)), order(0, 0, 0xA1, 0),
+    *[write(bytes([65 + at]) * (1 + 700 * at)) for at in range(5)], MARKED, PHASE,
+    *[write(b"second phase %d" % at) for at in range(3)], LATER, write(b"before a store"), STORED, write(b"not marked"),
+    Line("move 1 1002", stores=True, loads=None), Line("move 1001 1", loads=SECOND),
+    Line("1 1 000000000000", check(6, 0x2800)), write(b"on another cartridge"), MARKED, PHASE,
+    write(b"at the end"), order(1, 0xA1, 0, 5), LATER,
+]
+ANSWERED = [line for line in SCRIPT if line.answer]
+# what is answered to READ KEYS and READ RESERVATION after none, one and both of the orders
+KEY = bytes(7) + b"\xa1"
+RESERVED = [(good(bytes(8)), good(bytes(8))), (good(bytes(7) + b"\x08" + KEY), good(bytes(8))),
+            (good(bytes(7) + b"\x08" + KEY), good(bytes(7) + b"\x10" + KEY + bytes(5) + b"\x05" + bytes(2)))]
+Run = collections.namedtuple("Run", "status out err calls name")
+
+
+def built(crate):
+    return os.path.join(TOP, "crates", crate, "out", crate)
+
+
+def content(path):
+    if not os.path.exists(path):
+        return None
+    with open(path, "rb") as file:
+        return file.read()
+
+
+class Room:
+    """A folder with a library, of which each call has its own."""
+
+    def __init__(self, tools, pristine):
+        self.program, self.shim = tools
+        self.room = tempfile.TemporaryDirectory(prefix="vtl-faults-")
+        self.path = os.path.join(self.room.name, "library")
+        shutil.copytree(pristine, self.path)
+
+    def run(self, words, script="", kind=None, at=0):
+        told = os.path.join(self.room.name, "told")
+        more = {"LD_PRELOAD": self.shim, "FAULTS": kind, "FAULTS_AT": str(at), "FAULTS_TOLD": told} if kind else {}
+        with tempfile.TemporaryFile() as given:
+            given.write(script.encode())
+            given.seek(0)
+            done = subprocess.run([self.program, *words], cwd=self.path, stdin=given, stdout=subprocess.PIPE, stderr=subprocess.PIPE,
+                                  env={**os.environ, **more}, timeout=60)
+        calls, name = content(told).decode().split() if kind else (0, "")
+        return Run(done.returncode, done.stdout.decode(), done.stderr.decode(), int(calls), name)
+
+    def sides(self):
+        return {name: content(os.path.join(self.path, file)) for name, file in FILES.items()}
+
+
+def fails(kind, wanted, run):
+    """Whether it ended with that kind's status and line, behind a beginning of these lines."""
+    return kind in STATUS and (run.status, run.err) == STATUS[kind] and wanted.startswith(run.out)
+
+
+def create(room, kind, at):
+    words, wanted = ["create", "--config", "lib.toml"], "".join(f"created {name}\n" for name in FILES)
+    run = room.run(words, "", kind, at)
+    there, done, wrong = room.sides(), run[:3] == (0, wanted, ""), []
+    if not done and not fails(kind, wanted, run):
+        wrong.append("its end")
+    wrong += [f"{name} was told as created" for name in FILES if there[name] is None and f"created {name}\n" in run.out]
+    if room.run(words)[:3] != (0, "".join(f"{'created' if there[name] is None else 'kept'} {name}\n" for name in FILES), ""):
+        wrong.append("create does not go on")
+    wrong += [f"{name} is not whole" for name in FILES if room.run(["check", FILES[name]])[:3] != (0, NEW[name], "")]
+    return run, "nothing" if done else "the program", wrong
+
+
+def look(name):
+    def checks(room, kind, at):
+        before, wanted = room.sides(), room.run(["check", FILES[name]])
+        run = room.run(["check", FILES[name]], "", kind, at)
+        done = run[:3] == wanted[:3]
+        wrong = [] if done or fails(kind, wanted.out, run) else ["its end"]
+        return run, "nothing" if done else "the program", wrong + ["a file is changed"] * (room.sides() != before)
+    return checks
+
+
+def serve(room, kind, at):
+    run = room.run(["run", "--config", "lib.toml"], "".join(line.text + "\n" for line in SCRIPT), kind, at)
+    answers = run.out.split("\n")[:-1]
+    ended = run.status == 0 and not run.err and len(answers) == len(ANSWERED)
+    same = ended and all(answer == line.answer for answer, line in zip(answers, ANSWERED))
+    wrong = [] if same or ended and kind in STATUS or (run.status, run.err) == STATUS.get(kind) else ["its end"]
+    return run, "nothing" if same else "commands" if ended else "the program", wrong + judged(room, kind, answers, ended)
+
+
+def judged(room, kind, answers, ended):
+    """What is wrong with what the files hold, behind these answers."""
+    volumes, reserved = read_back(room)
+    loaded, orders = FIRST, 0
+    accepted, stored, tried = {FIRST: [], SECOND: []}, {FIRST: 0, SECOND: 0}, {}
+    for at, line in enumerate(ANSWERED):
+        told = at < len(answers)
+        done = not told or answers[at] == line.answer
+        orders += line.orders and told and done
+        if loaded and not done and kind != "memory":
+            tried.setdefault(loaded, [*accepted[loaded], *line.adds])
+        if loaded and done:
+            accepted[loaded] += line.adds
+            if line.stores and told and loaded not in tried:
+                stored[loaded] = len(accepted[loaded])
+        if done and line.loads is not False:
+            loaded = line.loads
+    wrong = []
+    for name, those in accepted.items():
+        # of a medium that failed the host was told
+        ways, least = [those, tried.get(name, those)], len(those) if ended and name not in tried else stored[name]
+        if not any(volumes[name] == way[:count] for way in ways for count in range(least, len(way) + 1)):
+            wrong.append(f"{name}: of {brief(those)} are stored {stored[name]}, and there is {brief(volumes[name])}")
+    return wrong + ([] if reserved in RESERVED[orders:] else [f"{orders} orders were done, and there is {reserved}"])
+
+
+def brief(objects):
+    return objects and ["mark" if it is MARK else it if len(it) < 24 else f"{it[:1]} {len(it)} times" for it in objects]
+
+
+def read_back(room):
+    """What each cartridge holds, and what is answered of the reservations."""
+    seen = room.run(["run", "--config", "lib.toml"], f"{READY}64 1 5e00000000000010ff00\n64 1 5e010000000000001800\n").out
+    most = len(ANSWERED)
+    found = room.run(["run", "--config", "reader.toml"],
+                     READY + READ * most + "move 1 1003\nmove 1001 1\n" + READY * 2 + READ * most).out.split("\n")
+    return {FIRST: objects_of(found[1:1 + most]), SECOND: objects_of(found[5 + most:])}, tuple(seen.split("\n")[1:3])
+
+
+def stored(name, crate="vtl"):
     """The lines of a stored file but for remarks."""
-    with open(os.path.join(TOP, "crates", crate, name), encoding="utf-8") as file:
-        return [line for line in file.read().splitlines() if not line.startswith("#")]
+    text = content(os.path.join(TOP, "crates", crate, name)).decode()
+    return [line for line in text.splitlines() if not line.startswith("#")]
 
 
-def attempt(crate, lines, growth, words=(), data=()):
-    """Answers, status and standard error of a run with these words and files in which this growth is refused."""
-    given = [word for name, path in data for word in ("--data", f"{name}={path}")]
-    done = subprocess.run(["rt", "try", "--fail-alloc", str(growth), *given, "--", *words], cwd=os.path.join(TOP, "crates", crate),
-                          input="".join(line + "\n" for line in lines), capture_output=True, text=True)
-    status = re.search(r"run=ended status=(\d+)", done.stderr + done.stdout)
-    if not status:
-        sys.exit(f"{crate}, growth {growth}: the run did not end\n{done.stdout}{done.stderr}")
-    return [line for line in done.stdout.splitlines() if not line.startswith("run=")], int(status.group(1)), done.stderr
-
-
-def script():
-    lines, wanted = stored("vtl", "stdin"), stored("vtl", "stdout")
-    ended = aborted = same = growth = 0
-    while same < 3:
-        growth += 1
-        answers, status, told = attempt("vtl", lines, growth, ["run"])
-        if status == 0 and answers == wanted:
-            same += 1
-            continue
-        same = 0
-        if status == 3 and "vtl: out of memory" in told and answers == wanted[:len(answers)]:
-            ended += 1
-            print(f"script, growth {growth}: out of memory")
-            continue
-        line = answers.index(ABORTED) if ABORTED in answers else None
-        if status or line is None or answers[:line] != wanted[:line]:
-            sys.exit(f"script, growth {growth}: status {status}, answers {answers}\n{told}")
-        again = wanted[:line] + [ABORTED] + wanted[line:]
-        twice = lines[:line + 1] + lines[line:]
-        if not any(attempt("vtl", twice, other, ["run"])[:2] == (again, 0) for other in range(growth, growth + 8)):
-            sys.exit(f"script, growth {growth}: line {line + 1}, given again with memory, has another answer")
-        aborted += 1
-        print(f"script, growth {growth}: line {line + 1} is ABORTED COMMAND, and has its answer when it is given again")
-    print(f"script: {ended} growths ended the run, {aborted} ended a command, no answer was wrong")
+def again(room, kind, at):
+    """The stored run, in memory: a command that memory ran out for is given again, and then it has its answer. Where the disk in memory
+    could not grow, that is a device fault: the cartridge is not loaded, or one command fails and then the medium has failed."""
+    script, wanted = stored("stdin"), stored("stdout")
+    run = room.run(["run"], "\n".join(script) + "\n", kind, at)
+    answers, text = run.out.splitlines(), "\n".join(wanted) + "\n"
+    if run[:3] == (0, text, ""):
+        return run, "nothing", []
+    line = next((at for at, pair in enumerate(zip(answers, wanted)) if pair[0] != pair[1]), len(answers))
+    behind = answers[line + 1:]
+    if run.status == 0 and answers[line:line + 1] == [ABORTED]:
+        twice = "\n".join([*script[:line + 1], *script[line:]]) + "\n"
+        both = "\n".join([*wanted[:line], ABORTED, *wanted[line:]]) + "\n"
+        # with a longer script the same growth may come a few growths later
+        done = any(room.run(["run"], twice, kind, other)[:3] == (0, both, "") for other in range(at, at + 8))
+    elif (run.status, run.err) == STATUS["fault"]:
+        done = answers[line:line + 1] == [WRITE_ERROR] and behind == [HAS_FAILED] * (len(wanted) - line - 1)
+    elif run.status == 0:
+        done = answers[line:] == [NOT_PRESENT] * (len(wanted) - line)
+    else:
+        return run, "the program", [] if fails(kind, text, run) else ["its end"]
+    return run, "commands", [] if done else [f"line {line + 1}"]
 
 
 def work(crate):
-    wanted, growths = stored(crate, "stdout"), GROWTHS[crate]
-    with ThreadPoolExecutor(2) as pool:
-        tried = pool.map(lambda growth: attempt(crate, [], growth), range(1, growths + 1))
-        ended = 0
-        for growth, (answers, status, told) in enumerate(tried, 1):
-            if status in (1, 2) and answers == wanted[:len(answers)]:
-                ended += 1
-            elif status or answers != wanted:
-                sys.exit(f"{crate}, growth {growth}: status {status}, answers {answers}\n{told}")
-    print(f"{crate}: of {growths} growths {ended} ended the run, and the others changed no answer")
+    def works(room, kind, at):
+        run, wanted = room.run([], "", kind, at), "".join(line + "\n" for line in stored("stdout", crate))
+        same = (run.status, run.out) == (0, wanted)
+        done = same or run.status in (1, 2) and wanted.startswith(run.out)
+        return run, "nothing" if same else "the program", [] if done else ["its end"]
+    return works
 
 
-CONFIG = """cartridge = [{ barcode = "T00001L6", file = "t1.tape", capacities = [4096], home = 1 }]
-drive = [{ number = 1, reservations = "d1.pr" }]
-"""
-TAPE = b"\xa5VTLCART1\0\x01T00001L6        " + (4096).to_bytes(8, "big") + b"\0"
-STORE = b"\xa5VTLRESV1\0\0DRIVE1          \0"
-LINES = ["1 1 000000000000", "1 1 5f000000000000001800 000000000000000000000000000000a10000000001000000",
-         "1 1 0a0000000500 68656c6c6f", "1 1 100000000100"]
-ANSWERS = ["CHECK 700006000000000a00000000290000000000", "GOOD", "GOOD", "GOOD"]
+def sweep(tools, pristine, what, way, kind):
+    """Tries each call of this kind, and says how many ended what, and what went wrong."""
+    def one(at):
+        room = Room(tools, pristine)
+        with room.room:
+            run, ended, wrong = way(room, kind, at)
+        return run, ended, [f"{what}, {kind}, call {at} ({run.name}): {it}: {run.status} {run.err!r}" for it in wrong]
+    run, ended, wrong = one(0)
+    tally = collections.Counter()
+    with concurrent.futures.ThreadPoolExecutor(os.cpu_count()) as pool:
+        for _, ends, errors in pool.map(one, range(1, run.calls + 1)):
+            tally[ends] += 1
+            wrong = wrong + errors
+    if ended != "nothing" or not run.calls:
+        wrong.append(f"{what} without a refusal: {run}")
+    print(f"{what}, {kind}: of {run.calls} calls {tally['the program']} ended the program, {tally['commands']} commands, "
+          f"{tally['nothing']} nothing", flush=True)
+    return wrong
 
 
-def over_files(name, words, files, lines, wanted):
-    """Refuses each growth of a run over these files, until three in a row change nothing."""
-    with tempfile.TemporaryDirectory() as folder, ThreadPoolExecutor(4) as pool:
-        data = []
-        for file, content in files:
-            data.append((file, os.path.join(folder, file)))
-            with open(data[-1][1], "wb") as out:
-                out.write(content)
-        ended = aborted = same = growth = 0
-        while same < 3:
-            for answers, status, told in pool.map(lambda at: attempt("vtl", lines, at, words, data), range(growth + 1, growth + 9)):
-                growth += 1
-                same = same + 1 if (status, answers) == (0, wanted) else 0
-                if same:
-                    continue
-                if status == 3 and "vtl: out of memory" in told and answers == wanted[:len(answers)]:
-                    ended += 1
-                elif status == 0 and lines and [good if answer == ABORTED else answer for answer, good in zip(answers, wanted)] == wanted:
-                    aborted += 1
-                else:
-                    sys.exit(f"{name}, growth {growth}: status {status}, answers {answers}\n{told}")
-    print(f"{name}: {ended} growths ended the run, {aborted} ended a command, no answer was wrong", flush=True)
+def made(tools, folder):
+    """A folder with the configurations alone, one with new files, and one with files that were written to."""
+    bare, new, used = (os.path.join(folder, name) for name in ("bare", "new", "used"))
+    os.mkdir(bare)
+    for config, store in (("lib", "drive1.pr"), ("reader", "reader1.pr")):
+        with open(os.path.join(bare, f"{config}.toml"), "w", encoding="utf-8") as file:
+            file.write(f'{CONFIG}"{store}"\n')
+    for path, before, words, script in ((new, bare, ["create"], ""), (used, new, ["run"], "".join(f"{line.text}\n" for line in SCRIPT))):
+        room = Room(tools, before)
+        with room.room:
+            for config in ("lib", "reader") if path == new else ("lib",):
+                room.run([*words, "--config", f"{config}.toml"], script)
+            shutil.copytree(room.path, path)
+    return bare, new, used
 
 
-CONFIGURED, SIDES = ("lib.toml", CONFIG.encode()), [("t1.tape", TAPE), ("d1.pr", STORE)]
-RUNS = {
-    "script": script,
-    "journal": lambda: work("journal_bench"),
-    "cartridge": lambda: work("cartridge_bench"),
-    "buffer": lambda: work("buffer_bench"),
-    "create": lambda: over_files("vtl create", ["create", "--config", "lib.toml"], [CONFIGURED], [],
-                                 ["created T00001L6", "created DRIVE1"]),
-    "check": lambda: over_files("vtl check", ["check", "t1.tape"], SIDES, [],
-                                ["cartridge T00001L6 partitions 1 frames 0", "partition 0 objects 0 used 0"]),
-    "files": lambda: over_files("vtl run", ["run", "--config", "lib.toml"], [CONFIGURED, *SIDES], LINES, ANSWERS),
-}
-for word in sys.argv[1:] or RUNS:
-    RUNS[word]()
+def main():
+    parser = argparse.ArgumentParser()
+    parser.add_argument("--program", default=PROVED)
+    parser.add_argument("--selftest", action="store_true")
+    said = parser.parse_args()
+    missing = [path for path in (said.program, *map(built, WORKS)) if not os.path.exists(path)]
+    if missing:
+        sys.exit(f"{missing[0]} is not there; build the programs first, as make faults does")
+    with tempfile.TemporaryDirectory(prefix="vtl-faults-") as folder:
+        shim = os.path.join(folder, "faults.so")
+        subprocess.run(["cc", "-O1", "-shared", "-fPIC", "-o", shim, os.path.join(TOP, "bench", "faults.c")], check=True)
+        tools = os.path.abspath(said.program), shim
+        bare, new, used = made(tools, folder)
+        if said.selftest:
+            found = sweep(tools, new, "vtl run", serve, "lost")
+            print("\n".join([*found, f"self-test: {len(found)} of these were found wrong"]))
+            return 0 if found else 1
+        wrong = []
+        for what, way, room in (("vtl create", create, bare), ("vtl check of a cartridge", look(FIRST), used),
+                                ("vtl check of a store", look(STORE), used), ("vtl run", serve, new)):
+            for kind in ("memory", "fault", "interrupted", "short"):
+                wrong += sweep(tools, room, what, way, kind)
+        wrong += sweep(tools, bare, "the stored run", again, "memory")
+        for crate in WORKS:
+            wrong += sweep((built(crate), shim), bare, crate, work(crate), "memory")
+    print("\n".join([*wrong, f"faults: {len(wrong)} wrong"]))
+    return 1 if wrong else 0
+
+
+if __name__ == "__main__":
+    sys.exit(main())

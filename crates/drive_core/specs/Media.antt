@@ -18,12 +18,12 @@ use Rattle.drive_core.specs.declared.faults.Fault.{Fault}
 use Rattle.drive_core.specs.declared.faults.Fault.TheVariants.{Writing}
 use Rattle.volume_core.specs.Stores.{Stores}
 use Rattle.drive_core.specs.LoadUnload.{emptied}
-use Rattle.drive_core.specs.State.{Machine, DriveState, machine_of, medium_in, loaded, powered_on}
+use Rattle.drive_core.specs.State.{Machine, DriveState, bay_of, machine_of, medium_in, loaded, powered_on}
 use Rattle.drive_core.specs.Faults.{fault_reply, reply_of}
 use Rattle.drive_core.specs.Relations.{made_nothing}
 use Rattle.drive_core.specs.Load.{wake_answer, bay_when_on}
 use Rattle.drive_core.specs.Step.{FlushTurn, Insert, Load, Unload, PowerOn, Answered, Unanswered, Step}
-use Rattle.drive_core.specs.Turn.{turn_outcome}
+use Rattle.drive_core.specs.Turn.{TurnsIn, turn_outcome}
 use Rattle.drive_core.specs.Execute.{AdvancesIn, StoresIn, HonestIn}
 
 -- what a loading is answered: GOOD, or the reply that came back with the medium (own)
@@ -94,6 +94,7 @@ module _ {M : Type 0} (state : M → MediumState) (below : Below M Change) where
             Step (HonestIn below (medium_in old.bay)) (machine_of state kept old)
             FlushTurn (Unanswered (turn_outcome turn)) made_nothing (machine_of state kept new)
         pub advances : AdvancesIn below (medium_in old.bay) [] (turn_met_fault turn) (medium_in new.bay)
+        pub told : TurnsIn (bay_of state old.bay) (machine_of state kept old) turn (machine_of state kept new)
         pub stores : StoresIn state old.bay [] new.bay
         pub keeper : new.keeper ≡ old.keeper
 

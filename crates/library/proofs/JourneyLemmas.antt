@@ -19,7 +19,7 @@ use Rattle.changer.specs.Slots.{held_at, is_slot}
 use Rattle.library.specs.Doings.{Turned}
 use Rattle.library.specs.Elements.{BayState, HeldState, bay_at, cartridge_at, cartridge_in, is_element, is_reserved_at}
 use Rattle.library.specs.Finish.{TurnsAt}
-use Rattle.library.specs.Journeys.{Deed, Finishing, GoesWith, GoesWithAll, InDrive, IsThen, Moving, StopsKeepWhatIsMoved}
+use Rattle.library.specs.Journeys.{Deed, Finishing, GoesWith, GoesWithAll, InDrive, IsThen, KeepsWhatIsSafe, Moving, StopsKeepWhatIsMoved}
 use Rattle.library.specs.Moves.{AnswersMove, IsSameAt, KeepsCartridges, MovesMedium, refusal_of_move}
 use Rattle.library.proofs.CartridgeLemmas.{Moved, honest_in, keep_media, moved_as, moved_by, moved_doing, moved_nowhere, moved_on, safe_in}
 use Rattle.library.proofs.MoveLemmas.{all_passed, bay_elsewhere, bay_here, check_is_not_good, conflict_is_not_good, in_bay, none_of, one_failed, same_or_not}
@@ -191,3 +191,11 @@ module _ {D : Type 0} (state : D → DiskState) (is_disk : (disk : D) → (state
         (honest_in state is_disk crash cores store_kept (store_below state) (medium_in answers.bay.bay) medium inside
         known)
         on (answers.settled sure told))
+
+    pub keeps_what_is_safe : KeepsWhatIsSafe state
+    keeps_what_is_safe old new place after medium deeds changes at known safe goes =
+        keep_media state is_disk crash cores (cartridge_at old place) (cartridge_at old place) (cartridge_at new after)
+        medium [] changes at known (unmoved (cartridge_at old place) (cartridge_at old place) refl)
+        (moved_with_all old new place after deeds changes medium at goes)
+        (λ left there. let same : medium ≡ left = cc in
+        subst (λ (m : BufferState D). CanAcknowledge (medium_core state m)) same safe)

@@ -5,6 +5,7 @@ pub mod FinishLemmas
 pub mod JourneyLemmas
 pub mod MachineLemmas
 pub mod MoveLemmas
+pub mod StandLemmas
 pub mod StopLemmas
 pub mod BesideLemmas
 pub mod ServedLemmas

@@ -1,5 +1,5 @@
 -- Scripts of at most one host, without moves.
-use Rattle.std.proofs.Common.{◌≡◌, ℕ, List, [], ◌∷◌, All, Option, None, Some, OnOk, Result, Err, Ok, flat_map, length, map, refl, sym, ap, ◌∙◌, subst}
+use Rattle.std.proofs.Common.{◌≡◌, ◌≢◌, ◌==◌, filter, ℕ, List, [], ◌∷◌, All, Option, None, Some, OnOk, Result, Err, Ok, flat_map, length, map, refl, sym, ap, ◌∙◌, subst}
 use Rattle.std.proofs.lemmas.List.{length-map}
 use Rattle.std.proofs.lemmas.List.Elements.{All-map}
 use Rattle.std.specs.Io.KnownBytes.{Appends}
@@ -28,7 +28,7 @@ use Rattle.vtl_script.specs.Runs.{RunsScript}
 use Rattle.vtl_script.specs.Text.{text_of}
 use Rattle.library.specs.Elements.{BayState, HeldState, bay_at}
 use Rattle.library.specs.OneHost.{AnswersLines, LibraryAnswersHost, IsHonestBay, MayReply, RunsTo, beside, machine_in, requests_at}
-use Rattle.library.specs.Runs.{AnswersOrders, Command, LibraryAnswers, Order, is_configured_in, orders_of}
+use Rattle.library.specs.Runs.{AnswersOrders, Command, LibraryAnswers, Order, is_configured_in, line_request, orders_of}
 use Rattle.library.proofs.BesideLemmas.{beside_map, beside_nothing, dealt, same_beside}
 use Rattle.library.proofs.ServedLemmas.{counted, found_same, none_asked, orders_are, served_at}
 
@@ -145,7 +145,7 @@ module _ {D : Type 0} (state : D → DiskState) (laws : Laws state) where
       → AnswersOrders state old (map Command lines) replies new → answers ≡ map Ok silent
       → ((bay : BayState D) → bay_at old.bays number ≡ Some bay
       → RunsTo state number (requests_at number lines) (beside number lines answers) bay new)
-      → ((bay : BayState D) → bay_at old.bays number ≡ Some bay
+      → ((bay : BayState D) → bay_at old.bays number ≡ Some bay → requests_at number lines ≢ []
       → IsHonestBay state bay × IsSureDrive (seen_of (machine_in state bay))
       × MayReply state (requests_at number lines) (beside number lines others) bay)
       → (found : Option (BayState D)) → bay_at old.bays number ≡ found
@@ -154,15 +154,25 @@ module _ {D : Type 0} (state : D → DiskState) (laws : Laws state) where
       let asked = none_asked state number old new lines replies ran none in
       beside_nothing number lines silent asked ∙ sym (beside_nothing number lines others asked)
   agree number lines replies silent others old new answers ran ended runs may (Some bay) is =
-      let run = runs bay is in
-      let other = may bay is in
-      let told : beside number lines answers ≡ map Ok (beside number lines silent) =
-      ap (λ (given : List (Result Reply Fault)). beside number lines given) ended ∙ beside_map Ok number lines silent in
-      told_alike bay (requests_at number lines) (beside number lines silent) (beside number lines others) run.made
-      (machine_in state run.left) other.0 other.1
-      (subst (λ (given : List (Result Reply Fault)). Run (IsHonestBay state bay) (machine_in state bay)
-      (map Execute (requests_at number lines)) (map Answered given) run.made (machine_in state run.left)) told run.run)
-      other.2
+      some_or_none (filter (λ line. line.drive == number) lines) refl
+    where
+      some_or_none : (own : List Line) → filter (λ line. line.drive == number) lines ≡ own
+          → beside number lines silent ≡ beside number lines others
+      some_or_none [] asked =
+          beside_nothing number lines silent asked ∙ sym (beside_nothing number lines others asked)
+      some_or_none (line ∷ own) asked =
+          let other = may bay is (λ nothing. let none : line_request line ∷ map line_request own ≡ [] =
+          sym (ap (λ (ls : List Line). map line_request ls) asked) ∙ nothing in absurd (cc)) in
+          let run = runs bay is in
+          let told : beside number lines answers ≡ map Ok (beside number lines silent) =
+          ap (λ (given : List (Result Reply Fault)). beside number lines given) ended
+          ∙ beside_map Ok number lines silent in
+          told_alike bay (requests_at number lines) (beside number lines silent) (beside number lines others) run.made
+          (machine_in state run.left) other.0 other.1
+          (subst (λ (given : List (Result Reply Fault)). Run (IsHonestBay state bay) (machine_in state bay)
+          (map Execute (requests_at number lines)) (map Answered given) run.made (machine_in state run.left)) told
+          run.run)
+          other.2
 
   -- commands that were answered one after another
   lines_answered : (lines : List Line) (replies : List Reply) (old new : HeldState D) (before now : Option (List ℕ))

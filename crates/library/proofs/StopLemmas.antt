@@ -28,15 +28,18 @@ use Rattle.drive_core.specs.declared.faults.Fault.{Fault}
 use Rattle.drive_core.specs.Execute.{Answers}
 use Rattle.drive_core.specs.Relations.{Made}
 use Rattle.drive_core.specs.ReserveOut.{StandsBy, StandsOnceSaved}
-use Rattle.drive_core.specs.State.{DriveState, Machine, left_of, machine_of, powered_on}
+use Rattle.drive_core.specs.State.{DriveState, Machine, left_of, loaded, machine_of, powered_on}
+use Rattle.drive_core.specs.LoadUnload.{emptied}
+use Rattle.drive_core.specs.Media.{GoesOutOf, TakesIn}
 use Rattle.drive_core.specs.Turn.{TurnsIn}
 use Rattle.drive_core.specs.Work.{Request}
 use Rattle.aptpl_store.specs.Contents.{GivesStates, ShowsStates, latest}
 use Rattle.aptpl_store.specs.Kept.{core_of, core_with, store_below, store_kept, store_rules}
 use Rattle.aptpl_store.specs.State.{OpenStore}
-use Rattle.library.specs.Reservations.{Asked, Call, CallDoes, Calls, GivesHeld, IsHolding, IsOrdered, IsOrderedIn, LeavesHeld, MayStand, ReservationsOutlive, SwitchedOnHolds, Turned, disk_of}
+use Rattle.library.specs.Reservations.{Asked, Call, CallDoes, Calls, ChangesBay, GivesHeld, IsHolding, IsOrdered, IsOrderedIn, LeavesHeld, MayStand, Moved, OrdersStand, ReservationsOutlive, SwitchedOnHolds, Turned, disk_of}
 use Rattle.library.proofs.CoreLemmas.{Either, MayAccept, Within, fewer_accept, first_many, within_steps}
 use Rattle.library.proofs.MachineLemmas.{Goes, step_goes}
+use Rattle.library.proofs.StandLemmas.{good_stands, step_stands}
 
 -- the last of states with one more is that one
 last_more : (first : PrState) (states : List PrState) (state : PrState)
@@ -348,10 +351,53 @@ module _ {M D : Type 0} (medium : M → MediumState) (below : Below M Change) (d
       refl (ap (λ (k : OpenStore D). store_kept k) takes.keeper) (subst IsSound (sym same) holding.sound)
       (ap power_loss same)
 
+  -- what is equal to one with the same keeper and reservations
+  both : (one new : DriveState M (OpenStore D)) → new ≡ one
+      → (new.keeper ≡ one.keeper) × (new.reservations ≡ one.reservations)
+  both one new same = (
+    ap (λ (d : DriveState M (OpenStore D)). d.keeper) same,
+    ap (λ (d : DriveState M (OpenStore D)). d.reservations) same,
+  )
+
+  -- what goes in or out leaves keeper and reservations
+  out_stays : (bay : Bay M) (old : DriveState M (OpenStore D)) (result : Result M Reply)
+      (new : DriveState M (OpenStore D)) → GoesOutOf medium below bay old result new
+      → (new.keeper ≡ old.keeper) × (new.reservations ≡ old.reservations)
+  out_stays Empty old (Ok out) new goes = absurd goes
+  out_stays Empty old (Err reply) new goes = both old new goes.1
+  out_stays (Unloaded m) old (Ok out) new goes = both (emptied old m) new goes.1
+  out_stays (Unloaded m) old (Err reply) new goes = absurd goes
+  out_stays (Loaded m) old (Ok out) new goes = both (emptied old m) new goes.1
+  out_stays (Loaded m) old (Err reply) new goes = both (record old { bay = Loaded goes.0 }) new goes.3
+
+  in_stays : (old : DriveState M (OpenStore D)) (given : M) (result : Result Unit (M × Reply))
+      (new : DriveState M (OpenStore D)) → TakesIn medium below old given result new
+      → (new.keeper ≡ old.keeper) × (new.reservations ≡ old.reservations)
+  in_stays old given (Ok done) new takes = both (loaded old takes.0) new takes.2
+  in_stays old given (Err back) new takes = both old new takes.3
+
+  carried_stays : (old new : DriveState M (OpenStore D)) → ChangesBay medium below disk old new
+      → (new.keeper ≡ old.keeper) × (new.reservations ≡ old.reservations)
+  carried_stays old new (inl takes) = in_stays old takes.0 takes.1 new takes.2
+  carried_stays old new (inr (inl put)) = both (record old { bay = Unloaded put.0 }) new put.1
+  carried_stays old new (inr (inr out)) = out_stays old.bay old out.0 new out.1
+
+  moved_goes : (old new : DriveState M (OpenStore D)) → IsHolding medium below disk old
+      → CallDoes medium below disk old Moved new → CallGoes old Moved new
+  moved_goes old new holding carried =
+      let stays = carried_stays old new carried in
+      unsaved old new holding Moved []
+      (subst (λ (k : OpenStore D). CoreMoves store_rules (disk_of medium below disk old) (disk k.disk)
+      (core_of old.keeper) (core_of k) []) (sym stays.0)
+      (core_moves_nowhere store_rules (disk_of medium below disk old) (core_of old.keeper) (is_disk old.keeper.disk)))
+      refl (ap (λ (k : OpenStore D). store_kept k) stays.0) (subst IsSound (sym stays.1) holding.sound)
+      (ap power_loss stays.1)
+
   call_goes : (old new : DriveState M (OpenStore D)) (call : Call) → IsHolding medium below disk old
       → CallDoes medium below disk old call new → CallGoes old call new
   call_goes old new (Asked request reply) holding does = asked_goes old new request reply holding does
   call_goes old new (Turned turn) holding does = turned_goes old new turn holding does
+  call_goes old new Moved holding does = moved_goes old new holding does
 
   -- what one call leaves at each moment, and in the end
   call_leaves : (old new : DriveState M (OpenStore D)) (call : Call) → (disk_of medium below disk old).honest
@@ -464,6 +510,23 @@ module _ {M D : Type 0} (medium : M → MediumState) (below : Below M Change) (d
         λ image may. gives_held new left.1 image (left.1.shows image may),
         left.1,
       )
+
+  -- what a call leaves of the reservations
+  pub stand : OrdersStand medium below disk
+  stand old new (Turned turn) takes = (
+    inl (turn_leaves _ (machine_of medium store_kept old) takes.step.0 (machine_of medium store_kept new)
+        takes.step.1),
+    tt,
+  )
+  stand old new Moved carried = (inl (carried_stays old new carried).1, tt)
+  stand old new (Asked request reply) answers = (
+    step_stands (machine_of medium store_kept old) request answers.answer answers.taken.made
+        (machine_of medium store_kept new) (step_goes _ (machine_of medium store_kept old) request answers.answer
+        answers.taken.made (machine_of medium store_kept new) answers.taken.step),
+    λ action bytes command good. good_stands (machine_of medium store_kept old) request answers.answer
+        answers.taken.made (machine_of medium store_kept new) action bytes command _ answers.taken.step
+        (sym (ap (λ (r : Reply). r.status) answers.replied) ∙ good),
+  )
 
 -- a drive that was just switched on holds what its store saved last
 module _ {M D : Type 0} (medium : M → MediumState) (below : Below M Change) (disk : D → DiskState)

@@ -4,7 +4,8 @@ use Rattle.tape_disk.specs.Disk.{DiskState}
 use Rattle.scsi_sense.specs.declared.replies.Reply.{Reply}
 use Rattle.scsi_sense.specs.Replies.{good_with}
 use Rattle.volume_core.specs.declared.changes.Change.{Change}
-use Rattle.tape_buffer.specs.Moves.{buffer_below}
+use Rattle.accepting.specs.Core.{CanAcknowledge}
+use Rattle.tape_buffer.specs.Moves.{buffer_below, medium_core}
 use Rattle.tape_buffer.specs.State.{BufferState, state_of}
 use Rattle.aptpl_store.specs.Kept.{store_below, store_kept}
 use Rattle.drive_core.specs.Relations.{Made}
@@ -77,3 +78,12 @@ module _ {D : Type 0} (state : D → DiskState) where
       → IsBayPositioned (state_of state) answers.left.bay answers.left.position
       → GoesWithAll acked number deeds changes new after
       → KeepsIn state (cartridge_at acked number) (cartridge_at new after) changes
+
+  -- The same from any moment at which all that a known cartridge had accepted is safe, as after a loading or a writing
+  -- out: whatever is done then, a stop leaves all of that, and the first so many of what is accepted since (own).
+  abbrev pub KeepsWhatIsSafe : Type 0
+  KeepsWhatIsSafe =
+      (old new : HeldState D) (place after : ℕ) (medium : BufferState D) (deeds : List Deed) (changes : List Change)
+      → cartridge_at old place ≡ Some medium → IsKnown state medium → CanAcknowledge (medium_core state medium)
+      → GoesWithAll old place deeds changes new after
+      → KeepsIn state (cartridge_at old place) (cartridge_at new after) changes

@@ -1,5 +1,5 @@
 -- Scripts of at most one host, which ask for no move (own).
-use Rattle.std.specs.Prelude.{◌≡◌, ℕ, ◌==◌, if◌then◌else◌, List, [], ◌∷◌, All, filter, length, map, Option, Some, Result, Ok, IfSome}
+use Rattle.std.specs.Prelude.{◌≡◌, ◌≢◌, ℕ, ◌==◌, if◌then◌else◌, List, [], ◌∷◌, All, filter, length, map, Option, Some, Result, Ok, IfSome}
 use Rattle.std.specs.Io.KnownBytes.{Appends}
 use Rattle.tape_disk.specs.Disk.{DiskState}
 use Rattle.scsi_sense.specs.declared.replies.Reply.{Reply}
@@ -78,7 +78,7 @@ module _ {D : Type 0} (state : D → DiskState) where
         → RunsTo number (requests_at number lines) (beside number lines answers) bay new
     pub sole :
         (silent others : List Reply) → answers ≡ map Ok silent → length others ≡ length lines
-        → ((number : ℕ) (bay : BayState D) → bay_at old.bays number ≡ Some bay
+        → ((number : ℕ) (bay : BayState D) → bay_at old.bays number ≡ Some bay → requests_at number lines ≢ []
         → IsHonestBay bay × IsSureDrive (seen_of (machine_in bay))
         × MayReply (requests_at number lines) (beside number lines others) bay)
         → Appends before now (text_of others)

@@ -1,7 +1,8 @@
 -- What a drive over a store of reservations leaves on the store's disk, wherever it is stopped.
-use Rattle.std.specs.Prelude.{◌≡◌, ◌⊎◌, ℕ, List, [], ◌∷◌, Option, Some, is_some, Ok}
+use Rattle.std.specs.Prelude.{◌≡◌, ◌⊎◌, ℕ, List, [], ◌∷◌, Option, Some, is_some, Result, Ok}
 use Rattle.vtl_base.specs.Below.{Below}
 use Rattle.scsi_sense.specs.declared.replies.Reply.{Reply}
+use Rattle.scsi_sense.specs.declared.replies.Status.TheVariants.{Good}
 use Rattle.scsi_attention.specs.AttentionSets.{AttentionSet}
 use Rattle.scsi_lists.specs.declared.actions.PrAction.{PrAction}
 use Rattle.scsi_lists.specs.declared.pr_lists.PrOut.{PrOut}
@@ -19,7 +20,8 @@ use Rattle.tape_disk.specs.Disk.{DiskState, Each}
 use Rattle.tape_disk.specs.Moments.{LeavesOnly}
 use Rattle.drive_core.specs.Checks.{verdict}
 use Rattle.drive_core.specs.Execute.{Answers}
-use Rattle.drive_core.specs.Media.{SwitchesOn, TakesTurn}
+use Rattle.drive_core.specs.declared.bays.Bay.TheVariants.{Unloaded}
+use Rattle.drive_core.specs.Media.{GoesOut, SwitchesOn, TakesIn, TakesTurn}
 use Rattle.drive_core.specs.State.{DriveState, Machine, left_of, machine_of}
 use Rattle.drive_core.specs.Work.{Request}
 use Rattle.aptpl_store.specs.Contents.{OpensAs, ShowsStates, latest}
@@ -30,6 +32,7 @@ use Rattle.aptpl_store.specs.State.{OpenStore}
 pub data Call : Type 0 where
   Asked : (request : Request) → (reply : Reply) → Call
   Turned : (turn : Turn) → Call
+  Moved : Call
 
 -- the state that an order makes which a request asks for, once it has passed all checks (SPC-4, PERSISTENT RESERVE OUT)
 pub record IsOrdered (machine : Machine) (request : Request) (state : PrState) : Type 0 where
@@ -46,12 +49,29 @@ pub record IsOrdered (machine : Machine) (request : Request) (state : PrState) :
 abbrev pub IsOrderedIn : Machine → Call → PrState → Type 0
 IsOrderedIn machine (Asked request reply) state = IsOrdered machine request state
 IsOrderedIn machine (Turned turn) state = ⊥
+IsOrderedIn machine Moved state = ⊥
+
+-- an order that was answered GOOD is there (SPC-4, PERSISTENT RESERVE OUT)
+abbrev pub StandsWhereGood : Machine → Call → PrState → Type 0
+StandsWhereGood machine (Asked request reply) state =
+    (action : PrAction) (bytes : ℕ) → verdict machine request ≡ Ok (PersistentReserveOut action bytes)
+    → reply.status ≡ Good → IsOrdered machine request state
+StandsWhereGood machine (Turned turn) state = Unit {0}
+StandsWhereGood machine Moved state = Unit {0}
 
 module _ {M D : Type 0} (medium : M → MediumState) (below : Below M Change) (disk : D → DiskState) where
+  -- a medium was taken in, or came back; or was put in, not loaded; or went out, or did not (own)
+  abbrev pub ChangesBay : DriveState M (OpenStore D) → DriveState M (OpenStore D) → Type 0
+  ChangesBay old new =
+      ((given : M) × (result : Result Unit (M × Reply)) × TakesIn medium below old given result new)
+      ⊎ (((given : M) × (new ≡ record old { bay = Unloaded given }))
+      ⊎ ((result : Result M Reply) × GoesOut medium below old result new))
+
   -- a drive was given this, and it came to that (own)
   abbrev pub CallDoes : DriveState M (OpenStore D) → Call → DriveState M (OpenStore D) → Type 0
   CallDoes old (Asked request reply) new = Answers medium below store_kept (store_below disk) old request reply new
   CallDoes old (Turned turn) new = TakesTurn medium below store_kept old turn new
+  CallDoes old Moved new = ChangesBay old new
 
   -- calls one after another, each from where the one before left the drive (own)
   abbrev pub Calls : DriveState M (OpenStore D) → List Call → DriveState M (OpenStore D) → Type 0
@@ -111,3 +131,11 @@ module _ {M D : Type 0} (medium : M → MediumState) (below : Below M Change) (d
       → reservations ≡ left_of (store_kept store).saved → IsSound reservations → store.failed ≡ is_some store.torn
       → Each (disk store.disk) (ShowsStates store.heading store.states store.torn)
       → SwitchesOn medium below given reservations store (Ok new) → IsHolding new
+
+  -- What a host is answered GOOD to once its order has passed all checks is there: the drive holds a state that the
+  -- order makes. Nothing else changes the reservations (own).
+  abbrev pub OrdersStand : Type 0
+  OrdersStand =
+      (old new : DriveState M (OpenStore D)) (call : Call) → CallDoes old call new
+      → ((new.reservations ≡ old.reservations) ⊎ IsOrderedIn (machine_of medium store_kept old) call new.reservations)
+      × StandsWhereGood (machine_of medium store_kept old) call new.reservations

@@ -9,7 +9,7 @@ use Rattle.vtl_script.specs.declared.items.Item.{Item}
 use Rattle.vtl_script.specs.declared.items.Item.TheVariants.{Phase, Move}
 use Rattle.library.specs.Commands.{Commands}
 use Rattle.library.specs.Elements.{HeldState, bay_at}
-use Rattle.library.specs.Moves.{MovesMedium}
+use Rattle.library.specs.Moves.{KeepsCartridges, MovesMedium}
 
 -- what a library is asked: to have the command of a line carried out, or to move a cartridge (own)
 pub data Order : Type 0 where
@@ -34,7 +34,8 @@ module _ {D : Type 0} (state : D → DiskState) where
   -- rest own)
   abbrev pub AnswersOrder : HeldState D → Order → Reply → HeldState D → Type 0
   AnswersOrder old (Command line) reply new = Commands state line.drive (line_request line) old reply new
-  AnswersOrder old (Carry from to) reply new = MovesMedium state old from to reply new
+  AnswersOrder old (Carry from to) reply new =
+      MovesMedium state old from to reply new × KeepsCartridges state old from to reply new
 
   -- orders are answered one after another, each from where the one before left the library (own)
   abbrev pub AnswersOrders : HeldState D → List Order → List Reply → HeldState D → Type 0

@@ -1,6 +1,6 @@
 //! A cartridge, through a stop.
 ghost use Rattle.library.specs.Cartridges.{StopsKeepChanges};
-ghost use Rattle.library.specs.Journeys.{StopsKeepWhatIsMoved};
+ghost use Rattle.library.specs.Journeys.{KeepsWhatIsSafe, StopsKeepWhatIsMoved};
 
 use accepting::laws::{a_crash_leaves_what_was_acknowledged, steps_keep_cores};
 use pr_core::Keeper;
@@ -22,7 +22,8 @@ pub fn a_stop_keeps_acknowledged_changes<D: Disk, K: Keeper>()
 /// wherever it is, as a first part of its accepted changes leaves it, which holds every change that was accepted up to
 /// that command.
 pub fn a_stop_keeps_acknowledged_changes_of_what_is_moved<D: Disk>()
-    ensures { StopsKeepWhatIsMoved D.state }
+    ensures acknowledged { StopsKeepWhatIsMoved D.state }
+    ensures safe { KeepsWhatIsSafe D.state }
 {
     a_crash_leaves_what_was_acknowledged::<Buffered<D>, D>();
     steps_keep_cores::<Buffered<D>>();

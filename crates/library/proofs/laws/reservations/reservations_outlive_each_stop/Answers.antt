@@ -1,4 +1,4 @@
-use Rattle.library.proofs.StopLemmas.{begins, outlive}
+use Rattle.library.proofs.StopLemmas.{begins, outlive, stand}
 use Rattle.library.proofs.laws.reservations.reservations_outlive_each_stop.Goals as goal
 
 pub returns : goal.returns
@@ -7,5 +7,8 @@ returns g c = record {
       begins g.M.Catalog.state g.M.Medium.below g.D.Disk.state c.power_loss_is_once.ensures.once;
   outlive =
       outlive g.M.Catalog.state g.M.Medium.below g.D.Disk.state g.met.D.Disk.is_disk c.rules_are_kept.ensures.orders
+      c.saves_are_due_by_change.ensures c.power_loss_is_once.ensures.alike;
+  stand =
+      stand g.M.Catalog.state g.M.Medium.below g.D.Disk.state g.met.D.Disk.is_disk c.rules_are_kept.ensures.orders
       c.saves_are_due_by_change.ensures c.power_loss_is_once.ensures.alike;
 }

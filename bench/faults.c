@@ -1,0 +1,104 @@
+// Stands before the C library (LD_PRELOAD) and lets one call of a program end otherwise, for faults.py: of the kind that
+// FAULTS names the FAULTS_AT-th. "memory": no memory is given. "fault": a call for a file or a stream fails (EIO).
+// "interrupted": it fails once (EINTR). "short": of several bytes one is read or written. "lost": a write at a place is said to be
+// done, and is not. Without FAULTS_AT none does.
+// The file that FAULTS_TOLD names is told how many calls of the kind there were, and the name of the one.
+#define _GNU_SOURCE
+#include <errno.h>
+#include <fcntl.h>
+#include <stdarg.h>
+#include <stdio.h>
+#include <stdlib.h>
+#include <string.h>
+#include <sys/stat.h>
+#include <sys/syscall.h>
+#include <unistd.h>
+
+extern void *__libc_malloc(size_t);
+extern void *__libc_realloc(void *, size_t);
+
+static char kind;
+static long at, seen;
+static const char *name = "none";
+
+__attribute__((constructor)) static void begin(void) {
+    const char *said = getenv("FAULTS"), *number = getenv("FAULTS_AT");
+    at = number ? atol(number) : 0;
+    kind = said ? said[0] : 0;
+}
+
+__attribute__((destructor)) static void end(void) {
+    const char *path = getenv("FAULTS_TOLD");
+    char text[64];
+    int size = snprintf(text, sizeof text, "%ld %s", seen, name);
+    kind = 0;
+    int file = path ? syscall(SYS_openat, AT_FDCWD, path, O_WRONLY | O_CREAT | O_TRUNC, 0600) : -1;
+    if (file >= 0) {
+        syscall(SYS_write, file, text, (size_t)size);
+        syscall(SYS_close, file);
+    }
+}
+
+// Whether this call is the one.
+static int is_it(const char *call) {
+    if (++seen != at)
+        return 0;
+    name = call;
+    return 1;
+}
+
+static int is_refused(const char *call) {
+    if ((kind != 'f' && kind != 'i') || !is_it(call))
+        return 0;
+    errno = kind == 'i' ? EINTR : EIO;
+    return 1;
+}
+
+// The bytes that a read or a write moves at most.
+static size_t moved(const char *call, size_t count) {
+    return kind == 's' && count > 1 && is_it(call) ? 1 : count;
+}
+
+void *malloc(size_t size) { return kind == 'm' && is_it("malloc") ? NULL : __libc_malloc(size); }
+void *realloc(void *from, size_t size) { return kind == 'm' && is_it("realloc") ? NULL : __libc_realloc(from, size); }
+
+#define CALL(call, ...) is_refused(#call) ? -1 : syscall(SYS_##call, __VA_ARGS__)
+// A call that the system never interrupts.
+#define BRIEF(call, ...) kind != 'i' && is_refused(#call) ? -1 : syscall(SYS_##call, __VA_ARGS__)
+
+int open(const char *path, int flags, ...) {
+    va_list more;
+    va_start(more, flags);
+    mode_t mode = flags & O_CREAT ? va_arg(more, mode_t) : 0;
+    va_end(more);
+    return CALL(openat, AT_FDCWD, path, flags, mode);
+}
+
+int fcntl(int file, int order, ...) {
+    va_list more;
+    va_start(more, order);
+    long argument = va_arg(more, long);
+    va_end(more);
+    return CALL(fcntl, file, order, argument);
+}
+
+ssize_t read(int file, void *to, size_t count) { return CALL(read, file, to, moved("read", count)); }
+ssize_t write(int file, const void *from, size_t count) { return CALL(write, file, from, moved("write", count)); }
+ssize_t pread(int file, void *to, size_t count, off_t place) {
+    return CALL(pread64, file, to, moved("pread", count), place);
+}
+ssize_t pwrite(int file, const void *from, size_t count, off_t place) {
+    if (kind == 'l' && is_it("pwrite"))
+        return (ssize_t)count;
+    return CALL(pwrite64, file, from, moved("pwrite", count), place);
+}
+int fsync(int file) { return CALL(fsync, file); }
+int fdatasync(int file) { return CALL(fdatasync, file); }
+int ftruncate(int file, off_t size) { return CALL(ftruncate, file, size); }
+int flock(int file, int order) { return CALL(flock, file, order); }
+int fchmod(int file, mode_t mode) { return BRIEF(fchmod, file, mode); }
+int unlink(const char *path) { return BRIEF(unlink, path); }
+off_t lseek(int file, off_t place, int from) { return BRIEF(lseek, file, place, from); }
+int statx(int folder, const char *path, int flags, unsigned int wanted, struct statx *to) {
+    return BRIEF(statx, folder, path, flags, wanted, to);
+}
