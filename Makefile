@@ -3,11 +3,12 @@
 # rows: bodies that the contracts allow, which a test must refuse
 # faults: each call that fails, in turn     endings: the built program at each of its endings
 # examples: the scripts of examples/        kills: the built program is killed 1,000 times (COUNT=, SEED=)
+# stops: the power is lost behind each call of the built program, over files
 # bench: measures speed and memory          gate: what each crate costs the gate
 # definitions: writes docs/DEFINITIONS.md
 RT := $(shell command -v rt)
 
-.PHONY: demo vtl check wrong rows faults endings examples kills bench gate definitions need-rt
+.PHONY: demo vtl check wrong rows faults endings examples stops kills bench gate definitions need-rt
 .DEFAULT_GOAL := demo
 
 need-rt:
@@ -42,6 +43,10 @@ endings: vtl
 
 examples: vtl
 	python3 bench/examples.py
+
+stops: vtl
+	python3 bench/stops.py --selftest
+	python3 bench/stops.py
 
 kills: vtl
 	python3 bench/kills.py --selftest

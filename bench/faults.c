@@ -1,8 +1,10 @@
-// Stands before the C library (LD_PRELOAD) and lets one call of a program end otherwise, for faults.py: of the kind that
-// FAULTS names the FAULTS_AT-th. "memory": no memory is given. "fault": a call for a file or a stream fails (EIO).
+// Stands before the C library (LD_PRELOAD), for faults.py and stops.py. It lets one call of a program end otherwise: of the
+// kind that FAULTS names the FAULTS_AT-th. "memory": no memory is given. "fault": a call for a file or a stream fails (EIO).
 // "interrupted": it fails once (EINTR). "short": of several bytes one is read or written. "lost": a write at a place is said to be
 // done, and is not. Without FAULTS_AT none does.
-// The file that FAULTS_TOLD names is told how many calls of the kind there were, and the name of the one.
+// The file that FAULTS_TOLD names is told how many calls of the kind there were, and the name of the one. To the file that
+// FAULTS_NOTES names each call is added that did something to a file or to standard output: a letter, the last part of the
+// file's name, a place, how many bytes; then the bytes.
 #define _GNU_SOURCE
 #include <errno.h>
 #include <fcntl.h>
@@ -20,11 +22,15 @@ extern void *__libc_realloc(void *, size_t);
 static char kind;
 static long at, seen;
 static const char *name = "none";
+static int notes = -1;
 
 __attribute__((constructor)) static void begin(void) {
     const char *said = getenv("FAULTS"), *number = getenv("FAULTS_AT");
     at = number ? atol(number) : 0;
     kind = said ? said[0] : 0;
+    const char *path = getenv("FAULTS_NOTES");
+    if (path)
+        notes = syscall(SYS_openat, AT_FDCWD, path, O_WRONLY | O_CREAT | O_TRUNC | O_APPEND, 0600);
 }
 
 __attribute__((destructor)) static void end(void) {
@@ -59,6 +65,23 @@ static size_t moved(const char *call, size_t count) {
     return kind == 's' && count > 1 && is_it(call) ? 1 : count;
 }
 
+// Notes a call on an open file that did something.
+static long noted(long done, char letter, int file, const void *bytes, long place) {
+    char link[64], path[4096], line[4200];
+    if (notes < 0 || done < 0)
+        return done;
+    snprintf(link, sizeof link, "/proc/self/fd/%d", file);
+    ssize_t length = syscall(SYS_readlink, link, path, sizeof path - 1);
+    path[length > 0 ? length : 0] = 0;
+    char *last = file == 1 ? "-" : strrchr(path, '/') ? strrchr(path, '/') + 1 : path;
+    long count = bytes ? done : 0;
+    int size = snprintf(line, sizeof line, "%c %s %ld %ld\n", letter, last, place, count);
+    syscall(SYS_write, notes, line, (size_t)size);
+    if (count)
+        syscall(SYS_write, notes, bytes, (size_t)count);
+    return done;
+}
+
 void *malloc(size_t size) { return kind == 'm' && is_it("malloc") ? NULL : __libc_malloc(size); }
 void *realloc(void *from, size_t size) { return kind == 'm' && is_it("realloc") ? NULL : __libc_realloc(from, size); }
 
@@ -71,7 +94,10 @@ int open(const char *path, int flags, ...) {
     va_start(more, flags);
     mode_t mode = flags & O_CREAT ? va_arg(more, mode_t) : 0;
     va_end(more);
-    return CALL(openat, AT_FDCWD, path, flags, mode);
+    int file = CALL(openat, AT_FDCWD, path, flags, mode);
+    if (flags & O_CREAT && file >= 0)
+        noted(0, 'C', file, NULL, 0);
+    return file;
 }
 
 int fcntl(int file, int order, ...) {
@@ -83,18 +109,20 @@ int fcntl(int file, int order, ...) {
 }
 
 ssize_t read(int file, void *to, size_t count) { return CALL(read, file, to, moved("read", count)); }
-ssize_t write(int file, const void *from, size_t count) { return CALL(write, file, from, moved("write", count)); }
+ssize_t write(int file, const void *from, size_t count) {
+    return noted(CALL(write, file, from, moved("write", count)), 'A', file, from, 0);
+}
 ssize_t pread(int file, void *to, size_t count, off_t place) {
     return CALL(pread64, file, to, moved("pread", count), place);
 }
 ssize_t pwrite(int file, const void *from, size_t count, off_t place) {
     if (kind == 'l' && is_it("pwrite"))
         return (ssize_t)count;
-    return CALL(pwrite64, file, from, moved("pwrite", count), place);
+    return noted(CALL(pwrite64, file, from, moved("pwrite", count), place), 'W', file, from, place);
 }
-int fsync(int file) { return CALL(fsync, file); }
-int fdatasync(int file) { return CALL(fdatasync, file); }
-int ftruncate(int file, off_t size) { return CALL(ftruncate, file, size); }
+int fsync(int file) { return noted(CALL(fsync, file), 'S', file, NULL, 0); }
+int fdatasync(int file) { return noted(CALL(fdatasync, file), 'S', file, NULL, 0); }
+int ftruncate(int file, off_t size) { return noted(CALL(ftruncate, file, size), 'T', file, NULL, size); }
 int flock(int file, int order) { return CALL(flock, file, order); }
 int fchmod(int file, mode_t mode) { return BRIEF(fchmod, file, mode); }
 int unlink(const char *path) { return BRIEF(unlink, path); }
