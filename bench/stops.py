@@ -9,8 +9,10 @@ was made, or it is there. Over these files the program is started again. Each ca
 changes leaves, with all up to the last acknowledged synchronizing command; the reservations must be those of a first part of the
 orders, with each acknowledged one; a file that was told as created must be new.
 
---images N: files behind each call (30); --seed S; --program PATH another program than the proved one; --selftest: syncs are
-forgotten, which must be found."""
+So too random scripts of kill_script.py, with writing over, moves and reservations, three times behind each call.
+
+--images N: files behind each call (30); --scripts N: such scripts (10); --seed S; --program PATH another program than the proved
+one; --selftest: syncs are forgotten, which must be found."""
 import argparse
 import collections
 import concurrent.futures
@@ -20,7 +22,10 @@ import subprocess
 import sys
 import tempfile
 
+from drive_model import Reservations
 from faults import FILES, NEW, PROVED, SCRIPT, TOP, Room, content, judged, made
+from kill_script import TAPES, Script
+from kills import Life
 
 Call = collections.namedtuple("Call", "letter name place bytes")
 FILLS = [b"\x00", b"\xa5", b"\xff"]
@@ -115,21 +120,20 @@ class World:
         return {file: disk.image(chance) for file, disk in self.disks.items() if file in self.named or chance.random() < 0.5}
 
 
-def library_of(room, words, script, shim):
-    """The files before and the calls of what these words do."""
-    before = {file: content(os.path.join(room.path, file)) for file in FILES.values()}
-    notes = os.path.join(room.room.name, "notes")
-    with tempfile.TemporaryFile() as given:
+def calls_of(tools, folder, words, script):
+    """The calls of what these words do."""
+    with tempfile.TemporaryDirectory(prefix="vtl-notes-") as room, tempfile.TemporaryFile() as given:
         given.write(script.encode())
         given.seek(0)
-        subprocess.run([room.program, *words], cwd=room.path, stdin=given, stdout=subprocess.PIPE, check=True,
-                       env={**os.environ, "LD_PRELOAD": shim, "FAULTS_NOTES": notes})
-    return before, noted(notes)
+        notes = os.path.join(room, "notes")
+        subprocess.run([tools[0], *words], cwd=folder, stdin=given, stdout=subprocess.PIPE, check=True,
+                       env={**os.environ, "LD_PRELOAD": tools[1], "FAULTS_NOTES": notes})
+        return noted(notes)
 
 
-def put(room, images):
-    for file in FILES.values():
-        path = os.path.join(room.path, file)
+def put(folder, files, images):
+    for file in files:
+        path = os.path.join(folder, file)
         if file in images:
             with open(path, "wb") as out:
                 out.write(images[file])
@@ -146,32 +150,67 @@ def after_create(room, out):
     return [f"{name} was told, and is not new" for name in told if room.run(["check", FILES[name]])[:3] != (0, NEW[name], "")]
 
 
-def stop(tools, pristine, what, way, script, chance, images, forgets=lambda: False):
-    """Stops behind each call of what these words do, and says how many files were looked at, and what is wrong."""
-    room = Room(tools, pristine)
-    with room.room:
-        before, calls = library_of(room, what, script, tools[1])
-    world, tasks = World(before, forgets), []
+def left_behind(before, calls, chance, images, forgets=lambda: False):
+    """So many times behind each call: its number, what was written to standard output by then, and the files."""
+    world = World(before, forgets)
     for at in range(len(calls) + 1):
-        tasks += [(at, world.out, world.images(chance)) for _ in range(images)]
+        for _ in range(images):
+            yield at, world.out, world.images(chance)
         if at < len(calls):
             world.do(calls[at])
 
+
+def looked_at(what, calls, tasks, look):
+    """What is wrong with what was left, each looked at in its own way."""
     def one(task):
-        place, out, files = task
-        here = Room(tools, pristine)
-        with here.room:
-            put(here, files)
-            return [f"{what[0]}, behind call {place} of {len(calls)}: {it}" for it in way(here, out)]
+        return [f"{what}, behind call {task[0]} of {len(calls)}: {it}" for it in look(*task[1:])]
     with concurrent.futures.ThreadPoolExecutor(os.cpu_count()) as pool:
         wrong = [it for found in pool.map(one, tasks) for it in found]
-    print(f"vtl {what[0]}: {len(calls)} calls, {len(tasks)} times what a loss of power may have left behind one", flush=True)
+    print(f"{what}: {len(calls)} calls, {len(tasks)} times what a loss of power may have left behind one", flush=True)
     return wrong
+
+
+def stop(tools, pristine, words, way, script, chance, images, forgets=lambda: False):
+    """Stops what these words do behind each call."""
+    room = Room(tools, pristine)
+    with room.room:
+        before = {file: content(os.path.join(room.path, file)) for file in FILES.values()}
+        calls = calls_of(tools, room.path, words, script)
+
+    def look(out, files):
+        here = Room(tools, pristine)
+        with here.room:
+            put(here.path, FILES.values(), files)
+            return way(here, out)
+    return looked_at(f"vtl {words[0]}", calls, list(left_behind(before, calls, chance, images, forgets)), look)
+
+
+def life(tools, chance, images, forgets=lambda: False):
+    """Stops a random script of kill_script.py, over a library that holds nothing yet, behind each call."""
+    files = [*(f"{name}.tape" for name in TAPES), "drive1.pr", "drive2.pr"]
+    with tempfile.TemporaryDirectory(prefix="vtl-stops-") as room:
+        lived = Life(tools[0], room)
+        script = Script(chance, lived.volumes, lived.reservations)
+        before = {file: content(os.path.join(room, file)) for file in os.listdir(room)}
+        calls = calls_of(tools, room, ["run", "--config", "drive.toml"], "".join(script.text))
+
+        def look(out, images_of):
+            with tempfile.TemporaryDirectory(prefix="vtl-stops-") as folder:
+                put(folder, before, {**before, **images_of})
+                again = Life.__new__(Life)
+                again.program, again.room, again.wrong = tools[0], folder, []
+                again.volumes, again.reservations = {name: [] for name in TAPES}, {1: Reservations(), 2: Reservations()}
+                again.judge(script, out.count("\n"), True)
+                return again.wrong
+        sides = {file: before[file] for file in files}
+        return looked_at(f"a script of {len(script.answers)} answers", calls, list(left_behind(sides, calls, chance, images, forgets)),
+                         look)
 
 
 def main():
     parser = argparse.ArgumentParser()
     parser.add_argument("--images", type=int, default=30)
+    parser.add_argument("--scripts", type=int, default=10)
     parser.add_argument("--seed", type=int, default=1)
     parser.add_argument("--program", default=PROVED)
     parser.add_argument("--selftest", action="store_true")
@@ -188,9 +227,12 @@ def main():
         create = (bare, ["create", "--config", "lib.toml"], after_create, "")
         if said.selftest:
             found = [stop(tools, *what, chance, said.images, lambda: chance.random() < 0.2) for what in (run, create)]
-            print(f"self-test: where one sync in five is forgotten {' and '.join(str(len(it)) for it in found)} were found wrong")
+            found.append(life(tools, chance, 3, lambda: chance.random() < 0.2))
+            print(f"self-test: where one sync in five is forgotten {', '.join(str(len(it)) for it in found)} were found wrong")
             return 0 if all(found) else 1
         wrong = stop(tools, *run, chance, said.images) + stop(tools, *create, chance, said.images)
+        for _ in range(said.scripts):
+            wrong += life(tools, chance, 3)
     print("\n".join([*wrong[:20], f"stops: {len(wrong)} wrong"]))
     return 1 if wrong else 0
 
