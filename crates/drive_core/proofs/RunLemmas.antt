@@ -1,17 +1,18 @@
 -- Runs: two in a row are one, and what a drive answers to hosts is one.
-use Rattle.std.proofs.Common.{◌≡◌, ◌++◌, ◌∙◌, List, [], ◌∷◌, map, Option, None, Some, refl, sym, ap, subst, append_assoc}
+use Rattle.std.proofs.Common.{◌≡◌, ◌++◌, ◌∙◌, List, [], ◌∷◌, map, filter_map, Option, None, Some, refl, sym, ap, subst, append_assoc}
 use Rattle.vtl_base.specs.Below.{Below}
 use Rattle.scsi_sense.specs.declared.replies.Reply.{Reply}
 use Rattle.pr_core.specs.declared.states.PrState.{PrState}
 use Rattle.pr_core.specs.Keepers.{KeeperState}
 use Rattle.volume_core.specs.declared.changes.Change.{Change}
-use Rattle.volume_core.specs.Medium.{MediumState}
+use Rattle.volume_core.specs.Medium.{MediumState, turn_met_fault}
 use Rattle.drive_core.specs.State.{Machine, machine_of, medium_in}
 use Rattle.drive_core.specs.Faults.{reply_of}
 use Rattle.drive_core.specs.Relations.{Made, made_nothing, made_after}
-use Rattle.drive_core.specs.Step.{Input, Execute, Output, Answered}
+use Rattle.drive_core.specs.Step.{Input, Execute, Output, Answered, Unanswered}
+use Rattle.drive_core.specs.Turn.{turn_outcome}
 use Rattle.drive_core.specs.Execute.{AdvancesIn, HonestIn, is_device_fault}
-use Rattle.drive_core.specs.Run.{Run, RunsAppend, ServedByRuns}
+use Rattle.drive_core.specs.Run.{Run, RunsAppend, ServedByRuns, EventsAreRuns, Asked, Turned, input_of, reply_to}
 use Rattle.drive_core.proofs.StepLemmas.{step_where}
 
 -- what three steps in a row make
@@ -102,3 +103,51 @@ module _ {M K : Type 0}
       }
   served_runs old new [] (reply ∷ replies) h = absurd h
   served_runs old new (request ∷ requests) [] h = absurd h
+
+  -- events of one drive are a run of its machine
+  pub events_run : EventsAreRuns state below kept keeps
+  events_run old new [] h =
+      record { outputs = []; replied = refl; made = made_nothing; run = (refl, ap (machine_of state kept) h) }
+  events_run old new (Asked request reply ∷ events) h =
+      let mid = h.0 in
+      let here = h.1 in
+      let rest = events_run mid new events h.2 in
+      let so = honest_on (medium_in old.bay) (medium_in mid.bay) here.taken.made.changes (is_device_fault here.answer)
+      here.taken.advances in
+      record {
+        outputs = Answered here.answer ∷ rest.outputs;
+        replied =
+            ap (λ (x : Reply). x ∷ filter_map reply_to events) here.replied
+            ∙ ap (λ (xs : List Reply). reply_of here.answer ∷ xs) rest.replied;
+        made = made_after here.taken.made rest.made;
+        run = (
+          machine_of state kept mid,
+          here.taken.made,
+          rest.made,
+          here.taken.step,
+          run_where (HonestIn below (medium_in old.bay)) (HonestIn below (medium_in mid.bay)) so (machine_of state
+              kept mid)
+              (map input_of events) rest.outputs rest.made (machine_of state kept new) rest.run,
+          refl,
+        );
+      }
+  events_run old new (Turned turn ∷ events) h =
+      let mid = h.0 in
+      let here = h.1 in
+      let rest = events_run mid new events h.2 in
+      let so = honest_on (medium_in old.bay) (medium_in mid.bay) [] (turn_met_fault turn) here.advances in
+      record {
+        outputs = Unanswered (turn_outcome turn) ∷ rest.outputs;
+        replied = rest.replied;
+        made = made_after made_nothing rest.made;
+        run = (
+          machine_of state kept mid,
+          made_nothing,
+          rest.made,
+          here.step,
+          run_where (HonestIn below (medium_in old.bay)) (HonestIn below (medium_in mid.bay)) so (machine_of state
+              kept mid)
+              (map input_of events) rest.outputs rest.made (machine_of state kept new) rest.run,
+          refl,
+        );
+      }

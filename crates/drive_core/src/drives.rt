@@ -64,9 +64,9 @@ impl<M: Medium, K: Keeper> Model for Drive<M, K> {
 
 impl<M: Medium, K: Keeper> Drive<M, K> {
     /// A drive that was just switched on, with this medium in it, if any, awake or parked: opened
-    /// and loaded, or unloaded where its side is refused. Its reservations are those that a loss of
-    /// power leaves of what the keeper saved last. Where memory runs out, medium and keeper come
-    /// back; a medium that is awake needs none.
+    /// and loaded, or unloaded where its side is refused or the device fails. Its reservations are
+    /// those that a loss of power leaves of what the keeper saved last. Where memory runs out, medium
+    /// and keeper come back; a medium that is awake needs none.
     pub fn power_on(
         alloc: Global,
         keeper: K,

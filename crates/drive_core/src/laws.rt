@@ -1,6 +1,6 @@
 //! Laws of the drive machine.
 ghost use Rattle.drive_core.specs.Determined.{HonestStepsAreSteps, StepsAreDetermined, RunsAreDetermined};
-ghost use Rattle.drive_core.specs.Run.{RunsAppend, ServedByRuns};
+ghost use Rattle.drive_core.specs.Run.{EventsAreRuns, RunsAppend, ServedByRuns};
 
 use positioning::laws::{each_locate_has_one_end, each_space_has_one_end};
 use pr_core::Keeper;
@@ -32,4 +32,10 @@ pub fn runs_append()
 /// What one drive answers to hosts, one after another, is a run of its machine.
 pub fn served_hosts_run<M: Medium, K: Keeper>()
     ensures { ServedByRuns M.state M.below K.kept K.below }
+{}
+
+/// What one drive answers to hosts, with flusher's turns between them, is a run of its machine in
+/// which each turn stands where it was taken.
+pub fn events_run<M: Medium, K: Keeper>()
+    ensures { EventsAreRuns M.state M.below K.kept K.below }
 {}

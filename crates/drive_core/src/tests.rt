@@ -6,7 +6,7 @@ mod reserving;
 mod saving;
 mod tables;
 
-use crate::laws::{answers_are_determined, honest_steps, runs_append, served_hosts_run};
+use crate::laws::{answers_are_determined, events_run, honest_steps, runs_append, served_hosts_run};
 use crate::{Drive, Fault};
 use motions::{
     AFTER_A_FAULT, AFTER_A_LATE_FAULT, AFTER_A_MOVE, AFTER_AN_UNLOADING, AFTER_ANOTHER, ASKED,
@@ -268,6 +268,7 @@ fn faults_are_reported(rt: HostRuntime) {
     }
     honest_steps::<PlainMedium>();
     served_hosts_run::<PlainMedium, NoKeeper>();
+    events_run::<PlainMedium, NoKeeper>();
     answers_are_determined();
     runs_append();
 }
