@@ -49,6 +49,9 @@ EDITS = [
     ("answers are not flushed", "vtl_script", "src/texts.rt",
      "    put(writer, &mut text)?;\n    if writer.flush().is_err() {\n        return Err(ScriptFault::WriteFault);\n    }\n",
      "    put(writer, &mut text)?;\n", "vtl_script", ["reads_that_fail", "writes_that_fail"]),
+    ("help of another text is written", "vtl", "src/orders.rt", "        Err(error) => answer_words(error, writer),",
+     "        Err(WordsError::Help(_)) => answer_words(WordsError::Help(String::new(alloc)), writer),\n"
+     "        Err(error) => answer_words(error, writer),", "vtl", ["help_is_written_as_it_was_given"]),
 ]
 
 

@@ -5,6 +5,8 @@ use Rattle.std.specs.Io.KnownBytes.{Appends, Keeps}
 use Rattle.tape_disk.specs.Disk.{DiskState, Each}
 use Rattle.file_disk.specs.declared.error.FileError.{FileError}
 use Rattle.file_disk.specs.declared.error.FileError.TheVariants.{Exists}
+use Rattle.gate_journal.specs.Answers.{NoneFailed}
+use Rattle.gate_journal.specs.Side.{CLOSED, spell}
 use Rattle.cartridge.specs.Contents.{GivesContents, contents_from, heading_with}
 use Rattle.aptpl_store.specs.Contents.{GivesStates, heading_for}
 use Rattle.vtl_script.specs.Text.{AppendsPart}
@@ -42,6 +44,18 @@ IsNewSide (CartridgeFile entry) image =
     GivesContents (contents_from (heading_with entry.barcode entry.capacities) []) image
 IsNewSide (StoreFile entry) image = GivesStates (heading_for entry.number) [] image
 
+-- the bytes of a new side of this file: its heading, a closed gate, and nothing behind (own)
+abbrev pub new_bytes : SideFile → List ℕ
+new_bytes (CartridgeFile entry) = spell (heading_with entry.barcode entry.capacities) [] ++ CLOSED ∷ []
+new_bytes (StoreFile entry) = spell (heading_for entry.number) [] ++ CLOSED ∷ []
+
+-- a disk was made a new side of this file: no call of it failed, it has just its bytes, and whatever crash comes it has
+-- a new side (own)
+pub record HasNewSide (file : SideFile) (old new : DiskState) : Type 0 where
+  pub none_failed : NoneFailed old new
+  pub bytes : old.honest → new.seen ≡ new_bytes file
+  pub sure : old.honest → Each new (IsNewSide file)
+
 -- the word for what became of a file (own)
 abbrev pub fate_word : Fate → List ℕ
 fate_word Created = codes "created "
@@ -68,12 +82,12 @@ IsNewFile makes name (Err fault) =
     (fault ≡ Faults.Device) × ((error : FileError) × (error ≢ Exists) × makes name (Err error))
 
 module _ {D : Type 0} (state : D → DiskState) (makes : List ℕ → Result D FileError → Type 0) where
-  -- what became of a file: it was made, and the disk that was handed back has a new side, whatever crash comes; or
-  -- there is one of its name (own)
+  -- what became of a file: it was made, and the disk that was handed back was made a new side; or there is one of its
+  -- name (own)
   abbrev pub IsMadeOrKept : (List ℕ → D → Type 0) → SideFile → Fate → Type 0
   IsMadeOrKept leaves file Created =
       (disk : D) × makes (path_of file) (Ok disk)
-      × ((last : D) × leaves (path_of file) last × ((state disk).honest → Each (state last) (IsNewSide file)))
+      × ((last : D) × leaves (path_of file) last × HasNewSide file (state disk) (state last))
   IsMadeOrKept leaves file Kept = makes (path_of file) (Err Exists)
 
   -- why a missing file was not made: the system refused it; or a call of its disk failed, or memory ran out and none

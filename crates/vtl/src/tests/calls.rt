@@ -8,6 +8,7 @@ use std::alloc::Global;
 use std::process::Abort;
 use std::test::Fail;
 use vtl_base::DevFault;
+use vtl_words::{WordsError, read_words};
 
 const DEVICE: &str = "vtl: device fault\n";
 
@@ -244,4 +245,18 @@ fn refused_words_ask_for_no_file(rt: HostRuntime) -> Result<(), Fail> {
             refused("vtl run --config"),
         ],
     )
+}
+
+#[test]
+fn help_is_written_as_it_was_given(rt: HostRuntime) -> Result<(), Fail> {
+    for (at, line) in ["vtl --help", "vtl run -h"].into_iter().enumerate() {
+        let words = words_of(rt.alloc(), line)?;
+        let Err(WordsError::Help(text)) = read_words(rt.alloc(), words.as_slice()) else {
+            return Err(Fail::from("no help"));
+        };
+        assert!(rt; !text.is_empty(), "help of {at}");
+        let row = told(wants(Failing::Nothing, line, ""), text.as_str());
+        assert_row(&rt, rt.alloc(), &row, at)?;
+    }
+    Ok(())
 }

@@ -1,5 +1,5 @@
-use Rattle.std.proofs.Common.{subst, []}
-use Rattle.gate_journal.specs.Side.{Heading}
+use Rattle.std.proofs.Common.{◌∷◌, ◌++◌, [], ◌∙◌, ap, subst}
+use Rattle.gate_journal.specs.Side.{CLOSED, Heading, spell}
 use Rattle.aptpl_store.specs.Contents.{GivesStates}
 use Rattle.vtl.proofs.creating.create_store.Goals as goal
 
@@ -10,7 +10,14 @@ returns-in-Ok-clause-ok g c = (
   (
     c.in-Ok.store.disk,
     rw (c.as_str-name.ensures.value, c.close.ensures) at c.leave.ensures,
-    λ honest image left.
-        subst (λ (h : Heading). GivesStates h [] image) c.in-Ok.ensures.ok.0 (c.in-Ok.ensures.sure honest image left),
+    record {
+      none_failed = c.in-Ok.ensures.ok.5;
+      bytes = λ honest.
+          c.in-Ok.ensures.bytes honest
+          ∙ ap (λ (h : Heading). spell h [] ++ CLOSED ∷ []) c.in-Ok.ensures.ok.0;
+      sure = λ honest image left.
+          subst (λ (h : Heading). GivesStates h [] image) c.in-Ok.ensures.ok.0
+          (c.in-Ok.ensures.sure honest image left);
+    },
   ),
 )
