@@ -6,7 +6,9 @@ mod reserving;
 mod saving;
 mod tables;
 
-use crate::laws::{answers_are_determined, events_run, honest_steps, runs_append, served_hosts_run};
+use crate::laws::{
+    answers_are_determined, events_run, honest_steps, runs_append, served_hosts_run,
+};
 use crate::{Drive, Fault};
 use motions::{
     AFTER_A_FAULT, AFTER_A_LATE_FAULT, AFTER_A_MOVE, AFTER_AN_UNLOADING, AFTER_ANOTHER, ASKED,
