@@ -20,7 +20,7 @@ pub fn a_stop_keeps_acknowledged_changes<D: Disk, K: Keeper>()
 /// The same of a cartridge that is moved: once a synchronizing command was acknowledged, a stop at any moment of
 /// whatever commands, turns, moves and writings out come then, of this drive and of others, leaves the cartridge,
 /// wherever it is, as a first part of its accepted changes leaves it, which holds every change that was accepted up to
-/// that command.
+/// that command. The same from any moment at which all that a known cartridge had accepted is safe.
 pub fn a_stop_keeps_acknowledged_changes_of_what_is_moved<D: Disk>()
     ensures acknowledged { StopsKeepWhatIsMoved D.state }
     ensures safe { KeepsWhatIsSafe D.state }
