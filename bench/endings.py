@@ -1,8 +1,9 @@
 #!/usr/bin/env python3
 """Runs the built program to each of its endings, and compares status, standard output and standard error.
 
-Done; a bad line; a reader that fails (a folder); a writer that fails (a full device, a closed pipe); words that are refused, files
-that are missing, that can't be written (and are gone again), and full devices under create and check; memory that runs out, by
+Done; a bad line; a reader that fails (a folder); a writer that fails (a full device, a closed pipe); words and configurations that
+are refused, files that are missing, that can't be written (and are gone again), and full devices under create and check; checked files
+that hold no side, a damaged one or a bad record, whose line says so; memory that runs out, by
 limits of the system over a range: at each at which a script of no line ends well a long one does so too, or memory runs out
 in the program or in the command, and at some it does. But for --short, a script of 2,147,483,648 bytes, and one of a byte more."""
 import os
@@ -89,7 +90,33 @@ def over_files(full):
         rows.append(("create goes on", (0, b"kept T00001L6\ncreated DRIVE1\n", b"", made), ended_in(room, create)))
         rows.append(("a full device for check", (2, b"", DEVICE, made), ended_in(room, ["check", "t1.tape"], stdout=full)))
         rows.append(("a script over files", (0, b"", b"", made), ended_in(room, ["run", "--config", "lib.toml"])))
-        return rows
+        return rows + refused_files(room, made)
+
+
+def refused_files(room, made):
+    """Endings over a configuration that is refused, and checks of files that are refused: their line says why."""
+    def file_of(name, content):
+        with open(os.path.join(room, name), "wb") as file:
+            file.write(content)
+        return sorted({*made, name})
+    refused, rows = b"vtl: configuration refused\n", []
+    for what, content in (("no UTF-8", b"\xff"), ("no TOML", b"drive"), ("a drive that is not listed", CONFIG.replace(b"number = 1", b"number = 2"))):
+        there = file_of("bad.toml", content)
+        for word in ("run", "create"):
+            rows.append((f"{word} over a configuration that is {what}", (1, b"", refused, there),
+                         ended_in(room, [word, "--config", "bad.toml"])))
+    os.remove(os.path.join(room, "bad.toml"))
+    with open(os.path.join(room, "t1.tape"), "rb") as file:
+        side = file.read()
+    # the gate of the first frame of a side of one partition has the place 35
+    for what, content, line in (("empty", b"", b"not a side\n"), ("cut before its gate", side[:35], b"damaged at 35\n"),
+                                ("open at a frame that is none", side[:35] + b"\xa5", b"damaged at 35\n"),
+                                ("of a record that is none", side[:35] + b"\xa5\0\0\0\1x\0", b"bad record at 35\n")):
+        there = file_of("bad.tape", content)
+        rows.append((f"a check of a file that is {what}", (1, line, b"", there), ended_in(room, ["check", "bad.tape"])))
+    os.remove(os.path.join(room, "bad.tape"))
+    rows.append(("a check of no file", (2, b"", DEVICE, made), ended_in(room, ["check", "bad.tape"])))
+    return rows
 
 
 def ends_out_of_memory():

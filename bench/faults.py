@@ -1,7 +1,7 @@
 #!/usr/bin/env python3
 """Lets each call that the proved programs make of the system end otherwise, in turn, over real files.
 
-For vtl create, vtl check, vtl run and the stored run in memory, by a file that stands before the C library (faults.c, which takes
+For help, vtl create, vtl check, vtl run and the stored run in memory, by a file that stands before the C library (faults.c, which takes
 `cc`): each growth gets no memory; each call for a file or a stream fails; each is interrupted; each read or write moves one byte.
 
 Interruptions and short moves change nothing. Where a call fails or memory runs out the program ends with its status and line behind a
@@ -122,6 +122,15 @@ def create(room, kind, at):
         wrong.append("create does not go on")
     wrong += [f"{name} is not whole" for name in FILES if room.run(["check", FILES[name]])[:3] != (0, NEW[name], "")]
     return run, "nothing" if done else "the program", wrong
+
+
+def tell(words):
+    def helps(room, kind, at):
+        wanted = room.run(words)
+        run = room.run(words, "", kind, at)
+        done = run[:3] == wanted[:3] and wanted.status == 0 and "Usage: vtl" in wanted.out
+        return run, "nothing" if done else "the program", [] if done or fails(kind, wanted.out, run) else ["its end"]
+    return helps
 
 
 def look(name):
@@ -277,7 +286,8 @@ def main():
             print("\n".join([*found, f"self-test: {len(found)} of these were found wrong"]))
             return 0 if found else 1
         wrong = []
-        for what, way, room in (("vtl create", create, bare), ("vtl check of a cartridge", look(FIRST), used),
+        for what, way, room in (("vtl --help", tell(["--help"]), bare), ("vtl run --help", tell(["run", "--help"]), bare),
+                                ("vtl create", create, bare), ("vtl check of a cartridge", look(FIRST), used),
                                 ("vtl check of a store", look(STORE), used), ("vtl run", serve, new)):
             for kind in ("memory", "fault", "interrupted", "short"):
                 wrong += sweep(tools, room, what, way, kind)

@@ -40,15 +40,13 @@ class Life:
         self.reservations = {1: Reservations(), 2: Reservations()}
 
     def ended(self, words, script=""):
-        done = subprocess.run([self.program, *words], cwd=self.room, input=script.encode(), stdout=subprocess.PIPE,
-                              stderr=subprocess.PIPE)
+        done = subprocess.run([self.program, *words], cwd=self.room, input=script.encode(), capture_output=True)
         if done.returncode or done.stderr:
             self.wrong.append(f"{words} ended with status {done.returncode}: {done.stderr.decode(errors='replace')}")
         return done.stdout.decode().splitlines()
 
     def run(self, script, moment):
-        """The answers of a run that is killed so long after so many of its answers were read, and whether it was; without such a
-        moment it runs to its end."""
+        """The answers of a run that is killed so long after so many of them were read, or runs to its end, and whether it was."""
         told, (count, delay) = b"", moment or (sys.maxsize, 0)
         with open(os.path.join(self.room, "script"), "w+b") as given:
             given.write("".join(script.text).encode())

@@ -8,7 +8,8 @@ import sys
 import tempfile
 
 TOP = os.path.dirname(os.path.dirname(os.path.abspath(__file__)))
-# what the edit makes of a crate, the crate and its file, the old text and the new one, the crate of the tests, the tests that must fail
+# what the edit makes of a crate, the crate and its file, the old text and the new one (or several of each), the crate of the tests, the
+# tests that must fail
 EDITS = [
     ("what waits is stored before each write", "tape_buffer", "src/adding.rt", "    if !pending.is_full_for(change) {",
      "    if pending.is_empty() {", "buffer_bench", ["writes_wait_for_one_frame", "a_turn_tells_how_many_waited", "what_waits_is_counted"]),
@@ -34,6 +35,11 @@ EDITS = [
     ("a read of a file that failed is tried again", "file_disk", "src/disk.rt", "        match read_all(&mut self.file, at, buffer) {",
      "        let mut said = read_all(&mut self.file, at, buffer);\n        if said.is_err() {\n"
      "            said = read_all(&mut self.file, at, buffer);\n        }\n        match said {", "file_disk", ["each_error_is_counted"]),
+    ("create opens a file that is there, and empties it", "file_disk", "src/opening.rt",
+     "    options.read(true).write(true).create_new(true);", "    options.read(true).write(true).create(true).truncate(true);", "file_disk",
+     ["what_is_refused", "a_file_is_opened_once"]),
+    ("create opens a file that is there", "file_disk", "src/opening.rt", "    options.read(true).write(true).create_new(true);",
+     "    options.read(true).write(true).create(true);", "vtl", ["a_file_that_exists_is_not_touched", "files_are_made_kept_and_told"]),
     ("a file is opened twice", "file_disk", "src/opening.rt", "    match lock(&file) {\n", "    match Ok::<(), FileError>(()) {\n", "file_disk",
      ["a_file_is_opened_once", "a_refused_opening_writes_nothing"]),
     ("a file is written before its lock is asked for", "file_disk", "src/opening.rt", "    match lock(&file) {\n",
@@ -49,6 +55,62 @@ EDITS = [
     ("answers are not flushed", "vtl_script", "src/texts.rt",
      "    put(writer, &mut text)?;\n    if writer.flush().is_err() {\n        return Err(ScriptFault::WriteFault);\n    }\n",
      "    put(writer, &mut text)?;\n", "vtl_script", ["reads_that_fail", "writes_that_fail"]),
+    ("a line that is far too long is a read that failed", "vtl_script", "src/phases.rt",
+     "        Found::TooLong => Err(ScriptFault::BadLine { line: number }),", "        Found::TooLong => Err(ScriptFault::ReadFault),",
+     "vtl_script", ["the_longest_line"]),
+    ("a read that is interrupted a third time in a row has failed", "vtl_script", "src/line_readers.rt",
+     ("        let mut searched = 0;\n", "                None => searched = unread.len(),\n", "            if !self.fill(reader)? {\n"),
+     ("        let mut searched = 0;\n        let mut idle = 0u8;\n",
+      "                None => {\n                    idle = if unread.len() == searched { idle.saturating_add(1) } else { 0 };\n"
+      "                    searched = unread.len();\n                }\n",
+      "            if idle > 2 {\n                return Err(ScriptFault::ReadFault);\n            }\n            if !self.fill(reader)? {\n"),
+     "vtl_script", ["reads_that_are_interrupted_many_times"]),
+    ("a text is written by no more calls than it has bytes, and one", "vtl_script", "src/texts.rt", "    for _ in 0..u64::MAX {",
+     "    for _ in 0..text.len().saturating_add(1) {", "vtl_script", ["writes_that_are_interrupted_many_times"]),
+    ("an interrupted flush is taken for done", "vtl_script", "src/texts.rt", "    if writer.flush().is_err() {",
+     "    let flushed = match writer.flush() {\n        Err(e) if is_interrupted(e.kind()) => Ok(()),\n        flushed => flushed,\n    };\n"
+     "    if flushed.is_err() {", "vtl_script", ["writes_that_are_interrupted_many_times"]),
+    ("the line behind a move is read before the move is run", "vtl_script", "src/phases.rt",
+     "        let is_end = gather(&mut lines, parsed)?;\n",
+     "        let is_end = gather(&mut lines, parsed)?;\n        if moved.is_some() && !is_last {\n"
+     "            let _ = line_reader.find(reader)?;\n        }\n", "vtl_script", ["nothing_behind_is_read_first"]),
+    ("a bad line is told once the next one was read", "vtl_script", "src/phases.rt", "            line_reader.take_up(count);\n",
+     "            line_reader.take_up(count);\n            if matches!(&parsed, ParsedLine::Refused) {\n"
+     "                let _ = line_reader.find(reader)?;\n            }\n", "vtl_script", ["nothing_behind_is_read_first"]),
+    ("long data of a line is want of memory", "vtl_script", "src/lines.rt", "    match hex::decode(alloc, field) {",
+     "    if field.len() > 2_097_154 {\n        return Err(NoMemory);\n    }\n    match hex::decode(alloc, field) {", "vtl_script",
+     ["the_longest_command"]),
+    ("the third drive is want of memory", "vtl_config", "src/drive_entries.rt",
+     "        let reservations = String::from_str(alloc, found.file)?;",
+     "        if place >= 2 {\n            return Err(ConfigError::NoMemory);\n        }\n"
+     "        let reservations = String::from_str(alloc, found.file)?;", "vtl_config", ["a_cartridge_at_each_element"]),
+    ("the fifth cartridge is want of memory", "vtl_config", "src/cartridge_entries.rt",
+     "        let file = String::from_str(alloc, found.file)?;",
+     "        if place >= 4 {\n            return Err(ConfigError::NoMemory);\n        }\n"
+     "        let file = String::from_str(alloc, found.file)?;", "vtl_config", ["a_cartridge_at_each_element"]),
+    ("another key of a cartridge is told last", "vtl_config", "src/cartridge_entries.rt",
+     ("    if !has_only(entry, &KEYS) {\n        return Err(Rule::OtherKey);\n    }\n", "    Ok(FoundCartridge {\n"),
+     ("", "    if !has_only(entry, &KEYS) {\n        return Err(Rule::OtherKey);\n    }\n    Ok(FoundCartridge {\n"), "vtl_config",
+     ["keys_of_a_cartridge_come_before_what_is_double"]),
+    ("a home that is not listed is told before a double barcode", "vtl_config", "src/cartridge_entries.rt",
+     "    if has_barcode(before, &found.barcode) {",
+     "    if !is_at_home(drives, found.home) {\n        return Err(Rule::NoSuchDrive);\n    }\n    if has_barcode(before, &found.barcode) {",
+     "vtl_config", ["keys_of_a_cartridge_come_before_what_is_double"]),
+    ("the list of cartridges is looked at first", "vtl_config", "src/reading.rt", "    if !has_only(table, &KEYS) {",
+     "    if let Err(error) = entries_at(table, Key::Cartridge) {\n        return Err(error);\n    }\n    if !has_only(table, &KEYS) {",
+     "vtl_config", ["the_top_comes_first_and_drives_before_cartridges"]),
+    ("help has two statuses exchanged", "vtl_words", "src/commands.rt",
+     ("  1  command words, configuration, script or checked file refused\n", "  3  out of memory\n"),
+     ("  1  out of memory\n", "  3  command words, configuration, script or checked file refused\n"), "vtl_words", ["help_is_told_whole"]),
+    ("the example of help has a line that is refused", "vtl_words", "src/commands.rt", "  vtl check t1.tape\n",
+     "  vtl check --config t1.tape\n", "vtl_words", ["help_is_told_whole"]),
+    ("the helps of two words are exchanged", "vtl_words", "src/commands.rt", ("flag.help(MEMORY_HELP)", 'value_name("FILE").help(CONFIG_HELP)'),
+     ("flag.help(CONFIG_HELP)", 'value_name("FILE").help(MEMORY_HELP)'), "vtl_words", ["help_is_told_whole"]),
+    ("the words are left out of help", "vtl_words", "src/commands.rt", "    Command::new(alloc, name).about(about)\n",
+     "    Command::new(alloc, name).about(about).hide(true)\n", "vtl_words", ["help_is_told_whole"]),
+    ("a long name is want of memory", "vtl_words", "src/reading.rt", "        Some(text) => match String::from_str(alloc, text) {",
+     "        Some(text) if text.len() > 255 => Err(NoMemory),\n        Some(text) => match String::from_str(alloc, text) {", "vtl_words",
+     ["long_names_are_names"]),
     ("help of another text is written", "vtl", "src/orders.rt", "        Err(error) => answer_words(error, writer),",
      "        Err(WordsError::Help(_)) => answer_words(WordsError::Help(String::new(alloc)), writer),\n"
      "        Err(error) => answer_words(error, writer),", "vtl", ["help_is_written_as_it_was_given"]),
@@ -61,10 +123,13 @@ def tried(room, edit):
     path = os.path.join(room, "crates", crate, file)
     with open(path, encoding="utf-8") as lines:
         text = lines.read()
-    if text.count(old) != 1:
-        sys.exit(f"{what}: its old text stands in {crate}/{file} {text.count(old)} times")
+    turned = text
+    for one, other in [(old, new)] if isinstance(old, str) else zip(old, new):
+        if turned.count(one) != 1:
+            sys.exit(f"{what}: its old text stands in {crate}/{file} {turned.count(one)} times")
+        turned = turned.replace(one, other)
     with open(path, "w", encoding="utf-8") as lines:
-        lines.write(text.replace(old, new))
+        lines.write(turned)
     done = subprocess.run(["rt", "try", "--test"], cwd=os.path.join(room, "crates", tests), capture_output=True, text=True)
     with open(path, "w", encoding="utf-8") as lines:
         lines.write(text)

@@ -22,7 +22,7 @@ use Rattle.library.specs.Finish.{TurnsAt}
 use Rattle.library.specs.Journeys.{Deed, Finishing, GoesWith, GoesWithAll, InDrive, IsThen, KeepsWhatIsSafe, Moving, StopsKeepWhatIsMoved}
 use Rattle.library.specs.Moves.{AnswersMove, IsSameAt, KeepsCartridges, MovesMedium, refusal_of_move}
 use Rattle.library.proofs.CartridgeLemmas.{Moved, honest_in, keep_media, moved_as, moved_by, moved_doing, moved_nowhere, moved_on, safe_in}
-use Rattle.library.proofs.MoveLemmas.{all_passed, bay_elsewhere, bay_here, check_is_not_good, conflict_is_not_good, in_bay, none_of, one_failed, same_or_not}
+use Rattle.library.proofs.PlaceLemmas.{all_passed, bay_elsewhere, bay_here, check_is_not_good, conflict_is_not_good, in_bay, none_of, one_failed, same_or_not}
 
 module _ {D : Type 0} (state : D → DiskState) (is_disk : (disk : D) → (state disk).honest → IsDisk (state disk)) where
   -- a cartridge that moved on is there

@@ -5,8 +5,12 @@ pub mod FinishLemmas
 pub mod JourneyLemmas
 pub mod MachineLemmas
 pub mod MoveLemmas
+pub mod PlaceLemmas
+pub mod SameLemmas
 pub mod StandLemmas
 pub mod StopLemmas
+pub mod StoreCoreLemmas
+pub mod CallLemmas
 pub mod BesideLemmas
 pub mod ServedLemmas
 pub mod OneHostLemmas

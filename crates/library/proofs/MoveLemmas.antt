@@ -1,265 +1,24 @@
 -- What a move does to the cartridges of a library.
-use Rattle.std.proofs.Common.{◌≡◌, ◌≢◌, ◌⊎◌, inl, inr, ℕ, ◌==◌, ◌&&◌, ◌||◌, not, Bool, true, false, List, [], Option, None, Some, is_some, Ok, Err, refl, sym, ap, ◌∙◌, cond, subst, arith}
-use Rattle.std.proofs.lemmas.Bool.Decides.{nat_tests}
+use Rattle.std.proofs.Common.{◌≡◌, ◌≢◌, ◌⊎◌, inl, inr, ℕ, ◌&&◌, ◌||◌, [], Option, None, Some, is_some, Ok, Err, refl, sym, ap, ◌∙◌, subst}
 use Rattle.scsi_sense.specs.declared.replies.Reply.{Reply}
-use Rattle.scsi_sense.specs.declared.replies.Status.TheVariants.{Good, Check, Conflict}
-use Rattle.scsi_sense.specs.declared.sense_data.Sense.{Sense}
 use Rattle.scsi_sense.specs.Replies.{check_with, conflict, good_with}
 use Rattle.scsi_sense.specs.Senses.{destination_full, invalid_element_address, source_empty}
 use Rattle.tape_disk.specs.Disk.{DiskState, IsDisk}
-use Rattle.volume_core.specs.declared.changes.Change.{Change}
-use Rattle.volume_core.specs.declared.media.MediumError.{MediumError}
-use Rattle.volume_core.specs.declared.media.MediumError.TheVariants as Errors
-use Rattle.volume_core.specs.Volume.{Part, after}
-use Rattle.volume_core.specs.Medium.{IsParked, IsParkedFrom, MediumState, WakesFrom, volume_of, volume_or_empty}
 use Rattle.drive_core.specs.declared.bays.Bay.{Bay}
 use Rattle.drive_core.specs.declared.bays.Bay.TheVariants.{Empty, Unloaded, Loaded}
-use Rattle.drive_core.specs.Faults.{reply_of}
-use Rattle.drive_core.specs.Load.{wake_answer}
-use Rattle.drive_core.specs.Media.{GoesOutOf, ParksFrom, WakesAs}
+use Rattle.drive_core.specs.Media.{GoesOutOf}
 use Rattle.drive_core.specs.State.{medium_in}
-use Rattle.tape_buffer.specs.Moves.{buffer_below, medium_moves_nowhere, medium_moves_on}
+use Rattle.tape_buffer.specs.Moves.{buffer_below, medium_moves_nowhere}
 use Rattle.tape_buffer.specs.State.{BufferState, state_of}
-use Rattle.changer.specs.Slots.{held_at, is_slot}
-use Rattle.library.specs.Elements.{BayState, HeldState, bay_at, cartridge_at, cartridge_in, is_element, is_reserved_at}
+use Rattle.library.specs.Elements.{BayState, HeldState, bay_at, cartridge_at, is_element, is_reserved_at}
 use Rattle.library.specs.Inner.Going.{IsAwakeAt, IsAwakeBay, IsAwakeIn}
-use Rattle.library.specs.Moves.{AnswersMove, BayIs, Carries, GoesBackTo, GoesInAt, GoesOutAt, IsSameAt, IsSameCartridge, KeepsBays, KeepsCartridges, MovesMedium, SlotHolds, refusal_of_move, volume_given}
-
--- two numbers are the same or not
-pub same_or_not : (a b : ℕ) → (a ≡ b) ⊎ (a ≢ b)
-same_or_not a b = by (a == b) refl
-  where
-    by : (test : Bool) → (a == b) ≡ test → (a ≡ b) ⊎ (a ≢ b)
-    by true is = inl (grind (arith, nat_tests))
-    by false is = inr (λ same. let no : (a == b) ≡ true = grind (arith, nat_tests) in absurd (cc))
-
--- a value that is there
-some_of : {X : Type 0} (found : Option X) → is_some found ≡ true → (x : X) × (found ≡ Some x)
-some_of (Some x) there = (x, refl)
-some_of None there = absurd (cc)
-
-pub none_of : {X : Type 0} (found : Option X) → is_some found ≡ false → found ≡ None
-none_of (Some x) there = absurd (cc)
-none_of None there = refl
-
-the_same : {X : Type 0} (x y : X) → Some x ≡ Some y → x ≡ y
-the_same {X = X} x y is = ap (λ (found : Option X). some_or found) is
-  where
-    some_or : Option X → X
-    some_or None = x
-    some_or (Some other) = other
-
--- no refusal is GOOD
-pub check_is_not_good : (sense : Sense) (bytes : List ℕ) → check_with sense bytes ≢ good_with []
-check_is_not_good sense bytes is = let status : Check ≡ Good = ap (λ (r : Reply). r.status) is in absurd (cc)
-
-pub conflict_is_not_good : conflict ≢ good_with []
-conflict_is_not_good is = let status : Conflict ≡ Good = ap (λ (r : Reply). r.status) is in absurd (cc)
-
-wake_is_not_good : (error : MediumError) → reply_of (wake_answer error) ≢ good_with []
-wake_is_not_good Errors.NoMemory = check_is_not_good _ _
-wake_is_not_good Errors.Device = check_is_not_good _ _
-wake_is_not_good Errors.Unreadable = check_is_not_good _ _
-wake_is_not_good Errors.SideFull = check_is_not_good _ _
-wake_is_not_good Errors.Failed = check_is_not_good _ _
-wake_is_not_good (Errors.Refused cause) = check_is_not_good _ _
-
--- four tests in their order
-pub all_passed : (a b c d : Bool) (w x y z : Reply)
-    → cond (not a) (Some w) (cond b (Some x) (cond (not c) (Some y) (cond d (Some z) None))) ≡ None
-    → (c ≡ true) × (d ≡ false)
-all_passed true false true false w x y z is = (refl, refl)
-all_passed true false true true w x y z is = absurd (cc)
-all_passed true false false d w x y z is = absurd (cc)
-all_passed true true c d w x y z is = absurd (cc)
-all_passed false b c d w x y z is = absurd (cc)
-
-pub one_failed : (a b c d : Bool) (w x y z good r : Reply) → w ≢ good → x ≢ good → y ≢ good → z ≢ good
-    → cond (not a) (Some w) (cond b (Some x) (cond (not c) (Some y) (cond d (Some z) None))) ≡ Some r → r ≢ good
-one_failed true false true false w x y z good r dw dx dy dz is = absurd (cc)
-one_failed true false true true w x y z good r dw dx dy dz is = λ same. dz (the_same z r is ∙ same)
-one_failed true false false d w x y z good r dw dx dy dz is = λ same. dy (the_same y r is ∙ same)
-one_failed true true c d w x y z good r dw dx dy dz is = λ same. dx (the_same x r is ∙ same)
-one_failed false b c d w x y z good r dw dx dy dz is = λ same. dw (the_same w r is ∙ same)
-
--- what a side gave that was opened, where no frame was under way
-opened_gives : (stored found : Option (List Part)) (torn : List Change) → (stored ≡ None → ⊥)
-    → (found ≡ stored) ⊎ (found ≡ Some (after (volume_or_empty stored) torn)) → torn ≡ []
-    → Some (volume_or_empty found) ≡ stored
-opened_gives None found torn readable given none = absurd (readable refl)
-opened_gives (Some volume) found torn readable (inl same) none =
-    ap (λ (f : Option (List Part)). Some (volume_or_empty f)) same
-opened_gives (Some volume) found torn readable (inr more) none =
-    ap (λ (f : Option (List Part)). Some (volume_or_empty f)) more
-    ∙ ap (λ (cs : List Change). Some (after volume cs)) none
-
-given_by : (b : Bool) (medium : MediumState) → medium.awake ≡ b
-    → volume_given medium ≡ cond b (Some (volume_of medium)) medium.stored
-given_by b medium is = ap (λ (awake : Bool). cond awake (Some (volume_of medium)) medium.stored) is
-
-module _ {D : Type 0} where
-  -- what is at an address that changed, and at any other
-  slot_here : (address : ℕ) (cartridge : Option (BufferState D)) (old new : HeldState D) → is_slot address ≡ true
-      → SlotHolds address cartridge old new → cartridge_at new address ≡ cartridge
-  slot_here address cartridge old new slot is =
-      ap (λ (b : Bool). cond b (held_at new.slots address) (cartridge_in (bay_at new.bays address))) slot
-      ∙ is.slots.here
-
-  slot_elsewhere : (address : ℕ) (cartridge : Option (BufferState D)) (old new : HeldState D)
-      → SlotHolds address cartridge old new → (other : ℕ) → other ≢ address
-      → cartridge_at new other ≡ cartridge_at old other
-  slot_elsewhere address cartridge old new is other apart =
-      ap (λ (held : Option (BufferState D)). cond (is_slot other) held (cartridge_in (bay_at new.bays other)))
-      (is.slots.elsewhere other apart)
-      ∙ ap (λ (bays : List (Option (BayState D))). cond (is_slot other) (held_at old.slots other)
-      (cartridge_in (bay_at bays other))) is.bays
-
-  pub bay_here : (address : ℕ) (bay : BayState D) (old new : HeldState D) → is_slot address ≡ false
-      → BayIs address bay old new → cartridge_at new address ≡ medium_in bay.bay
-  bay_here address bay old new slot is =
-      ap (λ (b : Bool). cond b (held_at new.slots address) (cartridge_in (bay_at new.bays address))) slot
-      ∙ ap cartridge_in is.bays.here
-
-  pub bay_elsewhere : (address : ℕ) (bay : BayState D) (old new : HeldState D) → BayIs address bay old new
-      → (other : ℕ) → other ≢ address → cartridge_at new other ≡ cartridge_at old other
-  bay_elsewhere address bay old new is other apart =
-      ap (λ (b : Option (BayState D)). cond (is_slot other) (held_at new.slots other) (cartridge_in b))
-      (is.bays.elsewhere other apart)
-      ∙ ap (λ (slots : List (Option (BufferState D))). cond (is_slot other) (held_at slots other)
-      (cartridge_in (bay_at old.bays other))) is.slots
-
-  pub in_bay : (address : ℕ) (bay : BayState D) (held : HeldState D) → is_slot address ≡ false
-      → bay_at held.bays address ≡ Some bay → cartridge_at held address ≡ medium_in bay.bay
-  in_bay address bay held slot is =
-      ap (λ (b : Bool). cond b (held_at held.slots address) (cartridge_in (bay_at held.bays address))) slot
-      ∙ ap cartridge_in is
-
-  in_slot : (address : ℕ) (held : HeldState D) → is_slot address ≡ true
-      → cartridge_at held address ≡ held_at held.slots address
-  in_slot address held slot =
-      ap (λ (b : Bool). cond b (held_at held.slots address) (cartridge_in (bay_at held.bays address))) slot
-
-  -- the drives are where they were, if this one alone has changed
-  bay_stays : (address : ℕ) (bay left : BayState D) (old new : HeldState D) → bay_at old.bays address ≡ Some bay
-      → BayIs address left old new → KeepsBays old new
-  bay_stays address bay left old new at is number = by (same_or_not number address)
-    where
-      by : (number ≡ address) ⊎ (number ≢ address)
-          → is_some (bay_at new.bays number) ≡ is_some (bay_at old.bays number)
-      by (inl here) =
-          ap (λ (n : ℕ). is_some (bay_at new.bays n)) here
-          ∙ ap (λ (b : Option (BayState D)). is_some b) is.bays.here
-          ∙ ap (λ (b : Option (BayState D)). is_some b) (sym at)
-          ∙ ap (λ (n : ℕ). is_some (bay_at old.bays n)) (sym here)
-      by (inr apart) = ap (λ (b : Option (BayState D)). is_some b) (is.bays.elsewhere number apart)
-
-  slot_stays : (address : ℕ) (cartridge : Option (BufferState D)) (old new : HeldState D)
-      → SlotHolds address cartridge old new → KeepsBays old new
-  slot_stays address cartridge old new is number =
-      ap (λ (bays : List (Option (BayState D))). is_some (bay_at bays number)) is.bays
+use Rattle.library.specs.Moves.{AnswersMove, Carries, GoesBackTo, GoesInAt, GoesOutAt, IsSameAt, IsSameCartridge, KeepsBays, KeepsCartridges, MovesMedium, refusal_of_move}
+use Rattle.library.proofs.PlaceLemmas.{all_passed, bay_elsewhere, bay_here, bay_stays, check_is_not_good, conflict_is_not_good, in_bay, in_slot, none_of, one_failed, same_or_not, slot_elsewhere, slot_here, slot_stays, some_of, the_same, wake_is_not_good}
+use Rattle.library.proofs.SameLemmas.{Keeps, breaks_from, comes_back, opens_as, parks_from, then_same}
 
 module _ {D : Type 0} (state : D → DiskState) where
-  -- a cartridge and a later one: nothing was accepted, honesty stayed, and where it is sure what the first gives, it is
-  -- of the second too, which gives that
-  record Keeps (old new : BufferState D) : Type 0 where
-    moves : (buffer_below state).moves old [] new
-    honest : (buffer_below state).honest old → (buffer_below state).honest new
-    gives :
-        (buffer_below state).honest old → (state_of state old).failed ≡ false → (state_of state old).torn ≡ []
-        → ((state_of state new).failed ≡ false) × ((state_of state new).torn ≡ [])
-        × (volume_given (state_of state new) ≡ volume_given (state_of state old))
-
-  then_same : (a b c : BufferState D) → Keeps a b → IsSameCartridge state b c → IsSameCartridge state a c
-  then_same a b c one two =
-      record {
-        moves = medium_moves_on state a b c [] [] one.moves two.moves;
-        gives = λ honest works sure.
-            let mid = one.gives honest works sure in
-            two.gives (one.honest honest) mid.0 mid.1 ∙ mid.2;
-      }
-
-  -- a cartridge that is parked
-  parks_from : (given out : BufferState D) → (state_of state given).awake ≡ true
-      → ParksFrom (state_of state) (buffer_below state) given (Ok out) → Keeps given out
-  parks_from given out awake parks =
-      record {
-        moves = parks.1.moved;
-        honest = parks.1.honesty.0;
-        gives = λ honest works sure.
-            let parked =
-            subst (λ (b : Bool). IsParkedFrom ((buffer_below state).honest given) b (state_of state given)
-            (state_of state out)) works parks.0 in (
-              parked.works,
-              (parked.gives honest).1,
-              given_by false (state_of state out) parked.parked ∙ (parked.gives honest).0
-                  ∙ sym (given_by true (state_of state given) awake),
-            );
-      }
-
-  -- a cartridge whose device failed while it was parked
-  breaks_from : (given broken : BufferState D) → (state_of state given).awake ≡ true
-      → ParksFrom (state_of state) (buffer_below state) given (Err broken) → IsSameCartridge state given broken
-  breaks_from given broken awake parks =
-      record {
-        moves = parks.2.moved;
-        gives = λ honest works sure.
-            given_by true (state_of state broken) parks.0.2.awake
-            ∙ ap (λ (volume : List Part). Some volume) parks.0.2.volume_is
-            ∙ sym (given_by true (state_of state given) awake);
-      }
-
-  -- a cartridge that is opened, or not
-  woken : (honest : Type 0) (b : Bool) (old new : MediumState) → old.awake ≡ b → WakesFrom honest b old (Ok tt) new
-      → honest → old.torn ≡ [] → volume_given new ≡ volume_given old
-  woken honest true old new is wakes known sure = ap (λ (m : MediumState). volume_given m) wakes.1
-  woken honest false old new is wakes known sure =
-      let opens = wakes.1 known in
-      given_by true new wakes.0.awake
-      ∙ ap (λ (cs : List Change). Some (after (volume_or_empty new.stored) cs)) wakes.0.nothing_pending
-      ∙ opened_gives old.stored new.stored old.torn opens.readable opens.volume sure
-      ∙ sym (given_by false old is)
-
-  stays_parked : (honest : Type 0) (old new : MediumState) (room : Option ℕ) → old.awake ≡ false
-      → IsParked honest old.stored old.torn room [] new → honest → volume_given new ≡ volume_given old
-  stays_parked honest old new room is parked known =
-      given_by false new parked.parked ∙ (parked.gives known).0 ∙ sym (given_by false old is)
-
-  refused : (honest : Type 0) (b : Bool) (error : MediumError) (old new : MediumState) → old.awake ≡ b
-      → WakesFrom honest b old (Err error) new → honest → volume_given new ≡ volume_given old
-  refused honest true Errors.Failed old new is wakes known = ap (λ (m : MediumState). volume_given m) wakes.1
-  refused honest true Errors.NoMemory old new is wakes known = absurd wakes
-  refused honest true Errors.Device old new is wakes known = absurd wakes
-  refused honest true Errors.Unreadable old new is wakes known = absurd wakes
-  refused honest true Errors.SideFull old new is wakes known = absurd wakes
-  refused honest true (Errors.Refused cause) old new is wakes known = absurd wakes
-  refused honest false Errors.NoMemory old new is wakes known = stays_parked honest old new old.room is wakes known
-  refused honest false Errors.Device old new is wakes known = stays_parked honest old new old.room is wakes known
-  refused honest false Errors.Unreadable old new is wakes known =
-      stays_parked honest old new old.room is wakes.0 known
-  refused honest false Errors.Failed old new is wakes known = absurd wakes
-  refused honest false Errors.SideFull old new is wakes known = absurd wakes
-  refused honest false (Errors.Refused cause) old new is wakes known = absurd wakes
-
-  opens_as : (given opened : BufferState D) → WakesAs (state_of state) (buffer_below state) given (Ok tt) opened
-      → IsSameCartridge state given opened
-  opens_as given opened wakes = record {
-    moves = wakes.advances.moved;
-    gives = λ honest works sure.
-        woken ((buffer_below state).honest given) (state_of state given).awake (state_of state given)
-        (state_of state opened) refl wakes.answer honest sure;
-  }
-
-  comes_back : (given back : BufferState D) (error : MediumError)
-      → WakesAs (state_of state) (buffer_below state) given (Err error) back → IsSameCartridge state given back
-  comes_back given back error wakes = record {
-    moves = wakes.advances.moved;
-    gives = λ honest works sure.
-        refused ((buffer_below state).honest given) (state_of state given).awake error (state_of state given)
-        (state_of state back) refl wakes.answer honest;
-  }
-
   module _ (is_disk : (disk : D) → (state disk).honest → IsDisk (state disk)) where
-    keeps_self : (medium : BufferState D) → Keeps medium medium
+    keeps_self : (medium : BufferState D) → Keeps state medium medium
     keeps_self medium = record {
       moves = medium_moves_nowhere state is_disk medium;
       honest = λ honest. honest;
@@ -299,14 +58,16 @@ module _ {D : Type 0} (state : D → DiskState) where
     goes_out : (b : Bay (BufferState D)) (bay left : BayState D) (given out : BufferState D)
         → medium_in b ≡ Some given → IsAwakeIn state b
         → GoesOutOf (state_of state) (buffer_below state) b bay (Ok out) left
-        → Keeps given out × (medium_in left.bay ≡ None)
+        → Keeps state given out × (medium_in left.bay ≡ None)
     goes_out Empty bay left given out is awake goes = absurd goes
     goes_out (Unloaded medium) bay left given out is awake goes = (
-      subst (λ (m : BufferState D). Keeps given m) (sym (the_same medium given is) ∙ sym goes.0) (keeps_self given),
+      subst (λ (m : BufferState D). Keeps state given m) (sym (the_same medium given is) ∙ sym goes.0)
+          (keeps_self given),
       ap (λ (b : BayState D). medium_in b.bay) goes.1,
     )
     goes_out (Loaded medium) bay left given out is awake goes = (
-      subst (λ (m : BufferState D). Keeps m out) (the_same medium given is) (parks_from medium out awake goes.0),
+      subst (λ (m : BufferState D). Keeps state m out) (the_same medium given is)
+          (parks_from state medium out awake goes.0),
       ap (λ (b : BayState D). medium_in b.bay) goes.1,
     )
 
@@ -324,13 +85,13 @@ module _ {D : Type 0} (state : D → DiskState) where
         goes.0,
         ap (λ (b : BayState D). medium_in b.bay) goes.3,
         subst (λ (m : BufferState D). IsSameCartridge state m goes.0) (the_same medium given is)
-            (breaks_from medium goes.0 awake goes.1),
+            (breaks_from state medium goes.0 awake goes.1),
       ),
     )
 
     -- a cartridge was taken out of its place
     record TakesOutOf (old : HeldState D) (from : ℕ) (given out : BufferState D) (mid : HeldState D) : Type 0 where
-      keeps : Keeps given out
+      keeps : Keeps state given out
       none : cartridge_at mid from ≡ None
       others : (other : ℕ) → other ≢ from → cartridge_at mid other ≡ cartridge_at old other
 
@@ -338,7 +99,7 @@ module _ {D : Type 0} (state : D → DiskState) where
         → IsAwakeAt state old from → GoesOutAt state old from (Ok out) mid → TakesOutOf old from given out mid
     takes_out old mid from given out is awake (inl goes) = record {
       keeps =
-          subst (λ (m : BufferState D). Keeps given m)
+          subst (λ (m : BufferState D). Keeps state given m)
           (the_same given out (sym is ∙ in_slot from old goes.0 ∙ goes.1)) (keeps_self given);
       none = slot_here from None old mid goes.0 goes.2;
       others = slot_elsewhere from None old mid goes.2;
@@ -376,7 +137,7 @@ module _ {D : Type 0} (state : D → DiskState) where
           there =
               bay_here to goes.1.1 mid new goes.0 goes.1.4
               ∙ ap (λ (b : BayState D). medium_in b.bay) takes.2;
-          same = opens_as out takes.0 takes.1;
+          same = opens_as state out takes.0 takes.1;
           others = bay_elsewhere to goes.1.1 mid new goes.1.4;
         }
 
@@ -393,7 +154,7 @@ module _ {D : Type 0} (state : D → DiskState) where
         let bay = goes.1.0 in
         let takes = goes.1.3 in
         record {
-          same = comes_back out back takes.0 takes.1;
+          same = comes_back state out back takes.0 takes.1;
           reply_is = λ good. wake_is_not_good takes.0 (sym takes.2 ∙ good);
           all = λ address. by address (same_or_not address to);
         }
@@ -438,7 +199,7 @@ module _ {D : Type 0} (state : D → DiskState) where
           apart,
           put.others from apart ∙ taken.none,
           same_there (cartridge_at old from) (cartridge_at new to) given put.later is put.there
-              (then_same given out put.later taken.keeps put.same),
+              (then_same state given out put.later taken.keeps put.same),
           (λ other off on. put.others other on ∙ taken.others other off),
         )
     carries_keep old new from to reply given is none awake (inr (out, mid, goes, inr (back, left, into, puts))) =
@@ -448,7 +209,7 @@ module _ {D : Type 0} (state : D → DiskState) where
         inr (
           came.reply_is,
           at_each old new from given back is put.0
-              (then_same given out back taken.keeps came.same)
+              (then_same state given out back taken.keeps came.same)
               (λ other off. put.1 other off ∙ came.all other ∙ taken.others other off),
         )
 

@@ -1,3 +1,4 @@
+mod BuiltInLemmas
 pub mod CheckLemmas
 mod CreatingLemmas
 mod DistinctLemmas

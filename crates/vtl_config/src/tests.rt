@@ -1,5 +1,7 @@
 //! Configurations that are taken, and each refusal once. What is expected was worked out by hand.
 mod cartridges;
+mod fullest;
+mod orders;
 
 use crate::{Address, Config, ConfigError, Key, Place, Rule, read_config};
 use std::alloc::Global;

@@ -4,6 +4,7 @@ mod echoes;
 mod failing;
 mod long_answers;
 mod moves;
+mod waiting;
 mod wires;
 
 use crate::faults::ScriptFault;

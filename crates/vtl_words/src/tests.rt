@@ -1,4 +1,6 @@
 //! Words that are taken, refused, or ask for help. What is expected was worked out by hand.
+mod helping;
+
 use crate::{Order, WordsError, read_words};
 use std::alloc::Global;
 use std::test::Fail;
@@ -95,65 +97,34 @@ fn other_words_are_refused(rt: HostRuntime) {
     assert!(rt; matches!(read_words(alloc, none.as_slice()), Err(WordsError::Refused)));
 }
 
-// What help has to tell behind some words.
-const HELP: [(&str, [&str; 5]); 5] = [
-    (
-        "vtl --help",
-        [
-            "run",
-            "create",
-            "check",
-            "vtl run --config",
-            "out of memory",
-        ],
-    ),
-    (
-        "vtl -h",
-        [
-            "Usage: vtl",
-            "Example:",
-            "Statuses:",
-            "  0  done",
-            "  2  device",
-        ],
-    ),
-    (
-        "vtl run --help",
-        [
-            "--memory",
-            "--config <FILE>",
-            "standard input",
-            "TOML",
-            "vtl run",
-        ],
-    ),
-    (
-        "vtl create -h",
-        [
-            "--config <FILE>",
-            "Makes",
-            "kept",
-            "configuration",
-            "vtl create",
-        ],
-    ),
-    (
-        "vtl check --help",
-        ["<FILE>", "Tells", "file", "not changed", "vtl check"],
-    ),
-];
-
 #[test]
-fn help_tells_the_words_an_example_and_the_statuses(rt: HostRuntime) -> Result<(), Fail> {
+fn long_names_are_names(rt: HostRuntime) -> Result<(), Fail> {
     let alloc = rt.alloc();
-    for (line, told) in HELP {
-        let Err(WordsError::Help(text)) = asked(alloc, line) else {
-            assert!(rt; false, "{line}");
-            return Ok(());
-        };
-        for part in told {
-            assert!(rt; text.as_str().contains(part), "{line}: {part}");
-        }
+    let mut name = String::new(alloc);
+    for _ in 0..1_000 {
+        name.push_str("0123456789")?;
     }
+    let file = name.as_str();
+    let answer = asked(
+        alloc,
+        format!(in alloc; "vtl run --config {file}")?.as_str(),
+    );
+    let Ok(
+        Order::Run {
+            config: Some(config),
+            ..
+        },
+    ) = answer
+    else {
+        assert!(rt; false, "run");
+        return Ok(());
+    };
+    assert_eq!(rt; config.as_str(), file);
+    let answer = asked(alloc, format!(in alloc; "vtl check {file}")?.as_str());
+    let Ok(Order::Check { file: checked }) = answer else {
+        assert!(rt; false, "check");
+        return Ok(());
+    };
+    assert_eq!(rt; checked.as_str(), file);
     Ok(())
 }

@@ -28,6 +28,11 @@ fn files_are_made_kept_and_told(rt: HostRuntime) -> Result<(), Fail> {
                 "cartridge T00001L6 partitions 1 frames 0\npartition 0 objects 0 used 0\n",
             ),
             told(
+                "check @d1.pr",
+                0,
+                "reservations DRIVE1 frames 0 registrations 0\n",
+            ),
+            told(
                 "check @d2.pr",
                 0,
                 "reservations DRIVE2 frames 0 registrations 0\n",

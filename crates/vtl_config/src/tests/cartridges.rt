@@ -4,7 +4,7 @@ use crate::{ConfigError, Key, Place, Rule};
 use std::alloc::Global;
 
 // A cartridge of these values, behind drive 1 and a cartridge at slot 1001.
-fn second_cartridge(alloc: Global, values: &str) -> Option<ConfigError> {
+pub fn second_cartridge(alloc: Global, values: &str) -> Option<ConfigError> {
     let document = format!(in alloc;
         r#"
 drive = [{{ number = 1, reservations = "r" }}]

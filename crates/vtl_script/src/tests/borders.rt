@@ -1,5 +1,6 @@
 //! The borders of what a line may be.
-use super::{DONE, Wanted, assert_ends, bad, joined};
+use super::wires::Plan;
+use super::{DONE, Wanted, answered, assert_ends, bad, joined};
 use std::alloc::{AllocError, Global};
 use std::test::Fail;
 
@@ -79,30 +80,70 @@ fn fields_and_phases(rt: HostRuntime) -> Result<(), Fail> {
     Ok(())
 }
 
-// A script with a line of so many bytes, behind one that is answered.
-fn with_long_line(alloc: Global, first: u8, length: usize) -> Result<Vec<u8>, AllocError> {
+// A script with a line of so many bytes, behind one that is answered and before what comes then.
+fn with_long_line(
+    alloc: Global,
+    first: u8,
+    length: usize,
+    behind: &[u8],
+) -> Result<Vec<u8>, AllocError> {
     let mut script = joined(alloc, &["1 1 000000000000\n--\n"])?;
     script.push(first)?;
     for _ in 1..length {
         script.push(b' ')?;
     }
-    script.extend_from_slice(b"\n--\n1 1 000000000000\n")?;
+    script.extend_from_slice(behind)?;
     Ok(script)
 }
+
+const BEHIND: &[u8] = b"\n--\n1 1 000000000000\n";
 
 #[test]
 fn the_longest_line(rt: HostRuntime) -> Result<(), Fail> {
     let one: &[&str] = &[ONE];
     let two: &[&str] = &[ONE, ONE];
-    let rows: [(u8, usize, Wanted); 4] = [
-        (b'#', 2_200_000, (two, DONE)),
-        (b'#', 2_200_001, (one, bad(3))),
-        (b' ', 2_200_000, (two, DONE)),
-        (b' ', 2_200_001, (one, bad(3))),
+    let rows: [(u8, usize, &[u8], Wanted); 8] = [
+        (b'#', 2_200_000, BEHIND, (two, DONE)),
+        (b'#', 2_200_001, BEHIND, (one, bad(3))),
+        (b' ', 2_200_000, BEHIND, (two, DONE)),
+        (b' ', 2_200_001, BEHIND, (one, bad(3))),
+        // It is refused before its end is read, and a last line without LF is refused too.
+        (b'#', 2_300_000, BEHIND, (one, bad(3))),
+        (b' ', 2_300_000, BEHIND, (one, bad(3))),
+        (b'#', 2_200_000, b"", (one, DONE)),
+        (b'#', 2_200_001, b"", (one, bad(3))),
     ];
-    for (at, (first, length, wanted)) in rows.into_iter().enumerate() {
-        let script = with_long_line(rt.alloc(), first, length)?;
+    for (at, (first, length, behind, wanted)) in rows.into_iter().enumerate() {
+        let script = with_long_line(rt.alloc(), first, length, behind)?;
         assert_ends(&rt, rt.alloc(), script.as_slice(), wanted, at)?;
     }
     Ok(())
+}
+
+// A command with 1,099,996 bytes, whose line has so many bytes more than `HOST DRIVE CDB DATA` needs.
+fn longest_command(alloc: Global, spaces: usize) -> Result<Vec<u8>, AllocError> {
+    let mut script = joined(alloc, &["1 1 00 "])?;
+    for _ in 0..spaces {
+        script.push(b' ')?;
+    }
+    for _ in 0..1_099_996 {
+        script.extend_from_slice(b"5a")?;
+    }
+    script.push(b'\n')?;
+    Ok(script)
+}
+
+#[test]
+fn the_longest_command(rt: HostRuntime) -> Result<(), Fail> {
+    // 2,200,000 bytes, which are taken whole, whatever a drive says of them; and a byte more.
+    let script = longest_command(rt.alloc(), 1)?;
+    assert_eq!(rt; script.len(), 2_200_001);
+    let outcome = answered(rt.alloc(), script.as_slice(), Plan::whole());
+    assert_eq!(rt; outcome.end, DONE);
+    let mut wanted = joined(rt.alloc(), &["GOOD 010100"])?;
+    wanted.extend_from_slice(&script.as_slice()[8..])?;
+    assert!(rt; outcome.text.as_slice() == wanted.as_slice());
+    let script = longest_command(rt.alloc(), 2)?;
+    let none: &[&str] = &[];
+    assert_ends(&rt, rt.alloc(), script.as_slice(), (none, bad(1)), 0)
 }

@@ -4,14 +4,15 @@ use std::cell::Cell;
 use std::io;
 use std::io::{ErrorKind, Read, Write};
 
-/// How a reader and a writer behave: the bytes of a read and of a write at most, and the call of
-/// either that fails, if any.
+/// How a reader and a writer behave: the bytes of a read and of a write at most, and the first call of
+/// either that fails, if any, with how many calls fail in a row.
 #[derive(Clone, Copy)]
 pub struct Plan {
     pub piece: usize,
     pub taken: usize,
     pub bad_read: Option<(u32, ErrorKind)>,
     pub bad_write: Option<(u32, ErrorKind)>,
+    pub in_a_row: u32,
 }
 
 impl Plan {
@@ -21,6 +22,15 @@ impl Plan {
             taken: usize::MAX,
             bad_read: None,
             bad_write: None,
+            in_a_row: 1,
+        }
+    }
+
+    // What the plan says of a call: the kind of its fault, if it fails.
+    fn fault(&self, bad: Option<(u32, ErrorKind)>, call: u32) -> Option<ErrorKind> {
+        match bad {
+            Some((first, kind)) if first <= call && call - first < self.in_a_row => Some(kind),
+            _ => None,
         }
     }
 }
@@ -75,10 +85,8 @@ impl Read for WireReader<'_> {
             self.wire.read_early.set(true);
         }
         self.calls = self.calls.saturating_add(1);
-        if let Some((call, kind)) = self.plan.bad_read {
-            if call == self.calls {
-                return Err(io::Error::from(kind));
-            }
+        if let Some(kind) = self.plan.fault(self.plan.bad_read, self.calls) {
+            return Err(io::Error::from(kind));
         }
         let count = self.plan.piece.min(buf.len()).min(self.rest.len());
         buf[..count].copy_from_slice(&self.rest[..count]);
@@ -111,12 +119,12 @@ impl<'a> WireWriter<'a> {
 }
 
 impl WireWriter<'_> {
-    // Counts a call, and fails where it is the one that is to fail.
+    // Counts a call, and fails where it is one that is to fail.
     fn call(&mut self) -> io::Result<()> {
         self.calls = self.calls.saturating_add(1);
-        match self.plan.bad_write {
-            Some((call, kind)) if call == self.calls => Err(io::Error::from(kind)),
-            _ => Ok(()),
+        match self.plan.fault(self.plan.bad_write, self.calls) {
+            Some(kind) => Err(io::Error::from(kind)),
+            None => Ok(()),
         }
     }
 }

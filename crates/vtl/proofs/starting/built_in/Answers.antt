@@ -5,7 +5,7 @@ use Rattle.vtl.specs.Inner.Waiting.{PutsHome, StartingState, SwitchesOnAt}
 use Rattle.vtl.specs.Orders.{built_in_barcode, built_in_capacities}
 use Rattle.vtl.specs.Sides.{IsNewCartridge, IsNewStore, memory_state}
 use Rattle.vtl.specs.Starting.{IsBuiltIn}
-use Rattle.vtl.proofs.StartingLemmas.{built_in_is}
+use Rattle.vtl.proofs.BuiltInLemmas.{built_in_is}
 use Rattle.vtl.proofs.starting.built_in.Goals as goal
 
 pub returns : goal.returns
