@@ -1,21 +1,8 @@
-//! Work for a clock: a drive writes to a cartridge in memory, and as many bytes are copied. The tests of tape_buffer
-//! stand here too.
+//! Work for a clock: a drive writes to a cartridge in memory, and as many bytes are copied.
 #![tactic(auto)]
 
 mod drives;
-#[cfg(test)]
-mod fault_tests;
 mod files;
-#[cfg(test)]
-mod medium_tests;
-#[cfg(test)]
-mod mode_tests;
-#[cfg(test)]
-mod row_tests;
-#[cfg(test)]
-mod samples;
-#[cfg(test)]
-mod stop_tests;
 mod work;
 
 use files::appended;

@@ -1,23 +1,14 @@
-//! Work for a clock: a cartridge stores, fetches and is opened, and as many bytes are copied. The
-//! tests of cartridge stand here too.
+//! Work for a clock: a cartridge stores, fetches and is opened, and as many bytes are copied.
 #![tactic(auto)]
 
-mod beside;
-#[cfg(test)]
-mod liar;
-#[cfg(test)]
-mod liar_tests;
-#[cfg(test)]
-mod samples;
-#[cfg(test)]
-mod side_tests;
-#[cfg(test)]
-mod stop_tests;
 mod work;
 
 use std::env;
 use std::process::ExitCode;
 use work::{Timed, copied, fetched, made, opened, stored, stored_together};
+
+// The words of which a little is done where none is given.
+static WORDS: &'static [&'static str] = &["store", "copy", "fetch", "side", "open"];
 
 // The nanoseconds that the work of a word took, done so often, and what came of it.
 fn timed(rt: &HostRuntime, word: &str, count: u32) -> Option<Timed> {
@@ -32,6 +23,19 @@ fn timed(rt: &HostRuntime, word: &str, count: u32) -> Option<Timed> {
     }
 }
 
+// Does a little of each of these words, and tells what came of it.
+fn a_little_of_all(rt: &HostRuntime) -> ExitCode {
+    for &word in WORDS {
+        match timed(rt, word, 1) {
+            Some((_, count)) => {
+                let _ = println!(rt; "{word} {count}");
+            }
+            None => return ExitCode::from(2),
+        }
+    }
+    ExitCode::from(0)
+}
+
 /// With `store N`, `frame N`, `copy N`, `fetch N`, `side N` or `open N` it tells the nanoseconds and
 /// what came of it; with no words it does a little of all but `frame`, and tells that alone.
 fn main(rt: HostRuntime) -> ExitCode {
@@ -40,15 +44,7 @@ fn main(rt: HostRuntime) -> ExitCode {
     };
     let mut words = words.skip(1);
     let (Some(word), Some(count)) = (words.next(), words.next()) else {
-        for word in ["store", "copy", "fetch", "side", "open"] {
-            match timed(&rt, word, 1) {
-                Some((_, count)) => {
-                    let _ = println!(rt; "{word} {count}");
-                }
-                None => return ExitCode::from(2),
-            }
-        }
-        return ExitCode::from(0);
+        return a_little_of_all(&rt);
     };
     let Ok(count) = count.parse::<u32>() else {
         return ExitCode::from(1);

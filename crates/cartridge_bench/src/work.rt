@@ -1,8 +1,8 @@
 //! What is timed.
-use crate::beside::Known;
 use cartridge::{Cartridge, Shelved};
+use known_cartridge::Known;
 use std::alloc::Global;
-use std::time::Instant;
+use std::time::{Duration, Instant};
 use tape_disk::MemDisk;
 use volume_core::{Change, Kind};
 use vtl_base::Bytes;
@@ -35,32 +35,43 @@ fn blocks(alloc: Global, from: u32, count: u32, size: usize) -> Option<Vec<Chang
     Some(changes)
 }
 
-// A cartridge after that many frames of so many blocks of a size, and the time of the stores alone.
-fn filled(
+// Stores one frame of so many blocks of a size, behind as many frames of the same: the time of the store alone.
+fn store_one(
     rt: &HostRuntime,
+    known: &mut Known<MemDisk>,
+    frame: u32,
+    count: u32,
+    size: usize,
+) -> Option<Duration> {
+    let changes = blocks(rt.alloc(), frame.checked_mul(count)?, count, size)?;
+    known.store_by_the_clock(rt, &changes)
+}
+
+// Stores that many frames of so many blocks of a size: the time of the stores alone, and how many frames there are.
+fn store_all(
+    rt: &HostRuntime,
+    known: &mut Known<MemDisk>,
     frames: u32,
     count: u32,
     size: usize,
-) -> Option<(Known<MemDisk>, u128)> {
-    let mut known = new_cartridge(rt.alloc())?;
+) -> Option<Timed> {
     let mut time = 0u128;
     for frame in 0..frames {
-        let changes = blocks(rt.alloc(), frame.checked_mul(count)?, count, size)?;
-        time = time.checked_add(known.store_by_the_clock(rt, &changes)?.as_nanos())?;
+        time = time.checked_add(store_one(rt, known, frame, count, size)?.as_nanos())?;
     }
-    Some((known, time))
+    Some((time, known.cartridge().frames()))
 }
 
 /// Stores frames of one block of 262,144 bytes: how many there are.
 pub fn stored(rt: &HostRuntime, count: u32) -> Option<Timed> {
-    let (known, time) = filled(rt, count, 1, BLOCK)?;
-    Some((time, known.cartridge().frames()))
+    let mut known = new_cartridge(rt.alloc())?;
+    store_all(rt, &mut known, count, 1, BLOCK)
 }
 
 /// Stores frames of 64 blocks of 1,024 bytes each: how many there are.
 pub fn stored_together(rt: &HostRuntime, count: u32) -> Option<Timed> {
-    let (known, time) = filled(rt, count, 64, SMALL)?;
-    Some((time, known.cartridge().frames()))
+    let mut known = new_cartridge(rt.alloc())?;
+    store_all(rt, &mut known, count, 64, SMALL)
 }
 
 /// Copies as many blocks of 262,144 bytes into one row: how many bytes it has.
@@ -74,18 +85,35 @@ pub fn copied(rt: &HostRuntime, count: u32) -> Option<Timed> {
     Some((start.elapsed(rt).ok()?.as_nanos(), row.len()))
 }
 
-/// Fetches each of that many blocks of 262,144 bytes: how many bytes the last one has.
-pub fn fetched(rt: &HostRuntime, count: u32) -> Option<Timed> {
-    let mut cartridge = filled(rt, count, 1, BLOCK)?.0.into_cartridge();
-    let mut into = vec![in rt.alloc(); 0u8; BLOCK].ok()?;
+// Fetches each of that many blocks into one buffer: how many bytes the last one has.
+fn fetch_all(
+    rt: &HostRuntime,
+    cartridge: &mut Cartridge<MemDisk>,
+    count: u32,
+    into: &mut Vec<u8>,
+) -> Option<Timed> {
     let start = Instant::now(rt).ok()?;
     for at in 0..count {
         if cartridge.kind_at(0, at) != Some(Kind::Block) {
             return None;
         }
-        cartridge.fetch(0, at, &mut into).ok()?;
+        cartridge.fetch(0, at, into).ok()?;
     }
     Some((start.elapsed(rt).ok()?.as_nanos(), into.len()))
+}
+
+// Stores that many blocks of 262,144 bytes, and gives the cartridge alone.
+fn full_cartridge(rt: &HostRuntime, count: u32) -> Option<Cartridge<MemDisk>> {
+    let mut known = new_cartridge(rt.alloc())?;
+    store_all(rt, &mut known, count, 1, BLOCK)?;
+    Some(known.into_cartridge())
+}
+
+/// Fetches each of that many blocks of 262,144 bytes: how many bytes the last one has.
+pub fn fetched(rt: &HostRuntime, count: u32) -> Option<Timed> {
+    let mut into = vec![in rt.alloc(); 0u8; BLOCK].ok()?;
+    let mut cartridge = full_cartridge(rt, count)?;
+    fetch_all(rt, &mut cartridge, count, &mut into)
 }
 
 // The bytes of a side of that many frames, each of one block of 1,024 bytes.
@@ -111,17 +139,24 @@ pub fn made(rt: &HostRuntime, count: u32) -> Option<Timed> {
     Some((start.elapsed(rt).ok()?.as_nanos(), disk.bytes().len()))
 }
 
+// Opens a cartridge: how many objects it has.
+fn open_one(rt: &HostRuntime, shelved: Shelved<MemDisk>) -> Option<Timed> {
+    let start = Instant::now(rt).ok()?;
+    let cartridge = Cartridge::open(rt.alloc(), shelved).ok()?;
+    let time = start.elapsed(rt);
+    let count = cartridge.count(0) as usize;
+    Some((time.ok()?.as_nanos(), count))
+}
+
 /// Opens such a side: how many objects it has. Its bytes stay, so that the memory above that of
 /// `made` is the open cartridge's.
 pub fn opened(rt: &HostRuntime, count: u32) -> Option<Timed> {
     let bytes = side_of(rt.alloc(), count)?;
-    let shelved = Shelved::of(MemDisk::from_bytes(rt.alloc(), &bytes).ok()?);
-    let start = Instant::now(rt).ok()?;
-    let cartridge = Cartridge::open(rt.alloc(), shelved).ok()?;
-    let time = start.elapsed(rt).ok()?.as_nanos();
+    let disk = MemDisk::from_bytes(rt.alloc(), &bytes).ok()?;
+    let timed = open_one(rt, Shelved::of(disk));
     // The last byte of the side is its end gate, which is closed.
     match bytes.last() {
-        Some(0) => Some((time, cartridge.count(0) as usize)),
+        Some(0) => timed,
         _ => None,
     }
 }

@@ -3,8 +3,6 @@
 
 pub mod error;
 pub mod slots;
-#[cfg(test)]
-mod tests;
 
 pub use error::{NotPlaced, SlotError};
 pub use slots::Slots;

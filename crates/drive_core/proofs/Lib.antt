@@ -1,7 +1,6 @@
 pub mod FaultLemmas
 pub mod TakesLemmas
 pub mod OrderLemmas
-pub mod TestLemmas
 pub mod CommandLemmas
 pub mod DeterminedLoads
 pub mod DeterminedParks

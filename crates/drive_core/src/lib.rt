@@ -18,8 +18,6 @@ mod rewinds;
 mod spaces;
 mod storing;
 mod telling;
-#[cfg(test)]
-mod tests;
 mod writes;
 
 pub use bays::Bay;

@@ -1,8 +1,5 @@
-//! Tests by subject.
+//! Tests of what private functions alone reach, by subject. The others are in `disk_tests`.
 mod doubles;
-mod files;
-mod refusals;
 mod settling;
-mod staged;
 mod steps;
 mod system;

@@ -1,12 +1,6 @@
 //! Work for a clock: frames are added to a side, as many bytes are copied, and a side is opened.
 #![tactic(auto)]
 
-#[cfg(test)]
-mod layout_tests;
-#[cfg(test)]
-mod samples;
-#[cfg(test)]
-mod stop_tests;
 mod work;
 
 use std::alloc::Global;
@@ -14,6 +8,9 @@ use std::env;
 use std::process::ExitCode;
 use std::time::Instant;
 use work::{appended, copied, opened, side_of, written};
+
+// The words of which a little is done where none is given.
+static WORDS: &'static [&'static str] = &["append", "copy", "write", "side", "open"];
 
 // What the word asks, done so often: how many bytes or frames came of it.
 fn done(alloc: Global, word: &str, count: u32) -> Option<usize> {
@@ -40,6 +37,19 @@ fn timed(rt: &HostRuntime, word: &str, count: u32) -> Option<(u128, usize)> {
     Some((start.elapsed(rt).ok()?.as_micros(), count))
 }
 
+// Does a little of each of these words, and tells what came of it.
+fn a_little_of_all(rt: &HostRuntime) -> ExitCode {
+    for &word in WORDS {
+        match timed(rt, word, 3) {
+            Some((_, count)) => {
+                let _ = println!(rt; "{word} {count}");
+            }
+            None => return ExitCode::from(2),
+        }
+    }
+    ExitCode::from(0)
+}
+
 /// With `append N`, `copy N`, `write N`, `side N` or `open N` it tells the microseconds and what
 /// came of it; with no words it does a little of each and tells that alone.
 fn main(rt: HostRuntime) -> ExitCode {
@@ -48,15 +58,7 @@ fn main(rt: HostRuntime) -> ExitCode {
     };
     let mut words = words.skip(1);
     let (Some(word), Some(count)) = (words.next(), words.next()) else {
-        for word in ["append", "copy", "write", "side", "open"] {
-            match timed(&rt, word, 3) {
-                Some((_, count)) => {
-                    let _ = println!(rt; "{word} {count}");
-                }
-                None => return ExitCode::from(2),
-            }
-        }
-        return ExitCode::from(0);
+        return a_little_of_all(&rt);
     };
     let Ok(count) = count.parse::<u32>() else {
         return ExitCode::from(1);

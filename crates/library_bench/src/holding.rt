@@ -5,9 +5,9 @@ use scsi_sense::Status;
 use std::process::Abort;
 use std::test::Fail;
 
-const FIRST: &[u8] = b"T00001L6        ";
+const FIRST: &'static [u8] = b"T00001L6        ";
 
-const SECOND: &[u8] = b"T00002L6        ";
+const SECOND: &'static [u8] = b"T00002L6        ";
 
 const NO_ROOM: Answer = (Status::Check, 5, 0x3b, 0x0d);
 
@@ -40,7 +40,7 @@ fn assert_held(rt: &impl Abort, held: &Held<Disk>, wanted: &[(usize, &[u8])]) {
 }
 
 // A move, how it is answered, and what the slots hold then.
-type Row<'a> = (u32, u32, Answer, &'a [(usize, &'a [u8])]);
+type Row = (u32, u32, Answer, &'static [(usize, &'static [u8])]);
 
 fn moves(rt: &impl Abort, held: &mut Held<Disk>, rows: &[Row]) {
     for (at, row) in rows.iter().enumerate() {
@@ -49,6 +49,16 @@ fn moves(rt: &impl Abort, held: &mut Held<Disk>, rows: &[Row]) {
         assert_held(rt, held, wanted);
     }
 }
+
+// Two cartridges are moved: out of their slots, into others, and into both drives.
+static MOVES: &'static [Row] = &[
+    (1001, 1, GOOD, &[(255, SECOND)]),
+    (1256, 1001, GOOD, &[(0, SECOND)]),
+    (1, 1001, NO_ROOM, &[(0, SECOND)]),
+    (1, 1100, GOOD, &[(0, SECOND), (99, FIRST)]),
+    (1001, 1002, GOOD, &[(1, SECOND), (99, FIRST)]),
+    (1002, 2, GOOD, &[(99, FIRST)]),
+];
 
 #[test]
 fn each_slot_is_shown(rt: HostRuntime) -> Result<(), Fail> {
@@ -59,14 +69,6 @@ fn each_slot_is_shown(rt: HostRuntime) -> Result<(), Fail> {
         return Err(Fail::from("not placed"));
     }
     assert_held(&rt, &held, &[(0, FIRST), (255, SECOND)]);
-    let rows: [Row; 6] = [
-        (1001, 1, GOOD, &[(255, SECOND)]),
-        (1256, 1001, GOOD, &[(0, SECOND)]),
-        (1, 1001, NO_ROOM, &[(0, SECOND)]),
-        (1, 1100, GOOD, &[(0, SECOND), (99, FIRST)]),
-        (1001, 1002, GOOD, &[(1, SECOND), (99, FIRST)]),
-        (1002, 2, GOOD, &[(99, FIRST)]),
-    ];
-    moves(&rt, &mut held, &rows);
+    moves(&rt, &mut held, MOVES);
     Ok(())
 }

@@ -1,5 +1,5 @@
 //! Buffers are written out.
-use crate::samples::{Disk, GOOD, NEVER, asks, is_answer, library};
+use crate::samples::{Answer, Disk, GOOD, NEVER, asks, is_answer, library};
 use drive_core::Drive;
 use library::{Held, Unwritten};
 use scsi_sense::Status;
@@ -8,7 +8,15 @@ use std::process::Abort;
 use std::test::Fail;
 use vtl_base::DriveNo;
 
-const READY: &[u8] = &[0; 6];
+const READY: &'static [u8] = &[0; 6];
+
+// A command, what is sent with it, and the answer: a block of one byte is written.
+static WRITING: &'static [(&'static [u8], &'static [u8], Answer)] = &[
+    (READY, b"", (Status::Check, 6, 0x29, 0)),
+    (READY, b"", (Status::Check, 6, 0x28, 0)),
+    (READY, b"", GOOD),
+    (&[0x0a, 0, 0, 0, 1, 0], b"x", GOOD),
+];
 
 // A library whose drive 1 holds the cartridge, loaded, with a block of one byte pending; or none, where the
 // cartridge does not go into the drive.
@@ -17,14 +25,9 @@ fn with_a_block(rt: &impl Abort, alloc: Global, fails: u64) -> Result<Option<Hel
     if held.move_medium(1001, 1).sense.is_some() {
         return Ok(None);
     }
-    for wanted in [
-        (Status::Check, 6, 0x29, 0),
-        (Status::Check, 6, 0x28, 0),
-        GOOD,
-    ] {
-        asks(rt, &mut held, (1, 1), READY, b"", wanted);
+    for (cdb, sent, wanted) in WRITING {
+        asks(rt, &mut held, (1, 1), cdb, sent, *wanted);
     }
-    asks(rt, &mut held, (1, 1), &[0x0a, 0, 0, 0, 1, 0], b"x", GOOD);
     Ok(Some(held))
 }
 

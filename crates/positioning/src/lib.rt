@@ -5,8 +5,6 @@ pub mod laws;
 mod motions;
 mod positions;
 mod reports;
-#[cfg(test)]
-mod tests;
 mod walks;
 
 pub use motions::{locate, space};

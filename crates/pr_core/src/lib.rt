@@ -13,8 +13,6 @@ mod reserving;
 mod rows;
 pub mod staged;
 pub mod states;
-#[cfg(test)]
-mod tests;
 
 pub use attns::Attns;
 pub use keepers::{Keeper, KeeperError, NoKeeper};

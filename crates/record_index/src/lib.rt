@@ -9,8 +9,6 @@ pub mod places;
 pub mod records;
 pub mod spelling;
 mod tables;
-#[cfg(test)]
-mod tests;
 
 pub use index::Index;
 pub use places::{Placed, Run};

@@ -5,8 +5,6 @@ pub mod actions;
 pub mod laws;
 pub mod mode_lists;
 pub mod pr_lists;
-#[cfg(test)]
-mod tests;
 
 pub use actions::{PrAction, PrType};
 pub use mode_lists::{ModeList, mode_data, mode_data_without_descriptors};

@@ -6,8 +6,6 @@ pub mod commands;
 mod fields;
 pub mod laws;
 pub mod opcodes;
-#[cfg(test)]
-mod tests;
 
 pub use answers::{block_limits, cut_to, inquiry_data};
 pub use commands::{Cdb, Command, PrRead};

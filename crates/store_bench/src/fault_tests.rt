@@ -11,7 +11,7 @@ use std::test::Fail;
 use tape_disk::{MemDisk, OnceDisk};
 
 // The save of the first order fails. The old state stands, and the store goes on to fail.
-const FAILING: [Row; 6] = [
+static FAILING: &'static [Row] = &[
     (1, TEST_UNIT_READY, NONE, CHECK, POWERED_ON, 0),
     (1, REGISTER, A_NEW, CHECK, FAILED, 0),
     (1, READ_KEYS, NONE, GOOD, NO_KEYS, 0),
@@ -20,7 +20,8 @@ const FAILING: [Row; 6] = [
     (1, READ_KEYS, NONE, GOOD, NO_KEYS, 0),
 ];
 
-const CRASHES: [(u64, u8); 9] = [
+// How many bytes of those not synced land in a crash, and what the others hold.
+static CRASHES: &'static [(u64, u8)] = &[
     (0, 0x00),
     (0, 0xa5),
     (0, 0xff),
@@ -35,7 +36,7 @@ const CRASHES: [(u64, u8); 9] = [
 // The state before the first order or after it is left, and a drive over the disk as it was reached works.
 fn is_left(rt: &impl Abort, alloc: Global, reached: &MemDisk) -> Result<(), Fail> {
     for (keep, fill) in CRASHES {
-        let left = found(alloc, reached.copy()?.crash(keep, fill)?);
+        let left = found(alloc, reached.copy()?.crash(*keep, *fill)?);
         assert!(rt; left == NEW || left == REGISTERED, "{left:?}");
     }
     let Ok(mut drive) = host_over(alloc, reached.copy()?) else {
@@ -61,7 +62,7 @@ fn a_fault_at_each_call_of_a_save(rt: HostRuntime) -> Result<(), Fail> {
     for calls in 0..9 {
         match new_host(alloc, OnceDisk::new(MemDisk::new(alloc), calls)) {
             Ok(mut drive) => {
-                ask_all(&rt, &mut drive, &FAILING);
+                ask_all(&rt, &mut drive, FAILING);
                 assert_eq!(rt; (drive.keeper().has_failed(), calls >= 5), (true, true));
                 is_left(&rt, alloc, drive.keeper().disk().inner())?;
             }

@@ -20,7 +20,7 @@ const HELD_BY_A_RAISED: &'static [u8] = b"\0\0\0\x01\0\0\0\x10\0\0\0\0\0\0\0\xa1
 
 // Host 1 registers with APTPL and reserves. An order that changes nothing, and one that changes the generation
 // alone, save nothing.
-const RESERVING: [Row; 6] = [
+const RESERVING: &'static [Row] = &[
     (1, TEST_UNIT_READY, NONE, CHECK, POWERED_ON, 0),
     (1, REGISTER, A_NEW, GOOD, NONE, 1),
     (1, RESERVE_5, BY_A, GOOD, NONE, 2),
@@ -30,7 +30,7 @@ const RESERVING: [Row; 6] = [
 ];
 
 // All that is left but the generation; then host 1 registers without APTPL.
-const LEAVING: [Row; 7] = [
+const LEAVING: &'static [Row] = &[
     (1, TEST_UNIT_READY, NONE, CHECK, POWERED_ON, 2),
     (2, TEST_UNIT_READY, NONE, CHECK, POWERED_ON, 2),
     (1, READ_KEYS, NONE, GOOD, KEY_A, 2),
@@ -40,7 +40,7 @@ const LEAVING: [Row; 7] = [
     (1, READ_RESERVATION, NONE, GOOD, HELD_BY_A_RAISED, 3),
 ];
 
-const LEFT: [Row; 3] = [
+const LEFT: &'static [Row] = &[
     (1, TEST_UNIT_READY, NONE, CHECK, POWERED_ON, 3),
     (1, READ_KEYS, NONE, GOOD, NO_KEYS, 3),
     (1, READ_RESERVATION, NONE, GOOD, NO_KEYS, 3),
@@ -48,11 +48,11 @@ const LEFT: [Row; 3] = [
 
 // From one loss of power to the next: what hosts ask, the bytes on the disk then, and how many syncs it took: two
 // to make the store, one to open it, and two for each save.
-const COURSES: [(&'static [Row], &'static [u8], u64); 4] = [
+static COURSES: &'static [(&'static [Row], &'static [u8], u64)] = &[
     (&[], NEW_SIDE, 3),
-    (&RESERVING, SIDE, 5),
-    (&LEAVING, SIDE_WITHOUT_APTPL, 3),
-    (&LEFT, SIDE_WITHOUT_APTPL, 1),
+    (RESERVING, SIDE, 5),
+    (LEAVING, SIDE_WITHOUT_APTPL, 3),
+    (LEFT, SIDE_WITHOUT_APTPL, 1),
 ];
 
 // A drive over this disk is asked, and leaves these bytes; then its power goes.
@@ -80,7 +80,7 @@ fn reservations_outlive_a_loss_of_power(rt: HostRuntime) -> Result<(), Fail> {
     };
     let mut disk = store.close();
     for (rows, bytes, syncs) in COURSES {
-        disk = asked(&rt, rt.alloc(), disk, rows, bytes, syncs)?;
+        disk = asked(&rt, rt.alloc(), disk, rows, bytes, *syncs)?;
     }
     Ok(())
 }

@@ -4,7 +4,7 @@ use aptpl_store::StoreError;
 use byteorder::{BigEndian, ByteOrder};
 
 // The names of the 16 drives.
-const NAMES: &'static [u8] = b"\
+static NAMES: &'static [u8] = b"\
     DRIVE1          DRIVE2          DRIVE3          DRIVE4          \
     DRIVE5          DRIVE6          DRIVE7          DRIVE8          \
     DRIVE9          DRIVE10         DRIVE11         DRIVE12         \

@@ -27,7 +27,7 @@ const BAD_FIRST: &'static [u8] = b"\xa5VTLRESV1\0\0DRIVE1          \
     \0";
 
 // A side, how many of its bytes are on the disk, and what is found.
-const SIDES: [(&'static [u8], usize, Found); 10] = [
+static SIDES: &'static [(&'static [u8], usize, Found)] = &[
     (NEW_SIDE, 28, NEW),
     (SIDE, 64, RESERVED),
     (SIDE_WITHOUT_APTPL, 82, WITHOUT_APTPL),
@@ -50,8 +50,8 @@ fn agreed(rt: &impl Abort, alloc: Global, bytes: &[u8]) -> Result<Found, NoMemor
 #[test]
 fn sides_are_read(rt: HostRuntime) -> Result<(), Fail> {
     for (side, size, wanted) in SIDES {
-        let bytes = side.get(..size).unwrap_or(NONE);
-        assert_eq!(rt; agreed(&rt, rt.alloc(), bytes)?, wanted, "{size} bytes");
+        let bytes = side.get(..*size).unwrap_or(NONE);
+        assert_eq!(rt; agreed(&rt, rt.alloc(), bytes)?, *wanted, "{size} bytes");
     }
     Ok(())
 }

@@ -77,13 +77,13 @@ const OPENING: Work = Work {
     orders: &[],
 };
 
-const STATES: [Found; 5] = [NO_STORE, NEW, REGISTERED, RESERVED, WITHOUT_APTPL];
+static STATES: &'static [Found] = &[NO_STORE, NEW, REGISTERED, RESERVED, WITHOUT_APTPL];
 
 // What may be found after no more than so many calls: one state or another, by their places in the table.
 type Moment = (u64, usize, usize);
 
 // To make a store takes five calls, to save four.
-const OVER_NOTHING: [Moment; 7] = [
+const OVER_NOTHING: &'static [Moment] = &[
     (0, 0, 0),
     (4, 0, 1),
     (5, 1, 1),
@@ -93,7 +93,7 @@ const OVER_NOTHING: [Moment; 7] = [
     (13, 3, 3),
 ];
 
-const OVER_A_STORE: [Moment; 7] = [
+const OVER_A_STORE: &'static [Moment] = &[
     (0, 4, 4),
     (4, 0, 1),
     (5, 1, 1),
@@ -104,13 +104,13 @@ const OVER_A_STORE: [Moment; 7] = [
 ];
 
 // To open a store takes a sync, two reads of the header, two of each frame, and one of the last gate.
-const OVER_THE_SIDE: [Moment; 3] = [(8, 3, 3), (11, 3, 4), (12, 4, 4)];
+const OVER_THE_SIDE: &'static [Moment] = &[(8, 3, 3), (11, 3, 4), (12, 4, 4)];
 
 // What the disk holds first, the work, how many calls of the disk it takes, and what may be found where it stops.
-const RUNS: [(&'static [u8], Work, u64, &'static [Moment]); 5] = [
-    (NONE, MAKING, 13, &OVER_NOTHING),
-    (SIDE_WITHOUT_APTPL, MAKING, 13, &OVER_A_STORE),
-    (SIDE, LEAVING, 12, &OVER_THE_SIDE),
+static RUNS: &'static [(&'static [u8], Work, u64, &'static [Moment])] = &[
+    (NONE, MAKING, 13, OVER_NOTHING),
+    (SIDE_WITHOUT_APTPL, MAKING, 13, OVER_A_STORE),
+    (SIDE, LEAVING, 12, OVER_THE_SIDE),
     (SIDE, OPENING, 8, &[(8, 3, 3)]),
     (SIDE_WITHOUT_APTPL, OPENING, 10, &[(10, 4, 4)]),
 ];
@@ -165,7 +165,7 @@ fn stopped(
 #[test]
 fn an_order_is_stopped_at_each_call(rt: HostRuntime) -> Result<(), Fail> {
     for (bytes, work, total, moments) in RUNS {
-        stopped(&rt, rt.alloc(), bytes, &work, total, moments)?;
+        stopped(&rt, rt.alloc(), bytes, work, *total, moments)?;
     }
     Ok(())
 }

@@ -10,8 +10,6 @@ mod log;
 pub mod memory;
 pub mod once;
 mod overwrite;
-#[cfg(test)]
-mod tests;
 
 pub use disk::Disk;
 pub use failures::Failures;

@@ -9,8 +9,6 @@ pub mod objects;
 mod partitions;
 pub mod plain;
 pub mod staged;
-#[cfg(test)]
-mod tests;
 pub mod volumes;
 
 pub use changes::{Change, Refusal};

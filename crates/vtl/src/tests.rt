@@ -30,10 +30,6 @@ type Wanted<'a> = (&'a [&'a str], Result<(), ScriptFault>);
 
 const DONE: Result<(), ScriptFault> = Ok(());
 
-fn bad(line: u64) -> Result<(), ScriptFault> {
-    Err(ScriptFault::BadLine { line })
-}
-
 // What a script writes, and how it ends.
 #[derive(Drop)]
 struct Outcome {
@@ -73,36 +69,38 @@ fn assert_ends(
     Ok(())
 }
 
+// Scripts, and what is wanted of each.
+static BLOCKS_AND_MARKS: &'static [(&'static [u8], Wanted<'static>)] = &[
+    (
+        b"1 1 000000000000\n1 1 000000000000\n1 1 0a0000000500 68656c6c6f\n1 1 100000000100\n\
+        1 1 010000000000\n1 1 080000000500\n1 1 080000000500\n",
+        (
+            &[
+                ATTENTION,
+                "GOOD\nGOOD\nGOOD\nGOOD\nGOOD 68656c6c6f\n",
+                "CHECK f00080000000050a00000000000100000000\n",
+            ],
+            DONE,
+        ),
+    ),
+    (
+        b"1 1 000000000000\n1 1 0a0000000500 68656c6c6f\n1 1 010000000000\n1 1 080000000600\n\
+        1 1 010000000000\n1 1 080000000300\n1 1 010000000000\n1 1 080200000300\n",
+        (
+            &[
+                ATTENTION,
+                "GOOD\nGOOD\nCHECK f00020000000010a00000000000000000000 68656c6c6f\n",
+                "GOOD\nCHECK f00020fffffffe0a00000000000000000000 68656c\nGOOD\nGOOD 68656c\n",
+            ],
+            DONE,
+        ),
+    ),
+];
+
 #[test]
 fn blocks_and_marks_are_read(rt: HostRuntime) -> Result<(), Fail> {
-    let rows: [(&[u8], Wanted); 2] = [
-        (
-            b"1 1 000000000000\n1 1 000000000000\n1 1 0a0000000500 68656c6c6f\n1 1 100000000100\n\
-            1 1 010000000000\n1 1 080000000500\n1 1 080000000500\n",
-            (
-                &[
-                    ATTENTION,
-                    "GOOD\nGOOD\nGOOD\nGOOD\nGOOD 68656c6c6f\n",
-                    "CHECK f00080000000050a00000000000100000000\n",
-                ],
-                DONE,
-            ),
-        ),
-        (
-            b"1 1 000000000000\n1 1 0a0000000500 68656c6c6f\n1 1 010000000000\n1 1 080000000600\n\
-            1 1 010000000000\n1 1 080000000300\n1 1 010000000000\n1 1 080200000300\n",
-            (
-                &[
-                    ATTENTION,
-                    "GOOD\nGOOD\nCHECK f00020000000010a00000000000000000000 68656c6c6f\n",
-                    "GOOD\nCHECK f00020fffffffe0a00000000000000000000 68656c\nGOOD\nGOOD 68656c\n",
-                ],
-                DONE,
-            ),
-        ),
-    ];
-    for (at, (script, wanted)) in rows.into_iter().enumerate() {
-        assert_ends(&rt, rt.alloc(), script, wanted, at)?;
+    for (at, (script, wanted)) in BLOCKS_AND_MARKS.iter().enumerate() {
+        assert_ends(&rt, rt.alloc(), script, *wanted, at)?;
     }
     Ok(())
 }
@@ -123,29 +121,33 @@ fn the_end_of_data_is_read(rt: HostRuntime) -> Result<(), Fail> {
     assert_ends(&rt, rt.alloc(), script, wanted, 0)
 }
 
+static SHORT_SCRIPTS: &'static [(&'static [u8], Wanted<'static>)] = &[
+    (b"", (&[], DONE)),
+    (
+        b"1 1 000000000000\n1 1 000000000000\n",
+        (&[ATTENTION, "GOOD\n"], DONE),
+    ),
+    (
+        b"1 1 000000000000\n1 1 080100000100\n",
+        (&[ATTENTION, ILLEGAL_FIELD], DONE),
+    ),
+    (
+        b"1 1 a50000000000000000000000\n1 1 000000000000\n",
+        (
+            &["CHECK 700005000000000a00000000200000000000\n", ATTENTION],
+            DONE,
+        ),
+    ),
+    (
+        b"1 2 000000000000\n",
+        (&[], Err(ScriptFault::BadLine { line: 1 })),
+    ),
+];
+
 #[test]
 fn short_scripts(rt: HostRuntime) -> Result<(), Fail> {
-    let rows: [(&[u8], Wanted); 5] = [
-        (b"", (&[], DONE)),
-        (
-            b"1 1 000000000000\n1 1 000000000000\n",
-            (&[ATTENTION, "GOOD\n"], DONE),
-        ),
-        (
-            b"1 1 000000000000\n1 1 080100000100\n",
-            (&[ATTENTION, ILLEGAL_FIELD], DONE),
-        ),
-        (
-            b"1 1 a50000000000000000000000\n1 1 000000000000\n",
-            (
-                &["CHECK 700005000000000a00000000200000000000\n", ATTENTION],
-                DONE,
-            ),
-        ),
-        (b"1 2 000000000000\n", (&[], bad(1))),
-    ];
-    for (at, (script, wanted)) in rows.into_iter().enumerate() {
-        assert_ends(&rt, rt.alloc(), script, wanted, at)?;
+    for (at, (script, wanted)) in SHORT_SCRIPTS.iter().enumerate() {
+        assert_ends(&rt, rt.alloc(), script, *wanted, at)?;
     }
     Ok(())
 }

@@ -8,8 +8,6 @@ pub mod laws;
 pub mod limits;
 pub mod numbers;
 pub mod space_codes;
-#[cfg(test)]
-mod tests;
 
 pub use barcode::{BadBarcode, Barcode};
 pub use bytes::Bytes;

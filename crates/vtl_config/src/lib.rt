@@ -10,8 +10,6 @@ pub mod keys;
 pub mod laws;
 mod reading;
 pub mod rules;
-#[cfg(test)]
-mod tests;
 mod values;
 
 pub use capacities::Capacities;

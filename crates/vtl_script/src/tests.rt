@@ -1,93 +1,88 @@
-//! Scripts over a runner of the tests' own.
-mod borders;
-mod echoes;
-mod failing;
-mod long_answers;
-mod moves;
-mod waiting;
-mod wires;
-
-use crate::faults::ScriptFault;
-use crate::scripts::run_script;
-use echoes::Echo;
-use std::alloc::{AllocError, Global};
-use std::process::Abort;
+//! The counter of reads, and the limits of a script.
+use crate::line_readers::{Found, LineReader};
+use crate::script_limits::{within_bytes, within_reads};
+use std::io;
+use std::io::{ErrorKind, Read};
 use std::test::Fail;
-use wires::{Plan, Wire, WireReader, WireWriter};
 
-// What is wanted of a script: the text of its answers, and how it ends.
-type Wanted<'a> = (&'a [&'a str], Result<(), ScriptFault>);
+const TWO_PHASES: &[u8] = b"1 1 000000000000\n--\n2 1 000000000000\n";
 
-const DONE: Result<(), ScriptFault> = Ok(());
-
-fn bad(line: u64) -> Result<(), ScriptFault> {
-    Err(ScriptFault::BadLine { line })
-}
-
-// What a script writes, how it ends, whether a read came while replies were not flushed, and how many
-// reads and items there were.
+// Gives so many bytes a read at most, counts its reads, and interrupts one.
 #[derive(Drop)]
-struct Outcome {
-    text: Vec<u8>,
-    end: Result<(), ScriptFault>,
-    read_early: bool,
-    reads: u32,
-    items: u32,
+struct PieceReader<'a> {
+    rest: &'a [u8],
+    piece: usize,
+    interrupted: u32,
+    calls: u32,
 }
 
-fn answered(alloc: Global, script: &[u8], plan: Plan) -> Outcome {
-    let wire = Wire::new();
-    let mut echo = Echo::new();
-    let mut reader = WireReader::new(script, plan, &wire);
-    let mut writer = WireWriter::new(alloc, plan, &wire);
-    let end = run_script(alloc, &mut echo, &mut reader, &mut writer);
-    Outcome {
-        text: writer.into_text(),
-        end,
-        read_early: wire.read_early(),
-        reads: reader.calls(),
-        items: echo.items(),
+impl Read for PieceReader<'_> {
+    fn read(&mut self, buf: &mut [u8]) -> io::Result<usize> {
+        self.calls = self.calls.saturating_add(1);
+        if self.calls == self.interrupted {
+            return Err(io::Error::from(ErrorKind::Interrupted));
+        }
+        let count = self.piece.min(buf.len()).min(self.rest.len());
+        buf[..count].copy_from_slice(&self.rest[..count]);
+        self.rest = &self.rest[count..];
+        Ok(count)
     }
 }
 
-fn joined(alloc: Global, parts: &[&str]) -> Result<Vec<u8>, AllocError> {
-    let mut text = Vec::new(alloc);
-    for part in parts {
-        text.extend_from_slice(part.as_bytes())?;
-    }
-    Ok(text)
-}
-
-fn assert_ends(
-    rt: &impl Abort,
-    alloc: Global,
-    script: &[u8],
-    wanted: Wanted,
-    at: usize,
-) -> Result<(), Fail> {
-    let text = joined(alloc, wanted.0)?;
-    let outcome = answered(alloc, script, Plan::whole());
-    assert_eq!(rt; outcome.end, wanted.1, "end of {at}");
-    assert_eq!(rt; outcome.text.as_slice(), text.as_slice(), "text of {at}");
-    Ok(())
-}
+// The bytes of a read at most, and the read that is interrupted.
+static READS: &'static [(usize, u32)] = &[(usize::MAX, 2), (5, 1), (5, 4), (5, 9), (1, 38)];
 
 #[test]
-fn many_phases(rt: HostRuntime) -> Result<(), Fail> {
-    let mut script = joined(rt.alloc(), &["2 1 000000000000\n"])?;
-    let mut wanted = joined(rt.alloc(), &["GOOD 0201000000000000\n"])?;
-    for _ in 0..1_000 {
-        script.extend_from_slice(b"--\n1 1 00\n")?;
-        wanted.extend_from_slice(b"GOOD 010100\n")?;
+fn reads_are_counted(rt: HostRuntime) -> Result<(), Fail> {
+    for &(piece, call) in READS {
+        let mut reader = PieceReader {
+            rest: TWO_PHASES,
+            piece,
+            interrupted: call,
+            calls: 0,
+        };
+        let mut lines = LineReader::new(rt.alloc());
+        for _ in 0..10 {
+            match lines.find(&mut reader) {
+                Ok(Found::Line(count)) => lines.take_up(count),
+                _ => break,
+            }
+        }
+        assert_eq!(rt;
+            lines.reads(),
+            u64::from(reader.calls),
+            "{piece} bytes a read"
+        );
     }
-    let plan = Plan {
-        piece: 7,
-        ..Plan::whole()
-    };
-    let outcome = answered(rt.alloc(), script.as_slice(), plan);
-    assert_eq!(rt; outcome.end, DONE);
-    assert!(rt; !outcome.read_early);
-    assert_eq!(rt; outcome.items, 1_001);
-    assert_eq!(rt; outcome.text.as_slice(), wanted.as_slice());
     Ok(())
+}
+
+// The bytes of a script, how many more, and whether they are within the limit.
+static BYTES: &'static [(u64, usize, bool)] = &[
+    (0, 65_536, true),
+    (2_147_483_647, 1, true),
+    (2_147_483_648, 0, true),
+    (2_147_483_647, 2, false),
+    (2_147_483_648, 1, false),
+];
+
+// The reads of a script, and whether one more is within the limit.
+static ONE_MORE: &'static [(u64, bool)] = &[
+    (0, true),
+    (4_294_967_295, true),
+    (4_294_967_296, false),
+];
+
+#[test]
+fn limits_of_bytes_and_reads(rt: HostRuntime) {
+    for &(bytes, more, is_within) in BYTES {
+        assert_eq!(rt;
+            within_bytes(bytes, more),
+            is_within,
+            "{bytes} and {more} bytes"
+        );
+    }
+    for &(reads, is_within) in ONE_MORE {
+        assert_eq!(rt; within_reads(reads), is_within, "{reads} reads");
+    }
 }

@@ -4,8 +4,6 @@
 mod commands;
 mod orders;
 mod reading;
-#[cfg(test)]
-mod tests;
 
 pub use orders::{Order, WordsError};
 pub use reading::read_words;

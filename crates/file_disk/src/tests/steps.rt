@@ -1,10 +1,5 @@
-//! Calls of a disk at places that are its end at most, and folders for real files.
-use std::fs::File;
-use std::hash::{BuildHasher, RandomState};
-use std::os::unix::fs::MetadataExt;
-use std::test::Fail;
-use std::time::UNIX_EPOCH;
-use std::{env, fs};
+//! Calls of a disk at places that are its end at most, in rows.
+use std::process::Abort;
 use tape_disk::Disk;
 use vtl_base::DevFault;
 
@@ -18,58 +13,27 @@ pub enum Step {
     Sync,
 }
 
-pub fn put<D: Disk>(disk: &mut D, at: u64, bytes: &[u8]) -> Result<(), DevFault> {
+fn act<D: Disk>(disk: &mut D, step: Step) -> Result<(), DevFault> {
     let end = disk.len();
-    disk.write_at(end.min(at), bytes)
-}
-
-pub fn get<D: Disk>(disk: &mut D, at: u64, buffer: &mut [u8]) -> Result<(), DevFault> {
-    let end = disk.len();
-    let at = end.min(at);
-    let count = buffer.len().min((end - at) as usize);
-    disk.read_at(at, &mut buffer[..count])
-}
-
-pub fn cut_to<D: Disk>(disk: &mut D, len: u64) -> Result<(), DevFault> {
-    let end = disk.len();
-    disk.cut(end.min(len))
-}
-
-pub fn act<D: Disk>(disk: &mut D, step: Step) -> Result<(), DevFault> {
     match step {
-        Step::Get(at) => get(disk, at, &mut [0; 3]),
-        Step::Put(at, bytes) => put(disk, at, bytes),
-        Step::Cut(len) => cut_to(disk, len),
+        Step::Get(at) => {
+            let at = end.min(at);
+            let count = (end - at).min(3) as usize;
+            disk.read_at(at, &mut [0; 3][..count])
+        }
+        Step::Put(at, bytes) => disk.write_at(end.min(at), bytes),
+        Step::Cut(len) => disk.cut(end.min(len)),
         Step::Sync => disk.sync(),
     }
 }
 
-/// How many failures an answer tells: none at Ok.
-pub fn failures(answer: Result<(), DevFault>) -> u64 {
-    answer.err().map_or(0, |fault| fault.failures)
-}
-
-/// A folder of a test's own.
-pub fn new_folder(rt: &HostRuntime) -> Result<String, Fail> {
-    let key = RandomState::new(rt)?.hash_one(&0u8);
-    let parent = env::temp_dir(rt)?;
-    let folder = format!(in rt.alloc(); "{}/vtl_files_{key:016x}", parent.as_str())?;
-    fs::create_dir(rt, folder.as_str())?;
-    Ok(folder)
-}
-
-/// A file's name in that folder.
-pub fn named(rt: &HostRuntime, folder: &str, name: &str) -> Result<String, Fail> {
-    Ok(format!(in rt.alloc(); "{folder}/{name}")?)
-}
-
-/// Sets the time of a file's last change to the beginning of 1970.
-pub fn forget_time(rt: &HostRuntime, path: &str) -> Result<(), Fail> {
-    File::open(rt, path)?.set_modified(UNIX_EPOCH)?;
-    Ok(())
-}
-
-/// Whether a file was changed since then.
-pub fn is_written(rt: &HostRuntime, path: &str) -> Result<bool, Fail> {
-    Ok(fs::metadata(rt, path)?.mtime() != 0)
+/// How many failures each call tells: none at Ok.
+pub fn fails<D: Disk>(rt: &impl Abort, disk: &mut D, rows: &[(Step, u64)]) {
+    for &(step, failed) in rows {
+        let failures = match act(disk, step) {
+            Ok(()) => 0,
+            Err(fault) => fault.failures,
+        };
+        assert_eq!(rt; failures, failed);
+    }
 }

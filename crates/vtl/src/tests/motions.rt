@@ -2,6 +2,7 @@
 use super::libraries::in_memory;
 use super::{DONE, answered_by};
 use std::alloc::{AllocError, Global};
+use std::process::Abort;
 use std::test::Fail;
 
 // A command of host 1 to drive 1 with what is sent, how many bytes of 5a are sent behind it, and the answer.
@@ -23,7 +24,7 @@ const INQUIRY_DATA: &str =
 const POSITION: &str = "34000000000000000000";
 
 // INQUIRY and REQUEST SENSE do not wait for the power on condition, and REQUEST SENSE clears it.
-const WHAT_THE_DRIVE_IS: &[Row] = &[
+static WHAT_THE_DRIVE_IS: &'static [Row<'static>] = &[
     ("120000002400", 0, INQUIRY_DATA),
     (
         "030000001200",
@@ -39,7 +40,7 @@ const WHAT_THE_DRIVE_IS: &[Row] = &[
 ];
 
 // Blocks a, b and c, erased from object 1 on.
-const AN_ERASE: &[Row] = &[
+static AN_ERASE: &'static [Row<'static>] = &[
     FIRST,
     ("0a0000000100 61", 0, "GOOD"),
     ("0a0000000100 62", 0, "GOOD"),
@@ -56,7 +57,7 @@ const AN_ERASE: &[Row] = &[
 ];
 
 // Blocks a and b, a filemark, block c: from the beginning five blocks forward, then two back.
-const OVER_BLOCKS: &[Row] = &[
+static OVER_BLOCKS: &'static [Row<'static>] = &[
     FIRST,
     ("0a0000000100 61", 0, "GOOD"),
     ("0a0000000100 62", 0, "GOOD"),
@@ -77,7 +78,7 @@ const OVER_BLOCKS: &[Row] = &[
     (POSITION, 0, "GOOD 0000000000000002000000020000000000000000"),
 ];
 
-const BACK_FROM_OBJECT_0: &[Row] = &[
+static BACK_FROM_OBJECT_0: &'static [Row<'static>] = &[
     FIRST,
     (
         "1101ffffff00",
@@ -93,7 +94,7 @@ const BACK_FROM_OBJECT_0: &[Row] = &[
 ];
 
 // Of two partitions the first holds four objects.
-const TO_PARTITIONS: &[Row] = &[
+static TO_PARTITIONS: &'static [Row<'static>] = &[
     FIRST,
     ("0a0000000100 61", 0, "GOOD"),
     ("100000000200", 0, "GOOD"),
@@ -111,7 +112,7 @@ const TO_PARTITIONS: &[Row] = &[
 ];
 
 // Of 4,096 bytes the zone of early warning is what is above 3,840: the blocks use 3,840 bytes.
-const UP_TO_THE_ZONE: &[Row] = &[
+static UP_TO_THE_ZONE: &'static [Row<'static>] = &[
     FIRST,
     ("0a000003e800 ", 1_000, "GOOD"),
     ("0a000003e800 ", 1_000, "GOOD"),
@@ -123,7 +124,7 @@ const UP_TO_THE_ZONE: &[Row] = &[
 ];
 
 // Four blocks use 4,064 bytes; a block of 17 does not fit, one of 16 does, and then no filemark.
-const INTO_THE_ZONE: &[Row] = &[
+static INTO_THE_ZONE: &'static [Row<'static>] = &[
     FIRST,
     ("0a000003e800 ", 1_000, "GOOD"),
     ("0a000003e800 ", 1_000, "GOOD"),
@@ -171,24 +172,31 @@ fn spelled(alloc: Global, rows: &[Row]) -> Result<(Vec<u8>, Vec<u8>), AllocError
     Ok((script, text))
 }
 
+// These rows, over a cartridge of these capacities.
+fn assert_rows(
+    rt: &impl Abort,
+    alloc: Global,
+    capacities: &str,
+    rows: &[Row],
+    at: usize,
+) -> Result<(), Fail> {
+    let text = config_of(alloc, capacities)?;
+    let mut held = in_memory(alloc, text.as_bytes())?;
+    let (script, text) = spelled(alloc, rows)?;
+    let outcome = answered_by(alloc, &mut held, script.as_slice());
+    assert_eq!(rt; outcome.end, DONE, "end of {at}");
+    assert_eq!(rt; outcome.text.as_slice(), text.as_slice(), "text of {at}");
+    Ok(())
+}
+
 #[test]
 fn motions_and_reports(rt: HostRuntime) -> Result<(), Fail> {
-    let tables: [(&str, &[Row]); 7] = [
-        ("16777216", WHAT_THE_DRIVE_IS),
-        ("16777216", AN_ERASE),
-        ("16777216", OVER_BLOCKS),
-        ("16777216", BACK_FROM_OBJECT_0),
-        ("16777216, 16777216", TO_PARTITIONS),
-        ("4096", UP_TO_THE_ZONE),
-        ("4096", INTO_THE_ZONE),
-    ];
-    for (at, (capacities, rows)) in tables.into_iter().enumerate() {
-        let text = config_of(rt.alloc(), capacities)?;
-        let mut held = in_memory(rt.alloc(), text.as_bytes())?;
-        let (script, text) = spelled(rt.alloc(), rows)?;
-        let outcome = answered_by(rt.alloc(), &mut held, script.as_slice());
-        assert_eq!(rt; outcome.end, DONE, "end of {at}");
-        assert_eq!(rt; outcome.text.as_slice(), text.as_slice(), "text of {at}");
-    }
-    Ok(())
+    let alloc = rt.alloc();
+    assert_rows(&rt, alloc, "16777216", WHAT_THE_DRIVE_IS, 0)?;
+    assert_rows(&rt, alloc, "16777216", AN_ERASE, 1)?;
+    assert_rows(&rt, alloc, "16777216", OVER_BLOCKS, 2)?;
+    assert_rows(&rt, alloc, "16777216", BACK_FROM_OBJECT_0, 3)?;
+    assert_rows(&rt, alloc, "16777216, 16777216", TO_PARTITIONS, 4)?;
+    assert_rows(&rt, alloc, "4096", UP_TO_THE_ZONE, 5)?;
+    assert_rows(&rt, alloc, "4096", INTO_THE_ZONE, 6)
 }

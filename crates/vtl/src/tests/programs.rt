@@ -7,6 +7,7 @@ use crate::starting::built_in;
 use crate::writing::tell;
 use std::alloc::Global;
 use std::io::ErrorKind;
+use std::process::Abort;
 use std::test::Fail;
 use vtl_script::ScriptFault;
 
@@ -56,42 +57,51 @@ fn ran(alloc: Global, script: &[u8], plan: Plan, has_drive: bool) -> ProgramRun 
 
 const SCRIPT: &[u8] = b"1 1 000000000000\n--\n1 1 000000000000\n";
 
+const BAD_READ: Plan = Plan {
+    read: Some(2),
+    ..WHOLE
+};
+
+const BAD_WRITE: Plan = Plan {
+    write: Some(1),
+    ..WHOLE
+};
+
+const BAD_FLUSH: Plan = Plan {
+    write: Some(2),
+    ..WHOLE
+};
+
+const REFUSED: &[u8] = b"1 1 000000000000\n--\n1 2 000000000000\n";
+
+const GOOD: &str = "CHECK 700006000000000a00000000290000000000\nGOOD\n";
+
+// A script, what fails, whether there is a drive; the status, the text and the line on standard error.
+type End<'a> = (&'a [u8], Plan, bool, u8, &'a str, &'a str);
+
+static ENDS: &'static [End<'static>] = &[
+    (SCRIPT, WHOLE, true, 0, GOOD, ""),
+    (b"", WHOLE, true, 0, "", ""),
+    (
+        REFUSED,
+        WHOLE,
+        true,
+        1,
+        ATTENTION,
+        "vtl: script line 3 refused\n",
+    ),
+    (b"x\n", WHOLE, true, 1, "", "vtl: script line 1 refused\n"),
+    (SCRIPT, BAD_READ, true, 2, ATTENTION, "vtl: device fault\n"),
+    (SCRIPT, BAD_WRITE, true, 2, "", "vtl: device fault\n"),
+    (SCRIPT, BAD_FLUSH, true, 2, ATTENTION, "vtl: device fault\n"),
+    (SCRIPT, WHOLE, false, 3, "", "vtl: out of memory\n"),
+];
+
 #[test]
 fn status_and_line_of_each_end(rt: HostRuntime) -> Result<(), Fail> {
-    let bad_read = Plan {
-        read: Some(2),
-        ..WHOLE
-    };
-    let bad_write = Plan {
-        write: Some(1),
-        ..WHOLE
-    };
-    let bad_flush = Plan {
-        write: Some(2),
-        ..WHOLE
-    };
-    let refused = b"1 1 000000000000\n--\n1 2 000000000000\n";
-    let good = "CHECK 700006000000000a00000000290000000000\nGOOD\n";
-    let rows: [(&[u8], Plan, bool, u8, &str, &str); 8] = [
-        (SCRIPT, WHOLE, true, 0, good, ""),
-        (b"", WHOLE, true, 0, "", ""),
-        (
-            refused,
-            WHOLE,
-            true,
-            1,
-            ATTENTION,
-            "vtl: script line 3 refused\n",
-        ),
-        (b"x\n", WHOLE, true, 1, "", "vtl: script line 1 refused\n"),
-        (SCRIPT, bad_read, true, 2, ATTENTION, "vtl: device fault\n"),
-        (SCRIPT, bad_write, true, 2, "", "vtl: device fault\n"),
-        (SCRIPT, bad_flush, true, 2, ATTENTION, "vtl: device fault\n"),
-        (SCRIPT, WHOLE, false, 3, "", "vtl: out of memory\n"),
-    ];
-    for (at, (script, plan, has_drive, status, text, line)) in rows.into_iter().enumerate() {
-        let ran = ran(rt.alloc(), script, plan, has_drive);
-        assert_eq!(rt; ran.ended.status, status, "status of {at}");
+    for (at, (script, plan, has_drive, status, text, line)) in ENDS.iter().enumerate() {
+        let ran = ran(rt.alloc(), script, *plan, *has_drive);
+        assert_eq!(rt; ran.ended.status, *status, "status of {at}");
         assert!(rt; ran.ended.is_reported, "report of {at}");
         assert_eq!(rt; ran.text.as_slice(), text.as_bytes(), "text of {at}");
         assert_eq!(rt; ran.line.as_slice(), line.as_bytes(), "line of {at}");
@@ -112,43 +122,50 @@ fn a_line_that_can_not_be_written(rt: HostRuntime) -> Result<(), Fail> {
     Ok(())
 }
 
+// Faults of the program and of a script, each with its status and its line.
+static FAULTS: &'static [(VtlFault, u8, &'static str)] = &[
+    (VtlFault::Words, 1, "vtl: command line refused"),
+    (VtlFault::Config, 1, "vtl: configuration refused"),
+    (
+        VtlFault::Script { line: 12 },
+        1,
+        "vtl: script line 12 refused",
+    ),
+    (VtlFault::Device, 2, "vtl: device fault"),
+    (VtlFault::NoMemory, 3, "vtl: out of memory"),
+];
+
+static SCRIPT_FAULTS: &'static [(ScriptFault, u8, &'static str)] = &[
+    (
+        ScriptFault::BadLine { line: 1 },
+        1,
+        "vtl: script line 1 refused",
+    ),
+    (ScriptFault::ReadFault, 2, "vtl: device fault"),
+    (ScriptFault::WriteFault, 2, "vtl: device fault"),
+    (ScriptFault::NoMemory, 3, "vtl: out of memory"),
+];
+
+fn assert_line(
+    rt: &impl Abort,
+    alloc: Global,
+    fault: VtlFault,
+    status: u8,
+    text: &str,
+) -> Result<(), Fail> {
+    let (given, line) = fault_line(&fault);
+    assert_eq!(rt; given, status, "{text}");
+    assert_eq!(rt; format!(in alloc; "{line}")?.as_str(), text);
+    Ok(())
+}
+
 #[test]
 fn fault_lines(rt: HostRuntime) -> Result<(), Fail> {
-    let rows = [
-        (VtlFault::Words, 1, "vtl: command line refused"),
-        (VtlFault::Config, 1, "vtl: configuration refused"),
-        (
-            VtlFault::Script { line: 12 },
-            1,
-            "vtl: script line 12 refused",
-        ),
-        (VtlFault::Device, 2, "vtl: device fault"),
-        (VtlFault::NoMemory, 3, "vtl: out of memory"),
-        (
-            VtlFault::from(ScriptFault::BadLine { line: 1 }),
-            1,
-            "vtl: script line 1 refused",
-        ),
-        (
-            VtlFault::from(ScriptFault::ReadFault),
-            2,
-            "vtl: device fault",
-        ),
-        (
-            VtlFault::from(ScriptFault::WriteFault),
-            2,
-            "vtl: device fault",
-        ),
-        (
-            VtlFault::from(ScriptFault::NoMemory),
-            3,
-            "vtl: out of memory",
-        ),
-    ];
-    for (fault, status, text) in rows {
-        let (given, line) = fault_line(&fault);
-        assert_eq!(rt; given, status, "{text}");
-        assert_eq!(rt; format!(in rt.alloc(); "{line}")?.as_str(), text);
+    for (fault, status, text) in FAULTS {
+        assert_line(&rt, rt.alloc(), *fault, *status, text)?;
+    }
+    for (fault, status, text) in SCRIPT_FAULTS {
+        assert_line(&rt, rt.alloc(), VtlFault::from(*fault), *status, text)?;
     }
     Ok(())
 }
@@ -157,72 +174,75 @@ fn fault_lines(rt: HostRuntime) -> Result<(), Fail> {
 // is all.
 type Parts<'a> = (usize, &'a [Option<ErrorKind>], &'a [u8], bool);
 
+static WRITTEN_IN_PARTS: &'static [Parts<'static>] = &[
+    (1, &[], b"abcdef", true),
+    (4, &[None, Some(ErrorKind::Interrupted)], b"abcdef", true),
+    (
+        4,
+        &[Some(ErrorKind::Interrupted), Some(ErrorKind::Interrupted)],
+        b"abcdef",
+        true,
+    ),
+    (4, &[None, Some(ErrorKind::WouldBlock)], b"abcd", false),
+    (4, &[None, Some(ErrorKind::TimedOut)], b"abcd", false),
+    (4, &[Some(ErrorKind::BrokenPipe)], b"", false),
+    (0, &[], b"", false),
+];
+
 #[test]
 fn a_text_is_written_in_parts(rt: HostRuntime) -> Result<(), Fail> {
-    let rows: [Parts; 7] = [
-        (1, &[], b"abcdef", true),
-        (4, &[None, Some(ErrorKind::Interrupted)], b"abcdef", true),
-        (
-            4,
-            &[Some(ErrorKind::Interrupted), Some(ErrorKind::Interrupted)],
-            b"abcdef",
-            true,
-        ),
-        (4, &[None, Some(ErrorKind::WouldBlock)], b"abcd", false),
-        (4, &[None, Some(ErrorKind::TimedOut)], b"abcd", false),
-        (4, &[Some(ErrorKind::BrokenPipe)], b"", false),
-        (0, &[], b"", false),
-    ];
-    for (at, (most, errors, text, is_all)) in rows.into_iter().enumerate() {
-        let mut writer = PartWriter::new(rt.alloc(), most, errors);
+    for (at, (most, errors, text, is_all)) in WRITTEN_IN_PARTS.iter().enumerate() {
+        let mut writer = PartWriter::new(rt.alloc(), *most, errors);
         let outcome = tell(&mut writer, b"abcdef");
-        let wanted = if is_all {
+        let wanted = if *is_all {
             Ok(())
         } else {
             Err(VtlFault::Device)
         };
         assert_eq!(rt; outcome, wanted, "outcome of {at}");
         let written = writer.into_text();
-        assert_eq!(rt; written.as_slice(), text, "text of {at}");
+        assert_eq!(rt; written.as_slice(), *text, "text of {at}");
     }
     Ok(())
 }
+
+static TAKEN_IN_PARTS: &'static [Parts<'static>] = &[
+    (4, &[], b"vtl: out of memory\n", true),
+    (4, &[None, Some(ErrorKind::Other)], b"vtl:", false),
+    (0, &[], b"", false),
+];
 
 #[test]
 fn a_line_is_taken_in_parts(rt: HostRuntime) -> Result<(), Fail> {
-    let rows: [Parts; 3] = [
-        (4, &[], b"vtl: out of memory\n", true),
-        (4, &[None, Some(ErrorKind::Other)], b"vtl:", false),
-        (0, &[], b"", false),
-    ];
-    for (at, (most, errors, text, is_reported)) in rows.into_iter().enumerate() {
-        let mut writer = PartWriter::new(rt.alloc(), most, errors);
+    for (at, (most, errors, text, is_reported)) in TAKEN_IN_PARTS.iter().enumerate() {
+        let mut writer = PartWriter::new(rt.alloc(), *most, errors);
         let ended = end(Err(VtlFault::NoMemory), &mut writer);
         let wanted = Ended {
             status: 3,
-            is_reported,
+            is_reported: *is_reported,
         };
         assert_eq!(rt; ended, wanted, "end of {at}");
         let written = writer.into_text();
-        assert_eq!(rt; written.as_slice(), text, "text of {at}");
+        assert_eq!(rt; written.as_slice(), *text, "text of {at}");
     }
     Ok(())
 }
 
+// The first call is the write, the second the flush.
+static FLUSHED: &'static [(BadCall, &'static [u8], Result<(), VtlFault>)] = &[
+    (Some(1), b"", Err(VtlFault::Device)),
+    (Some(2), b"abcdef", Err(VtlFault::Device)),
+    (Some(3), b"abcdef", Ok(())),
+];
+
 #[test]
 fn a_text_is_flushed(rt: HostRuntime) -> Result<(), Fail> {
-    // The first call is the write, the second the flush.
-    let rows: [(BadCall, &[u8], Result<(), VtlFault>); 3] = [
-        (Some(1), b"", Err(VtlFault::Device)),
-        (Some(2), b"abcdef", Err(VtlFault::Device)),
-        (Some(3), b"abcdef", Ok(())),
-    ];
-    for (at, (bad, text, wanted)) in rows.into_iter().enumerate() {
-        let mut writer = BadWriter::new(rt.alloc(), bad);
+    for (at, (bad, text, wanted)) in FLUSHED.iter().enumerate() {
+        let mut writer = BadWriter::new(rt.alloc(), *bad);
         let outcome = tell(&mut writer, b"abcdef");
-        assert_eq!(rt; outcome, wanted, "outcome of {at}");
+        assert_eq!(rt; outcome, *wanted, "outcome of {at}");
         let written = writer.into_text();
-        assert_eq!(rt; written.as_slice(), text, "text of {at}");
+        assert_eq!(rt; written.as_slice(), *text, "text of {at}");
     }
     Ok(())
 }

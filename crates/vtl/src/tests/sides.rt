@@ -10,7 +10,7 @@ use vtl_base::Bytes;
 
 // A cartridge `T00001L6` of one partition of 4,096 bytes, with two frames, whose gates stand at 35,
 // 55 and 70: a block `hello`, and a filemark behind it.
-const SIDE: [u8; 71] = *b"\xa5VTLCART1\0\x01T00001L6        \0\0\0\0\0\0\x10\0\
+const SIDE: &'static [u8; 71] = b"\xa5VTLCART1\0\x01T00001L6        \0\0\0\0\0\0\x10\0\
     \xa5\0\0\0\x0f\x01\0\0\0\0\0\0\0\0\x05hello\
     \xa5\0\0\0\x0a\x02\0\0\0\0\x01\0\0\0\x01\
     \0";
@@ -25,7 +25,7 @@ const WHOLE: &str = "cartridge T00001L6 partitions 1 frames 2\npartition 0 objec
 
 // A store `DRIVE1` with two frames, whose gates stand at 27, 45 and 63: host 1 is registered, and has
 // reserved.
-const STORE: [u8; 64] = *b"\xa5VTLRESV1\0\0DRIVE1          \
+const STORE: &'static [u8; 64] = b"\xa5VTLRESV1\0\0DRIVE1          \
     \xa5\0\0\0\x0d\x01\0\0\x01\x01\0\0\0\0\0\0\0\xa1\
     \xa5\0\0\0\x0d\x01\x05\x01\x01\x01\0\0\0\0\0\0\0\xa1\
     \0";
@@ -57,38 +57,41 @@ fn assert_tells(
 }
 
 fn changed(place: usize, value: u8) -> [u8; 71] {
-    let mut bytes = SIDE;
+    let mut bytes = *SIDE;
     if place < bytes.len() {
         bytes[place] = value;
     }
     bytes
 }
 
+// A byte of the side, its new value, and the lines then.
+static CHANGED: &'static [(usize, u8, &'static str)] = &[
+    (0, 0, "not a side\n"),
+    (9, 7, "not a side\n"),
+    (40, 4, "bad record at 35\n"),
+    (
+        55,
+        0,
+        "cartridge T00001L6 partitions 1 frames 1\npartition 0 objects 1 used 21\n",
+    ),
+    (61, 1, "bad record at 55\n"),
+    (
+        65,
+        0,
+        "cartridge T00001L6 partitions 1 frames 2\npartition 0 objects 1 used 16\n",
+    ),
+    (65, 3, "bad record at 55\n"),
+    (69, 0, "bad record at 55\n"),
+    (70, 0xa5, "damaged at 70\n"),
+    (70, 1, WHOLE),
+];
+
 #[test]
 fn a_side_and_its_changes(rt: HostRuntime) -> Result<(), Fail> {
     let alloc = rt.alloc();
-    assert_tells(&rt, alloc, &SIDE, WHOLE, 71)?;
-    for (place, value, wanted) in [
-        (0, 0, "not a side\n"),
-        (9, 7, "not a side\n"),
-        (40, 4, "bad record at 35\n"),
-        (
-            55,
-            0,
-            "cartridge T00001L6 partitions 1 frames 1\npartition 0 objects 1 used 21\n",
-        ),
-        (61, 1, "bad record at 55\n"),
-        (
-            65,
-            0,
-            "cartridge T00001L6 partitions 1 frames 2\npartition 0 objects 1 used 16\n",
-        ),
-        (65, 3, "bad record at 55\n"),
-        (69, 0, "bad record at 55\n"),
-        (70, 0xa5, "damaged at 70\n"),
-        (70, 1, WHOLE),
-    ] {
-        assert_tells(&rt, alloc, &changed(place, value), wanted, place)?;
+    assert_tells(&rt, alloc, SIDE, WHOLE, 71)?;
+    for (place, value, wanted) in CHANGED {
+        assert_tells(&rt, alloc, &changed(*place, *value), wanted, *place)?;
     }
     Ok(())
 }
@@ -104,7 +107,7 @@ fn sides_that_are_cut(rt: HostRuntime) -> Result<(), Fail> {
         };
         assert_tells(&rt, alloc, &SIDE[..length], wanted, length)?;
     }
-    let mut bytes = SIDE;
+    let mut bytes = *SIDE;
     bytes[35] = 0;
     let wanted = "cartridge T00001L6 partitions 1 frames 0\npartition 0 objects 0 used 0\n";
     assert_tells(&rt, alloc, &bytes[..36], wanted, 36)
@@ -155,59 +158,61 @@ fn assert_told(rt: &impl Abort, alloc: Global, bytes: &[u8], wanted: &str) -> Re
     Ok(())
 }
 
+// New ones; without a gate, under a name that no drive has, and with a frame that is not whole.
+static STORES: &'static [(&'static [u8], &'static str)] = &[
+    (
+        b"\xa5VTLRESV1\0\0DRIVE1          \0",
+        "reservations DRIVE1 frames 0 registrations 0\n",
+    ),
+    (
+        b"\xa5VTLRESV1\0\0DRIVE16         \0",
+        "reservations DRIVE16 frames 0 registrations 0\n",
+    ),
+    (b"\xa5VTLRESV1\0\0DRIVE16         ", "damaged at 27\n"),
+    (b"\xa5VTLRESV1\0\0DRIVE17         \0", "not a side\n"),
+    (
+        b"\xa5VTLRESV1\0\0DRIVE1          \xa5\0\0\0\x04\x01\0",
+        "damaged at 27\n",
+    ),
+    (STORE, STORED),
+];
+
 #[test]
 fn stores_of_reservations(rt: HostRuntime) -> Result<(), Fail> {
     let alloc = rt.alloc();
-    // New ones; without a gate, under a name that no drive has, and with a frame that is not whole.
-    let stores: [(&[u8], &str); 6] = [
-        (
-            b"\xa5VTLRESV1\0\0DRIVE1          \0",
-            "reservations DRIVE1 frames 0 registrations 0\n",
-        ),
-        (
-            b"\xa5VTLRESV1\0\0DRIVE16         \0",
-            "reservations DRIVE16 frames 0 registrations 0\n",
-        ),
-        (b"\xa5VTLRESV1\0\0DRIVE16         ", "damaged at 27\n"),
-        (b"\xa5VTLRESV1\0\0DRIVE17         \0", "not a side\n"),
-        (
-            b"\xa5VTLRESV1\0\0DRIVE1          \xa5\0\0\0\x04\x01\0",
-            "damaged at 27\n",
-        ),
-        (&STORE, STORED),
-    ];
-    for (store, wanted) in stores {
+    for (store, wanted) in STORES {
         assert_told(&rt, alloc, store, wanted)?;
     }
     Ok(())
 }
 
+// APTPL is 0; hosts 1 and 3 are registered; nobody is; more is counted than is registered; a state
+// with a byte too many; a frame that is not whole.
+static FRAMES: &'static [(&'static [u8], &'static str)] = &[
+    (
+        b"\xa5\0\0\0\x0d\0\x05\x01\x01\x01\0\0\0\0\0\0\0\xa1",
+        "reservations DRIVE1 frames 3 registrations 0\n",
+    ),
+    (
+        b"\xa5\0\0\0\x16\x01\x07\0\x02\x01\0\0\0\0\0\0\0\xa1\x03\0\0\0\0\0\0\0\xa1",
+        "reservations DRIVE1 frames 3 registrations 2\n",
+    ),
+    (
+        b"\xa5\0\0\0\x04\x01\0\0\0",
+        "reservations DRIVE1 frames 3 registrations 0\n",
+    ),
+    (
+        b"\xa5\0\0\0\x0d\x01\0\0\x02\x01\0\0\0\0\0\0\0\xa1",
+        "bad record at 63\n",
+    ),
+    (b"\xa5\0\0\0\x05\x01\0\0\0\0", "bad record at 63\n"),
+    (b"\xa5\0\0\0\x05\x01\0\0\0", "damaged at 63\n"),
+];
+
 #[test]
 fn stores_of_three_frames(rt: HostRuntime) -> Result<(), Fail> {
     let alloc = rt.alloc();
-    // APTPL is 0; hosts 1 and 3 are registered; nobody is; more is counted than is registered; a state
-    // with a byte too many; a frame that is not whole.
-    let frames: [(&[u8], &str); 6] = [
-        (
-            b"\xa5\0\0\0\x0d\0\x05\x01\x01\x01\0\0\0\0\0\0\0\xa1",
-            "reservations DRIVE1 frames 3 registrations 0\n",
-        ),
-        (
-            b"\xa5\0\0\0\x16\x01\x07\0\x02\x01\0\0\0\0\0\0\0\xa1\x03\0\0\0\0\0\0\0\xa1",
-            "reservations DRIVE1 frames 3 registrations 2\n",
-        ),
-        (
-            b"\xa5\0\0\0\x04\x01\0\0\0",
-            "reservations DRIVE1 frames 3 registrations 0\n",
-        ),
-        (
-            b"\xa5\0\0\0\x0d\x01\0\0\x02\x01\0\0\0\0\0\0\0\xa1",
-            "bad record at 63\n",
-        ),
-        (b"\xa5\0\0\0\x05\x01\0\0\0\0", "bad record at 63\n"),
-        (b"\xa5\0\0\0\x05\x01\0\0\0", "damaged at 63\n"),
-    ];
-    for (frame, wanted) in frames {
+    for (frame, wanted) in FRAMES {
         assert_told(&rt, alloc, &stored(alloc, frame)?, wanted)?;
     }
     Ok(())
@@ -246,20 +251,25 @@ fn assert_fails_before(
     }
 }
 
+// A side, its lines, and how often the disk is called for them.
+static SIDES: &'static [(&'static [u8], &'static str, u64)] = &[
+    (SIDE, WHOLE, CALLS),
+    (STORE, STORED, STORE_CALLS),
+];
+
 #[test]
 fn a_disk_that_fails(rt: HostRuntime) -> Result<(), Fail> {
     let alloc = rt.alloc();
-    let sides: [(&[u8], &str, u64); 2] = [(&SIDE, WHOLE, CALLS), (&STORE, STORED, STORE_CALLS)];
-    for (side, wanted, needed) in sides {
+    for (side, wanted, needed) in SIDES {
         for calls in 0..20 {
             let disk = MemDisk::from_bytes(alloc, side)?;
             let stopped = check_side(alloc, FuseDisk::new(disk, calls));
-            assert_eq!(rt; stopped.disk.inner().bytes(), side);
-            assert_fails_before(&rt, stopped.lines, wanted, calls >= needed);
+            assert_eq!(rt; stopped.disk.inner().bytes(), *side);
+            assert_fails_before(&rt, stopped.lines, wanted, calls >= *needed);
             let disk = MemDisk::from_bytes(alloc, side)?;
             let failed = check_side(alloc, OnceDisk::new(disk, calls));
-            assert_eq!(rt; failed.disk.inner().bytes(), side);
-            assert_fails_before(&rt, failed.lines, wanted, calls >= needed);
+            assert_eq!(rt; failed.disk.inner().bytes(), *side);
+            assert_fails_before(&rt, failed.lines, wanted, calls >= *needed);
         }
     }
     Ok(())

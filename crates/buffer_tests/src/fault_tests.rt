@@ -1,0 +1,279 @@
+//! A fault at each call of the disk: in a turn, in a storing and in a loading.
+use crate::drives::Tape;
+use crate::samples::{
+    CHANGED, EMPTY, END, ERASE, FAILED, GOOD, INQUIRED, INQUIRY, LATE_ERROR, LOAD, LOCATE_0, MARK,
+    MODE_0, NO_MEDIUM, NONE, ONE, READ_1, READ_ERROR, READ_POSITION, REQUEST_SENSE, REWIND, Row,
+    SELECT_4, TEST_UNIT_READY, UNLOAD, WRITE_1, WRITE_ERROR, WRITE_OUT, Wanted, ask, asks,
+    assert_turn, greeted, reads,
+};
+use std::alloc::Global;
+use std::process::Abort;
+use std::test::Fail;
+use tape_disk::{Disk, MemDisk, OnceDisk};
+use volume_core::Turn;
+
+// A block is stored, and another waits.
+const ONE_WAITS: &'static [Row<'static>] = &[
+    (1, WRITE_1, b"a", GOOD),
+    (1, WRITE_OUT, NONE, GOOD),
+    (1, WRITE_1, b"b", GOOD),
+];
+
+// A block is stored, and the next is not to wait.
+const NONE_WAITS: &'static [Row<'static>] = &[
+    (1, WRITE_1, b"a", GOOD),
+    (1, WRITE_OUT, NONE, GOOD),
+    (1, SELECT_4, MODE_0, GOOD),
+];
+
+// Two blocks are stored, and the tape stands before them.
+const TWO_STAND: &'static [Row<'static>] = &[
+    (1, WRITE_1, b"a", GOOD),
+    (1, WRITE_1, b"b", GOOD),
+    (1, REWIND, NONE, GOOD),
+    (1, SELECT_4, MODE_0, GOOD),
+];
+
+// What comes before a command, the command, its answer where no call fails, and what the tape then holds without and
+// with the frame that is under way.
+type Case<'a> = (
+    &'a [Row<'a>],
+    &'a [u8],
+    &'a [u8],
+    Wanted<'a>,
+    &'a [u8],
+    &'a [u8],
+);
+
+static CASES: &'static [Case<'static>] = &[
+    (ONE_WAITS, WRITE_OUT, NONE, GOOD, b"a", b"ab"),
+    (ONE_WAITS, MARK, NONE, GOOD, b"a", b"ab|"),
+    (ONE_WAITS, REWIND, NONE, GOOD, b"a", b"ab"),
+    (
+        ONE_WAITS,
+        &[0x11, 0, 0xff, 0xff, 0xff, 0],
+        NONE,
+        GOOD,
+        b"a",
+        b"ab",
+    ),
+    (ONE_WAITS, &[0x11, 3, 0, 0, 0, 0], NONE, GOOD, b"a", b"ab"),
+    (ONE_WAITS, LOCATE_0, NONE, GOOD, b"a", b"ab"),
+    (
+        ONE_WAITS,
+        READ_POSITION,
+        NONE,
+        (None, b"\0\0\0\0\0\0\0\x02\0\0\0\x02\0\0\0\0\0\0\0\0"),
+        b"a",
+        b"ab",
+    ),
+    (ONE_WAITS, READ_1, NONE, END, b"a", b"ab"),
+    (ONE_WAITS, ERASE, NONE, GOOD, b"a", b"ab"),
+    (ONE_WAITS, LOAD, NONE, GOOD, b"a", b"ab"),
+    (ONE_WAITS, UNLOAD, NONE, GOOD, b"a", b"ab"),
+    (NONE_WAITS, WRITE_1, b"b", GOOD, b"a", b"ab"),
+    (TWO_STAND, ERASE, NONE, GOOD, b"ab", b""),
+];
+
+// A drive with an empty tape, of whose disk the call after so many fails. Five calls switch it on, and four store
+// what stands before a case's command.
+fn failing(
+    rt: &impl Abort,
+    alloc: Global,
+    side: &[u8],
+    calls: u64,
+) -> Result<Tape<OnceDisk<MemDisk>>, Fail> {
+    greeted(
+        rt,
+        alloc,
+        OnceDisk::new(MemDisk::from_bytes(alloc, side)?, calls),
+    )
+}
+
+// The tape has failed; it is unloaded and loaded.
+static FOUND_AGAIN: &'static [Row<'static>] = &[
+    (1, TEST_UNIT_READY, NONE, FAILED),
+    (1, READ_1, NONE, FAILED),
+    (1, LOAD, NONE, FAILED),
+    (1, UNLOAD, NONE, GOOD),
+    (1, TEST_UNIT_READY, NONE, NO_MEDIUM),
+    (1, LOAD, NONE, GOOD),
+];
+
+// A command meets the fault, and the tape is then found to hold this.
+fn fails<D: Disk + Drop>(rt: &impl Abort, drive: &mut Tape<D>, case: &Case, holds: &[u8]) {
+    let (before, cdb, sent, _, _, _) = *case;
+    asks(rt, drive, before);
+    ask(rt, drive, (1, cdb, sent, WRITE_ERROR), 0);
+    asks(rt, drive, FOUND_AGAIN);
+    reads(rt, drive, holds);
+}
+
+// A command meets no fault.
+fn passes<D: Disk + Drop>(rt: &impl Abort, drive: &mut Tape<D>, case: &Case) {
+    let (before, cdb, sent, wanted, _, _) = *case;
+    asks(rt, drive, before);
+    ask(rt, drive, (1, cdb, sent, wanted), 0);
+}
+
+// A case at one call of its disk. A write, a sync, the write of the gate and a sync store. A call that fails does
+// nothing, so the frame is there where the last one failed; the call behind them is none of the case's.
+fn storing(rt: &impl Abort, alloc: Global, case: &Case, calls: u64) -> Result<(), Fail> {
+    let (_, _, _, _, without, with) = *case;
+    let mut drive = failing(rt, alloc, EMPTY, calls)?;
+    match calls {
+        13 => passes(rt, &mut drive, case),
+        12 => fails(rt, &mut drive, case, with),
+        _ => fails(rt, &mut drive, case, without),
+    }
+    Ok(())
+}
+
+#[test]
+fn a_fault_at_each_call_of_a_storing(rt: HostRuntime) -> Result<(), Fail> {
+    for case in CASES {
+        for calls in 9..14 {
+            storing(&rt, rt.alloc(), case, calls)?;
+        }
+    }
+    Ok(())
+}
+
+// A turn failed: a host is told of it in the place of its command, and then nobody.
+static TOLD_ONCE: &'static [Row<'static>] = &[
+    (1, INQUIRY, NONE, INQUIRED),
+    (2, TEST_UNIT_READY, NONE, LATE_ERROR),
+    (1, TEST_UNIT_READY, NONE, FAILED),
+    (2, TEST_UNIT_READY, NONE, FAILED),
+    (2, INQUIRY, NONE, INQUIRED),
+];
+
+// The same, told by a command that would clear it all: one that is refused as unknown comes first and takes nothing.
+static TOLD_TO_A_READ: &'static [Row<'static>] = &[
+    (1, &[0xa5; 12], NONE, (Some((0x70, 5, 0, 0x20, 0)), &[])),
+    (1, READ_1, NONE, LATE_ERROR),
+    (1, WRITE_1, b"c", FAILED),
+    (2, WRITE_OUT, NONE, FAILED),
+];
+
+// The same, given as data.
+static TOLD_AS_DATA: &'static [Row<'static>] = &[
+    (
+        2,
+        REQUEST_SENSE,
+        NONE,
+        (None, b"\x71\0\x03\0\0\0\0\x0a\0\0\0\0\x0c\0\0\0\0\0"),
+    ),
+    (2, TEST_UNIT_READY, NONE, FAILED),
+    (1, TEST_UNIT_READY, NONE, FAILED),
+];
+
+// The same, told to UNLOAD, which is then asked again.
+static TOLD_TO_AN_UNLOADING: &'static [Row<'static>] = &[
+    (1, UNLOAD, NONE, LATE_ERROR),
+    (2, TEST_UNIT_READY, NONE, FAILED),
+];
+
+static WAITING: &'static [Row<'static>] = ONE_WAITS;
+
+// A turn fails, hosts are told of it, and the tape is found to hold this.
+fn turn_fails<D: Disk + Drop>(rt: &impl Abort, drive: &mut Tape<D>, told: &[Row], holds: &[u8]) {
+    asks(rt, drive, WAITING);
+    assert_turn(rt, drive, Turn::Faulted);
+    assert_turn(rt, drive, Turn::Idle);
+    asks(rt, drive, told);
+    asks(rt, drive, FOUND_AGAIN);
+    reads(rt, drive, holds);
+}
+
+fn turns(rt: &impl Abort, alloc: Global, calls: u64, told: &[Row]) -> Result<(), Fail> {
+    let mut drive = failing(rt, alloc, EMPTY, calls)?;
+    let holds: &[u8] = if calls == 12 { b"ab" } else { b"a" };
+    turn_fails(rt, &mut drive, told, holds);
+    Ok(())
+}
+
+#[test]
+fn a_fault_at_each_call_of_a_turn(rt: HostRuntime) -> Result<(), Fail> {
+    let alloc = rt.alloc();
+    for calls in 9..13 {
+        turns(&rt, alloc, calls, TOLD_ONCE)?;
+        turns(&rt, alloc, calls, TOLD_TO_A_READ)?;
+        turns(&rt, alloc, calls, TOLD_AS_DATA)?;
+        turns(&rt, alloc, calls, TOLD_TO_AN_UNLOADING)?;
+    }
+    Ok(())
+}
+
+// The tape was not loaded at power on, and is at the second asking.
+static LOADED_LATE: &'static [Row<'static>] = &[
+    (1, TEST_UNIT_READY, NONE, NO_MEDIUM),
+    (1, LOAD, NONE, GOOD),
+    (2, TEST_UNIT_READY, NONE, CHANGED),
+    (2, TEST_UNIT_READY, NONE, GOOD),
+];
+
+// The tape is unloaded, and loaded at the second asking alone; the other host is told once.
+static LOADED_AGAIN: &'static [Row<'static>] = &[
+    (1, UNLOAD, NONE, GOOD),
+    (1, LOAD, NONE, READ_ERROR),
+    (1, TEST_UNIT_READY, NONE, NO_MEDIUM),
+    (1, LOAD, NONE, GOOD),
+    (2, TEST_UNIT_READY, NONE, CHANGED),
+    (2, TEST_UNIT_READY, NONE, GOOD),
+];
+
+// A block could not be read.
+static READ_AGAIN: &'static [Row<'static>] = &[
+    (1, READ_1, NONE, READ_ERROR),
+    (2, TEST_UNIT_READY, NONE, FAILED),
+    (1, UNLOAD, NONE, GOOD),
+    (1, LOAD, NONE, GOOD),
+];
+
+// A side with one block, of whose disk the call after so many fails: the tape answers so, and has its block then.
+fn loading(rt: &impl Abort, alloc: Global, calls: u64, rows: &[Row]) -> Result<(), Fail> {
+    let mut drive = failing(rt, alloc, ONE, calls)?;
+    asks(rt, &mut drive, rows);
+    reads(rt, &mut drive, b"a");
+    Ok(())
+}
+
+#[test]
+fn a_fault_at_each_call_of_a_loading(rt: HostRuntime) -> Result<(), Fail> {
+    let alloc = rt.alloc();
+    // Behind the sync that comes first: a sync, two reads of the header, two of gates and one of the body.
+    for calls in 1..7 {
+        loading(&rt, alloc, calls, LOADED_LATE)?;
+    }
+    for calls in 7..13 {
+        loading(&rt, alloc, calls, LOADED_AGAIN)?;
+    }
+    loading(&rt, alloc, 7, READ_AGAIN)
+}
+
+// A side that is refused stands in the drive unloaded, and LOAD tells so; UNLOAD leaves it.
+static UNREADABLE: &'static [Row<'static>] = &[
+    (1, TEST_UNIT_READY, NONE, NO_MEDIUM),
+    (1, LOAD, NONE, READ_ERROR),
+    (1, UNLOAD, NONE, GOOD),
+    (1, LOAD, NONE, READ_ERROR),
+    (2, TEST_UNIT_READY, NONE, NO_MEDIUM),
+];
+
+// No cartridge's side, a partition too many, a record of no kind, and a last gate that is open.
+static WRONG: &'static [(usize, u8)] = &[(0, 0x00), (10, 0x05), (40, 0x04), (51, 0xa5)];
+
+#[test]
+fn a_side_that_is_refused(rt: HostRuntime) -> Result<(), Fail> {
+    let alloc = rt.alloc();
+    for &(place, value) in WRONG {
+        let mut side = ONE.to_vec(alloc)?;
+        if place < side.len() {
+            side[place] = value;
+        }
+        let mut drive = greeted(&rt, alloc, MemDisk::from_bytes(alloc, &side)?)?;
+        asks(&rt, &mut drive, UNREADABLE);
+    }
+    Ok(())
+}

@@ -1,0 +1,17 @@
+//! The tests of tape_buffer, alone and below a drive.
+#![tactic(auto)]
+
+#[cfg(test)]
+mod drives;
+#[cfg(test)]
+mod fault_tests;
+#[cfg(test)]
+mod medium_tests;
+#[cfg(test)]
+mod mode_tests;
+#[cfg(test)]
+mod row_tests;
+#[cfg(test)]
+mod samples;
+#[cfg(test)]
+mod stop_tests;

@@ -1,0 +1,167 @@
+//! A buffered medium on its own: what waits, and what it costs.
+use crate::drives::sure;
+use crate::samples::{EMPTY, ONE};
+use cartridge::Shelved;
+use std::alloc::Global;
+use std::process::Abort;
+use std::test::Fail;
+use tape_buffer::Buffered;
+use tape_disk::MemDisk;
+use volume_core::{Catalog, Kind, Medium};
+use vtl_base::Bytes;
+
+// A parked medium over the cartridge of these bytes.
+fn parked(alloc: Global, side: &[u8]) -> Result<Buffered<MemDisk>, Fail> {
+    match sure(MemDisk::from_bytes(alloc, side)?) {
+        Ok(disk) => Ok(Buffered::parked(alloc, Shelved::of(disk))),
+        Err(_) => Err(Fail::from("no sync")),
+    }
+}
+
+// How many changes wait after so many blocks of one size, and how many syncs these took.
+#[tactic(auto, using(crate::proofs::TestLemmas::opened_is_awake))]
+fn filled(
+    alloc: Global,
+    medium: &mut Buffered<MemDisk>,
+    count: u32,
+    size: usize,
+) -> Result<(usize, u64), Fail> {
+    medium.wake()?;
+    let before = medium.disk().syncs();
+    for at in 0..count {
+        let block = Bytes::from_vec(vec![in alloc; 0x5a; size]?);
+        // One that is awake stays as it is.
+        medium.wake()?;
+        medium.put(0, at, block)?;
+    }
+    medium.wake()?;
+    Ok((
+        medium.pending(),
+        medium.disk().syncs().saturating_sub(before),
+    ))
+}
+
+fn waiting(alloc: Global, count: u32, size: usize) -> Result<(usize, u64), Fail> {
+    let mut medium = parked(alloc, EMPTY)?;
+    filled(alloc, &mut medium, count, size)
+}
+
+// How many blocks of which size, how many changes wait then, and how many syncs they took.
+static WAITS: &'static [(u32, usize, (usize, u64))] = &[
+    (10, 1, (10, 0)),
+    (64, 1, (64, 0)),
+    (65, 1, (1, 2)),
+    (128, 1, (64, 2)),
+    (129, 1, (1, 4)),
+    (4, 1_048_576, (4, 0)),
+    (5, 1_048_576, (1, 2)),
+    (64, 65_536, (64, 0)),
+    (63, 66_576, (63, 0)),
+    (63, 66_577, (1, 2)),
+];
+
+#[test]
+fn what_waits_is_counted(rt: HostRuntime) -> Result<(), Fail> {
+    for &(count, size, expected) in WAITS {
+        let found = waiting(rt.alloc(), count, size)?;
+        assert_eq!(rt; found, expected, "{count} of {size} bytes");
+    }
+    Ok(())
+}
+
+// What a medium is seen to hold: the bytes of its blocks, each of one byte, and `|` for a filemark; and what all of
+// it takes.
+#[tactic(auto, using(crate::proofs::TestLemmas::opened_is_awake))]
+fn seen(alloc: Global, medium: &mut Buffered<MemDisk>) -> Result<(Vec<u8>, u64), Fail> {
+    medium.wake()?;
+    let count = medium.count(0);
+    let used = medium.used(0, count);
+    let mut text = Vec::new(alloc);
+    let mut block = Vec::new(alloc);
+    for at in 0..count {
+        // One that is awake stays as it is.
+        medium.wake()?;
+        match medium.kind_at(0, at) {
+            Some(Kind::Block) => {
+                medium.fetch(0, at, &mut block)?;
+                text.extend_from_slice(&block)?;
+            }
+            Some(Kind::Mark) => text.push(b'|')?,
+            None => {}
+        }
+    }
+    Ok((text, used))
+}
+
+// A medium over a block `a` takes one change behind another; what it holds then, and what all of it takes.
+static CHANGES: &'static [(Option<u8>, u32, u32, &'static [u8], u64)] = &[
+    (None, 1, 2, b"a||", 49),
+    (Some(b'b'), 2, 1, b"a|b", 50),
+    (None, 3, 1, b"a|b|", 66),
+    (None, 1, 0, b"a", 17),
+    (Some(b'c'), 1, 1, b"ac", 34),
+    (None, 2, 1, b"ac|", 50),
+    (Some(b'd'), 0, 1, b"d", 17),
+];
+
+// A block of this byte, so many marks, or, with none, an erase, behind the first objects.
+#[tactic(auto, using(crate::proofs::TestLemmas::opened_is_awake))]
+fn takes(
+    alloc: Global,
+    medium: &mut Buffered<MemDisk>,
+    block: Option<u8>,
+    at: u32,
+    count: u32,
+) -> Result<(), Fail> {
+    medium.wake()?;
+    match block {
+        Some(byte) => medium.put(0, at, Bytes::from_slice(alloc, &[byte])?)?,
+        None if count == 0 => medium.erase(0, at)?,
+        None => medium.marks(0, at, count)?,
+    }
+    Ok(())
+}
+
+// Asks a medium to store, or to be parked and opened again.
+#[tactic(auto, using(crate::proofs::TestLemmas::opened_is_awake))]
+fn stores(medium: &mut Buffered<MemDisk>, parks: bool) -> Result<(), Fail> {
+    medium.wake()?;
+    if parks {
+        medium.park()?;
+    } else {
+        medium.settle()?;
+    }
+    Ok(())
+}
+
+// All changes, with a storing behind the one of this number.
+fn sees(
+    rt: &impl Abort,
+    alloc: Global,
+    medium: &mut Buffered<MemDisk>,
+    behind: usize,
+    parks: bool,
+) -> Result<(), Fail> {
+    for (i, &(block, at, count, text, used)) in CHANGES.iter().enumerate() {
+        takes(alloc, medium, block, at, count)?;
+        if i == behind {
+            stores(medium, parks)?;
+        }
+        let (found, all) = seen(alloc, medium)?;
+        assert_eq!(rt; (found.as_slice(), all), (text, used), "change {i}");
+    }
+    Ok(())
+}
+
+#[test]
+fn what_waits_is_seen(rt: HostRuntime) -> Result<(), Fail> {
+    let alloc = rt.alloc();
+    // Nothing is stored on the way, all is stored behind a change, or it is parked there and opened again.
+    for behind in 0..8 {
+        for parks in [false, true] {
+            let mut medium = parked(alloc, ONE)?;
+            sees(&rt, alloc, &mut medium, behind, parks)?;
+        }
+    }
+    Ok(())
+}

@@ -1,0 +1,200 @@
+//! Which commands cost a sync, by steps, each reply to the byte.
+use crate::drives::Tape;
+use crate::samples::{
+    EMPTY, ERASE, GOOD, LOCATE_1, MARK_AT_ONCE, MODE_0, MODE_1, NONE, Row, SELECT_4, WRITE_1,
+    WRITE_OUT, ask, assert_turn, found, greeted, syncs, write,
+};
+use std::alloc::Global;
+use std::process::Abort;
+use std::test::Fail;
+use tape_disk::MemDisk;
+use volume_core::Turn;
+
+// What is done so many times, and how many syncs all of it takes: a row, a buffered WRITE of so many bytes, or a
+// flusher's turn, which answers so.
+#[derive(Clone, Copy)]
+enum Step<'a> {
+    Asks(u32, Row<'a>, u64),
+    Writes(u32, u32, u64),
+    Turns(Turn, u64),
+}
+
+const BYTE: Row<'static> = (1, WRITE_1, b"x", GOOD);
+
+const MARKED: Row<'static> = (1, MARK_AT_ONCE, NONE, GOOD);
+
+const OUT: Row<'static> = (1, WRITE_OUT, NONE, GOOD);
+
+// Ten writes wait, and become one frame; then nothing waits.
+static TEN: &'static [Step<'static>] = &[
+    Step::Asks(10, BYTE, 0),
+    Step::Asks(1, OUT, 2),
+    Step::Turns(Turn::Idle, 0),
+    Step::Asks(1, OUT, 0),
+];
+
+// A turn tells how many waited.
+static TURNS: &'static [Step<'static>] = &[
+    Step::Asks(1, BYTE, 0),
+    Step::Turns(Turn::Stored(1), 2),
+    Step::Asks(10, BYTE, 0),
+    Step::Turns(Turn::Stored(10), 2),
+    Step::Asks(64, BYTE, 0),
+    Step::Turns(Turn::Stored(64), 2),
+    Step::Turns(Turn::Idle, 0),
+];
+
+// The 65th change finds the others stored, and waits alone.
+static CHANGES: &'static [Step<'static>] = &[
+    Step::Asks(64, BYTE, 0),
+    Step::Asks(1, BYTE, 2),
+    Step::Turns(Turn::Stored(1), 2),
+    Step::Asks(64, MARKED, 0),
+    Step::Asks(1, MARKED, 2),
+    Step::Turns(Turn::Stored(1), 2),
+    Step::Asks(64, MARKED, 0),
+    Step::Asks(1, BYTE, 2),
+    Step::Turns(Turn::Stored(1), 2),
+];
+
+// So does the byte past 4,194,304; filemarks have none.
+static BYTES: &'static [Step<'static>] = &[
+    Step::Writes(4, 1_048_576, 0),
+    Step::Asks(1, BYTE, 2),
+    Step::Turns(Turn::Stored(1), 2),
+    Step::Writes(64, 65_536, 0),
+    Step::Asks(1, MARKED, 2),
+    Step::Turns(Turn::Stored(1), 2),
+    Step::Writes(2, 1_048_576, 0),
+    Step::Asks(62, MARKED, 0),
+    Step::Turns(Turn::Stored(64), 2),
+    Step::Writes(3, 1_048_576, 0),
+    Step::Writes(1, 1_048_575, 0),
+    Step::Asks(1, BYTE, 0),
+    Step::Asks(1, BYTE, 2),
+    Step::Turns(Turn::Stored(1), 2),
+];
+
+// Unbuffered, each write and each erase is stored at once; the mode alone stores nothing. Buffered again, an erase
+// stores what waits, and waits itself.
+static UNBUFFERED: &'static [Step<'static>] = &[
+    Step::Asks(1, (1, WRITE_1, b"a", GOOD), 0),
+    Step::Asks(1, (1, SELECT_4, MODE_0, GOOD), 0),
+    Step::Asks(1, (1, WRITE_1, b"b", GOOD), 2),
+    Step::Asks(3, (1, WRITE_1, b"c", GOOD), 6),
+    Step::Asks(1, (1, LOCATE_1, NONE, GOOD), 0),
+    Step::Asks(1, (1, ERASE, NONE, GOOD), 2),
+    Step::Asks(1, (1, SELECT_4, MODE_1, GOOD), 0),
+    Step::Asks(1, (1, WRITE_1, b"d", GOOD), 0),
+    Step::Asks(1, (1, ERASE, NONE, GOOD), 2),
+    Step::Turns(Turn::Stored(1), 2),
+];
+
+// Were a turn taken behind each write, each would cost two syncs: the ten above ask for none, so they fail of a medium
+// that stores each write at once.
+static AT_ONCE: &'static [Step<'static>] = &[
+    Step::Asks(1, BYTE, 0),
+    Step::Turns(Turn::Stored(1), 2),
+    Step::Asks(1, BYTE, 0),
+    Step::Turns(Turn::Stored(1), 2),
+];
+
+fn writes(rt: &impl Abort, alloc: Global, drive: &mut Tape<MemDisk>, count: u32, size: u32) {
+    for _ in 0..count {
+        write(rt, alloc, drive, size);
+    }
+}
+
+fn repeats(rt: &impl Abort, drive: &mut Tape<MemDisk>, row: Row, count: u32) {
+    for _ in 0..count {
+        ask(rt, drive, row, 0);
+    }
+}
+
+fn goes(rt: &impl Abort, alloc: Global, drive: &mut Tape<MemDisk>, steps: &[Step]) {
+    for (at, step) in steps.iter().enumerate() {
+        let before = syncs(drive);
+        let wanted = match *step {
+            Step::Asks(count, row, wanted) => {
+                repeats(rt, drive, row, count);
+                wanted
+            }
+            Step::Writes(count, size, wanted) => {
+                writes(rt, alloc, drive, count, size);
+                wanted
+            }
+            Step::Turns(turn, wanted) => {
+                assert_turn(rt, drive, turn);
+                wanted
+            }
+        };
+        let taken = syncs(drive).saturating_sub(before);
+        assert_eq!(rt; taken, wanted, "syncs of step {at}");
+    }
+}
+
+// How many of the bytes that are not sure a crash keeps, and what the others become.
+static CRASHES: &'static [(u64, u8)] = &[
+    (0, 0x00),
+    (0, 0xa5),
+    (0, 0xff),
+    (1, 0xa5),
+    (u64::MAX, 0x00),
+];
+
+// What a crash leaves of the tape, whatever becomes of the bytes that are not sure.
+fn left(rt: &impl Abort, alloc: Global, drive: &Tape<MemDisk>, wanted: &[u8]) -> Result<(), Fail> {
+    for &(keep, fill) in CRASHES {
+        let Some(medium) = drive.medium() else {
+            return Err(Fail::from("no medium"));
+        };
+        let disk = medium.disk().copy()?.crash(keep, fill)?;
+        let text = found(alloc, disk)?;
+        assert_eq!(rt; text.as_slice(), wanted, "{keep} bytes, then {fill}");
+    }
+    Ok(())
+}
+
+// Steps from an empty tape, and what a crash leaves behind them.
+fn course(rt: &impl Abort, alloc: Global, steps: &[Step], wanted: &[u8]) -> Result<(), Fail> {
+    let mut drive = greeted(rt, alloc, MemDisk::from_bytes(alloc, EMPTY)?)?;
+    goes(rt, alloc, &mut drive, steps);
+    left(rt, alloc, &drive, wanted)
+}
+
+#[test]
+fn writes_wait_for_one_frame(rt: HostRuntime) -> Result<(), Fail> {
+    let alloc = rt.alloc();
+    course(&rt, alloc, &TEN[..1], b"")?;
+    course(&rt, alloc, TEN, b"xxxxxxxxxx")?;
+    course(&rt, alloc, &TURNS[..5], b"xxxxxxxxxxx")?;
+    course(&rt, alloc, AT_ONCE, b"xx")
+}
+
+#[test]
+fn a_turn_tells_how_many_waited(rt: HostRuntime) -> Result<(), Fail> {
+    course(&rt, rt.alloc(), TURNS, &[b'x'; 75])
+}
+
+#[test]
+fn a_change_too_many_is_preceded_by_a_settle(rt: HostRuntime) -> Result<(), Fail> {
+    let alloc = rt.alloc();
+    goes_alone(&rt, alloc, CHANGES)?;
+    goes_alone(&rt, alloc, BYTES)
+}
+
+#[test]
+fn an_unbuffered_write_is_stored_at_once(rt: HostRuntime) -> Result<(), Fail> {
+    let alloc = rt.alloc();
+    course(&rt, alloc, &UNBUFFERED[..2], b"")?;
+    course(&rt, alloc, &UNBUFFERED[..3], b"ab")?;
+    course(&rt, alloc, &UNBUFFERED[..6], b"a")?;
+    course(&rt, alloc, UNBUFFERED, b"ad")
+}
+
+// Steps from an empty tape.
+fn goes_alone(rt: &impl Abort, alloc: Global, steps: &[Step]) -> Result<(), Fail> {
+    let mut drive = greeted(rt, alloc, MemDisk::from_bytes(alloc, EMPTY)?)?;
+    goes(rt, alloc, &mut drive, steps);
+    Ok(())
+}

@@ -1,0 +1,78 @@
+//! A stop at each call of the disk.
+use crate::drives::{Tape, sure, switched_on};
+use crate::samples::{
+    EMPTY, GOOD, LOCATE_1, NONE, POWERED_ON, Row, TEST_UNIT_READY, WRITE_1, WRITE_OUT, answered,
+    found,
+};
+use gate_journal::stops::{Run, Stop, stop_at_each_call};
+use std::alloc::Global;
+use std::test::Fail;
+use tape_disk::{FuseDisk, MemDisk};
+
+// Three blocks are written and stored; then one is written in the place of the second.
+struct Rewriting;
+
+static REWRITING: &'static [Row<'static>] = &[
+    (1, TEST_UNIT_READY, NONE, POWERED_ON),
+    (1, WRITE_1, b"a", GOOD),
+    (1, WRITE_1, b"b", GOOD),
+    (1, WRITE_1, b"c", GOOD),
+    (1, WRITE_OUT, NONE, GOOD),
+    (1, LOCATE_1, NONE, GOOD),
+    (1, WRITE_1, b"x", GOOD),
+    (1, WRITE_OUT, NONE, GOOD),
+];
+
+// The disk of a drive as it is; one of no bytes where memory runs out, which is no cartridge's.
+fn reached(alloc: Global, drive: &Tape<FuseDisk<MemDisk>>) -> MemDisk {
+    match drive.medium() {
+        Some(medium) => match medium.disk().inner().copy() {
+            Ok(disk) => disk,
+            Err(_) => MemDisk::new(alloc),
+        },
+        None => MemDisk::new(alloc),
+    }
+}
+
+impl Run for Rewriting {
+    fn run(&self, alloc: Global, disk: FuseDisk<MemDisk>) -> (MemDisk, bool) {
+        let disk = match sure(disk) {
+            Ok(disk) => disk,
+            Err(disk) => return (disk.into_inner(), false),
+        };
+        let Some(mut drive) = switched_on(alloc, disk) else {
+            return (MemDisk::new(alloc), false);
+        };
+        let ended = answered(&mut drive, REWRITING);
+        (reached(alloc, &drive), ended)
+    }
+}
+
+// What the tape may hold after so many calls. A sync and four calls open it, four store the three
+// blocks, and four the block in the middle.
+fn may_be_found(calls: u64) -> (&'static [u8], &'static [u8]) {
+    match calls {
+        0..=5 => (b"", b""),
+        6..=8 => (b"", b"abc"),
+        9 => (b"abc", b"abc"),
+        10..=12 => (b"abc", b"ax"),
+        _ => (b"ax", b"ax"),
+    }
+}
+
+#[test]
+fn a_stop_never_leaves_a_cut_without_its_block(rt: HostRuntime) -> Result<(), Fail> {
+    let alloc = rt.alloc();
+    let disk = MemDisk::from_bytes(alloc, EMPTY)?;
+    let stops = stop_at_each_call(alloc, &disk, &Rewriting)?;
+    // Before each of 13 calls and behind them all, nine crashes.
+    assert_eq!(rt; stops.len(), 126);
+    for Stop { calls, ended, disk } in stops {
+        assert_eq!(rt; ended, calls == 13);
+        let (old, new) = may_be_found(calls);
+        let left = found(alloc, disk)?;
+        let left = left.as_slice();
+        assert!(rt; left == old || left == new, "{left:?} after {calls} calls");
+    }
+    Ok(())
+}

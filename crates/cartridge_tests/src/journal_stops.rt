@@ -1,0 +1,220 @@
+//! A stop and a fault at each call, and a side in another thread.
+use crate::journal_samples::{
+    FAULT, FIRST, SECOND, body_of, cartridge, frames_of, made, shut, written,
+};
+use crate::samples::SIDE;
+use gate_journal::stops::{Run, Stop, stop_at_each_call};
+use gate_journal::{Journal, JournalError};
+use std::alloc::Global;
+use std::test::Fail;
+use std::thread;
+use std::thread::Threads;
+use tape_disk::{Disk, FuseDisk, MemDisk, OnceDisk};
+
+// What is done on a disk: the side is opened and the first body added, it is opened, or it is made.
+#[derive(Clone, Copy, Debug, PartialEq, Eq)]
+enum Work {
+    Append,
+    Open,
+    Make,
+}
+
+impl Run for Work {
+    fn run(&self, alloc: Global, disk: FuseDisk<MemDisk>) -> (MemDisk, bool) {
+        let Ok(header) = cartridge(alloc) else {
+            return (disk.into_inner(), false);
+        };
+        let side = match self {
+            Work::Make => made(alloc, disk, header),
+            _ => Journal::open(alloc, disk),
+        };
+        match side {
+            Ok(mut journal) => {
+                let ended = *self != Work::Append || journal.append(FIRST).is_ok();
+                (journal.close().into_inner(), ended)
+            }
+            Err(refused) => (refused.disk.into_inner(), false),
+        }
+    }
+}
+
+// Whether a stop of this work may leave these frames on a disk that had so many bytes.
+fn may_be_left(
+    work: Work,
+    had: usize,
+    calls: u64,
+    ended: bool,
+    found: Result<usize, JournalError>,
+) -> bool {
+    match work {
+        Work::Append if ended => found == Ok(3),
+        Work::Append => found == Ok(2) || found == Ok(3),
+        Work::Open => found == Ok(2),
+        Work::Make if ended => found == Ok(0),
+        Work::Make if calls == 0 && had > 0 => found == Ok(2),
+        Work::Make => found == Ok(0) || found == Err(JournalError::NotOurs),
+    }
+}
+
+// Six calls to open, four to append, five to make: a stop before each and one behind them all,
+// and nine crashes at each.
+static STOPS: &'static [(Work, &'static [u8], usize)] = &[
+    (Work::Append, SIDE, 99),
+    (Work::Open, SIDE, 63),
+    (Work::Make, &[], 54),
+    (Work::Make, SIDE, 54),
+];
+
+#[test]
+fn a_stop_at_each_call(rt: HostRuntime) -> Result<(), Fail> {
+    let alloc = rt.alloc();
+    for &(work, before, count) in STOPS {
+        let disk = MemDisk::from_bytes(alloc, before)?;
+        let stops = stop_at_each_call(alloc, &disk, &work)?;
+        assert_eq!(rt; stops.len(), count);
+        for Stop { calls, ended, disk } in stops {
+            assert!(rt; work != Work::Open || disk.bytes() == before);
+            let found = frames_of(alloc, disk);
+            assert!(rt;
+                may_be_left(work, before.len(), calls, ended, found),
+                "{work:?} left {found:?} after {calls} calls"
+            );
+        }
+    }
+    Ok(())
+}
+
+// Writes two bytes and makes them sure.
+struct TwoBytes;
+
+impl Run for TwoBytes {
+    fn run(&self, _alloc: Global, disk: FuseDisk<MemDisk>) -> (MemDisk, bool) {
+        let mut disk = disk;
+        let ended = disk.write_at(0, b"ab").is_ok() && disk.sync().is_ok();
+        (disk.into_inner(), ended)
+    }
+}
+
+// After the write alone none, one or both of the bytes have landed.
+static LANDED: &'static [[u8; 2]; 9] = &[
+    *b"\0\0",
+    *b"\xa5\xa5",
+    *b"\xff\xff",
+    *b"a\0",
+    *b"a\xa5",
+    *b"a\xff",
+    *b"ab",
+    *b"ab",
+    *b"ab",
+];
+
+#[test]
+fn what_the_stops_leave(rt: HostRuntime) -> Result<(), Fail> {
+    let alloc = rt.alloc();
+    let disk = MemDisk::from_bytes(alloc, b"..")?;
+    let stops = stop_at_each_call(alloc, &disk, &TwoBytes)?;
+    assert_eq!(rt; stops.len(), 27);
+    for (i, Stop { calls, ended, disk }) in stops.into_iter().enumerate() {
+        let left = match i / 9 {
+            0 => *b"..",
+            1 => LANDED[i % 9],
+            _ => *b"ab",
+        };
+        assert_eq!(rt; (calls, ended), (i as u64 / 9, i >= 18));
+        assert_eq!(rt; disk.bytes(), left.as_slice(), "stop {i}");
+    }
+    Ok(())
+}
+
+// So many calls, of which opening took a sync, two reads of the header and one of the gate; the bytes
+// that a crash keeps, what it fills the others with, and the frames that are found.
+static CRASHES: &'static [(u64, u64, u8, usize)] = &[
+    (5, 0, 0xa5, 0),
+    (7, 1, 0x00, 1),
+    (7, 0, 0x00, 0),
+    (7, 0, 0xa5, 1),
+];
+
+#[test]
+fn a_stop_in_an_append(rt: HostRuntime) -> Result<(), Fail> {
+    let alloc = rt.alloc();
+    for &(calls, keep, fill, frames) in CRASHES {
+        let before = MemDisk::from_bytes(alloc, &shut(alloc, 35)?)?;
+        let (reached, ended) = Work::Append.run(alloc, FuseDisk::new(before, calls));
+        assert!(rt; !ended);
+        assert_eq!(rt;
+            frames_of(alloc, reached.crash(keep, fill)?),
+            Ok(frames),
+            "{calls} calls, {keep} bytes, then {fill}"
+        );
+    }
+    Ok(())
+}
+
+// What an append answers, a read of the first body, and a further append.
+type Answers = [Result<(), JournalError>; 3];
+
+// Opens a side, adds a frame, reads a body and adds a frame, and says how many there are then.
+fn used(alloc: Global, disk: OnceDisk<MemDisk>) -> Result<(Answers, usize), JournalError> {
+    let mut journal = match Journal::open(alloc, disk) {
+        Ok(journal) => journal,
+        Err(refused) => return Err(refused.error),
+    };
+    let added = journal.append(FIRST);
+    let read = match body_of(alloc, &mut journal, 0) {
+        Ok(_) => Ok(()),
+        Err(error) => Err(error),
+    };
+    let further = journal.append(SECOND);
+    Ok(([added, read, further], journal.frames()))
+}
+
+#[test]
+fn a_fault_at_each_call(rt: HostRuntime) -> Result<(), Fail> {
+    let alloc = rt.alloc();
+    let failed = Err(JournalError::Failed);
+    // Six calls open the side, four add a frame, one reads, and four add a frame. One of them
+    // fails, and those behind it would pass.
+    for calls in 0..16 {
+        let found = used(
+            alloc,
+            OnceDisk::new(MemDisk::from_bytes(alloc, SIDE)?, calls),
+        );
+        let expected = match calls {
+            0..=5 => Err(FAULT),
+            6..=9 => Ok(([Err(FAULT), failed, failed], 2)),
+            10 => Ok(([Ok(()), Err(FAULT), failed], 3)),
+            11..=14 => Ok(([Ok(()), Ok(()), Err(FAULT)], 3)),
+            _ => Ok(([Ok(()), Ok(()), Ok(())], 4)),
+        };
+        assert_eq!(rt; found, expected, "a fault after {calls} calls");
+    }
+    Ok(())
+}
+
+// Adds a frame in another thread, and gives the side back.
+fn added_elsewhere<D: Disk + Drop + Send, R: Threads>(rt: &R, side: Journal<D>) -> Journal<D> {
+    let (side, ()) = thread::join(
+        rt,
+        move || {
+            let mut side = side;
+            let _ = side.append(FIRST);
+            side
+        },
+        || (),
+    );
+    side
+}
+
+#[test]
+fn a_side_in_another_thread(rt: HostRuntime) -> Result<(), Fail> {
+    let alloc = rt.alloc();
+    let side = added_elsewhere(&rt, written(alloc, 0)?);
+    assert_eq!(rt; side.frames(), 1);
+    let Ok(side) = Journal::open(alloc, FuseDisk::new(side.close(), 9)) else {
+        return Err(Fail::from("not opened"));
+    };
+    let side = added_elsewhere(&rt, side);
+    assert_eq!(rt; (side.frames(), side.has_failed()), (2, false));
+    Ok(())
+}

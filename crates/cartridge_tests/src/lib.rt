@@ -1,0 +1,19 @@
+//! The tests of gate_journal and of cartridge.
+#![tactic(auto)]
+
+#[cfg(test)]
+mod journal_layouts;
+#[cfg(test)]
+mod journal_samples;
+#[cfg(test)]
+mod journal_stops;
+#[cfg(test)]
+mod liar;
+#[cfg(test)]
+mod liar_tests;
+#[cfg(test)]
+mod samples;
+#[cfg(test)]
+mod side_tests;
+#[cfg(test)]
+mod stop_tests;

@@ -1,0 +1,93 @@
+//! A side of two frames, and what tests do with it.
+use cartridge::{Cartridge, CartridgeError, Shelved};
+use known_cartridge::Known;
+use std::alloc::Global;
+use std::test::Fail;
+use tape_disk::{Disk, MemDisk};
+use volume_core::{Change, Kind};
+use vtl_base::{Bytes, DevFault, NoMemory, ObjNo, PartNo};
+
+/// A cartridge `T00001L6` of one partition of 4,096 bytes, with two frames, whose gates stand at 35,
+/// 55 and 70: the block `hello`, and one mark behind it.
+pub const SIDE: &'static [u8; 71] = b"\xa5VTLCART1\0\x01T00001L6        \0\0\0\0\0\0\x10\0\
+    \xa5\0\0\0\x0f\x01\0\0\0\0\0\0\0\0\x05hello\
+    \xa5\0\0\0\x0a\x02\0\0\0\0\x01\0\0\0\x01\
+    \0";
+
+/// A store of drive 1 with no frames.
+pub const STORE: &'static [u8; 28] = b"\xa5VTLRESV1\0\0DRIVE1          \0";
+
+/// The first fault of a disk.
+pub const FAULT: CartridgeError = CartridgeError::Device(DevFault { failures: 1 });
+
+/// A block behind the first objects of a partition.
+pub fn block(alloc: Global, part: PartNo, at: ObjNo, bytes: &[u8]) -> Result<Change, NoMemory> {
+    let block = Bytes::from_slice(alloc, bytes)?;
+    Ok(Change::Put { part, at, block })
+}
+
+/// Some marks behind the first objects of a partition.
+pub fn marks(part: PartNo, at: ObjNo, count: u32) -> Change {
+    Change::Marks { part, at, count }
+}
+
+/// The cartridge that a disk holds, or why it is none.
+pub fn opened<D: Disk + Drop>(alloc: Global, disk: D) -> Result<Cartridge<D>, CartridgeError> {
+    match Cartridge::open(alloc, Shelved::of(disk)) {
+        Ok(cartridge) => Ok(cartridge),
+        Err(refused) => Err(refused.error),
+    }
+}
+
+/// The side, written by a cartridge on a new disk.
+pub fn written(alloc: Global) -> Result<Known<MemDisk>, Fail> {
+    let Ok(mut known) = Known::made(alloc, MemDisk::new(alloc), &[4_096]) else {
+        return Err(Fail::from("not made"));
+    };
+    let hello = block(alloc, 0, 0, b"hello")?;
+    if known.store(alloc, &[hello]).is_err() || known.store(alloc, &[marks(0, 1, 1)]).is_err() {
+        return Err(Fail::from("not stored"));
+    }
+    Ok(known)
+}
+
+/// A block in the place of the mark of the side, and two marks behind it.
+pub fn two_changes(alloc: Global) -> Result<[Change; 2], NoMemory> {
+    Ok([block(alloc, 0, 1, b"abc")?, marks(0, 2, 2)])
+}
+
+/// Frames, the objects of the first partition and what they take.
+pub fn told<D: Disk>(cartridge: &Cartridge<D>) -> (usize, ObjNo, u64) {
+    let count = cartridge.count(0);
+    (cartridge.frames(), count, cartridge.used(0, count))
+}
+
+/// What the cartridge tells that a disk holds, or why it is none.
+pub fn found<D: Disk + Drop>(
+    alloc: Global,
+    disk: D,
+) -> Result<(usize, ObjNo, u64), CartridgeError> {
+    let cartridge = opened(alloc, disk)?;
+    Ok(told(&cartridge))
+}
+
+/// The bytes of a block; none where there is no block.
+pub fn fetched<D: Disk>(
+    alloc: Global,
+    cartridge: &mut Cartridge<D>,
+    part: PartNo,
+    at: ObjNo,
+) -> Result<Vec<u8>, CartridgeError> {
+    let mut bytes = Vec::new(alloc);
+    if cartridge.kind_at(part, at) == Some(Kind::Block) {
+        cartridge.fetch(part, at, &mut bytes)?;
+    }
+    Ok(bytes)
+}
+
+/// Erases the first partition.
+pub fn erased<D: Disk>(cartridge: &mut Cartridge<D>) -> Result<(), CartridgeError> {
+    // Every cartridge has it: asked for the proof's sake.
+    let _ = cartridge.parts();
+    cartridge.store(&[Change::Erase { part: 0, at: 0 }])
+}

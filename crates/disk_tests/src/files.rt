@@ -1,0 +1,85 @@
+//! Disks over real files: what is written is read back, after another opening too.
+use crate::memory::written_elsewhere;
+use crate::steps::{Step, act, forget_time, get, holds, is_written, new_folder, taken_away};
+use file_disk::{create, open, open_to_read};
+use std::fs;
+use std::process::Abort;
+use std::test::Fail;
+use std::thread::Threads;
+use tape_disk::Disk;
+
+// An opening, one call, and then all of the file by the disk.
+fn seen_after(rt: &HostRuntime, path: &str, step: Step) -> Result<[u8; 8], Fail> {
+    let mut disk = open(rt, path)?;
+    act(&mut disk, step)?;
+    let mut buffer = [b'.'; 8];
+    get(&mut disk, 0, &mut buffer)?;
+    Ok(buffer)
+}
+
+// A call behind an opening, and what the file holds then.
+static READ_BACK: &'static [(Step, &'static [u8; 8])] = &[
+    (Step::Sync, b"........"),
+    (Step::Put(0, b"abcdef"), b"abcdef.."),
+    (Step::Put(4, b"XYZ"), b"abcdXYZ."),
+    (Step::Cut(5), b"abcdX..."),
+    (Step::Sync, b"abcdX..."),
+    (Step::Put(5, b""), b"abcdX..."),
+    (Step::Put(1, b"2"), b"a2cdX..."),
+    (Step::Cut(0), b"........"),
+    (Step::Put(0, b"z"), b"z......."),
+];
+
+fn read_back(abort: &impl Abort, rt: &HostRuntime, path: &str) -> Result<(), Fail> {
+    drop(create(rt, path)?);
+    for &(step, seen) in READ_BACK {
+        assert_eq!(abort; seen_after(rt, path, step)?, *seen);
+    }
+    holds(abort, rt, path, b"z")
+}
+
+#[test]
+fn a_file_is_read_back(rt: HostRuntime) -> Result<(), Fail> {
+    let folder = new_folder(&rt)?;
+    read_back(&rt, &rt, &folder.path)?;
+    taken_away(&rt, &folder)
+}
+
+fn elsewhere<A: Abort + Threads>(abort: &A, rt: &HostRuntime, path: &str) -> Result<(), Fail> {
+    let disk = create(rt, path)?;
+    assert_eq!(abort; written_elsewhere(abort, disk).len(), 3);
+    holds(abort, rt, path, b"abc")
+}
+
+#[test]
+fn a_file_in_another_thread(rt: HostRuntime) -> Result<(), Fail> {
+    let folder = new_folder(&rt)?;
+    elsewhere(&rt, &rt, &folder.path)?;
+    taken_away(&rt, &folder)
+}
+
+// The bytes of three pages, of which the last one is not whole.
+fn three_pages() -> [u8; 10_000] {
+    let mut bytes = [b'x'; 10_000];
+    bytes[4095] = b'y';
+    bytes[9_999] = b'z';
+    bytes
+}
+
+fn written_again(abort: &impl Abort, rt: &HostRuntime, path: &str) -> Result<(), Fail> {
+    let bytes = three_pages();
+    fs::write(rt, path, bytes.as_slice())?;
+    forget_time(rt, path)?;
+    drop(open_to_read(rt, path)?);
+    assert!(abort; !is_written(rt, path)?);
+    drop(open(rt, path)?);
+    assert!(abort; is_written(rt, path)?);
+    holds(abort, rt, path, &bytes)
+}
+
+#[test]
+fn a_file_is_written_again(rt: HostRuntime) -> Result<(), Fail> {
+    let folder = new_folder(&rt)?;
+    written_again(&rt, &rt, &folder.path)?;
+    taken_away(&rt, &folder)
+}

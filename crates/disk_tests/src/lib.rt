@@ -1,0 +1,15 @@
+//! The tests of tape_disk and of file_disk.
+#![tactic(auto)]
+
+#[cfg(test)]
+mod doubles;
+#[cfg(test)]
+mod files;
+#[cfg(test)]
+mod memory;
+#[cfg(test)]
+mod refusals;
+#[cfg(test)]
+mod staged;
+#[cfg(test)]
+mod steps;

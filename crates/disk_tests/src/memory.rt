@@ -1,0 +1,190 @@
+//! What each call leaves, what a crash leaves, and a disk in another thread.
+ghost use Rattle.std.specs.Prelude.{◌≡◌, ◌+◌, OnErr, OnOk};
+ghost use Rattle.tape_disk.specs.CallLog.{syncs_of};
+ghost use Rattle.tape_disk.specs.FuseDisk.{fuse_calls_left, fuse_disk_below};
+ghost use Rattle.tape_disk.specs.MemDisk.{mem_log};
+
+use crate::steps::{Step, act, fails};
+use std::alloc::Global;
+use std::test::Fail;
+use std::thread;
+use std::thread::Threads;
+use tape_disk::{Disk, FuseDisk, MemDisk, OnceDisk};
+use vtl_base::DevFault;
+
+// Each call of a disk in memory, the bytes behind it, and how many syncs there were.
+static IN_MEMORY: &'static [(Step, &'static [u8], u64)] = &[
+    (Step::Put(0, b"abcdef"), b"abcdef", 0),
+    (Step::Sync, b"abcdef", 1),
+    (Step::Put(4, b"XYZ"), b"abcdXYZ", 1),
+    (Step::Read(3), b"abcdXYZ", 1),
+    (Step::Cut(2), b"ab", 1),
+    (Step::Sync, b"ab", 2),
+];
+
+#[test]
+fn a_disk_in_memory(rt: HostRuntime) -> Result<(), Fail> {
+    let mut disk = MemDisk::new(rt.alloc());
+    for &(ask, bytes, syncs) in IN_MEMORY {
+        assert_eq!(rt; act(&mut disk, ask), Ok(()));
+        let copy = disk.copy()?;
+        assert_eq!(rt;
+            (copy.bytes(), copy.len(), copy.syncs()),
+            (bytes, bytes.len() as u64, syncs)
+        );
+    }
+    Ok(())
+}
+
+#[test]
+fn a_read(rt: HostRuntime) -> Result<(), Fail> {
+    let mut disk = MemDisk::from_bytes(rt.alloc(), b"abcdXYZ")?;
+    let mut buffer = [0; 3];
+    assert_eq!(rt; disk.read_at(3, &mut buffer), Ok(()));
+    assert_eq!(rt; buffer, *b"dXY");
+    Ok(())
+}
+
+// "abcdef" is safe; "XY" at 2 and "Z12" at 6 are not.
+fn half_written(alloc: Global) -> Result<MemDisk, Fail> {
+    let mut disk = MemDisk::from_bytes(alloc, b"abcdef")?;
+    act(&mut disk, Step::Put(2, b"XY"))?;
+    act(&mut disk, Step::Put(6, b"Z12"))?;
+    Ok(disk)
+}
+
+// A call, how many bytes land, with what the others are filled, and what a crash leaves.
+static CRASHES: &'static [(Step, u64, u8, &'static [u8])] = &[
+    (Step::Read(0), 0, b'.', b"ab..ef..."),
+    (Step::Read(0), 1, b'.', b"abX.ef..."),
+    (Step::Read(0), 2, b'-', b"abXYef---"),
+    (Step::Read(0), 4, b'.', b"abXYefZ1."),
+    (Step::Read(0), 5, b'.', b"abXYefZ12"),
+    (Step::Read(0), 6, b'.', b"abXYefZ12"),
+    (Step::Cut(7), 1, b'.', b"abX.ef."),
+    (Step::Sync, 0, b'.', b"abXYefZ"),
+];
+
+#[test]
+fn what_a_crash_leaves(rt: HostRuntime) -> Result<(), Fail> {
+    let mut disk = half_written(rt.alloc())?;
+    for &(ask, keep, fill, left) in CRASHES {
+        act(&mut disk, ask)?;
+        let crashed = disk.copy()?.crash(keep, fill)?;
+        assert_eq!(rt;
+            (crashed.bytes(), crashed.syncs()),
+            (left, 0),
+            "{keep} bytes landed"
+        );
+    }
+    Ok(())
+}
+
+// Two calls pass.
+static FUSE: &'static [(Step, u64)] = &[
+    (Step::Put(0, b"x"), 0),
+    (Step::Sync, 0),
+    (Step::Sync, 1),
+    (Step::Cut(0), 2),
+    (Step::Read(0), 3),
+    (Step::Put(0, b"y"), 4),
+];
+
+#[test]
+fn a_fuse(rt: HostRuntime) -> Result<(), Fail> {
+    let mut disk = FuseDisk::new(MemDisk::from_bytes(rt.alloc(), b"abc")?, 2);
+    fails(&rt, &mut disk, FUSE);
+    assert_eq!(rt; (disk.len(), disk.inner().syncs()), (3, 1));
+    assert_eq!(rt; disk.into_inner().bytes(), b"xbc".as_slice());
+    Ok(())
+}
+
+// The second call fails.
+static ONCE: &'static [(Step, u64)] = &[
+    (Step::Put(0, b"x"), 0),
+    (Step::Sync, 1),
+    (Step::Sync, 0),
+    (Step::Cut(0), 0),
+    (Step::Read(0), 0),
+];
+
+#[test]
+fn one_call_fails(rt: HostRuntime) -> Result<(), Fail> {
+    let mut disk = OnceDisk::new(MemDisk::from_bytes(rt.alloc(), b"abc")?, 1);
+    fails(&rt, &mut disk, ONCE);
+    assert_eq!(rt; (disk.len(), disk.inner().syncs()), (0, 1));
+    assert_eq!(rt; disk.into_inner().bytes(), b"".as_slice());
+    Ok(())
+}
+
+// One call of the disk below passes.
+static BELOW: &'static [(Step, u64)] = &[
+    (Step::Put(0, b"x"), 0),
+    (Step::Put(0, b"y"), 1),
+    (Step::Cut(0), 2),
+    (Step::Sync, 3),
+    (Step::Read(0), 4),
+];
+
+#[test]
+fn a_fault_of_the_disk_below(rt: HostRuntime) -> Result<(), Fail> {
+    let below = FuseDisk::new(MemDisk::from_bytes(rt.alloc(), b"abc")?, 1);
+    let mut disk = OnceDisk::new(FuseDisk::new(below, 9), 9);
+    fails(&rt, &mut disk, BELOW);
+    assert_eq!(rt; disk.inner().inner().inner().bytes(), b"xbc".as_slice());
+    Ok(())
+}
+
+// What a caller knows of a disk in memory, and of one below a fuse.
+fn synced(disk: &mut MemDisk) -> Result<(), DevFault>
+    ensures ok { OnOk result
+        (syncs_of (mem_log disk.new).calls ≡ syncs_of (mem_log disk.old).calls + 1) }
+    ensures err { OnErr result
+        (syncs_of (mem_log disk.new).calls ≡ syncs_of (mem_log disk.old).calls) }
+{
+    disk.read_at(0, &mut [])?;
+    disk.sync()
+}
+
+fn blown(disk: &mut FuseDisk<MemDisk>) -> Result<(), DevFault>
+    requires { fuse_calls_left disk.old ≡ 0 }
+    ensures { syncs_of (mem_log (fuse_disk_below disk.new)).calls
+        ≡ syncs_of (mem_log (fuse_disk_below disk.old)).calls }
+{
+    disk.sync()
+}
+
+#[test]
+fn what_the_log_has(rt: HostRuntime) -> Result<(), Fail> {
+    let mut disk = MemDisk::new(rt.alloc());
+    assert_eq!(rt; synced(&mut disk), Ok(()));
+    let mut fuse = FuseDisk::new(disk, 0);
+    assert_eq!(rt; blown(&mut fuse), Err(DevFault { failures: 1 }));
+    assert_eq!(rt; fuse.inner().syncs(), 1);
+    Ok(())
+}
+
+/// Writes in another thread, and gives the disk back.
+pub fn written_elsewhere<D: Disk + Drop + Send, R: Threads>(rt: &R, disk: D) -> D {
+    let (disk, ()) = thread::join(
+        rt,
+        move || {
+            let mut disk = disk;
+            let _ = disk.write_at(0, b"abc");
+            disk
+        },
+        || (),
+    );
+    disk
+}
+
+#[test]
+fn a_disk_in_another_thread(rt: HostRuntime) -> Result<(), Fail> {
+    let plain = written_elsewhere(&rt, MemDisk::new(rt.alloc()));
+    assert_eq!(rt; plain.bytes(), b"abc".as_slice());
+    let fuse = written_elsewhere(&rt, FuseDisk::new(plain.copy()?, 0));
+    assert_eq!(rt; fuse.inner().bytes(), b"abc".as_slice());
+    let once = written_elsewhere(&rt, OnceDisk::new(plain, 1));
+    assert_eq!(rt; once.inner().bytes(), b"abc".as_slice());
+    Ok(())
+}

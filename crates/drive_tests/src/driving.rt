@@ -1,0 +1,279 @@
+//! Each public call once, over a medium whose side has an end and whose device fails.
+use crate::motions::{
+    AFTER_A_FAULT, AFTER_A_LATE_FAULT, AFTER_A_MOVE, AFTER_AN_UNLOADING, AFTER_ANOTHER, ASKED,
+    ASKED_EMPTY, ASKED_LOADED, BEFORE_A_FAULT, ERASURES, MOVES, NO_ERASURE, STORED_FIRST,
+};
+use crate::samples::{assert_reply, assert_row, assert_rows, load, switched_on, with_side};
+use crate::tables;
+use crate::tables::{
+    ARRIVALS, Arrival, BEFORE_A_TURN, FAULTS, FILLING, FULL_BY_4096, FULL_SIDE, HAS_FAILED, LOADED,
+    MARKS_FAIL, NO_MARKS_FAIL, NO_MEMORY, NONE, NOTHING_LOADED, POWERED_ON, READ_5, READ_FAILS,
+    READ_FAILS_TO_STORE, READS, REWIND_FAILS, Row, SOUND, TEST_UNIT_READY, WRITE_4096, WRITE_ERROR,
+    WRITES, Wanted,
+};
+use drive_core::laws::{
+    answers_are_determined, events_run, honest_steps, runs_append, served_hosts_run,
+};
+use drive_core::{Drive, Fault};
+use pr_core::NoKeeper;
+use std::alloc::Global;
+use std::process::Abort;
+use std::test::Fail;
+use volume_core::{FaultPlan, Medium, PlainMedium, StagedMedium, Turn};
+use vtl_base::{Bytes, NoMemory};
+
+// Which storing fails, which reading, and the room of the side.
+type Side = (Option<u32>, Option<u32>, u64);
+
+// What is answered over such a side: commands, a turn, and commands.
+fn assert_course(
+    rt: &impl Abort,
+    alloc: Global,
+    side: Side,
+    rows: &[Row],
+    turn: Turn,
+    then: &[Row],
+) -> Result<(), Fail> {
+    let (store, fetch, room) = side;
+    let plan = FaultPlan {
+        store,
+        fetch,
+        ..SOUND
+    };
+    let mut drive = with_side(alloc, room, plan)?;
+    assert_rows(rt, &mut drive, rows);
+    assert_eq!(rt; drive.turn(), turn);
+    assert_rows(rt, &mut drive, then);
+    Ok(())
+}
+
+// A block that does not fit, as long as blocks may be here.
+fn assert_overflow(rt: &impl Abort, alloc: Global, too_much: &[u8]) -> Result<(), Fail> {
+    let mut drive = with_side(alloc, 9_000, SOUND)?;
+    assert_row(rt, &mut drive, (1, TEST_UNIT_READY, NONE, POWERED_ON), 0);
+    assert_row(rt, &mut drive, (1, WRITE_4096, too_much, FULL_BY_4096), 1);
+    assert_eq!(rt; drive.turn(), Turn::Idle);
+    Ok(())
+}
+
+#[test]
+fn a_drive_answers(rt: HostRuntime) -> Result<(), Fail> {
+    let alloc = rt.alloc();
+    let too_much = vec![in alloc; 7u8; 4_096]?;
+    assert_overflow(&rt, alloc, too_much.as_slice())?;
+    let sound = (None, None, 1_000);
+    assert_course(&rt, alloc, sound, WRITES, Turn::Idle, &[])?;
+    assert_course(&rt, alloc, sound, READS, Turn::Idle, &[])?;
+    let small = (None, None, 50);
+    assert_course(&rt, alloc, small, FILLING, Turn::Stored(3), FULL_SIDE)?;
+    let first = (Some(0), None, 1_000);
+    assert_course(&rt, alloc, first, REWIND_FAILS, Turn::Idle, HAS_FAILED)?;
+    assert_course(
+        &rt,
+        alloc,
+        first,
+        READ_FAILS_TO_STORE,
+        Turn::Idle,
+        HAS_FAILED,
+    )?;
+    assert_course(&rt, alloc, first, NO_MARKS_FAIL, Turn::Idle, HAS_FAILED)?;
+    let second = (Some(1), None, 1_000);
+    assert_course(&rt, alloc, second, MARKS_FAIL, Turn::Idle, HAS_FAILED)?;
+    let reading = (None, Some(1), 1_000);
+    assert_course(&rt, alloc, reading, READ_FAILS, Turn::Idle, HAS_FAILED)?;
+    let late = tables::AFTER_A_LATE_FAULT;
+    assert_course(&rt, alloc, second, BEFORE_A_TURN, Turn::Faulted, late)
+}
+
+// A medium with a block on it, which was asked to store that and then parked, where this says so.
+#[tactic(auto, using(crate::proofs::TestLemmas::accepted_is_awake, crate::proofs::TestLemmas::settles_awake))]
+fn written(
+    alloc: Global,
+    plan: FaultPlan,
+    settles: bool,
+    parks: bool,
+) -> Result<StagedMedium, Fail> {
+    let mut medium = StagedMedium::new(alloc, &[4_096], 1_000, plan)?;
+    medium.put(0, 0, Bytes::from_slice(alloc, b"hello")?)?;
+    if settles {
+        let _ = medium.settle();
+    }
+    if parks {
+        medium.park()?;
+    }
+    Ok(medium)
+}
+
+fn assert_loads(
+    rt: &impl Abort,
+    drive: &mut Drive<StagedMedium, NoKeeper>,
+    medium: StagedMedium,
+    wanted: Wanted,
+) {
+    assert!(rt; drive.medium().is_none());
+    match load(rt, drive, medium) {
+        None => {
+            assert!(rt; wanted.0.is_none() && !drive.is_empty());
+            assert_eq!(rt; drive.medium().is_some(), true);
+            assert_rows(rt, drive, LOADED);
+        }
+        Some(reply) => {
+            assert_reply(rt, &reply, wanted, 0);
+            assert!(rt; drive.is_empty());
+        }
+    }
+}
+
+// A drive with nothing in it, whose host 1 knows that.
+fn with_nothing(rt: &impl Abort, alloc: Global) -> Result<Drive<StagedMedium, NoKeeper>, Fail> {
+    let mut drive = switched_on(alloc, None)?;
+    assert_rows(rt, &mut drive, NOTHING_LOADED);
+    assert_eq!(rt; drive.turn(), Turn::Idle);
+    Ok(drive)
+}
+
+// What a drive that is loaded with this answers.
+fn assert_arrival(rt: &impl Abort, alloc: Global, arrival: &Arrival) -> Result<(), Fail> {
+    let (plan, settles, parks, loading, loaded, _) = *arrival;
+    let medium = written(alloc, plan, settles, parks)?;
+    let mut drive = with_nothing(rt, alloc)?;
+    assert_loads(rt, &mut drive, medium, loading);
+    assert_row(rt, &mut drive, (1, READ_5, NONE, loaded), 0);
+    Ok(())
+}
+
+// What a drive that is switched on with it answers.
+fn assert_power_on(rt: &impl Abort, alloc: Global, arrival: &Arrival) -> Result<(), Fail> {
+    let (plan, settles, parks, _, _, powered_on) = *arrival;
+    let medium = written(alloc, plan, settles, parks)?;
+    let mut drive = switched_on(alloc, Some(medium))?;
+    assert_row(rt, &mut drive, (1, READ_5, NONE, POWERED_ON), 0);
+    assert_row(rt, &mut drive, (1, READ_5, NONE, powered_on), 1);
+    Ok(())
+}
+
+#[test]
+fn a_medium_comes_into_a_drive(rt: HostRuntime) -> Result<(), Fail> {
+    for arrival in ARRIVALS {
+        assert_arrival(&rt, rt.alloc(), arrival)?;
+        assert_power_on(&rt, rt.alloc(), arrival)?;
+    }
+    Ok(())
+}
+
+// A drive with two partitions, whose side has such room, and whose device fails as it stores for
+// the time of this number.
+fn powered(
+    alloc: Global,
+    room: u64,
+    store: Option<u32>,
+) -> Result<Drive<StagedMedium, NoKeeper>, Fail> {
+    let plan = FaultPlan { store, ..SOUND };
+    let medium = StagedMedium::new(alloc, &[4_096, 4_111], room, plan)?;
+    Ok(switched_on(alloc, Some(medium))?)
+}
+
+// A drive with nothing in it is asked; then a medium comes into it, and two conditions are due for a host.
+fn ask_and_load(rt: &impl Abort, alloc: Global) -> Result<(), Fail> {
+    let medium = written(alloc, SOUND, true, true)?;
+    let mut drive = switched_on(alloc, None)?;
+    assert_rows(rt, &mut drive, ASKED_EMPTY);
+    assert!(rt; load(rt, &mut drive, medium).is_none());
+    assert_rows(rt, &mut drive, ASKED_LOADED);
+    Ok(())
+}
+
+// What a drive of such a side answers to these.
+fn assert_moves(rt: &impl Abort, alloc: Global, room: u64, rows: &[Row]) -> Result<(), Fail> {
+    let mut drive = powered(alloc, room, None)?;
+    assert_rows(rt, &mut drive, rows);
+    Ok(())
+}
+
+#[test]
+fn a_drive_moves_and_tells(rt: HostRuntime) -> Result<(), Fail> {
+    let alloc = rt.alloc();
+    assert_moves(&rt, alloc, 1_000, MOVES)?;
+    assert_moves(&rt, alloc, 1_000, ERASURES)?;
+    assert_moves(&rt, alloc, 20, NO_ERASURE)?;
+    assert_moves(&rt, alloc, 1_000, ASKED)?;
+    ask_and_load(&rt, alloc)
+}
+
+// A drive with a block that is pending, and whose device fails as it is stored.
+fn with_a_fault_to_come(
+    rt: &impl Abort,
+    alloc: Global,
+) -> Result<Drive<StagedMedium, NoKeeper>, Fail> {
+    let mut drive = powered(alloc, 1_000, Some(0))?;
+    assert_rows(rt, &mut drive, BEFORE_A_FAULT);
+    Ok(drive)
+}
+
+// The same, where a turn has met the fault.
+fn with_a_late_fault(
+    rt: &impl Abort,
+    alloc: Global,
+) -> Result<Drive<StagedMedium, NoKeeper>, Fail> {
+    let mut drive = with_a_fault_to_come(rt, alloc)?;
+    assert_eq!(rt; drive.turn(), Turn::Faulted);
+    Ok(drive)
+}
+
+// This command ends as what is pending is stored.
+fn assert_stored_first(rt: &impl Abort, alloc: Global, cdb: &[u8]) -> Result<(), Fail> {
+    let mut drive = with_a_fault_to_come(rt, alloc)?;
+    assert_row(rt, &mut drive, (1, cdb, NONE, WRITE_ERROR), 0);
+    assert_rows(rt, &mut drive, AFTER_A_FAULT);
+    Ok(())
+}
+
+#[test]
+fn what_is_pending_is_stored_first(rt: HostRuntime) -> Result<(), Fail> {
+    let alloc = rt.alloc();
+    for cdb in STORED_FIRST {
+        assert_stored_first(&rt, alloc, cdb)?;
+    }
+    assert_late(&rt, alloc, false, AFTER_A_LATE_FAULT)?;
+    assert_late(&rt, alloc, false, AFTER_ANOTHER)
+}
+
+// The cartridge goes out of the drive, and comes back.
+fn move_out_and_in(rt: &impl Abort, drive: &mut Drive<StagedMedium, NoKeeper>) {
+    match drive.unload() {
+        Ok(medium) => assert!(rt; load(rt, drive, medium).is_none()),
+        Err(_) => assert!(rt; false, "nothing came out"),
+    }
+}
+
+// What is told of a late fault, where the cartridge went out and came back before or stayed.
+fn assert_late(rt: &impl Abort, alloc: Global, moves: bool, rows: &[Row]) -> Result<(), Fail> {
+    let mut drive = with_a_late_fault(rt, alloc)?;
+    if moves {
+        move_out_and_in(rt, &mut drive);
+    }
+    assert_rows(rt, &mut drive, rows);
+    Ok(())
+}
+
+// A deferred error is the drive's: it stays while the cartridge moves.
+#[test]
+fn a_deferred_error_outlives_a_cartridge(rt: HostRuntime) -> Result<(), Fail> {
+    let alloc = rt.alloc();
+    assert_late(&rt, alloc, false, AFTER_AN_UNLOADING)?;
+    assert_late(&rt, alloc, true, AFTER_A_MOVE)
+}
+
+#[test]
+fn faults_are_reported(rt: HostRuntime) {
+    let alloc = rt.alloc();
+    assert_reply(&rt, &Fault::from(NoMemory).reply(alloc), NO_MEMORY, 0);
+    for (at, &(fault, wanted)) in FAULTS.iter().enumerate() {
+        assert_reply(&rt, &fault.reply(alloc), wanted, at);
+    }
+    honest_steps::<PlainMedium>();
+    served_hosts_run::<PlainMedium, NoKeeper>();
+    events_run::<PlainMedium, NoKeeper>();
+    answers_are_determined();
+    runs_append();
+}

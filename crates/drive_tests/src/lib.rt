@@ -1,0 +1,19 @@
+//! The tests of drive_core.
+#![tactic(auto)]
+
+#[cfg(test)]
+mod asking;
+#[cfg(test)]
+mod driving;
+#[cfg(test)]
+mod loading;
+#[cfg(test)]
+mod motions;
+#[cfg(test)]
+mod reserving;
+#[cfg(test)]
+mod samples;
+#[cfg(test)]
+mod saving;
+#[cfg(test)]
+mod tables;

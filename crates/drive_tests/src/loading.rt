@@ -1,0 +1,299 @@
+//! MODE SELECT, MODE SENSE and LOAD UNLOAD, and a medium that goes out of the drive.
+use crate::asking::{
+    A_NEW, Answer, BAD_FIELD, BAD_LENGTH, BAD_LIST, BY_A, CONFLICT, FAILED, GOOD, NO_MEDIUM,
+    REGISTER, RESERVE_5, Row, ask_all, ask_empty, asks, assert_answer, greet,
+};
+use crate::samples::with_side;
+use crate::tables::{NONE, READ_5, REWIND, SOUND, TEST_UNIT_READY, WRITE_5};
+use drive_core::Drive;
+use pr_core::NoKeeper;
+use std::alloc::Global;
+use std::process::Abort;
+use std::test::Fail;
+use volume_core::{FaultPlan, StagedMedium};
+use vtl_base::Nexus;
+
+pub const LOAD: &'static [u8] = &[0x1b, 0, 0, 0, 1, 0];
+
+pub const UNLOAD: &'static [u8] = &[0x1b, 0, 0, 0, 0, 0];
+
+const SENSE_MODE: &'static [u8] = &[0x1a, 0, 0, 0, 12, 0];
+
+const SENSE_MODE_BARE: &'static [u8] = &[0x1a, 8, 0x3f, 0, 255, 0];
+
+const SELECT_4: &'static [u8] = &[0x15, 0, 0, 0, 4, 0];
+
+const SELECT_12: &'static [u8] = &[0x15, 0, 0, 0, 12, 0];
+
+// A filemark that need not be stored before its answer.
+const IMMEDIATE: &'static [u8] = &[0x10, 1, 0, 0, 1, 0];
+
+const MODE_0: &'static [u8] = &[0, 0, 0, 0];
+
+const MODE_1: &'static [u8] = &[0, 0, 0x10, 0];
+
+// The lists with a block descriptor, as MODE SENSE gives them.
+const MODE_0_WHOLE: &'static [u8] = b"\x0b\0\0\x08\0\0\0\0\0\0\0\0";
+
+const MODE_1_WHOLE: &'static [u8] = b"\x0b\0\x10\x08\0\0\0\0\0\0\0\0";
+
+const HELLO: Answer<'static> = Answer::Good(b"hello");
+
+const CHANGED: Answer<'static> = Answer::Check(6, 0x28, 0);
+
+const MODE_CHANGED: Answer<'static> = Answer::Check(6, 0x2a, 1);
+
+const WRITE_ERROR: Answer<'static> = Answer::Check(3, 0x0c, 0);
+
+// A drive with a tape, the first storing of which fails so, if at all; the hosts took their power on.
+fn with_tape(
+    rt: &impl Abort,
+    alloc: Global,
+    plan: FaultPlan,
+) -> Result<Drive<StagedMedium, NoKeeper>, Fail> {
+    let mut drive = with_side(alloc, 1_000, plan)?;
+    greet(rt, &mut drive, &[1, 2]);
+    Ok(drive)
+}
+
+// What both hosts are answered by such a drive.
+fn ask_over(rt: &impl Abort, alloc: Global, plan: FaultPlan, rows: &[Row]) -> Result<(), Fail> {
+    let mut drive = with_tape(rt, alloc, plan)?;
+    ask_all(rt, &mut drive, rows);
+    Ok(())
+}
+
+// A cartridge is unloaded and loaded by two hosts.
+static UNLOADINGS: &'static [Row<'static>] = &[
+    (1, WRITE_5, b"hello", GOOD),
+    (1, UNLOAD, NONE, GOOD),
+    (1, TEST_UNIT_READY, NONE, NO_MEDIUM),
+    (2, REWIND, NONE, NO_MEDIUM),
+    (1, UNLOAD, NONE, GOOD),
+    (1, LOAD, b"x", BAD_FIELD),
+    (1, LOAD, NONE, GOOD),
+    // The position is the start; the other host is told, and not the one that loads.
+    (1, READ_5, NONE, HELLO),
+    (2, TEST_UNIT_READY, NONE, CHANGED),
+    (2, TEST_UNIT_READY, NONE, GOOD),
+    (1, WRITE_5, b"world", GOOD),
+    // A loaded one goes to its start, and nobody is told.
+    (1, LOAD, NONE, GOOD),
+    (1, READ_5, NONE, HELLO),
+    (2, READ_5, NONE, Answer::Good(b"world")),
+    (1, UNLOAD, NONE, GOOD),
+    (2, LOAD, NONE, GOOD),
+    (1, READ_5, NONE, CHANGED),
+];
+
+// The same where nothing is in the drive.
+static NOTHING_THERE: &'static [Row<'static>] = &[
+    (1, LOAD, NONE, NO_MEDIUM),
+    (1, UNLOAD, NONE, NO_MEDIUM),
+    (1, UNLOAD, b"x", BAD_FIELD),
+];
+
+#[test]
+fn a_cartridge_is_unloaded_and_loaded(rt: HostRuntime) -> Result<(), Fail> {
+    ask_over(&rt, rt.alloc(), SOUND, UNLOADINGS)?;
+    Ok(ask_empty(&rt, rt.alloc(), NOTHING_THERE)?)
+}
+
+// What a drive answers once an unloading or a loading has met the fault.
+static AFTER_THE_FAULT: &'static [Row<'static>] = &[
+    (1, TEST_UNIT_READY, NONE, FAILED),
+    (1, LOAD, NONE, FAILED),
+    // What is pending is given up.
+    (1, UNLOAD, NONE, GOOD),
+    (1, TEST_UNIT_READY, NONE, NO_MEDIUM),
+    (1, LOAD, NONE, GOOD),
+    (1, TEST_UNIT_READY, NONE, GOOD),
+];
+
+// The first storing fails, by this command: its frame is under way or not, and is found or not.
+fn meets_a_fault(
+    rt: &impl Abort,
+    alloc: Global,
+    first: &[u8],
+    tears: bool,
+    keeps_torn: bool,
+) -> Result<(), Fail> {
+    let plan = FaultPlan {
+        store: Some(0),
+        fetch: None,
+        tears,
+        keeps_torn,
+    };
+    let mut drive = with_tape(rt, alloc, plan)?;
+    asks(rt, &mut drive, (1, WRITE_5, b"hello", GOOD), 0);
+    asks(rt, &mut drive, (1, first, NONE, WRITE_ERROR), 1);
+    ask_all(rt, &mut drive, AFTER_THE_FAULT);
+    // The side is found with the frame that was under way, or without it.
+    let nexus = Nexus::new(1).expect(rt, "a nexus");
+    let reply = drive.execute(nexus, READ_5, NONE);
+    assert_eq!(rt; reply.sense.is_none(), tears && keeps_torn);
+    Ok(())
+}
+
+// Whether the frame is under way as the device fails, and whether it is found.
+static FRAMES: &'static [(bool, bool)] = &[(false, false), (true, false), (true, true)];
+
+#[test]
+fn an_unloading_meets_a_fault(rt: HostRuntime) -> Result<(), Fail> {
+    for &(tears, keeps_torn) in FRAMES {
+        meets_a_fault(&rt, rt.alloc(), UNLOAD, tears, keeps_torn)?;
+        meets_a_fault(&rt, rt.alloc(), LOAD, tears, keeps_torn)?;
+    }
+    Ok(())
+}
+
+// Modes that are set and told, and lists that are refused.
+static MODES: &'static [Row<'static>] = &[
+    (1, SENSE_MODE, NONE, Answer::Good(MODE_1_WHOLE)),
+    (1, SENSE_MODE_BARE, NONE, Answer::Good(b"\x03\0\x10\0")),
+    (1, SELECT_4, MODE_1, GOOD),
+    (2, TEST_UNIT_READY, NONE, GOOD),
+    (1, SELECT_4, MODE_0, GOOD),
+    // The other host is told, once; who sets the mode is not.
+    (1, TEST_UNIT_READY, NONE, GOOD),
+    (2, TEST_UNIT_READY, NONE, MODE_CHANGED),
+    (2, SENSE_MODE, NONE, Answer::Good(MODE_0_WHOLE)),
+    (2, SENSE_MODE_BARE, NONE, Answer::Good(b"\x03\0\0\0")),
+    (1, &[0x15, 0, 0, 0, 0, 0], NONE, GOOD),
+    (1, &[0x15, 0, 0, 0, 5, 0], &[0; 5], BAD_LENGTH),
+    (1, SELECT_4, &[0, 0, 0x20, 0], BAD_LIST),
+    (1, SELECT_4, &[0, 0, 0], BAD_FIELD),
+    (1, IMMEDIATE, NONE, BAD_FIELD),
+    // In this mode a write is stored before its answer.
+    (1, WRITE_5, b"hello", WRITE_ERROR),
+    (1, SENSE_MODE_BARE, NONE, Answer::Good(b"\x03\0\0\0")),
+];
+
+#[test]
+fn the_mode_is_set_and_told(rt: HostRuntime) -> Result<(), Fail> {
+    let plan = FaultPlan {
+        store: Some(0),
+        ..SOUND
+    };
+    ask_over(&rt, rt.alloc(), plan, MODES)
+}
+
+// Lists with a block descriptor, and lists without one that are refused.
+static DESCRIPTORS: &'static [Row<'static>] = &[
+    (1, SELECT_12, b"\0\0\0\x08\0\0\0\0\0\0\0\0", GOOD),
+    (1, SENSE_MODE, NONE, Answer::Good(MODE_0_WHOLE)),
+    (2, TEST_UNIT_READY, NONE, MODE_CHANGED),
+    // What MODE SENSE gives may be sent back.
+    (2, SELECT_12, MODE_0_WHOLE, GOOD),
+    (1, TEST_UNIT_READY, NONE, GOOD),
+    (2, SELECT_12, MODE_1_WHOLE, GOOD),
+    (1, TEST_UNIT_READY, NONE, MODE_CHANGED),
+    // Blocks of one length, no descriptor in 12 bytes, and fewer bytes than the block tells.
+    (1, SELECT_12, b"\0\0\0\x08\0\0\0\0\0\0\x02\0", BAD_LIST),
+    (1, SELECT_12, &[0; 12], BAD_LIST),
+    (1, SELECT_12, MODE_0, BAD_FIELD),
+    (2, TEST_UNIT_READY, NONE, GOOD),
+    (2, SENSE_MODE, NONE, Answer::Good(MODE_1_WHOLE)),
+];
+
+#[test]
+fn a_mode_list_has_a_block_descriptor(rt: HostRuntime) -> Result<(), Fail> {
+    ask_over(&rt, rt.alloc(), SOUND, DESCRIPTORS)
+}
+
+// What a reservation stops, and what it does not.
+static STOPPED: &'static [Row<'static>] = &[
+    (1, REGISTER, A_NEW, GOOD),
+    (1, RESERVE_5, BY_A, GOOD),
+    (2, UNLOAD, NONE, CONFLICT),
+    (2, LOAD, NONE, CONFLICT),
+    (2, SELECT_4, MODE_0, CONFLICT),
+    (2, SENSE_MODE_BARE, NONE, Answer::Good(b"\x03\0\x10\0")),
+    (1, UNLOAD, NONE, GOOD),
+];
+
+#[test]
+fn a_reservation_stops_both(rt: HostRuntime) -> Result<(), Fail> {
+    ask_over(&rt, rt.alloc(), SOUND, STOPPED)
+}
+
+// Nothing comes out of the drive, and the reply says why.
+fn stays(rt: &impl Abort, drive: &mut Drive<StagedMedium, NoKeeper>, wanted: Answer) {
+    match drive.unload() {
+        Ok(_medium) => assert!(rt; false, "a cartridge came out"),
+        Err(reply) => assert_answer(rt, &reply, wanted, 0),
+    }
+}
+
+// A cartridge comes out of the drive, and leaves it empty.
+fn comes_out(rt: &impl Abort, drive: &mut Drive<StagedMedium, NoKeeper>) {
+    assert!(rt; drive.unload().is_ok());
+    assert!(rt; drive.is_empty());
+}
+
+// The device fails, and it stays; then what is pending is given up.
+fn one_with_a_fault_goes_out(rt: &impl Abort, alloc: Global) -> Result<(), Fail> {
+    let plan = FaultPlan {
+        store: Some(0),
+        ..SOUND
+    };
+    let mut drive = with_tape(rt, alloc, plan)?;
+    asks(rt, &mut drive, (1, WRITE_5, b"hello", GOOD), 0);
+    stays(rt, &mut drive, WRITE_ERROR);
+    assert!(rt; drive.medium().is_some());
+    comes_out(rt, &mut drive);
+    stays(rt, &mut drive, NO_MEDIUM);
+    Ok(())
+}
+
+// One that is not loaded goes out too.
+fn a_parked_one_goes_out(rt: &impl Abort, alloc: Global) -> Result<(), Fail> {
+    let mut parked = with_tape(rt, alloc, SOUND)?;
+    asks(rt, &mut parked, (1, UNLOAD, NONE, GOOD), 0);
+    comes_out(rt, &mut parked);
+    Ok(())
+}
+
+#[test]
+fn a_cartridge_goes_out(rt: HostRuntime) -> Result<(), Fail> {
+    one_with_a_fault_goes_out(&rt, rt.alloc())?;
+    a_parked_one_goes_out(&rt, rt.alloc())
+}
+
+// It is there, not loaded, and nobody is told; then it is loaded.
+static PUT_IN: &'static [Row<'static>] = &[
+    (2, TEST_UNIT_READY, NONE, NO_MEDIUM),
+    (1, TEST_UNIT_READY, NONE, NO_MEDIUM),
+    (1, LOAD, NONE, GOOD),
+    (1, READ_5, NONE, HELLO),
+    (2, TEST_UNIT_READY, NONE, CHANGED),
+];
+
+// A reservation is made.
+static RESERVED: &'static [Row<'static>] = &[
+    (1, REGISTER, A_NEW, GOOD),
+    (1, RESERVE_5, BY_A, GOOD),
+];
+
+// It goes out of the drive, and is put in again.
+fn goes_out_and_in(rt: &impl Abort, drive: &mut Drive<StagedMedium, NoKeeper>) {
+    match drive.unload() {
+        Ok(medium) => drive.insert(medium),
+        Err(_) => assert!(rt; false, "nothing came out"),
+    }
+}
+
+#[test]
+fn a_cartridge_is_put_in(rt: HostRuntime) -> Result<(), Fail> {
+    let alloc = rt.alloc();
+    let mut drive = with_tape(&rt, alloc, SOUND)?;
+    asks(&rt, &mut drive, (1, WRITE_5, b"hello", GOOD), 0);
+    goes_out_and_in(&rt, &mut drive);
+    assert!(&rt; !drive.is_empty());
+    ask_all(&rt, &mut drive, PUT_IN);
+    // A reservation is held from its making on.
+    assert!(&rt; !drive.held());
+    ask_all(&rt, &mut drive, RESERVED);
+    assert!(&rt; drive.held());
+    Ok(())
+}

@@ -1,0 +1,224 @@
+//! Tables of motions, reports and erasing: over two partitions, over a full side, and where the device fails.
+use crate::loading::{LOAD, UNLOAD};
+use crate::tables::{
+    BAD_FIELD, CHANGED, END, FAILED, FULL, GOOD, LATE_ERROR, NO_MEDIUM, NONE, POWERED_ON, READ_5,
+    REWIND, Row, TEST_UNIT_READY, UNKNOWN, WRITE_5, WRITE_MARK, Wanted,
+};
+
+pub const ERASE: &'static [u8] = &[0x19, 0, 0, 0, 0, 0];
+
+pub const INQUIRY: &'static [u8] = &[0x12, 0, 0, 0, 36, 0];
+
+pub const BLOCK_LIMITS: &'static [u8] = &[0x05, 0, 0, 0, 0, 0];
+
+pub const REQUEST_SENSE: &'static [u8] = &[0x03, 0, 0, 0, 18, 0];
+
+pub const POSITION: &'static [u8] = &[0x34, 0, 0, 0, 0, 0, 0, 0, 0, 0];
+
+pub const MARK_FORWARD: &'static [u8] = &[0x11, 1, 0, 0, 1, 0];
+
+pub const MARK_BACK: &'static [u8] = &[0x11, 1, 0xff, 0xff, 0xff, 0];
+
+pub const LOCATE_0: &'static [u8] = &[0x2b, 0, 0, 0, 0, 0, 0, 0, 0, 0];
+
+// The end of data was met, and nothing is told of what is left.
+pub const NO_SUCH_OBJECT: Wanted<'static> = (Some((0x70, 0x08, 0, 0, 5)), &[]);
+
+pub const IS: Wanted<'static> = (
+    None,
+    b"\x01\x80\x06\x02\x1f\x00\x00\x00VTLIB   TAPE DRIVE      0001",
+);
+
+pub const LIMITS: Wanted<'static> = (None, &[0, 0x10, 0, 0, 0, 1]);
+
+pub const PENDING_POWER_ON: Wanted<'static> = (
+    None,
+    &[
+        0x70, 0, 6, 0, 0, 0, 0, 0x0a, 0, 0, 0, 0, 0x29, 0, 0, 0, 0, 0,
+    ],
+);
+
+pub const PENDING_CHANGE: Wanted<'static> = (
+    None,
+    &[
+        0x70, 0, 6, 0, 0, 0, 0, 0x0a, 0, 0, 0, 0, 0x28, 0, 0, 0, 0, 0,
+    ],
+);
+
+pub const PENDING_LATE_ERROR: Wanted<'static> = (
+    None,
+    &[
+        0x71, 0, 3, 0, 0, 0, 0, 0x0a, 0, 0, 0, 0, 0x0c, 0, 0, 0, 0, 0,
+    ],
+);
+
+pub const NOTHING_PENDING: Wanted<'static> = (
+    None,
+    &[0x70, 0, 0, 0, 0, 0, 0, 0x0a, 0, 0, 0, 0, 0, 0, 0, 0, 0, 0],
+);
+
+const AT_OBJECT_4: Wanted<'static> = (
+    None,
+    &[0, 0, 0, 0, 0, 0, 0, 4, 0, 0, 0, 4, 0, 0, 0, 0, 0, 0, 0, 0],
+);
+
+const AT_PARTITION_1: Wanted<'static> = (
+    None,
+    &[
+        0x80, 1, 0, 0, 0, 0, 0, 0, 0, 0, 0, 0, 0, 0, 0, 0, 0, 0, 0, 0,
+    ],
+);
+
+// Blocks, a filemark and a block in the first of two partitions, and motions over them.
+pub static MOVES: &'static [Row<'static>] = &[
+    (1, TEST_UNIT_READY, NONE, POWERED_ON),
+    (1, WRITE_5, b"block", GOOD),
+    (1, WRITE_5, b"other", GOOD),
+    (1, WRITE_MARK, NONE, GOOD),
+    (1, WRITE_5, b"third", GOOD),
+    (1, POSITION, NONE, AT_OBJECT_4),
+    (1, &[0x2b, 0, 0, 0, 0, 0, 9, 0, 0, 0], NONE, NO_SUCH_OBJECT),
+    (1, POSITION, NONE, AT_OBJECT_4),
+    (1, &[0x2b, 2, 0, 0, 0, 0, 0, 0, 3, 0], NONE, BAD_FIELD),
+    (1, &[0x2b, 2, 0, 0, 0, 0, 0, 0, 2, 0], NONE, BAD_FIELD),
+    (1, POSITION, NONE, AT_OBJECT_4),
+    (1, &[0x2b, 2, 0, 0, 0, 0, 0, 0, 1, 0], NONE, GOOD),
+    (1, POSITION, NONE, AT_PARTITION_1),
+    (1, LOCATE_0, NONE, GOOD),
+    (1, POSITION, NONE, AT_PARTITION_1),
+    (1, &[0x2b, 2, 0, 0, 0, 0, 2, 0, 0, 0], NONE, GOOD),
+    (1, MARK_FORWARD, NONE, GOOD),
+    (1, READ_5, NONE, (None, b"third")),
+    (1, MARK_FORWARD, NONE, (Some((0xf0, 0x08, 1, 0, 5)), &[])),
+    (1, MARK_BACK, NONE, GOOD),
+    (1, MARK_BACK, NONE, (Some((0xf0, 0x40, 1, 0, 4)), &[])),
+    (
+        1,
+        &[0x11, 0, 0, 0, 4, 0],
+        NONE,
+        (Some((0xf0, 0x80, 2, 0, 1)), &[]),
+    ),
+    (1, READ_5, NONE, (None, b"third")),
+    (1, &[0x11, 3, 0xff, 0xff, 0xff, 0], NONE, GOOD),
+    (1, POSITION, NONE, AT_OBJECT_4),
+    (1, &[0x11, 0, 0, 0, 0, 0], NONE, GOOD),
+];
+
+// What is erased is gone, and what stands before it is there; at the end of data nothing is.
+pub static ERASURES: &'static [Row<'static>] = &[
+    (1, TEST_UNIT_READY, NONE, POWERED_ON),
+    (1, WRITE_5, b"block", GOOD),
+    (1, WRITE_5, b"other", GOOD),
+    (1, &[0x2b, 0, 0, 0, 0, 0, 1, 0, 0, 0], NONE, GOOD),
+    (1, ERASE, NONE, GOOD),
+    (1, READ_5, NONE, END),
+    (1, ERASE, NONE, GOOD),
+    (1, REWIND, NONE, GOOD),
+    (1, READ_5, NONE, (None, b"block")),
+];
+
+// A side of 20 bytes: a block of five bytes takes it all, and an erasing would take 15.
+pub static NO_ERASURE: &'static [Row<'static>] = &[
+    (1, TEST_UNIT_READY, NONE, POWERED_ON),
+    (1, WRITE_5, b"block", GOOD),
+    (1, REWIND, NONE, GOOD),
+    (1, ERASE, NONE, FULL),
+    (1, READ_5, NONE, (None, b"block")),
+    (1, READ_5, NONE, END),
+];
+
+// What is told whatever stands in the way, and REQUEST SENSE, which clears what it reports.
+pub static ASKED: &'static [Row<'static>] = &[
+    (1, INQUIRY, NONE, IS),
+    (1, BLOCK_LIMITS, NONE, POWERED_ON),
+    (1, BLOCK_LIMITS, NONE, LIMITS),
+    (1, BLOCK_LIMITS, b"x", BAD_FIELD),
+    (2, &[0x12, 1, 0, 0, 36, 0], NONE, BAD_FIELD),
+    (2, &[0x12, 0, 0, 0, 2, 0], NONE, (None, &[0x01, 0x80])),
+    (2, &[0x03, 1, 0, 0, 18, 0], NONE, BAD_FIELD),
+    (2, REQUEST_SENSE, NONE, PENDING_POWER_ON),
+    (2, REQUEST_SENSE, NONE, NOTHING_PENDING),
+    (3, &[0x03, 0, 0, 0, 0, 0], NONE, GOOD),
+    (3, REQUEST_SENSE, NONE, NOTHING_PENDING),
+    (2, TEST_UNIT_READY, NONE, GOOD),
+    (4, TEST_UNIT_READY, NONE, POWERED_ON),
+];
+
+// The same of a drive with nothing in it.
+pub static ASKED_EMPTY: &'static [Row<'static>] = &[
+    (1, INQUIRY, NONE, IS),
+    (1, REQUEST_SENSE, NONE, PENDING_POWER_ON),
+    (1, BLOCK_LIMITS, NONE, LIMITS),
+    (1, MARK_FORWARD, NONE, NO_MEDIUM),
+    (1, POSITION, b"x", NO_MEDIUM),
+];
+
+// Two conditions are reported one after the other.
+pub static ASKED_LOADED: &'static [Row<'static>] = &[
+    (64, REQUEST_SENSE, NONE, PENDING_POWER_ON),
+    (64, REQUEST_SENSE, NONE, PENDING_CHANGE),
+    (64, REQUEST_SENSE, NONE, NOTHING_PENDING),
+    (1, ERASE, NONE, CHANGED),
+];
+
+// A block is pending, and the device fails as it is stored: each command ends so, before its work.
+pub static STORED_FIRST: &'static [&'static [u8]] = &[
+    MARK_FORWARD,
+    &[0x11, 3, 0, 0, 0, 0],
+    LOCATE_0,
+    &[0x2b, 0, 0, 0, 0, 0, 9, 0, 0, 0],
+    POSITION,
+    ERASE,
+];
+
+pub static BEFORE_A_FAULT: &'static [Row<'static>] = &[
+    (1, TEST_UNIT_READY, NONE, POWERED_ON),
+    (1, WRITE_5, b"block", GOOD),
+];
+
+// A medium that has failed does not keep these from being told.
+pub static AFTER_A_FAULT: &'static [Row<'static>] = &[
+    (1, POSITION, NONE, FAILED),
+    (1, ERASE, NONE, FAILED),
+    (1, LOCATE_0, NONE, FAILED),
+    (1, INQUIRY, NONE, IS),
+    (1, BLOCK_LIMITS, NONE, LIMITS),
+    (1, REQUEST_SENSE, NONE, NOTHING_PENDING),
+];
+
+// A deferred error is reported before an attention, once.
+pub static AFTER_A_LATE_FAULT: &'static [Row<'static>] = &[
+    (2, INQUIRY, NONE, IS),
+    (2, &[0xa5; 12], NONE, UNKNOWN),
+    (2, REQUEST_SENSE, NONE, PENDING_LATE_ERROR),
+    (2, REQUEST_SENSE, NONE, PENDING_POWER_ON),
+    (2, POSITION, NONE, FAILED),
+    (1, TEST_UNIT_READY, NONE, FAILED),
+];
+
+// The same where a command comes first.
+pub static AFTER_ANOTHER: &'static [Row<'static>] = &[
+    (2, BLOCK_LIMITS, NONE, LATE_ERROR),
+    (2, BLOCK_LIMITS, NONE, POWERED_ON),
+];
+
+// UNLOAD reports it and does nothing else; then LOAD opens what the side gives, without what was pending.
+pub static AFTER_AN_UNLOADING: &'static [Row<'static>] = &[
+    (1, UNLOAD, NONE, LATE_ERROR),
+    (1, TEST_UNIT_READY, NONE, FAILED),
+    (1, UNLOAD, NONE, GOOD),
+    (1, LOAD, NONE, GOOD),
+    (1, TEST_UNIT_READY, NONE, GOOD),
+    (1, READ_5, NONE, END),
+    (2, TEST_UNIT_READY, NONE, POWERED_ON),
+    (2, TEST_UNIT_READY, NONE, CHANGED),
+];
+
+// Where the cartridge went out of the drive and came back before any command.
+pub static AFTER_A_MOVE: &'static [Row<'static>] = &[
+    (1, TEST_UNIT_READY, NONE, LATE_ERROR),
+    (1, TEST_UNIT_READY, NONE, CHANGED),
+    (1, READ_5, NONE, END),
+    (2, TEST_UNIT_READY, NONE, POWERED_ON),
+    (2, TEST_UNIT_READY, NONE, CHANGED),
+];

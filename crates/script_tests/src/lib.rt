@@ -1,0 +1,19 @@
+//! The tests of vtl_script, over a runner of their own.
+#![tactic(auto)]
+
+#[cfg(test)]
+mod borders;
+#[cfg(test)]
+mod echoes;
+#[cfg(test)]
+mod failing;
+#[cfg(test)]
+mod long_answers;
+#[cfg(test)]
+mod moves;
+#[cfg(test)]
+mod outcomes;
+#[cfg(test)]
+mod waiting;
+#[cfg(test)]
+mod wires;

@@ -1,0 +1,160 @@
+//! Phases with many bytes of answers, which are written in pieces.
+use crate::outcomes::{DONE, answered};
+use crate::wires::Plan;
+use std::alloc::{AllocError, Global};
+use std::io::ErrorKind;
+use std::test::Fail;
+use vtl_script::ScriptFault;
+
+// A script, and by rule the text of its answers.
+#[derive(Drop)]
+struct Answered {
+    script: Vec<u8>,
+    text: Vec<u8>,
+}
+
+// Adds so many bytes 5a in hex.
+fn add_data(text: &mut Vec<u8>, count: usize) -> Result<(), AllocError> {
+    for _ in 0..count {
+        text.extend_from_slice(b"5a")?;
+    }
+    Ok(())
+}
+
+// A phase with a command of host 1 for each of these counts of bytes: its answer has 24 characters, and two for each
+// byte.
+fn phase_of(alloc: Global, counts: &[usize]) -> Result<Answered, AllocError> {
+    let mut script = Vec::new(alloc);
+    let mut text = Vec::new(alloc);
+    for count in counts {
+        script.extend_from_slice(b"1 1 0a0000000100 77")?;
+        add_data(&mut script, *count)?;
+        script.push(b'\n')?;
+        text.extend_from_slice(b"GOOD 01010a000000010077")?;
+        add_data(&mut text, *count)?;
+        text.push(b'\n')?;
+    }
+    Ok(Answered { script, text })
+}
+
+// A phase of 3,000 commands in which the hosts take turns, host 2 first. Its answers have 126,000 bytes, those of
+// host 1 first.
+fn phase_of_two_hosts(alloc: Global) -> Result<Answered, AllocError> {
+    let mut script = Vec::new(alloc);
+    let mut first = Vec::new(alloc);
+    let mut second = Vec::new(alloc);
+    for _ in 0..500 {
+        for digit in b'0'..b'3' {
+            let tail = [digit, b'7', b'\n'];
+            script.extend_from_slice(b"2 1 08000000ff00 0123456789abcdef01234567")?;
+            script.extend_from_slice(&tail)?;
+            second.extend_from_slice(b"GOOD 020108000000ff000123456789abcdef01234567")?;
+            second.extend_from_slice(&tail)?;
+            script.extend_from_slice(b"1 1 0a0000001000 89abcdef0123")?;
+            script.extend_from_slice(&tail)?;
+            first.extend_from_slice(b"GOOD 01010a000000100089abcdef0123")?;
+            first.extend_from_slice(&tail)?;
+        }
+    }
+    first.extend_from_slice(second.as_slice())?;
+    Ok(Answered {
+        script,
+        text: first,
+    })
+}
+
+// The bytes of a write at most.
+static TAKEN: &'static [usize] = &[usize::MAX, 65_537, 65_536, 65_535, 7, 1];
+
+#[test]
+fn answers_of_more_than_64_kib(rt: HostRuntime) -> Result<(), Fail> {
+    let long = phase_of_two_hosts(rt.alloc())?;
+    assert_eq!(rt; long.text.len(), 126_000);
+    for &taken in TAKEN {
+        let plan = Plan {
+            taken,
+            ..Plan::whole()
+        };
+        let outcome = answered(rt.alloc(), long.script.as_slice(), plan);
+        assert_eq!(rt; outcome.end, DONE, "{taken} bytes a write");
+        assert!(rt;
+            outcome.text.as_slice() == long.text.as_slice(),
+            "text at {taken} bytes a write"
+        );
+    }
+    Ok(())
+}
+
+// Two answers of 65,534, 65,536 and 65,538 bytes in all, one of each of these, and one of more than twice 64 KiB:
+// with an answer behind them, and without.
+static COUNTS: &'static [(&'static [usize], usize)] = &[
+    (&[0, 32_743, 0], 65_558),
+    (&[0, 32_744, 0], 65_560),
+    (&[0, 32_745, 0], 65_562),
+    (&[32_755, 0], 65_558),
+    (&[32_756, 0], 65_560),
+    (&[32_757, 0], 65_562),
+    (&[70_000, 0], 140_048),
+];
+
+#[test]
+fn answers_of_64_kib(rt: HostRuntime) -> Result<(), Fail> {
+    for &(counts, length) in COUNTS {
+        let long = phase_of(rt.alloc(), counts)?;
+        assert_eq!(rt; long.text.len(), length);
+        for spared in 0..2 {
+            let count = counts.len().saturating_sub(spared);
+            let long = phase_of(rt.alloc(), &counts[..count])?;
+            let outcome = answered(rt.alloc(), long.script.as_slice(), Plan::whole());
+            assert_eq!(rt; outcome.end, DONE, "{count} answers of {length} bytes");
+            assert!(rt;
+                outcome.text.as_slice() == long.text.as_slice(),
+                "text of {count} answers of {length} bytes"
+            );
+        }
+    }
+    Ok(())
+}
+
+// The bytes of a write at most, the write that fails, and the bytes that are out then: those of the writes before.
+static WRITES: &'static [(usize, u32, usize)] = &[
+    (1, 1, 0),
+    (1, 2, 1),
+    (1, 65_536, 65_535),
+    (1, 65_537, 65_536),
+    (1, 65_538, 65_537),
+    (1, 126_000, 125_999),
+    // The flush, and nothing.
+    (1, 126_001, 126_000),
+    (7, 1, 0),
+    (7, 2, 7),
+    (7, 9_000, 62_993),
+];
+
+#[test]
+fn a_write_of_many_that_fails(rt: HostRuntime) -> Result<(), Fail> {
+    let long = phase_of_two_hosts(rt.alloc())?;
+    for &(taken, call, length) in WRITES {
+        let plan = Plan {
+            taken,
+            bad_write: Some((call, ErrorKind::Other)),
+            ..Plan::whole()
+        };
+        let failed = answered(rt.alloc(), long.script.as_slice(), plan);
+        assert_eq!(rt;
+            failed.end,
+            Err(ScriptFault::WriteFault),
+            "write {call} of {taken} bytes"
+        );
+        assert_eq!(rt;
+            failed.text.len(),
+            length,
+            "out at write {call} of {taken} bytes"
+        );
+        assert!(rt;
+            failed.text.as_slice() == &long.text.as_slice()[..length.min(long.text.len())],
+            "text at write {call} of {taken} bytes"
+        );
+    }
+    Ok(())
+}

@@ -1,0 +1,137 @@
+//! How far a script is read before it is run or refused, and calls that are interrupted many times in a row.
+use crate::outcomes::{BAD_1, BAD_3, DONE, answered, joined};
+use crate::wires::Plan;
+use std::io::ErrorKind;
+use std::test::Fail;
+use vtl_script::ScriptFault;
+
+const ONE: &str = "GOOD 010100\n";
+
+const TWO: &str = "GOOD 020100\n";
+
+// From 1001 to 1.
+const MOVED: &str = "CONFLICT 000003e900000001\n";
+
+const TWO_PHASES: &[u8] = b"1 1 00\n--\n2 1 00\n";
+
+// A script, the bytes of a read at most, the read that fails, the text that is out then, and how it ends.
+type Row<'a> = (&'a [u8], usize, u32, &'a [&'a str], Result<(), ScriptFault>);
+
+const NO_ANSWER: &[&str] = &[];
+
+const FAULT: Result<(), ScriptFault> = Err(ScriptFault::ReadFault);
+
+static READ_SO_FAR: &'static [Row<'static>] = &[
+    // A move is run, and the phase before it, once its line is read.
+    (b"1 1 00\nmove 1001 1\n", 5, 5, &[ONE, MOVED], FAULT),
+    (b"1 1 00\nmove 1001 1\n", 5, 4, NO_ANSWER, FAULT),
+    (
+        b"1 1 00\nmove 1001 1\n",
+        usize::MAX,
+        2,
+        &[ONE, MOVED],
+        FAULT,
+    ),
+    (b"move 1001 1\n2 1 00\n", 12, 2, &[MOVED], FAULT),
+    // So is a phase, once the line that ends it is.
+    (b"1 1 00\n--\n2 1 00\n", 10, 2, &[ONE], FAULT),
+    (b"1 1 00\n--\n2 1 00\n", 9, 2, NO_ANSWER, FAULT),
+    // A line is refused once it is read.
+    (b"x\n1 1 00\n", 1, 3, NO_ANSWER, BAD_1),
+    (b"x\n1 1 00\n", 1, 2, NO_ANSWER, FAULT),
+    (b"1 1 00\n--\nmove 1\n2 1 00\n", 17, 2, &[ONE], BAD_3),
+    (b"1 1 00\n--\nmove 1\n2 1 00\n", 16, 2, &[ONE], FAULT),
+];
+
+#[test]
+fn nothing_behind_is_read_first(rt: HostRuntime) -> Result<(), Fail> {
+    for (at, &(script, piece, call, text, end)) in READ_SO_FAR.iter().enumerate() {
+        let plan = Plan {
+            piece,
+            bad_read: Some((call, ErrorKind::Other)),
+            ..Plan::whole()
+        };
+        let failed = answered(rt.alloc(), script, plan);
+        assert_eq!(rt; failed.end, end, "end of {at}");
+        let wanted = joined(rt.alloc(), text)?;
+        assert_eq!(rt; failed.text.as_slice(), wanted.as_slice(), "text of {at}");
+        let reads = if end == FAULT {
+            call
+        } else {
+            call.saturating_sub(1)
+        };
+        assert_eq!(rt; failed.reads, reads, "reads of {at}");
+    }
+    Ok(())
+}
+
+// The bytes of a read at most, and the reads of the script: it has 17 bytes; one read more finds its end.
+static READS: &'static [(usize, u32)] = &[(usize::MAX, 2), (5, 5), (1, 18)];
+
+#[test]
+fn reads_that_are_interrupted_many_times(rt: HostRuntime) -> Result<(), Fail> {
+    let whole = joined(rt.alloc(), &[ONE, TWO])?;
+    for &(piece, reads) in READS {
+        for call in 1..reads.saturating_add(1) {
+            let plan = Plan {
+                piece,
+                bad_read: Some((call, ErrorKind::Interrupted)),
+                in_a_row: 40,
+                ..Plan::whole()
+            };
+            let interrupted = answered(rt.alloc(), TWO_PHASES, plan);
+            assert_eq!(rt; interrupted.end, DONE, "read {call} of {reads}");
+            assert_eq!(rt;
+                interrupted.reads,
+                reads.saturating_add(40),
+                "reads at read {call} of {reads}"
+            );
+            assert_eq!(rt;
+                interrupted.text.as_slice(),
+                whole.as_slice(),
+                "text at read {call}"
+            );
+        }
+    }
+    Ok(())
+}
+
+// The bytes of a write at most, and the writes that are interrupted; the flush of a phase is none of them.
+static WRITES: &'static [(usize, u32)] = &[
+    (usize::MAX, 1),
+    (usize::MAX, 3),
+    (5, 1),
+    (5, 2),
+    (5, 3),
+    (5, 5),
+    (1, 12),
+];
+
+#[test]
+fn writes_that_are_interrupted_many_times(rt: HostRuntime) -> Result<(), Fail> {
+    let whole = joined(rt.alloc(), &[ONE, TWO])?;
+    for &(taken, call) in WRITES {
+        let plan = Plan {
+            taken,
+            bad_write: Some((call, ErrorKind::Interrupted)),
+            in_a_row: 40,
+            ..Plan::whole()
+        };
+        let interrupted = answered(rt.alloc(), TWO_PHASES, plan);
+        assert_eq!(rt; interrupted.end, DONE, "write {call} of {taken} bytes");
+        assert_eq!(rt;
+            interrupted.text.as_slice(),
+            whole.as_slice(),
+            "text at write {call}"
+        );
+    }
+    // A flush that is interrupted is a fault: a writer that holds bytes makes its own writes again.
+    let plan = Plan {
+        bad_write: Some((2, ErrorKind::Interrupted)),
+        ..Plan::whole()
+    };
+    let interrupted = answered(rt.alloc(), TWO_PHASES, plan);
+    assert_eq!(rt; interrupted.end, Err(ScriptFault::WriteFault));
+    assert_eq!(rt; interrupted.text.as_slice(), ONE.as_bytes());
+    Ok(())
+}

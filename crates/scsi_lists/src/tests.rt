@@ -1,3 +1,0 @@
-//! Tests by command.
-mod modes;
-mod reservations;

@@ -1,0 +1,20 @@
+//! The tests of the crates of plain values: vtl_base, scsi_attention, scsi_sense, scsi_wire, scsi_lists, pr_core,
+//! positioning and changer.
+#![tactic(auto)]
+
+#[cfg(test)]
+mod attentions;
+#[cfg(test)]
+mod base;
+#[cfg(test)]
+mod lists;
+#[cfg(test)]
+mod positions;
+#[cfg(test)]
+mod reservations;
+#[cfg(test)]
+mod senses;
+#[cfg(test)]
+mod slots;
+#[cfg(test)]
+mod wire;

@@ -1,0 +1,3 @@
+//! What parameter lists are read as, by command.
+mod modes;
+mod reservations;

@@ -1,0 +1,204 @@
+//! Motions against a plain program, by rows worked by hand, and by the objects that they look at.
+ghost use Rattle.std.specs.Prelude.{◌≡◌, true, IfOk};
+
+mod counting;
+mod plain;
+mod reports;
+
+use counting::Counting;
+use plain::stepped;
+use positioning::{Moved, Pos, SpaceCode, Stop, locate, space};
+use std::alloc::Global;
+use std::process::Abort;
+use std::test::Fail;
+use volume_core::{Catalog, Kind, Medium, PlainMedium};
+use vtl_base::Bytes;
+
+// A cartridge of two partitions. The first has these objects: a block of one byte for a `b`, else a
+// filemark.
+fn tape(alloc: Global, objects: &str) -> Result<PlainMedium, Fail>
+    ensures { IfOk result (λ medium. medium.awake ≡ true) }
+{
+    let mut medium = PlainMedium::new(alloc, &[4_096, 4_111])?;
+    let mut at = 0u32;
+    for object in objects.bytes() {
+        if object == b'b' {
+            medium.put(0, at, Bytes::from_slice(alloc, b"x")?)?;
+        } else {
+            medium.marks(0, at, 1)?;
+        }
+        at = at.saturating_add(1);
+    }
+    Ok(medium)
+}
+
+fn spaced<C: Catalog>(catalog: &C, pos: Pos, code: SpaceCode, count: i32) -> Option<Moved>
+    requires { (C.state catalog.now).awake ≡ true }
+{
+    if pos.part < catalog.parts() && pos.obj <= catalog.count(pos.part) {
+        Some(space(catalog, pos, code, count))
+    } else {
+        None
+    }
+}
+
+fn located<C: Catalog>(catalog: &C, pos: Pos, to: u32) -> Option<Moved>
+    requires { (C.state catalog.now).awake ≡ true }
+{
+    if pos.part < catalog.parts() && pos.obj <= catalog.count(pos.part) {
+        Some(locate(catalog, pos, to))
+    } else {
+        None
+    }
+}
+
+fn ended(part: u8, obj: u32, stop: Stop, left: u32) -> Option<Moved> {
+    Some(Moved {
+        pos: Pos { part, obj },
+        stop,
+        left,
+    })
+}
+
+static CODES: &'static [SpaceCode] = &[
+    SpaceCode::Blocks,
+    SpaceCode::Filemarks,
+    SpaceCode::EndOfData,
+];
+
+static COUNTS: &'static [i32] = &[
+    -8_388_608, -9, -8, -7, -6, -5, -4, -3, -2, -1, 0, 1, 2, 3, 4, 5, 6, 7, 8, 9, 8_388_607,
+];
+
+// From each position of these objects, with each code, both ways.
+fn goes_as_the_plain_program(rt: &impl Abort, alloc: Global, objects: &str) -> Result<(), Fail> {
+    let medium = tape(alloc, objects)?;
+    let end = medium.count(0);
+    for obj in 0..end + 1 {
+        for &code in CODES {
+            for &count in COUNTS {
+                let (to, stop, left) = stepped(objects.as_bytes(), end, obj, code, count);
+                assert_eq!(rt;
+                    spaced(&medium, Pos { part: 0, obj }, code, count),
+                    ended(0, to, stop, left),
+                    "{count} from {obj}"
+                );
+            }
+        }
+    }
+    Ok(())
+}
+
+static TAPES: &'static [&'static str] = &["", "b", "m", "bbb", "mmm", "bbmbmmbb", "mbbmmbbm"];
+
+#[test]
+fn space_goes_as_the_plain_program(rt: HostRuntime) -> Result<(), Fail> {
+    let alloc = rt.alloc();
+    for objects in TAPES {
+        goes_as_the_plain_program(&rt, alloc, objects)?;
+    }
+    Ok(())
+}
+
+// An object, a code and a count, and where SPACE ends: the object, why, and what is left.
+static SPACES: &'static [(u32, SpaceCode, i32, u32, Stop, u32)] = &[
+    (0, SpaceCode::Blocks, 5, 3, Stop::AtMark, 3),
+    (3, SpaceCode::Blocks, -2, 2, Stop::AtMark, 2),
+    (0, SpaceCode::Filemarks, -1, 0, Stop::AtStart, 1),
+    (0, SpaceCode::Filemarks, 0, 0, Stop::Done, 0),
+    (
+        0,
+        SpaceCode::Blocks,
+        -8_388_608,
+        0,
+        Stop::AtStart,
+        8_388_608,
+    ),
+    (3, SpaceCode::Filemarks, -1, 2, Stop::Done, 0),
+    (2, SpaceCode::Filemarks, -1, 0, Stop::AtStart, 1),
+    (0, SpaceCode::Filemarks, 1, 3, Stop::Done, 0),
+    (
+        0,
+        SpaceCode::Filemarks,
+        8_388_607,
+        4,
+        Stop::AtEnd,
+        8_388_606,
+    ),
+    (1, SpaceCode::EndOfData, -7, 4, Stop::Done, 0),
+];
+
+#[test]
+fn space_by_rows(rt: HostRuntime) -> Result<(), Fail> {
+    let medium = tape(rt.alloc(), "bbmb")?;
+    for &(obj, code, count, end, stop, left) in SPACES {
+        assert_eq!(rt;
+            spaced(&medium, Pos { part: 0, obj }, code, count),
+            ended(0, end, stop, left),
+            "{count} from {obj}"
+        );
+    }
+    Ok(())
+}
+
+// A partition and an object to be located, and where LOCATE ends, and why.
+static LOCATES: &'static [(u8, u32, u32, Stop)] = &[
+    (0, 9, 4, Stop::AtEnd),
+    (0, 5, 4, Stop::AtEnd),
+    (0, 4, 4, Stop::Done),
+    (0, 0, 0, Stop::Done),
+    (0, u32::MAX, 4, Stop::AtEnd),
+    (1, 0, 0, Stop::Done),
+    (1, 1, 0, Stop::AtEnd),
+];
+
+#[test]
+fn locate_by_rows(rt: HostRuntime) -> Result<(), Fail> {
+    let medium = tape(rt.alloc(), "bbmb")?;
+    for &(part, to, obj, stop) in LOCATES {
+        assert_eq!(rt;
+            located(&medium, Pos { part, obj: 0 }, to),
+            ended(part, obj, stop, 0),
+            "to {to} in {part}"
+        );
+    }
+    Ok(())
+}
+
+// An object, a code and a count, and how many objects are looked at, at most.
+static LOOKS: &'static [(u32, SpaceCode, i32, u32)] = &[
+    (0, SpaceCode::Blocks, 8_388_607, 3),
+    (6, SpaceCode::Blocks, 8_388_607, 2),
+    (8, SpaceCode::Blocks, 8_388_607, 0),
+    (8, SpaceCode::Blocks, -8_388_608, 3),
+    (2, SpaceCode::Blocks, -8_388_608, 2),
+    (0, SpaceCode::Blocks, 2, 2),
+    (0, SpaceCode::Blocks, 0, 0),
+    (0, SpaceCode::Filemarks, 8_388_607, 8),
+    (8, SpaceCode::Filemarks, -8_388_608, 8),
+    (8, SpaceCode::Filemarks, i32::MIN, 8),
+    (0, SpaceCode::Filemarks, 1, 3),
+    (8, SpaceCode::Filemarks, -1, 3),
+    (0, SpaceCode::EndOfData, 8_388_607, 0),
+];
+
+#[test]
+fn no_motion_looks_at_more_than_there_is(rt: HostRuntime) -> Result<(), Fail> {
+    let medium = tape(rt.alloc(), "bbmbmmbb")?;
+    for &(obj, code, count, most) in LOOKS {
+        let counting = Counting::new(&medium);
+        let moved = spaced(&counting, Pos { part: 0, obj }, code, count);
+        assert!(rt; moved.is_some(), "{count} from {obj}");
+        assert!(rt; counting.looks() <= most, "{count} from {obj}");
+    }
+    let counting = Counting::new(&medium);
+    let there = located(&counting, Pos { part: 0, obj: 1 }, 7);
+    let report = reports::reported(&counting, Pos { part: 0, obj: 7 });
+    assert!(rt; there.is_some() && report.is_some());
+    assert_eq!(rt; counting.looks(), 0);
+    assert_eq!(rt;
+        (counting.kind_at(0, 2), counting.looks()),
+        (Some(Kind::Mark), 1)
+    );
+    Ok(())
+}

@@ -1,0 +1,104 @@
+//! A keeper whose store fills, or one of whose saves fails.
+use super::{ONE_REGISTERS, TWO_REGISTER, after};
+use pr_core::{Keeper, KeeperError, Reservations, SaveFault, SavePlan, StagedKeeper};
+use std::process::Abort;
+
+// How the fourth and each earlier save is answered where the save behind so many fails.
+fn answer(save: u32, after: u32, by: SaveFault) -> Result<(), KeeperError> {
+    match by {
+        SaveFault::NoMemory if save == after => Err(KeeperError::NoMemory),
+        SaveFault::Device if save == after => Err(KeeperError::Device),
+        SaveFault::Device if save > after => Err(KeeperError::Failed),
+        SaveFault::NoMemory | SaveFault::Device => Ok(()),
+    }
+}
+
+// Whether a keeper holds just these as the reservations that were saved last.
+fn holds(rt: &impl Abort, keeper: &StagedKeeper, state: &Reservations) {
+    assert!(rt; !keeper.saved().needs_save(state));
+}
+
+// How many saves come before the one that fails, how that fails, and how many hosts are registered in what was
+// saved last.
+static FAULTS: &'static [(u32, SaveFault, u8)] = &[
+    (0, SaveFault::NoMemory, 2),
+    (1, SaveFault::NoMemory, 2),
+    (2, SaveFault::NoMemory, 2),
+    (3, SaveFault::NoMemory, 1),
+    (4, SaveFault::NoMemory, 2),
+    (0, SaveFault::Device, 0),
+    (1, SaveFault::Device, 1),
+    (2, SaveFault::Device, 2),
+    (3, SaveFault::Device, 1),
+    (4, SaveFault::Device, 2),
+];
+
+#[test]
+fn one_save_fails(rt: HostRuntime) {
+    let empty = Reservations::empty();
+    let one = after(&rt, ONE_REGISTERS);
+    let two = after(&rt, TWO_REGISTER);
+    for &(behind, by, hosts) in FAULTS {
+        let plan = SavePlan { after: behind, by };
+        let mut keeper = StagedKeeper::new(empty, 1_000, Some(plan));
+        for save in 0..4u32 {
+            let state = if save % 2 == 0 { &one } else { &two };
+            assert_eq!(rt;
+                keeper.save(state),
+                answer(save, behind, by),
+                "{save} of {behind}"
+            );
+        }
+        let last = match hosts {
+            0 => &empty,
+            1 => &one,
+            _ => &two,
+        };
+        holds(&rt, &keeper, last);
+        let failed = by == SaveFault::Device && behind < 4;
+        assert_eq!(rt; keeper.has_failed(), failed, "{behind}");
+        assert_eq!(rt; keeper.torn().is_some(), failed, "{behind}");
+    }
+}
+
+// Whether a host is registered in what is saved, the answer, and the room that is left.
+static SAVES: &'static [(bool, Result<(), KeeperError>, u64)] = &[
+    (true, Ok(()), 17),
+    (true, Err(KeeperError::SideFull), 17),
+    (false, Ok(()), 8),
+    (false, Err(KeeperError::SideFull), 8),
+];
+
+// A state with one registration takes 18 bytes of a store, with none 9.
+#[test]
+fn a_store_fills(rt: HostRuntime) {
+    let empty = Reservations::empty();
+    let one = after(&rt, ONE_REGISTERS);
+    let mut keeper = StagedKeeper::new(empty, 35, None);
+    for &(is_registered, answer, left) in SAVES {
+        let state = if is_registered { &one } else { &empty };
+        assert_eq!(rt; keeper.save(state), answer);
+        assert_eq!(rt; keeper.room(), left);
+    }
+    holds(&rt, &keeper, &empty);
+    assert!(rt; !keeper.has_failed());
+}
+
+// What was under way as the device failed is told apart from what was saved.
+#[test]
+fn a_save_is_torn(rt: HostRuntime) {
+    let one = after(&rt, ONE_REGISTERS);
+    let plan = SavePlan {
+        after: 0,
+        by: SaveFault::Device,
+    };
+    let mut keeper = StagedKeeper::new(Reservations::empty(), 18, Some(plan));
+    assert_eq!(rt; keeper.save(&one), Err(KeeperError::Device));
+    holds(&rt, &keeper, &Reservations::empty());
+    assert!(rt; keeper.torn().is_some_and(|torn| !torn.needs_save(&one)));
+    assert_eq!(rt; keeper.room(), 18);
+    assert_eq!(rt;
+        keeper.save(&Reservations::empty()),
+        Err(KeeperError::Failed)
+    );
+}

@@ -1,0 +1,68 @@
+//! What PERSISTENT RESERVE IN reads, byte for byte; a keeper that keeps nothing.
+use super::{A, ONE_REGISTERS, TWO_REGISTER, host, reserved};
+use pr_core::{Keeper, NoKeeper, Reservations};
+use scsi_lists::{PrOut, PrType};
+use std::alloc::Global;
+use std::process::Abort;
+use std::test::Fail;
+
+// These are read so: the keys, and the reservation.
+fn reads(
+    rt: &impl Abort,
+    alloc: Global,
+    reservations: Reservations,
+    keys: &[u8],
+    reservation: &[u8],
+) -> Result<(), Fail> {
+    assert_eq!(rt; reservations.read_keys(alloc)?.as_slice(), keys);
+    assert_eq!(rt;
+        reservations.read_reservation(alloc)?.as_slice(),
+        reservation
+    );
+    Ok(())
+}
+
+static NOTHING: &'static [u8] = b"\0\0\0\0\0\0\0\0";
+
+static KEY_OF_1: &'static [u8] = b"\0\0\0\x01\0\0\0\x08\0\0\0\0\0\0\0\xa1";
+
+static HELD_BY_1: &'static [u8] = b"\0\0\0\x01\0\0\0\x10\0\0\0\0\0\0\0\xa1\0\0\0\0\0\x05\0\0";
+
+static KEYS_OF_BOTH: &'static [u8] = b"\0\0\0\x02\0\0\0\x10\0\0\0\0\0\0\0\xa1\0\0\0\0\0\0\0\xb2";
+
+static HELD_BY_BOTH: &'static [u8] = b"\0\0\0\x02\0\0\0\x10\0\0\0\0\0\0\0\0\0\0\0\0\0\x08\0\0";
+
+#[test]
+fn keys_and_reservations_are_read(rt: HostRuntime) -> Result<(), Fail> {
+    let alloc = rt.alloc();
+    reads(&rt, alloc, Reservations::empty(), NOTHING, NOTHING)?;
+    let only = PrType::WriteExclusiveRegistrantsOnly;
+    let one = reserved(&rt, ONE_REGISTERS, 1, A, only);
+    reads(&rt, alloc, one, KEY_OF_1, HELD_BY_1)?;
+    let all = PrType::ExclusiveAccessAllRegistrants;
+    let two = reserved(&rt, TWO_REGISTER, 1, A, all);
+    reads(&rt, alloc, two, KEYS_OF_BOTH, HELD_BY_BOTH)
+}
+
+#[test]
+fn all_hosts_register(rt: HostRuntime) -> Result<(), Fail> {
+    let alloc = rt.alloc();
+    let mut reservations = Reservations::empty();
+    let mut wanted = vec![in alloc; 0, 0, 0, 64, 0, 0, 2, 0]?;
+    for number in 1..=64u8 {
+        let key = 0x100 + u64::from(number);
+        let _ = reservations.pr_out(host(&rt, number), &register!(0, key));
+        wanted.extend_from_slice(&[0, 0, 0, 0, 0, 0, 1, number])?;
+    }
+    assert_eq!(rt;
+        reservations.read_keys(alloc)?.as_slice(),
+        wanted.as_slice()
+    );
+    Ok(())
+}
+
+#[test]
+fn a_keeper_keeps_nothing(rt: HostRuntime) {
+    let mut keeper = NoKeeper;
+    assert!(rt; keeper.save(&Reservations::empty()).is_ok() && !keeper.has_failed());
+}

@@ -1,0 +1,15 @@
+//! The tests of volume_core and record_index.
+#![tactic(auto)]
+
+#[cfg(test)]
+mod lists;
+#[cfg(test)]
+mod media;
+#[cfg(test)]
+mod records;
+#[cfg(test)]
+mod runs;
+#[cfg(test)]
+mod staged;
+#[cfg(test)]
+mod volumes;

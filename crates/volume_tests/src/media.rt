@@ -1,0 +1,171 @@
+//! The calls of a medium, over any of them and over one in memory.
+ghost use Rattle.std.specs.Prelude.{◌≡◌, OnOk, true};
+
+use crate::volumes::{Add, make_change};
+use std::alloc::Global;
+use std::process::Abort;
+use std::test::Fail;
+use volume_core::{Catalog, Kind, Medium, MediumError, PlainMedium, Refusal, Turn};
+use vtl_base::{Bytes, ObjNo};
+
+/// What a medium of one partition is asked. A block is of sevens.
+#[derive(Clone, Copy, Debug)]
+pub enum Ask {
+    // As a change, behind so many objects.
+    Accept(ObjNo, Add),
+    // By the call of its own.
+    Put(ObjNo, usize),
+    Marks(ObjNo, u32),
+    Erase(ObjNo),
+    // The block of a number, and how many bytes it is to have.
+    Fetch(ObjNo, usize),
+    Settle,
+    Turn,
+    // To be parked, and woken where that is done.
+    Reopen,
+    Wake,
+}
+
+/// How it answers.
+#[derive(Clone, Copy, PartialEq, Eq, Debug)]
+pub enum Answer {
+    Done,
+    Not(MediumError),
+    Turned(Turn),
+}
+
+fn as_answer(returned: Result<(), MediumError>) -> Answer {
+    match returned {
+        Ok(()) => Answer::Done,
+        Err(error) => Answer::Not(error),
+    }
+}
+
+#[tactic(auto, using(crate::proofs::AwakeLemmas::accepts_awake))]
+fn take<M: Medium>(alloc: Global, medium: &mut M, ask: Ask) -> Result<Answer, Fail>
+    requires { (M.state medium.old).awake ≡ true }
+    ensures { OnOk result ((M.state medium.new).awake ≡ true) }
+{
+    Ok(as_answer(match ask {
+        Ask::Accept(at, add) => medium.accept(make_change(alloc, 0, at, add)?),
+        Ask::Put(at, length) => { medium.put(0, at, Bytes::from_vec(vec![in alloc; 7u8; length]?)) }
+        Ask::Marks(at, count) => medium.marks(0, at, count),
+        Ask::Erase(at) => medium.erase(0, at),
+        _ => Ok(()),
+    }))
+}
+
+#[tactic(auto, using(crate::proofs::AwakeLemmas::fetches_awake))]
+fn fetch<M: Medium>(
+    rt: &impl Abort,
+    alloc: Global,
+    medium: &mut M,
+    at: ObjNo,
+    length: usize,
+) -> Result<Answer, Fail>
+    requires { (M.state medium.old).awake ≡ true }
+    ensures { OnOk result ((M.state medium.new).awake ≡ true) }
+{
+    let mut bytes = vec![in alloc; 1u8, 2, 3]?;
+    if medium.kind_at(0, at) != Some(Kind::Block) {
+        assert!(rt; false, "no block at {at}");
+        return Ok(Answer::Done);
+    }
+    let fetched = medium.fetch(0, at, &mut bytes);
+    if fetched.is_ok() {
+        let wanted = vec![in alloc; 7u8; length]?;
+        assert_eq!(rt; bytes.as_slice(), wanted.as_slice(), "block {at}");
+    }
+    Ok(as_answer(fetched))
+}
+
+#[tactic(auto, using(crate::proofs::AwakeLemmas::parks_awake, crate::proofs::AwakeLemmas::wakes_awake))]
+fn reopen<M: Medium>(medium: &mut M) -> Result<Answer, Fail>
+    requires { (M.state medium.old).awake ≡ true }
+    ensures { OnOk result ((M.state medium.new).awake ≡ true) }
+{
+    if let Err(error) = medium.park() {
+        return Ok(Answer::Not(error));
+    }
+    medium.wake()?;
+    Ok(Answer::Done)
+}
+
+#[tactic(auto, using(crate::proofs::AwakeLemmas::stays_awake))]
+fn wake<M: Medium>(medium: &mut M) -> Result<Answer, Fail>
+    requires { (M.state medium.old).awake ≡ true }
+    ensures { OnOk result ((M.state medium.new).awake ≡ true) }
+{
+    Ok(as_answer(medium.wake()))
+}
+
+#[tactic(auto, using(crate::proofs::AwakeLemmas::settles_awake, crate::proofs::AwakeLemmas::turns_awake))]
+fn answered<M: Medium>(
+    rt: &impl Abort,
+    alloc: Global,
+    medium: &mut M,
+    ask: Ask,
+) -> Result<Answer, Fail>
+    requires { (M.state medium.old).awake ≡ true }
+    ensures { OnOk result ((M.state medium.new).awake ≡ true) }
+{
+    match ask {
+        Ask::Fetch(at, length) => fetch(rt, alloc, medium, at, length),
+        Ask::Settle => Ok(as_answer(medium.settle())),
+        Ask::Turn => Ok(Answer::Turned(medium.flush_turn())),
+        Ask::Reopen => reopen(medium),
+        Ask::Wake => wake(medium),
+        _ => take(alloc, medium, ask),
+    }
+}
+
+/// What is asked, the answer, and then: changes pending, whether it has failed, objects.
+pub type Row = (Ask, Answer, usize, bool, u32);
+
+/// A medium is asked one row after another, and answers so.
+pub fn assert_rows<M: Medium>(
+    rt: &impl Abort,
+    alloc: Global,
+    medium: &mut M,
+    rows: &[Row],
+) -> Result<(), Fail>
+    requires { (M.state medium.old).awake ≡ true }
+    ensures { OnOk result ((M.state medium.new).awake ≡ true) }
+{
+    for (ask, wanted, pending, failed, count) in rows {
+        let given = answered(rt, alloc, medium, *ask)?;
+        assert_eq!(rt; given, *wanted, "{ask:?}");
+        assert_eq!(rt; medium.pending(), *pending, "{ask:?}");
+        assert_eq!(rt; medium.has_failed(), *failed, "{ask:?}");
+        assert_eq!(rt; medium.count(0), *count, "{ask:?}");
+    }
+    Ok(())
+}
+
+pub const PAST_END: Answer = Answer::Not(MediumError::Refused(Refusal::PastEnd));
+
+static IN_MEMORY: &'static [Row] = &[
+    (Ask::Put(0, 5), Answer::Done, 0, false, 1),
+    (Ask::Marks(1, 2), Answer::Done, 0, false, 3),
+    (Ask::Erase(2), Answer::Done, 0, false, 2),
+    (Ask::Accept(2, Add::Block(9)), Answer::Done, 0, false, 3),
+    (Ask::Marks(4, 1), PAST_END, 0, false, 3),
+    (Ask::Settle, Answer::Done, 0, false, 3),
+    (Ask::Turn, Answer::Turned(Turn::Idle), 0, false, 3),
+    (Ask::Fetch(0, 5), Answer::Done, 0, false, 3),
+    (Ask::Wake, Answer::Done, 0, false, 3),
+    (Ask::Reopen, Answer::Done, 0, false, 3),
+    (Ask::Fetch(2, 9), Answer::Done, 0, false, 3),
+    (Ask::Accept(0, Add::Nothing), Answer::Done, 0, false, 0),
+];
+
+#[test]
+fn a_medium_in_memory_answers(rt: HostRuntime) -> Result<(), Fail> {
+    let alloc = rt.alloc();
+    let mut medium = PlainMedium::new(alloc, &[4_096])?;
+    assert_eq!(rt;
+        (medium.parts(), medium.capacity(0), medium.used(0, 1)),
+        (1, 4_096, 0)
+    );
+    assert_rows(&rt, alloc, &mut medium, IN_MEMORY)
+}

@@ -1,0 +1,98 @@
+//! The text of each help, whole.
+use crate::words::asked;
+use std::test::Fail;
+use vtl_words::WordsError;
+
+const OF_VTL: &str = "\
+A virtual tape library: runs scripts of drive commands over cartridges in files
+
+Usage: vtl <COMMAND>
+
+Commands:
+  run     Runs the script on standard input and prints its answers
+  create  Makes each missing file of a configuration; a file that is there is kept
+  check   Tells what the file of a cartridge or of a drive's reservations holds
+
+Options:
+  -h, --help  Print help
+
+Example:
+  vtl create --config library.toml
+  vtl run --config library.toml < backup.script
+  vtl check t1.tape
+
+Statuses:
+  0  done
+  1  command words, configuration, script or checked file refused
+  2  device, file or stream
+  3  out of memory
+";
+
+const OF_RUN: &str = "\
+Runs the script on standard input and prints its answers
+
+Usage: vtl run [OPTIONS]
+
+Options:
+      --memory         Keeps cartridges and reservations in memory; no file is touched
+      --config <FILE>  The configuration: a TOML file of cartridges and drives
+  -h, --help           Print help
+";
+
+const OF_CREATE: &str = "\
+Makes each missing file of a configuration; a file that is there is kept
+
+Usage: vtl create --config <FILE>
+
+Options:
+      --config <FILE>  The configuration: a TOML file of cartridges and drives
+  -h, --help           Print help
+";
+
+const OF_CHECK: &str = "\
+Tells what the file of a cartridge or of a drive's reservations holds
+
+Usage: vtl check <FILE>
+
+Arguments:
+  <FILE>  The file to look at; it is not changed
+
+Options:
+  -h, --help  Print help
+";
+
+// Lines that ask for help, and its text.
+static HELPS: &'static [(&'static str, &'static str)] = &[
+    ("vtl --help", OF_VTL),
+    ("vtl -h", OF_VTL),
+    ("vtl run --help", OF_RUN),
+    ("vtl create -h", OF_CREATE),
+    ("vtl check --help", OF_CHECK),
+];
+
+#[test]
+fn help_is_told_whole(rt: HostRuntime) -> Result<(), Fail> {
+    for &(line, wanted) in HELPS {
+        let Err(WordsError::Help(text)) = asked(rt.alloc(), line) else {
+            assert!(rt; false, "{line}");
+            return Ok(());
+        };
+        assert_eq!(rt; text.as_str(), wanted, "{line}");
+    }
+    Ok(())
+}
+
+// The lines of the example.
+static EXAMPLES: &'static [&'static str] = &[
+    "vtl create --config library.toml",
+    "vtl run --config library.toml",
+    "vtl check t1.tape",
+];
+
+#[test]
+fn the_example_of_help_is_taken(rt: HostRuntime) {
+    for &line in EXAMPLES {
+        assert!(rt; OF_VTL.contains(line), "{line}");
+        assert!(rt; asked(rt.alloc(), line).is_ok(), "{line}");
+    }
+}

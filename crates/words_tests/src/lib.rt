@@ -1,0 +1,15 @@
+//! The tests of vtl_config and vtl_words.
+#![tactic(auto)]
+
+#[cfg(test)]
+mod cartridges;
+#[cfg(test)]
+mod configs;
+#[cfg(test)]
+mod fullest;
+#[cfg(test)]
+mod helping;
+#[cfg(test)]
+mod orders;
+#[cfg(test)]
+mod words;
