@@ -3,6 +3,7 @@ use crate::samples::{FAULT, SIDE, STORE, block, fetched, found, marks, opened, t
 use cartridge::{Cartridge, CartridgeError, Shelved};
 use known_cartridge::Known;
 use std::alloc::Global;
+use std::process::Abort;
 use std::test::Fail;
 use tape_disk::MemDisk;
 use volume_core::Kind;
@@ -83,28 +84,41 @@ fn the_vector_is_read(rt: HostRuntime) -> Result<(), Fail> {
     Ok(())
 }
 
+// The side with no frames, and with a third frame behind its two.
+const BEGIN: &'static [u8; 36] = b"\xa5VTLCART1\0\x01T00001L6        \0\0\0\0\0\0\x10\0\0";
+
+const WHOLE: &'static [u8; 97] = b"\xa5VTLCART1\0\x01T00001L6        \0\0\0\0\0\0\x10\0\
+    \xa5\0\0\0\x0f\x01\0\0\0\0\0\0\0\0\x05hello\
+    \xa5\0\0\0\x0a\x02\0\0\0\0\x01\0\0\0\x01\
+    \xa5\0\0\0\x15\x02\0\0\0\0\0\0\0\0\x02\x01\0\0\0\0\x01\0\0\0\x01x\
+    \0";
+
+// What stands on the disk of a cartridge that was just made where a longer side stood.
+fn assert_made(rt: &impl Abort, alloc: Global, disk: MemDisk) {
+    match Known::made(alloc, disk, &[4_096]) {
+        Ok(known) => assert_eq!(rt; known.cartridge().disk().bytes(), BEGIN.as_slice()),
+        Err(_) => assert!(rt; false, "not made"),
+    }
+}
+
+// Two marks in the place of the block, and a block behind the first.
+fn store_two(rt: &impl Abort, alloc: Global, known: &mut Known<MemDisk>) -> Result<(), Fail> {
+    let changes = [marks(0, 0, 2), block(alloc, 0, 1, b"x")?];
+    assert_eq!(rt; known.store(alloc, &changes), Ok(()));
+    Ok(())
+}
+
 #[test]
 fn the_vector_is_written(rt: HostRuntime) -> Result<(), Fail> {
     let alloc = rt.alloc();
-    let Ok(known) = Known::made(alloc, MemDisk::from_bytes(alloc, STORE)?, &[4_096]) else {
-        return Err(Fail::from("not made"));
-    };
-    let mut begin = Vec::from_slice(alloc, &SIDE[..35])?;
-    begin.push(0)?;
-    assert_eq!(rt; known.cartridge().disk().bytes(), begin.as_slice());
+    assert_made(&rt, alloc, MemDisk::from_bytes(alloc, STORE)?);
     let mut known = written(alloc)?;
     known.cartridge().known();
     assert_eq!(rt; known.cartridge().disk().bytes(), SIDE.as_slice());
     // Two syncs to make it, one to open it, and two for each frame.
     assert_eq!(rt; known.cartridge().disk().syncs(), 7);
-    assert_eq!(rt;
-        known.store(alloc, &[marks(0, 0, 2), block(alloc, 0, 1, b"x")?]),
-        Ok(())
-    );
-    let mut whole = Vec::from_slice(alloc, &SIDE[..70])?;
-    whole.extend_from_slice(b"\xa5\0\0\0\x15\x02\0\0\0\0\0\0\0\0\x02")?;
-    whole.extend_from_slice(b"\x01\0\0\0\0\x01\0\0\0\x01x\0")?;
-    assert_eq!(rt; known.cartridge().disk().bytes(), whole.as_slice());
+    store_two(&rt, alloc, &mut known)?;
+    assert_eq!(rt; known.cartridge().disk().bytes(), WHOLE.as_slice());
     assert_eq!(rt; known.cartridge().disk().syncs(), 9);
     Ok(())
 }
@@ -131,6 +145,13 @@ fn changed_copies(rt: HostRuntime) -> Result<(), Fail> {
     Ok(())
 }
 
+// A store's side, whole, cut and damaged.
+static STORES: &'static [&'static [u8]] = &[
+    STORE,
+    b"\xa5VTLRESV1\0\0DRIVE1          ",
+    b"\xa5VTLRESV1\0\0DRIVE1          \xa5",
+];
+
 #[test]
 fn every_cut_and_a_store(rt: HostRuntime) -> Result<(), Fail> {
     let alloc = rt.alloc();
@@ -143,10 +164,7 @@ fn every_cut_and_a_store(rt: HostRuntime) -> Result<(), Fail> {
         };
         assert_eq!(rt; found, expected, "cut to {len} bytes");
     }
-    // A store's side, whole, cut and damaged.
-    let mut damaged = *STORE;
-    damaged[27] = 0xa5;
-    for bytes in [STORE.as_slice(), &STORE[..27], damaged.as_slice()] {
+    for &bytes in STORES {
         let found = found(alloc, MemDisk::from_bytes(alloc, bytes)?);
         assert_eq!(rt; found, Err(CartridgeError::NotOurs));
     }

@@ -31,14 +31,14 @@ fn reads_that_fail(rt: HostRuntime) -> Result<(), Fail> {
                 ..Plan::whole()
             };
             let failed = answered(rt.alloc(), TWO_PHASES, plan);
-            let (ended, text, calls) = if call > reads {
+            let (end, text, calls) = if call > reads {
                 (DONE, BOTH_ANSWERS, reads)
             } else if call > first {
                 (Err(ScriptFault::ReadFault), FIRST_ANSWER, call)
             } else {
                 (Err(ScriptFault::ReadFault), NO_ANSWER, call)
             };
-            assert_eq!(rt; failed.end, ended, "read {call} of {reads}");
+            assert_eq!(rt; failed.end, end, "read {call} of {reads}");
             assert_eq!(rt;
                 failed.text.as_slice(),
                 joined(rt.alloc(), text)?.as_slice()
