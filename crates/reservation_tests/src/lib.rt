@@ -1,0 +1,5 @@
+//! The tests of pr_core.
+#![tactic(auto)]
+
+#[cfg(test)]
+mod reservations;
