@@ -39,8 +39,8 @@ pub fn cartridge(alloc: Global, barcode: &[u8], fails: u64) -> Result<Shelved<Di
     }
 }
 
-// The new store of a drive.
-fn store(alloc: Global, number: DriveNo) -> Result<AptplStore<Disk>, Fail>
+/// The new store of a drive.
+pub fn store(alloc: Global, number: DriveNo) -> Result<AptplStore<Disk>, Fail>
     ensures { IfOk result (λ store. store.states ≡ []) }
 {
     match AptplStore::create(alloc, OnceDisk::new(MemDisk::new(alloc), NEVER), number) {
@@ -49,8 +49,8 @@ fn store(alloc: Global, number: DriveNo) -> Result<AptplStore<Disk>, Fail>
     }
 }
 
-// A drive with nothing in it.
-fn add_drive(alloc: Global, held: &mut Held<Disk>, number: u8) -> Result<(), Fail> {
+/// Adds a drive with nothing in it.
+pub fn add_drive(alloc: Global, held: &mut Held<Disk>, number: u8) -> Result<(), Fail> {
     let Some(number) = DriveNo::new(number) else {
         return Err(Fail::from("no drive"));
     };

@@ -1,0 +1,144 @@
+//! All sixteen drives of a library, a drive whose cartridge is taken out, and a library in another thread.
+use crate::samples::{
+    Answer, Disk, GOOD, NEVER, add_drive, asks, cartridge, is_answer, library, store,
+};
+use library::{Bay, Held, Parked};
+use pr_core::Reservations;
+use scsi_sense::Status;
+use std::alloc::Global;
+use std::process::Abort;
+use std::test::Fail;
+use std::thread;
+use std::thread::Threads;
+use tape_disk::Disk as TapeDisk;
+use vtl_base::{DriveNo, Nexus};
+
+const READY: &'static [u8] = &[0; 6];
+
+const POWERED_ON: Answer = (Status::Check, 6, 0x29, 0);
+
+const MEDIUM_CHANGED: Answer = (Status::Check, 6, 0x28, 0);
+
+const NOT_PRESENT: Answer = (Status::Check, 2, 0x3a, 0);
+
+// A drive that is just switched on, with a new cartridge of this barcode in it.
+fn loaded(alloc: Global, number: u8, barcode: &[u8]) -> Result<Bay<Disk>, Fail> {
+    let Some(number) = DriveNo::new(number) else {
+        return Err(Fail::from("no drive"));
+    };
+    let store = store(alloc, number)?;
+    let parked = Parked::of(alloc, cartridge(alloc, barcode, NEVER)?);
+    match Bay::power_on(alloc, store, Reservations::empty(), Some(parked)) {
+        Ok(bay) => Ok(bay),
+        Err(_) => Err(Fail::from("not switched on")),
+    }
+}
+
+// Drives 1 to 16, a cartridge in slot 1001, and another one that drive 16 was switched on with.
+fn with_all_drives(alloc: Global) -> Result<Held<Disk>, Fail> {
+    let mut held = library(alloc, NEVER)?;
+    for number in 3..16 {
+        add_drive(alloc, &mut held, number)?;
+    }
+    let Some(last) = DriveNo::new(16) else {
+        return Err(Fail::from("no drive"));
+    };
+    match held.install(last, loaded(alloc, 16, b"T00016L6")?) {
+        Ok(()) => Ok(held),
+        Err(_) => Err(Fail::from("not installed")),
+    }
+}
+
+// The cartridge of slot 1001 goes into the drive and out of it again, and the host is told so.
+fn visits(rt: &impl Abort, held: &mut Held<Disk>, number: u8) {
+    let place = (1, number);
+    asks(rt, held, place, READY, b"", POWERED_ON);
+    asks(rt, held, place, READY, b"", NOT_PRESENT);
+    is_answer(rt, &held.move_medium(1001, number as u32), GOOD, 0);
+    asks(rt, held, place, READY, b"", MEDIUM_CHANGED);
+    asks(rt, held, place, READY, b"", GOOD);
+    is_answer(rt, &held.move_medium(number as u32, 1001), GOOD, 1);
+    asks(rt, held, place, READY, b"", NOT_PRESENT);
+}
+
+#[test]
+fn a_library_of_sixteen_drives(rt: HostRuntime) -> Result<(), Fail> {
+    let mut held = with_all_drives(rt.alloc())?;
+    for number in 1..16 {
+        visits(&rt, &mut held, number);
+    }
+    asks(&rt, &mut held, (1, 16), READY, b"", POWERED_ON);
+    asks(&rt, &mut held, (1, 16), READY, b"", GOOD);
+    is_answer(&rt, &held.move_medium(16, 1016), GOOD, 2);
+    assert!(rt; held.slot(1016).is_some());
+    is_answer(&rt, &held.move_medium(1001, 16), GOOD, 3);
+    asks(&rt, &mut held, (1, 16), READY, b"", MEDIUM_CHANGED);
+    asks(&rt, &mut held, (1, 16), READY, b"", GOOD);
+    Ok(())
+}
+
+// A host's command is answered with this status and these bytes.
+fn tells<D: TapeDisk>(rt: &impl Abort, bay: &mut Bay<D>, cdb: &[u8], sent: &[u8], told: &[u8]) {
+    let host = Nexus::new(1).expect(rt, "a nexus");
+    let reply = bay.execute(host, cdb, sent);
+    assert_eq!(rt; reply.status, Status::Good);
+    assert_eq!(rt; reply.bytes.as_slice(), told);
+}
+
+#[test]
+fn a_cartridge_is_closed_and_taken_back(rt: HostRuntime) -> Result<(), Fail> {
+    let alloc = rt.alloc();
+    let mut bay = loaded(alloc, 1, b"T00001L6")?;
+    let host = Nexus::new(1).expect(&rt, "a nexus");
+    is_answer(&rt, &bay.execute(host, READY, b""), POWERED_ON, 0);
+    tells(&rt, &mut bay, &[0x0a, 0, 0, 0, 5, 0], b"hello", b"");
+    let Ok(parked) = bay.unload() else {
+        return Err(Fail::from("not unloaded"));
+    };
+    let shelved = parked.into_shelved();
+    assert!(rt; bay.is_empty());
+    if bay.load(Parked::of(alloc, shelved)).is_err() {
+        return Err(Fail::from("not loaded"));
+    }
+    is_answer(&rt, &bay.execute(host, READY, b""), MEDIUM_CHANGED, 1);
+    tells(&rt, &mut bay, &[0x08, 0, 0, 0, 5, 0], b"", b"hello");
+    Ok(())
+}
+
+// Drive 1 is asked in another thread whether it is ready, and the library is given back with the status.
+fn asked_elsewhere<D: TapeDisk + Drop + Send, R: Threads>(
+    rt: &R,
+    held: Held<D>,
+    host: Nexus,
+    drive: DriveNo,
+) -> (Held<D>, Option<Status>) {
+    let (asked, ()) = thread::join(
+        rt,
+        move || {
+            let mut held = held;
+            let mut status = None;
+            if held.configured(drive) {
+                status = Some(held.command(host, drive, READY, b"").status);
+            }
+            (held, status)
+        },
+        || (),
+    );
+    asked
+}
+
+#[test]
+fn a_library_in_another_thread(rt: HostRuntime) -> Result<(), Fail> {
+    let held = library(rt.alloc(), NEVER)?;
+    let host = Nexus::new(1).expect(&rt, "a nexus");
+    let drive = DriveNo::new(1).expect(&rt, "a drive");
+    let (held, first) = asked_elsewhere(&rt, held, host, drive);
+    let (held, second) = asked_elsewhere(&rt, held, host, drive);
+    assert_eq!(rt; (first, second), (Some(Status::Check), Some(Status::Check)));
+    let mut held = held;
+    is_answer(&rt, &held.move_medium(1001, 1), GOOD, 0);
+    let (held, told) = asked_elsewhere(&rt, held, host, drive);
+    let (_, ready) = asked_elsewhere(&rt, held, host, drive);
+    assert_eq!(rt; (told, ready), (Some(Status::Check), Some(Status::Good)));
+    Ok(())
+}
