@@ -140,6 +140,12 @@ EDITS = [
      "        Some(text) => match String::from_str(alloc, text) {",
      "        Some(text) if text.len() > 255 => Err(NoMemory),\n"
      "        Some(text) => match String::from_str(alloc, text) {", ["long_names_are_names"]),
+    ("a cartridge that is moved into a drive behind the second is want of memory", "library", "src/moves.rt",
+     "        ensures { LoadsAt D.state self.old address cartridge result self.new }\n    {\n",
+     "        ensures { LoadsAt D.state self.old address cartridge result self.new }\n    {\n"
+     "        if address > 2 {\n"
+     "            return Err((cartridge, check(self.alloc, Sense::insufficient_resources())));\n        }\n",
+     ["a_library_of_sixteen_drives"]),
     ("help of another text is written", "vtl", "src/orders.rt", "        Err(error) => answer_words(error, writer),",
      "        Err(WordsError::Help(_)) => answer_words(WordsError::Help(String::new(alloc)), writer),\n"
      "        Err(error) => answer_words(error, writer),", ["help_is_written_as_it_was_given"]),
