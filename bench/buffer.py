@@ -1,12 +1,14 @@
 #!/usr/bin/env python3
-"""Speed of a drive in buffered mode over a cartridge on a disk in memory, and the syncs that its writes take. Best of five runs."""
+"""Speed of a drive in buffered mode over a cartridge on a disk in memory, and the syncs that its writes take. Best of
+five runs."""
 import os
 import subprocess
 import sys
 
 TOP = os.path.dirname(os.path.dirname(os.path.abspath(__file__)))
 PROGRAM = os.path.join(TOP, "crates", "buffer_bench", "out", "buffer_bench")
-# records that wait at most, the 65,536 bytes of a block in it as often as 4,194,304 bytes have room for, and the syncs of a frame
+# records that wait at most, the 65,536 bytes of a block in it as often as 4,194,304 bytes have room for, and the syncs
+# of a frame
 WAIT, SYNCS = 64, 2
 
 
@@ -28,8 +30,8 @@ def best(word, count, wanted=None):
 
 
 def frames_of(count, group):
-    """Frames that so many writes of one block make, with a filemark behind each group, which stores what waits with it: the one
-    that comes with 64 waiting finds them stored."""
+    """Frames that so many writes of one block make, with a filemark behind each group, which stores what waits with it:
+    the one that comes with 64 waiting finds them stored."""
     frames = waiting = 0
     for i in range(count):
         if waiting == WAIT:
@@ -48,8 +50,8 @@ def main():
     count, size, group = 4_096, 65_536, 1_024
     frames = frames_of(count, group)
     seconds = best("blocks", count, frames * SYNCS)
-    print(f"{count:,} buffered WRITEs of {size:,} bytes, a filemark each {group:,}: {seconds:.3f} s, {count * size / 1e6 / seconds:.0f} MB/s, "
-          f"{frames * SYNCS} syncs for {frames} frames")
+    print(f"{count:,} buffered WRITEs of {size:,} bytes, a filemark each {group:,}: {seconds:.3f} s, "
+          f"{count * size / 1e6 / seconds:.0f} MB/s, {frames * SYNCS} syncs for {frames} frames")
     seconds = best("copy", count)
     print(f"a plain copy of the same bytes: {seconds:.3f} s, {count * size / 1e6 / seconds:.0f} MB/s")
     for count in (64, 1_000_000):
@@ -59,8 +61,8 @@ def main():
               f"{frames * SYNCS:,} syncs for {frames:,} frames")
     count = 100_000
     seconds = best("marks", count, count * SYNCS)
-    print(f"{count:,} times a WRITE of one byte and WRITE FILEMARKS of one: {seconds:.3f} s, {seconds / count * 1e9:.0f} ns a pair, "
-          f"{count * SYNCS:,} syncs for {count:,} frames")
+    print(f"{count:,} times a WRITE of one byte and WRITE FILEMARKS of one: {seconds:.3f} s, "
+          f"{seconds / count * 1e9:.0f} ns a pair, {count * SYNCS:,} syncs for {count:,} frames")
 
 
 main()

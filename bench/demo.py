@@ -1,6 +1,6 @@
 #!/usr/bin/env python3
-"""Shows the commands of README's first page in a new folder, by a program that is built without its proofs, and compares what they
-print with the examples' expected answers."""
+"""Shows the commands of README's first page in a new folder, by a program that is built without its proofs, and
+compares what they print with the examples' expected answers."""
 import os
 import shutil
 import subprocess
@@ -28,7 +28,9 @@ def step(room, words, script, expected):
     done = subprocess.run([unproved.STARTED, *words.split()], cwd=room, input=given, stdout=subprocess.PIPE)
     print(done.stdout.decode(errors="replace"), end="", flush=True)
     wanted = stored(expected)
-    return done.returncode == 0 and done.stdout == (wanted.partition(b"\n")[2] if expected.endswith(".check") else wanted)
+    if expected.endswith(".check"):
+        wanted = wanted.partition(b"\n")[2]
+    return done.returncode == 0 and done.stdout == wanted
 
 
 def main():

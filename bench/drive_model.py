@@ -1,5 +1,5 @@
-"""What drives, cartridges and reservations answer to well-formed commands, as docs/FORMATS.md says it: a second way to the
-same answers, from which kills.py knows what a library that was stopped may hold."""
+"""What drives, cartridges and reservations answer to well-formed commands, as docs/FORMATS.md says it: a second way to
+the same answers, from which kills.py knows what a library that was stopped may hold."""
 import copy
 
 POWER_ON, MEDIUM, CLEARED, PREEMPTED, RELEASED, MODE = 0x2900, 0x2800, 0x2A03, 0x2A05, 0x2A04, 0x2A01
@@ -156,7 +156,8 @@ class Drive:
             self.told[host].add(attention)
 
     def execute(self, host, block, sent=b""):
-        """The answer; whether it acknowledges everything accepted; whether it acknowledges an order to the reservations."""
+        """The answer; whether it acknowledges everything accepted; whether it acknowledges an order to the
+        reservations."""
         due = next((it for it in ORDER if it in self.told[host]), None)
         if due:
             self.told[host].remove(due)

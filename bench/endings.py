@@ -1,11 +1,13 @@
 #!/usr/bin/env python3
 """Runs the built program to each of its endings, and compares status, standard output and standard error.
 
-Done; a bad line; a reader that fails (a folder); a writer that fails (a full device, a closed pipe); words and configurations that
-are refused, files that are missing, that can't be written (and are gone again), and full devices under create and check; checked files
-that hold no side, a damaged one or a bad record, whose line says so; memory that runs out, by
-limits of the system over a range: at each at which a script of no line ends well a long one does so too, or memory runs out
-in the program or in the command, and at some it does. But for --short, a script of 2,147,483,648 bytes, and one of a byte more."""
+Done; a bad line; a reader that fails (a folder); a writer that fails (a full device, a closed pipe); words and
+configurations that are refused, files that are missing, that can't be written (and are gone again), and full devices
+under create and check; a standard output that is closed from the start, of which nothing may land in a file; files that
+a run in another process has open, which goes on; checked files that hold no side, a damaged one or a bad record, whose
+line says so; memory that runs out, by limits of the system over a range: at each at which a script of no line ends well
+a long one does so too, or memory runs out in the program or in the command, and at some it does. But for --short, a
+script of 2,147,483,648 bytes, and one of a byte more."""
 import os
 import resource
 import signal
@@ -34,7 +36,8 @@ def ended(script, stdin=None, stdout=None, memory=None):
     """Status, standard output and standard error; stdin and stdout are files in the place of pipes."""
     limited = (lambda: resource.setrlimit(resource.RLIMIT_AS, (memory, memory))) if memory else None
     given = {"input": script} if stdin is None else {"stdin": stdin}
-    done = subprocess.run([PROGRAM, "run"], stdout=stdout or subprocess.PIPE, stderr=subprocess.PIPE, preexec_fn=limited, **given)
+    done = subprocess.run([PROGRAM, "run"], stdout=stdout or subprocess.PIPE, stderr=subprocess.PIPE,
+                          preexec_fn=limited, **given)
     return done.returncode, done.stdout or b"", done.stderr
 
 
@@ -54,13 +57,18 @@ def ended_on(size):
     return child.wait(), out, said
 
 
+RUN, CREATE = ["run", "--config", "lib.toml"], ["create", "--config", "lib.toml"]
 CONFIG = b"""cartridge = [{ barcode = "T00001L6", file = "t1.tape", capacities = [4096], home = 1 }]
 drive = [{ number = 1, reservations = "d1.pr" }]
 """
+# the sides of these files as they are made
+NEW = {"t1.tape": b"\xa5VTLCART1\0\x01T00001L6" + b" " * 8 + (4096).to_bytes(8, "big") + b"\0",
+       "d1.pr": b"\xa5VTLRESV1\0\0DRIVE1" + b" " * 10 + b"\0"}
 
 
 def ended_in(room, words, stdout=None, size=None):
-    """Status, standard output, standard error and the files of a run in this folder; no file may be longer than that size."""
+    """Status, standard output, standard error and the files of a run in this folder; no file may be longer than that
+    size."""
     def limit():
         signal.signal(signal.SIGXFSZ, signal.SIG_IGN)
         resource.setrlimit(resource.RLIMIT_FSIZE, (size, size))
@@ -74,23 +82,68 @@ def over_files(full):
     with tempfile.TemporaryDirectory(prefix="vtl-endings-") as room:
         with open(os.path.join(room, "lib.toml"), "wb") as file:
             file.write(CONFIG)
-        create, refused = ["create", "--config", "lib.toml"], b"vtl: command line refused\n"
+        refused = b"vtl: command line refused\n"
         made, tape = ["d1.pr", "lib.toml", "t1.tape"], os.path.join(room, "t1.tape")
         rows = [
             ("a word that is none", (1, b"", refused, ["lib.toml"]), ended_in(room, ["walk"])),
             ("a word that is no text", (1, b"", refused, ["lib.toml"]), ended_in(room, [b"run", b"--config", b"\xff"])),
-            ("files that are missing", (2, b"", DEVICE, ["lib.toml"]), ended_in(room, ["run", "--config", "lib.toml"])),
-            ("a cartridge that can't be made is gone again", (2, b"", DEVICE, ["lib.toml"]), ended_in(room, create, size=20)),
+            ("files that are missing", (2, b"", DEVICE, ["lib.toml"]), ended_in(room, RUN)),
+            ("a cartridge that can't be made is gone again", (2, b"", DEVICE, ["lib.toml"]),
+             ended_in(room, CREATE, size=20)),
         ]
         with open(tape, "wb") as file:
             file.write(b"mine")
-        rows.append(("so is a store", (2, b"kept T00001L6\n", DEVICE, ["lib.toml", "t1.tape"]), ended_in(room, create, size=20)))
+        rows.append(("so is a store", (2, b"kept T00001L6\n", DEVICE, ["lib.toml", "t1.tape"]),
+                     ended_in(room, CREATE, size=20)))
         os.remove(tape)
-        rows.append(("a full device for create", (2, b"", DEVICE, ["lib.toml", "t1.tape"]), ended_in(room, create, stdout=full)))
-        rows.append(("create goes on", (0, b"kept T00001L6\ncreated DRIVE1\n", b"", made), ended_in(room, create)))
-        rows.append(("a full device for check", (2, b"", DEVICE, made), ended_in(room, ["check", "t1.tape"], stdout=full)))
-        rows.append(("a script over files", (0, b"", b"", made), ended_in(room, ["run", "--config", "lib.toml"])))
-        return rows + refused_files(room, made)
+        rows.append(("a full device for create", (2, b"", DEVICE, ["lib.toml", "t1.tape"]),
+                     ended_in(room, CREATE, stdout=full)))
+        rows.append(("create goes on", (0, b"kept T00001L6\ncreated DRIVE1\n", b"", made), ended_in(room, CREATE)))
+        rows.append(("a full device for check", (2, b"", DEVICE, made),
+                     ended_in(room, ["check", "t1.tape"], stdout=full)))
+        rows.append(("a script over files", (0, b"", b"", made), ended_in(room, RUN)))
+        return rows + closed_output() + files_in_use(room) + refused_files(room, made)
+
+
+def ended_closed(room, words):
+    """Status, standard error and what each file holds, of a run whose standard output is closed from the start."""
+    done = subprocess.run([PROGRAM, *words], cwd=room, input=PHASE, stderr=subprocess.PIPE,
+                          preexec_fn=lambda: os.close(1))
+    sides = {}
+    for name in sorted(os.listdir(room)):
+        with open(os.path.join(room, name), "rb") as file:
+            sides[name] = file.read()
+    return done.returncode, done.stderr, sides
+
+
+def closed_output():
+    """Endings with a standard output that is closed: the first file that is opened then has its number."""
+    with tempfile.TemporaryDirectory(prefix="vtl-endings-") as room:
+        with open(os.path.join(room, "lib.toml"), "wb") as file:
+            file.write(CONFIG)
+        tape = {"lib.toml": CONFIG, "t1.tape": NEW["t1.tape"]}
+        rows = [("a closed output for create", (2, DEVICE, tape), ended_closed(room, CREATE)),
+                ("a closed output for a file that is kept", (2, DEVICE, tape), ended_closed(room, CREATE))]
+        ended_in(room, CREATE)
+        return rows + [("a closed output for run", (2, DEVICE, {**tape, **NEW}), ended_closed(room, RUN)),
+                       ("a closed output for check", (2, DEVICE, {**tape, **NEW}),
+                        ended_closed(room, ["check", "t1.tape"]))]
+
+
+def files_in_use(room):
+    """Endings over files that a run has open in another process, and the end of that run."""
+    made = sorted(os.listdir(room))
+    first = subprocess.Popen([PROGRAM, *RUN], cwd=room, stdin=subprocess.PIPE, stdout=subprocess.PIPE,
+                             stderr=subprocess.PIPE)
+    first.stdin.write(PHASE)
+    first.stdin.flush()
+    told = first.stdout.readline()
+    rows = [(f"{what} that another process has open", (2, b"", DEVICE, made), ended_in(room, words))
+            for what, words in (("a run over files", RUN), ("a check of a cartridge", ["check", "t1.tape"]),
+                                ("a check of a store", ["check", "d1.pr"]))]
+    rest, said = first.communicate(READY)
+    return rows + [("the process that has them open", (0, ATTENTION + b"GOOD\n", b""),
+                    (first.returncode, told + rest, said))]
 
 
 def refused_files(room, made):
@@ -100,7 +153,8 @@ def refused_files(room, made):
             file.write(content)
         return sorted({*made, name})
     refused, rows = b"vtl: configuration refused\n", []
-    for what, content in (("no UTF-8", b"\xff"), ("no TOML", b"drive"), ("a drive that is not listed", CONFIG.replace(b"number = 1", b"number = 2"))):
+    for what, content in (("no UTF-8", b"\xff"), ("no TOML", b"drive"),
+                          ("a drive that is not listed", CONFIG.replace(b"number = 1", b"number = 2"))):
         there = file_of("bad.toml", content)
         for word in ("run", "create"):
             rows.append((f"{word} over a configuration that is {what}", (1, b"", refused, there),

@@ -1,10 +1,10 @@
 #!/usr/bin/env python3
 """Runs the examples in a fresh folder, in their order, each over the files that those before it left, and compares.
 
-`vtl create` must print create.expected, and the same with `kept` when it is asked again. Each NAME.script must write the bytes of
-NAME.expected and nothing on standard error, with status 0; where there is a NAME.ends, its first line is the status and the rest
-standard error. Then each command of NAME.check, a line `$ vtl WORDS`, must print the lines below it, and write no file; nor may the
-second `create`. --program PATH: another program than the proved one."""
+`vtl create` must print create.expected, and the same with `kept` when it is asked again. Each NAME.script must write
+the bytes of NAME.expected and nothing on standard error, with status 0; where there is a NAME.ends, its first line is
+the status and the rest standard error. Then each command of NAME.check, a line `$ vtl WORDS`, must print the lines
+below it, and write no file; nor may the second `create`. --program PATH: another program than the proved one."""
 import argparse
 import os
 import shutil
@@ -38,7 +38,8 @@ class Library:
 
     def ended(self, words, given=b""):
         """Status, standard output and standard error."""
-        done = subprocess.run([self.program, *words], cwd=self.room, input=given, stdout=subprocess.PIPE, stderr=subprocess.PIPE)
+        done = subprocess.run([self.program, *words], cwd=self.room, input=given, stdout=subprocess.PIPE,
+                              stderr=subprocess.PIPE)
         return done.returncode, done.stdout, done.stderr
 
     def touch_nothing(self, what, wanted, words):

@@ -1,10 +1,10 @@
-// Stands before the C library (LD_PRELOAD), for faults.py and stops.py. It lets one call of a program end otherwise: of the
-// kind that FAULTS names the FAULTS_AT-th. "memory": no memory is given. "fault": a call for a file or a stream fails (EIO).
-// "interrupted": it fails once (EINTR). "short": of several bytes one is read or written. "lost": a write at a place is said to be
-// done, and is not. Without FAULTS_AT none does.
-// The file that FAULTS_TOLD names is told how many calls of the kind there were, and the name of the one. To the file that
-// FAULTS_NOTES names each call is added that did something to a file or to standard output: a letter, the last part of the
-// file's name, a place, how many bytes; then the bytes.
+// Stands before the C library (LD_PRELOAD), for faults.py and stops.py. It lets one call of a program end otherwise: of
+// the kind that FAULTS names the FAULTS_AT-th. "memory": no memory is given. "fault": a call for a file or a stream
+// fails (EIO). "interrupted": it fails once (EINTR). "short": of several bytes one is read or written. "lost": a write
+// at a place is said to be done, and is not. Without FAULTS_AT none does.
+// The file that FAULTS_TOLD names is told how many calls of the kind there were, and the name of the one. To the file
+// that FAULTS_NOTES names each call is added that did something to a file or to standard output: a letter, the last
+// part of the file's name, a place, how many bytes; then the bytes.
 #define _GNU_SOURCE
 #include <errno.h>
 #include <fcntl.h>

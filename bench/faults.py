@@ -1,18 +1,23 @@
 #!/usr/bin/env python3
 """Lets each call that the proved programs make of the system end otherwise, in turn, over real files.
 
-For help, vtl create, vtl check, vtl run and the stored run in memory, by a file that stands before the C library (faults.c, which takes
-`cc`): each growth gets no memory; each call for a file or a stream fails; each is interrupted; each read or write moves one byte.
+For help, vtl create, vtl check, vtl run and the stored run in memory, by a file that stands before the C library
+(faults.c, which takes `cc`): each growth gets no memory; each call for a file or a stream fails; each is interrupted;
+each read or write moves one byte.
 
-Interruptions and short moves change nothing. Where a call fails or memory runs out the program ends with its status and line behind a
-beginning of its lines, or commands end, or nothing changes; but none that reads, writes, cuts, syncs, opens or locks a file is passed
-over. Each cartridge then holds what a first part of the accepted changes leaves, with all up to the last acknowledged synchronizing
-command, and all of them at status 0 where none of its commands failed; the reservations are those of a first part of the orders, with
-each acknowledged one; what create told of is there, each file that is there is whole, and it goes on; check changes no byte. In the
-stored run one command at most is ended by want of memory, and has its stored answer when it is given again. The journal, the cartridge
+Interruptions and short moves change nothing. Where a call fails or memory runs out the program ends with its status and
+line behind a beginning of its lines, or commands end, or nothing changes; but none that reads, writes, cuts, syncs,
+opens or locks a file is passed over. Of vtl run the first answer that differs is one that such a failure may give, at a
+command that can meet it, each later one is what follows from that, and so is the status; where no answer tells of the
+failure, what was written is a beginning of the right answers. Each cartridge then holds what a first part of the
+accepted changes leaves, with all up to the last acknowledged synchronizing command, and all of them at status 0 where
+none of its commands failed; the reservations are those of a first part of the orders, with each acknowledged one; what
+create told of is there, each file that is there is whole, and it goes on; check changes no byte. In the stored run one
+command at most is ended by want of memory, and has its stored answer when it is given again. The journal, the cartridge
 and the buffer, in memory, end with status 1 (their words) or 2 behind some of their stored answers, or change nothing.
 
---program PATH another program than the proved one; --selftest: writes are lost behind the program's back, which must be found."""
+--program PATH another program than the proved one; --selftest: writes are lost behind the program's back, which must be
+found, and so must invented answers."""
 import argparse
 import collections
 import concurrent.futures
@@ -22,52 +27,24 @@ import subprocess
 import sys
 import tempfile
 
-from drive_model import MARK, check, good
-from kills import LONGEST, PROVED, TOP, objects_of
+import fault_invented
+from drive_model import MARK
+from fault_script import (ABORTED, ANSWERED, FIRST, HAS_FAILED, NOT_PRESENT, RESERVED, RIGHT, SCRIPT, SECOND, STATUS,
+                          WRITE_ERROR, misanswered)
+from life import LONGEST, PROVED, TOP, objects_of
 
-FIRST, SECOND, STORE = "T00001L6", "T00002L6", "DRIVE1"
+STORE = "DRIVE1"
 FILES = {FIRST: "1.tape", SECOND: "2.tape", STORE: "drive1.pr"}
-CONFIG = "".join(f'[[cartridge]]\nbarcode = "{name}"\nfile = "{FILES[name]}"\ncapacities = [65_536]\nhome = {home}\n'
+CONFIG = "".join(f'[[cartridge]]\nbarcode = "{name}"\nfile = "{FILES[name]}"\n'
+                 f"capacities = [65_536]\nhome = {home}\n"
                  for name, home in [(FIRST, 1), (SECOND, 1001)]) + "[[drive]]\nnumber = 1\nreservations = "
 NEW = {name: f"cartridge {name} partitions 1 frames 0\npartition 0 objects 0 used 0\n" for name in (FIRST, SECOND)}
 NEW[STORE] = "reservations DRIVE1 frames 0 registrations 0\n"
-STATUS = {"fault": (2, "vtl: device fault\n"), "memory": (3, "vtl: out of memory\n")}
 WORKS = ["journal_bench", "cartridge_bench", "buffer_bench"]
-ABORTED, NOT_PRESENT, WRITE_ERROR, HAS_FAILED = check(0xB, 0x5503), check(2, 0x3A00), check(3, 0x0C00), check(4, 0x4400)
 # calls of which the program needs no answer: where standard input stands, and a file's length as a hint
 HARMLESS = ("lseek", "statx")
 READY, READ = "64 1 000000000000\n", f"64 1 {LONGEST.hex()}\n"
 
-# A line of the script and its answer. What it does to the cartridge that is loaded: the objects that it adds, and whether all is
-# stored then; which cartridge is loaded behind it; whether it is an order to the reservations.
-Line = collections.namedtuple("Line", "text answer adds stores loads orders", defaults=[good(), [], False, False, False])
-
-
-def order(action, own, new, kind):
-    return Line(f"1 1 5f{action:02x}{kind:02x}00000000001800 {own:016x}{new:016x}0000000001000000", orders=True)
-
-
-def write(block):
-    return Line(f"1 1 0a00{len(block):06x}00 {block.hex()}", adds=[block])
-
-
-MARKED = Line("1 1 100000000100", adds=[MARK], stores=True)
-LATER = Line("1 1 100100000100", adds=[MARK])
-STORED = Line("1 1 100000000000", stores=True)
-PHASE = Line("--", None)
-SCRIPT = [
-    Line("1 1 000000000000", check(6, 0x2900)), order(0, 0, 0xA1, 0),
-    *[write(bytes([65 + at]) * (1 + 700 * at)) for at in range(5)], MARKED, PHASE,
-    *[write(b"second phase %d" % at) for at in range(3)], LATER, write(b"before a store"), STORED, write(b"not marked"),
-    Line("move 1 1002", stores=True, loads=None), Line("move 1001 1", loads=SECOND),
-    Line("1 1 000000000000", check(6, 0x2800)), write(b"on another cartridge"), MARKED, PHASE,
-    write(b"at the end"), order(1, 0xA1, 0, 5), LATER,
-]
-ANSWERED = [line for line in SCRIPT if line.answer]
-# what is answered to READ KEYS and READ RESERVATION after none, one and both of the orders
-KEY = bytes(7) + b"\xa1"
-RESERVED = [(good(bytes(8)), good(bytes(8))), (good(bytes(7) + b"\x08" + KEY), good(bytes(8))),
-            (good(bytes(7) + b"\x08" + KEY), good(bytes(7) + b"\x10" + KEY + bytes(5) + b"\x05" + bytes(2)))]
 Run = collections.namedtuple("Run", "status out err calls name")
 
 
@@ -97,8 +74,8 @@ class Room:
         with tempfile.TemporaryFile() as given:
             given.write(script.encode())
             given.seek(0)
-            done = subprocess.run([self.program, *words], cwd=self.path, stdin=given, stdout=subprocess.PIPE, stderr=subprocess.PIPE,
-                                  env={**os.environ, **more}, timeout=60)
+            done = subprocess.run([self.program, *words], cwd=self.path, stdin=given, stdout=subprocess.PIPE,
+                                  stderr=subprocess.PIPE, env={**os.environ, **more}, timeout=60)
         calls, name = content(told).decode().split() if kind else (0, "")
         return Run(done.returncode, done.stdout.decode(), done.stderr.decode(), int(calls), name)
 
@@ -117,8 +94,10 @@ def create(room, kind, at):
     there, done, wrong = room.sides(), run[:3] == (0, wanted, ""), []
     if not done and not fails(kind, wanted, run):
         wrong.append("its end")
-    wrong += [f"{name} was told as created" for name in FILES if there[name] is None and f"created {name}\n" in run.out]
-    if room.run(words)[:3] != (0, "".join(f"{'created' if there[name] is None else 'kept'} {name}\n" for name in FILES), ""):
+    missing = [name for name in FILES if there[name] is None]
+    wrong += [f"{name} was told as created" for name in missing if f"created {name}\n" in run.out]
+    goes_on = "".join(f"{'created' if name in missing else 'kept'} {name}\n" for name in FILES)
+    if room.run(words)[:3] != (0, goes_on, ""):
         wrong.append("create does not go on")
     wrong += [f"{name} is not whole" for name in FILES if room.run(["check", FILES[name]])[:3] != (0, NEW[name], "")]
     return run, "nothing" if done else "the program", wrong
@@ -146,10 +125,9 @@ def look(name):
 def serve(room, kind, at):
     run = room.run(["run", "--config", "lib.toml"], "".join(line.text + "\n" for line in SCRIPT), kind, at)
     answers = run.out.split("\n")[:-1]
-    ended = run.status == 0 and not run.err and len(answers) == len(ANSWERED)
-    same = ended and all(answer == line.answer for answer, line in zip(answers, ANSWERED))
-    wrong = [] if same or ended and kind in STATUS or (run.status, run.err) == STATUS.get(kind) else ["its end"]
-    return run, "nothing" if same else "commands" if ended else "the program", wrong + judged(room, kind, answers, ended)
+    ended = (run.status, run.err, len(answers)) == (0, "", len(ANSWERED))
+    what = "nothing" if ended and answers == RIGHT else "commands" if ended else "the program"
+    return run, what, misanswered(kind, run) + judged(room, kind, answers, ended)
 
 
 def judged(room, kind, answers, ended):
@@ -175,16 +153,18 @@ def judged(room, kind, answers, ended):
         ways, least = [those, tried.get(name, those)], len(those) if ended and name not in tried else stored[name]
         if not any(volumes[name] == way[:count] for way in ways for count in range(least, len(way) + 1)):
             wrong.append(f"{name}: of {brief(those)} are stored {stored[name]}, and there is {brief(volumes[name])}")
-    return wrong + ([] if reserved in RESERVED[orders:] else [f"{orders} orders were done, and there is {reserved}"])
+    return wrong + [f"{orders} orders were done, and there is {reserved}"] * (reserved not in RESERVED[orders:])
 
 
 def brief(objects):
-    return objects and ["mark" if it is MARK else it if len(it) < 24 else f"{it[:1]} {len(it)} times" for it in objects]
+    return objects and ["mark" if it is MARK else it if len(it) < 24 else f"{it[:1]} {len(it)} times"
+                        for it in objects]
 
 
 def read_back(room):
     """What each cartridge holds, and what is answered of the reservations."""
-    seen = room.run(["run", "--config", "lib.toml"], f"{READY}64 1 5e00000000000010ff00\n64 1 5e010000000000001800\n").out
+    asked = f"{READY}64 1 5e00000000000010ff00\n64 1 5e010000000000001800\n"
+    seen = room.run(["run", "--config", "lib.toml"], asked).out
     most = len(ANSWERED)
     found = room.run(["run", "--config", "reader.toml"],
                      READY + READ * most + "move 1 1003\nmove 1001 1\n" + READY * 2 + READ * most).out.split("\n")
@@ -198,8 +178,9 @@ def stored(name, crate="vtl"):
 
 
 def again(room, kind, at):
-    """The stored run, in memory: a command that memory ran out for is given again, and then it has its answer. Where the disk in memory
-    could not grow, that is a device fault: the cartridge is not loaded, or one command fails and then the medium has failed."""
+    """The stored run, in memory: a command that memory ran out for is given again, and then it has its answer. Where
+    the disk in memory could not grow, that is a device fault: the cartridge is not loaded, or one command fails and
+    then the medium has failed."""
     script, wanted = stored("stdin"), stored("stdout")
     run = room.run(["run"], "\n".join(script) + "\n", kind, at)
     answers, text = run.out.splitlines(), "\n".join(wanted) + "\n"
@@ -247,8 +228,8 @@ def sweep(tools, pristine, what, way, kind):
             wrong = wrong + errors
     if ended != "nothing" or not run.calls:
         wrong.append(f"{what} without a refusal: {run}")
-    print(f"{what}, {kind}: of {run.calls} calls {tally['the program']} ended the program, {tally['commands']} commands, "
-          f"{tally['nothing']} nothing", flush=True)
+    print(f"{what}, {kind}: of {run.calls} calls {tally['the program']} ended the program, "
+          f"{tally['commands']} commands, {tally['nothing']} nothing", flush=True)
     return wrong
 
 
@@ -259,13 +240,36 @@ def made(tools, folder):
     for config, store in (("lib", "drive1.pr"), ("reader", "reader1.pr")):
         with open(os.path.join(bare, f"{config}.toml"), "w", encoding="utf-8") as file:
             file.write(f'{CONFIG}"{store}"\n')
-    for path, before, words, script in ((new, bare, ["create"], ""), (used, new, ["run"], "".join(f"{line.text}\n" for line in SCRIPT))):
+    whole = "".join(f"{line.text}\n" for line in SCRIPT)
+    for path, before, words, script in ((new, bare, ["create"], ""), (used, new, ["run"], whole)):
         room = Room(tools, before)
         with room.room:
             for config in ("lib", "reader") if path == new else ("lib",):
                 room.run([*words, "--config", f"{config}.toml"], script)
             shutil.copytree(room.path, path)
     return bare, new, used
+
+
+def selftest(tools, new):
+    """Writes are lost behind the program's back, and ends of runs are invented."""
+    found = sweep(tools, new, "vtl run", serve, "lost")
+    count, misjudged = fault_invented.misjudged()
+    print("\n".join([*found, f"self-test: {len(found)} of these were found wrong", *misjudged,
+                     f"self-test: {count} ends were invented, {len(misjudged)} not judged as they should be"]))
+    return 1 if misjudged or not found else 0
+
+
+def sweeps(tools, bare, new, used):
+    wrong = []
+    for what, way, room in (("vtl --help", tell(["--help"]), bare), ("vtl run --help", tell(["run", "--help"]), bare),
+                            ("vtl create", create, bare), ("vtl check of a cartridge", look(FIRST), used),
+                            ("vtl check of a store", look(STORE), used), ("vtl run", serve, new)):
+        for kind in ("memory", "fault", "interrupted", "short"):
+            wrong += sweep(tools, room, what, way, kind)
+    wrong += sweep(tools, bare, "the stored run", again, "memory")
+    for crate in WORKS:
+        wrong += sweep((built(crate), tools[1]), bare, crate, work(crate), "memory")
+    return wrong
 
 
 def main():
@@ -278,22 +282,13 @@ def main():
         sys.exit(f"{missing[0]} is not there; build the programs first, as make faults does")
     with tempfile.TemporaryDirectory(prefix="vtl-faults-") as folder:
         shim = os.path.join(folder, "faults.so")
-        subprocess.run(["cc", "-O1", "-shared", "-fPIC", "-o", shim, os.path.join(TOP, "bench", "faults.c")], check=True)
+        source = os.path.join(TOP, "bench", "faults.c")
+        subprocess.run(["cc", "-O1", "-shared", "-fPIC", "-o", shim, source], check=True)
         tools = os.path.abspath(said.program), shim
-        bare, new, used = made(tools, folder)
+        rooms = made(tools, folder)
         if said.selftest:
-            found = sweep(tools, new, "vtl run", serve, "lost")
-            print("\n".join([*found, f"self-test: {len(found)} of these were found wrong"]))
-            return 0 if found else 1
-        wrong = []
-        for what, way, room in (("vtl --help", tell(["--help"]), bare), ("vtl run --help", tell(["run", "--help"]), bare),
-                                ("vtl create", create, bare), ("vtl check of a cartridge", look(FIRST), used),
-                                ("vtl check of a store", look(STORE), used), ("vtl run", serve, new)):
-            for kind in ("memory", "fault", "interrupted", "short"):
-                wrong += sweep(tools, room, what, way, kind)
-        wrong += sweep(tools, bare, "the stored run", again, "memory")
-        for crate in WORKS:
-            wrong += sweep((built(crate), shim), bare, crate, work(crate), "memory")
+            return selftest(tools, rooms[1])
+        wrong = sweeps(tools, *rooms)
     print("\n".join([*wrong, f"faults: {len(wrong)} wrong"]))
     return 1 if wrong else 0
 

@@ -1,13 +1,15 @@
 #!/usr/bin/env python3
-"""Runs rt ci on a copy of the repository, from nothing, and prints what each crate cost it, as the table of docs/GATE.md.
+"""Runs rt ci on a copy of the repository, from nothing, and prints what each crate cost it, as the table of
+docs/GATE.md.
 
-gate.py [--log FILE] [CRATE..]         with names: these crates and those below them alone; what rt ci says goes to the file
-gate.py [--log FILE] [--write] --here  runs the gate itself, .ci/run, where it stands; with --write, where it passes, the
-                                       table and the sentence over it go into docs/GATE.md
+gate.py [--log FILE] [CRATE..]         with names: these crates and those below them alone; what rt ci says goes to the
+                                       file
+gate.py [--log FILE] [--write] --here  runs the gate itself, .ci/run, where it stands; with --write, where it passes,
+                                       the table and the sentence over it go into docs/GATE.md
 
-A processor minute is user and system time. The gate's processes are looked at ten times a second, and each belongs to the crate
-that it is told to prove: with the tests, on a copy for an edit, or neither. What is left of the whole time (rt itself, linking,
-the runs of programs and tests, what a process did after the last look) is the row of the rest."""
+A processor minute is user and system time. The gate's processes are looked at ten times a second, and each belongs to
+the crate that it is told to prove: with the tests, on a copy for an edit, or neither. What is left of the whole time
+(rt itself, linking, the runs of programs and tests, what a process did after the last look) is the row of the rest."""
 import os
 import re
 import resource
@@ -144,17 +146,19 @@ def main(words):
         if name not in rows:
             sys.exit(f"{name} is no crate of crates.txt\n\n{__doc__}")
     names = [it for it in rows if it in with_those_below(names or [*rows], rows)]
-    with tempfile.TemporaryDirectory(prefix="gate_") as room, open(path or os.path.join(room, "log"), "w+", encoding="utf-8") as log:
-        place = TOP if is_here else os.path.join(room, "copy")
-        if not is_here:
-            copied(place, names, rows)
-        spent, whole, seconds, said, status = measured([".ci/run"] if is_here else ["rt", "ci"], place, log)
+    with tempfile.TemporaryDirectory(prefix="gate_") as room:
+        with open(path or os.path.join(room, "log"), "w+", encoding="utf-8") as log:
+            place = TOP if is_here else os.path.join(room, "copy")
+            if not is_here:
+                copied(place, names, rows)
+            spent, whole, seconds, said, status = measured([".ci/run"] if is_here else ["rt", "ci"], place, log)
     for line in said:
         if re.search(r"NOT PROVED|NOT REFUSED|BAD EDIT|FAILED", line):
             print(line)
     made = table(names, spent, whole)
     cores = len(os.sched_getaffinity(0))
-    sentence = f"The gate takes {whole / 60:.0f} processor minutes, {seconds / 60:.0f} minutes by the clock on {cores} processors."
+    sentence = (f"The gate takes {whole / 60:.0f} processor minutes, {seconds / 60:.0f} minutes by the clock on "
+                f"{cores} processors.")
     print(f"{made}\n\n{sentence}\n{said[-1] if said else ''}")
     if writes and not status:
         write(made, sentence)

@@ -8,10 +8,12 @@ def main():
     count = 400
     for word in ("append", "copy"):
         seconds, _, memory = best(word, count)
-        print(f"{word} of {count} bodies of 262,144 bytes: {seconds:.3f} s, {count * 262_144 / 1e6 / seconds:.0f} MB/s, {memory / MIB:.0f} MiB")
+        print(f"{word} of {count} bodies of 262,144 bytes: {seconds:.3f} s, "
+              f"{count * 262_144 / 1e6 / seconds:.0f} MB/s, {memory / MIB:.0f} MiB")
     count = 100_000
     seconds, length, memory = best("write", count)
-    print(f"{count} writes of 1,000 bytes, as many of 10 bytes over them, and a sync: {seconds:.3f} s, {memory / length:.2f} bytes of memory a byte of the disk")
+    print(f"{count} writes of 1,000 bytes, as many of 10 bytes over them, and a sync: {seconds:.3f} s, "
+          f"{memory / length:.2f} bytes of memory a byte of the disk")
     for count in (25_000, 50_000, 100_000):
         made, _, before = best("side", count)
         seconds, frames, memory = best("open", count)

@@ -8,8 +8,8 @@ STREAM = {"write": 80, "marks": 14, "mode": 1, "locate": 1}
 
 def configuration(stores):
     drives = "".join(f'[[drive]]\nnumber = {at}\nreservations = "{stores}{at}.pr"\n' for at in (1, 2))
-    return drives + "".join(f'[[cartridge]]\nbarcode = "{name}"\nfile = "{name}.tape"\ncapacities = [1_099_511_627_776]\n'
-                            f"home = {home}\n" for name, home in TAPES.items())
+    return drives + "".join(f'[[cartridge]]\nbarcode = "{name}"\nfile = "{name}.tape"\n'
+                            f"capacities = [1_099_511_627_776]\nhome = {home}\n" for name, home in TAPES.items())
 
 
 class Script:
@@ -79,7 +79,8 @@ class Script:
             return bytes([0x11, chance.randint(0, 1)]) + steps.to_bytes(3, "big") + b"\x00", b""
         if kind == "mode":
             return bytes.fromhex("150000000400"), bytes([0, 0, 16 * (chance.random() < 0.7), 0])
-        blocks = {"end": ["110300000000"], "read": ["080210000000"], "load": ["1b0000000000", "1b0000000100", "1b0000000100"],
+        blocks = {"end": ["110300000000"], "read": ["080210000000"],
+                  "load": ["1b0000000000", "1b0000000100", "1b0000000100"],
                   "other": ["190000000000", "010000000000", "34000000000000000000", "000000000000"]}
         return bytes.fromhex(chance.choice(blocks[kind])), b""
 
@@ -94,4 +95,5 @@ class Script:
         wanted = new if action in (0, 6) else chance.choice([0, 999, *keys.values(), *keys.values()])
         scope = chance.choice([drive.reservations.type or 5, chance.choice([1, 3, 5, 6, 7, 8])])
         flags = bytes([0, 0, 0, 0, chance.random() < 0.8, 0, 0, 0])
-        return bytes([0x5F, action, scope, 0, 0, 0, 0, 0, 24, 0]), own.to_bytes(8, "big") + wanted.to_bytes(8, "big") + flags
+        sent = own.to_bytes(8, "big") + wanted.to_bytes(8, "big") + flags
+        return bytes([0x5F, action, scope, 0, 0, 0, 0, 0, 24, 0]), sent

@@ -1,12 +1,13 @@
 #!/usr/bin/env python3
-"""Speed of the built program over files, beside the raw file in one run; each time is the best of three, taken in turns.
+"""Speed of the built program over files, beside the raw file in one run; each time is the best of three, taken in
+turns.
 
-Appending blocks of 256 KiB with a filemark each 64 MiB, through a script and by a program that calls the library with no script
-between, beside the same bytes written with a sync each 64 MiB; a filemark that is stored before its answer, beside a sync; reading
-back, beside a read of the file; opening a cartridge of 100,000 blocks of 1 KiB, and its memory.
+Appending blocks of 256 KiB with a filemark each 64 MiB, through a script and by a program that calls the library with
+no script between, beside the same bytes written with a sync each 64 MiB; a filemark that is stored before its answer,
+beside a sync; reading back, beside a read of the file; opening a cartridge of 100,000 blocks of 1 KiB, and its memory.
 
-The files lie in a new folder beside the repository's own, or in the one that a word names: a disk that keeps nothing over a loss of power,
-as one in memory, measures no sync."""
+The files lie in a new folder beside the repository's own, or in the one that a word names: a disk that keeps nothing
+over a loss of power, as one in memory, measures no sync."""
 import os
 import subprocess
 import sys
@@ -132,8 +133,8 @@ def blocks(folder):
     group = [(write, GROUP), (mark, 1), (b"--\n", 1)]
     script = scripted(folder, "blocks", [(READY, 1), *group * (COUNT // GROUP)])
     wanted = [(ATTENTION, 1), (b"GOOD\n", COUNT + COUNT // GROUP)]
-    raw, often, library, through = best([lambda: raw_append(folder), lambda: raw_append(folder, WAIT, 2), lambda: by_library(folder),
-                                         lambda: by_script(folder, script, wanted)])
+    raw, often, library, through = best([lambda: raw_append(folder), lambda: raw_append(folder, WAIT, 2),
+                                         lambda: by_library(folder), lambda: by_script(folder, script, wanted)])
     speed(f"{COUNT:,} blocks of {BLOCK:,} bytes, a sync each {GROUP}, to a raw file", raw)
     speed(f"the same with two syncs each {WAIT}, as many as wait at most and make a frame", often, raw)
     speed("the same, a filemark each, by a program that calls the library", library, raw)
@@ -144,11 +145,12 @@ def blocks(folder):
     print(f"the text of as many lines alone, over no file: {text:.3f} s", flush=True)
     reads = scripted(folder, "reads", [(READY, 1), (b"1 1 080004000000\n--\n", GROUP)])
     wanted = [(ATTENTION, 1), (b"GOOD " + b"5a" * BLOCK + b"\n", GROUP)]
-    raw, back = best([lambda: raw_read(folder), lambda: run(folder, [PROGRAM, "run", "--config", "lib.toml"], reads)[0]])
+    raw, back = best([lambda: raw_read(folder),
+                      lambda: run(folder, [PROGRAM, "run", "--config", "lib.toml"], reads)[0]])
     answered(folder, wanted)
     part = GROUP * BLOCK
-    print(f"{GROUP} blocks read back through vtl run: {back:.3f} s, {part / 1e6 / back:.0f} MB/s; a read of the raw file "
-          f"{COUNT * BLOCK / 1e6 / raw:.0f} MB/s", flush=True)
+    print(f"{GROUP} blocks read back through vtl run: {back:.3f} s, {part / 1e6 / back:.0f} MB/s; a read of the raw "
+          f"file {COUNT * BLOCK / 1e6 / raw:.0f} MB/s", flush=True)
 
 
 def marks(folder):
@@ -157,8 +159,8 @@ def marks(folder):
     wanted = [(ATTENTION, 1), (b"GOOD\n", 2 * MARKS)]
     raw, through, start = best([lambda: raw_syncs(folder, MARKS), lambda: by_script(folder, script, wanted),
                                 lambda: by_script(folder, none, [(ATTENTION, 1)])])
-    print(f"a byte and a filemark that is stored before its answer: {(through - start) / MARKS * 1e6:.0f} us, of which a sync of the "
-          f"raw file behind a byte is {raw / MARKS * 1e6:.0f} us; each takes two syncs", flush=True)
+    print(f"a byte and a filemark that is stored before its answer: {(through - start) / MARKS * 1e6:.0f} us, of which "
+          f"a sync of the raw file behind a byte is {raw / MARKS * 1e6:.0f} us; each takes two syncs", flush=True)
 
 
 def opening(folder):
@@ -170,8 +172,9 @@ def opening(folder):
     empty = [run(folder, [PROGRAM, "run"], ready) for _ in range(3)]
     seconds, memory = min(time for time, _ in runs), max(memory for _, memory in runs)
     size = os.path.getsize(os.path.join(folder, "t1.tape"))
-    print(f"opening a cartridge of {SMALL:,} blocks of 1,024 bytes, a file of {size:,} bytes: {seconds:.3f} s, {memory / 1e6:.0f} MB; the "
-          f"built-in one in memory: {min(time for time, _ in empty):.3f} s, {max(memory for _, memory in empty) / 1e6:.0f} MB", flush=True)
+    print(f"opening a cartridge of {SMALL:,} blocks of 1,024 bytes, a file of {size:,} bytes: {seconds:.3f} s, "
+          f"{memory / 1e6:.0f} MB; the built-in one in memory: {min(time for time, _ in empty):.3f} s, "
+          f"{max(memory for _, memory in empty) / 1e6:.0f} MB", flush=True)
 
 
 def main(words):

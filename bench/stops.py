@@ -1,18 +1,19 @@
 #!/usr/bin/env python3
 """Loses the power behind each call that the proved program made of the system, and looks at what it then reads.
 
-The calls of a run, and of a creation, over real files are noted (faults.c, which takes `cc`). Behind each of them files are made
-which a loss of power might have left there, as docs/FORMATS.md models a disk: what a sync made safe stays; each range that was
-written since, and everything from the old end on, holds what stood there, what was written, the first bytes of it, or any bytes;
-behind a cut stands anything; bytes that are written over the same ones stay. A file is gone whose folder was not synced since it
-was made, or it is there. Over these files the program is started again. Each cartridge must hold what a first part of the accepted
-changes leaves, with all up to the last acknowledged synchronizing command; the reservations must be those of a first part of the
-orders, with each acknowledged one; a file that was told as created must be new.
+The calls of a run, and of a creation, over real files are noted (faults.c, which takes `cc`). Behind each of them files
+are made which a loss of power might have left there, as docs/FORMATS.md models a disk: what a sync made safe stays;
+each range that was written since, and everything from the old end on, holds what stood there, what was written, the
+first bytes of it, or any bytes; behind a cut stands anything; bytes that are written over the same ones stay. A file is
+gone whose folder was not synced since it was made, or it is there. Over these files the program is started again. Each
+cartridge must hold what a first part of the accepted changes leaves, with all up to the last acknowledged synchronizing
+command; the reservations must be those of a first part of the orders, with each acknowledged one; a file that was told
+as created must be new.
 
 So too random scripts of kill_script.py, with writing over, moves and reservations, three times behind each call.
 
---images N: files behind each call (30); --scripts N: such scripts (10); --seed S; --program PATH another program than the proved
-one; --selftest: syncs are forgotten, which must be found."""
+--images N: files behind each call (30); --scripts N: such scripts (10); --seed S; --program PATH another program than
+the proved one; --selftest: syncs are forgotten, which must be found."""
 import argparse
 import collections
 import concurrent.futures
@@ -23,16 +24,18 @@ import sys
 import tempfile
 
 from drive_model import Reservations
-from faults import FILES, NEW, PROVED, SCRIPT, TOP, Room, content, judged, made
+from fault_script import SCRIPT
+from faults import FILES, NEW, Room, content, judged, made
 from kill_script import TAPES, Script
-from kills import Life
+from life import PROVED, TOP, Life
 
 Call = collections.namedtuple("Call", "letter name place bytes")
 FILLS = [b"\x00", b"\xa5", b"\xff"]
 
 
 def noted(path):
-    """The calls that were noted: those that did something to a file of the library, to its folder, or to standard output."""
+    """The calls that were noted: those that did something to a file of the library, to its folder, or to standard
+    output."""
     text, at, calls = content(path), 0, []
     while at < len(text):
         end = text.index(b"\n", at)
@@ -89,13 +92,15 @@ def smeared(chance, old, call):
     at, end = min(call.place, len(old)), min(call.place + len(call.bytes), len(old))
     stood, wanted = bytes(old[at:end]), bytes(call.bytes)[:end - at]
     landed = chance.randint(0, len(wanted))
-    within = chance.choice([stood, wanted, wanted[:landed] + stood[landed:], wanted[:landed] + some(chance, len(wanted) - landed),
-                            some(chance, len(wanted))])
+    within = chance.choice([stood, wanted, wanted[:landed] + stood[landed:],
+                            wanted[:landed] + some(chance, len(wanted) - landed), some(chance, len(wanted))])
     beyond = bytes(call.bytes)[end - at:]
     landed = chance.randint(0, len(beyond))
     tail = chance.choice([b"", beyond, beyond[:landed], beyond[:landed] + some(chance, len(beyond) - landed),
                           beyond + some(chance, chance.randrange(40)), some(chance, chance.randrange(40))])
-    return old[:at] + within + old[end:] + (tail if end == len(old) else chance.choice([b"", some(chance, chance.randrange(40))]))
+    if end != len(old):
+        tail = chance.choice([b"", some(chance, chance.randrange(40))])
+    return old[:at] + within + old[end:] + tail
 
 
 class World:
@@ -117,7 +122,8 @@ class World:
             self.named = set(self.disks)
 
     def images(self, chance):
-        return {file: disk.image(chance) for file, disk in self.disks.items() if file in self.named or chance.random() < 0.5}
+        return {file: disk.image(chance) for file, disk in self.disks.items()
+                if file in self.named or chance.random() < 0.5}
 
 
 def calls_of(tools, folder, words, script):
@@ -147,7 +153,8 @@ def after_run(room, out):
 
 def after_create(room, out):
     told = [name for name in FILES if f"created {name}\n" in out]
-    return [f"{name} was told, and is not new" for name in told if room.run(["check", FILES[name]])[:3] != (0, NEW[name], "")]
+    return [f"{name} was told, and is not new" for name in told
+            if room.run(["check", FILES[name]])[:3] != (0, NEW[name], "")]
 
 
 def left_behind(before, calls, chance, images, forgets=lambda: False):
@@ -203,8 +210,8 @@ def life(tools, chance, images, forgets=lambda: False):
                 again.judge(script, out.count("\n"), True)
                 return again.wrong
         sides = {file: before[file] for file in files}
-        return looked_at(f"a script of {len(script.answers)} answers", calls, list(left_behind(sides, calls, chance, images, forgets)),
-                         look)
+        return looked_at(f"a script of {len(script.answers)} answers", calls,
+                         list(left_behind(sides, calls, chance, images, forgets)), look)
 
 
 def main():
@@ -220,7 +227,8 @@ def main():
     chance, script = random.Random(said.seed), "".join(line.text + "\n" for line in SCRIPT)
     with tempfile.TemporaryDirectory(prefix="vtl-stops-") as folder:
         shim = os.path.join(folder, "faults.so")
-        subprocess.run(["cc", "-O1", "-shared", "-fPIC", "-o", shim, os.path.join(TOP, "bench", "faults.c")], check=True)
+        source = os.path.join(TOP, "bench", "faults.c")
+        subprocess.run(["cc", "-O1", "-shared", "-fPIC", "-o", shim, source], check=True)
         tools = os.path.abspath(said.program), shim
         bare, new, _ = made(tools, folder)
         run = (new, ["run", "--config", "lib.toml"], after_run, script)
@@ -228,7 +236,8 @@ def main():
         if said.selftest:
             found = [stop(tools, *what, chance, said.images, lambda: chance.random() < 0.2) for what in (run, create)]
             found.append(life(tools, chance, 3, lambda: chance.random() < 0.2))
-            print(f"self-test: where one sync in five is forgotten {', '.join(str(len(it)) for it in found)} were found wrong")
+            counts = ", ".join(str(len(it)) for it in found)
+            print(f"self-test: where one sync in five is forgotten {counts} were found wrong")
             return 0 if all(found) else 1
         wrong = stop(tools, *run, chance, said.images) + stop(tools, *create, chance, said.images)
         for _ in range(said.scripts):

@@ -1,7 +1,7 @@
 #!/usr/bin/env python3
-"""Builds the program without its proofs: `rt try` builds it and runs it, with a pipe in the place of a configuration; while
-the program waits for that it is copied to .unproved/, and .unproved/vtl starts it. It stops where a proof would have refused
-a step, and is slower than the proved program. It is built again where a source is newer, or with --new."""
+"""Builds the program without its proofs: `rt try` builds it and runs it, with a pipe in the place of a configuration;
+while the program waits for that it is copied to .unproved/, and .unproved/vtl starts it. It stops where a proof would
+have refused a step, and is slower than the proved program. It is built again where a source is newer, or with --new."""
 import os
 import shlex
 import shutil
@@ -16,7 +16,8 @@ STARTED = os.path.join(ROOM, "vtl")
 
 
 def reader_of(pipe):
-    """The command line of the process that reads this pipe, and its folder; it is looked for until it has the pipe open."""
+    """The command line of the process that reads this pipe, and its folder; it is looked for until it has the pipe
+    open."""
     for _ in range(200):
         found = reader_now(pipe)
         if found:
@@ -77,8 +78,9 @@ def build():
         os.mkfifo(pipe)
         os.chmod(pipe, 0o666)
         with open(said, "wb") as log:
-            child = subprocess.Popen(["rt", "try", "--", "run", "--config", pipe], cwd=os.path.join(TOP, "crates", "vtl"),
-                                     stdin=subprocess.DEVNULL, stdout=subprocess.DEVNULL, stderr=log)
+            child = subprocess.Popen(["rt", "try", "--", "run", "--config", pipe],
+                                     cwd=os.path.join(TOP, "crates", "vtl"), stdin=subprocess.DEVNULL,
+                                     stdout=subprocess.DEVNULL, stderr=log)
         end = opened(pipe, child)
         words, folder = reader_of(pipe) if end is not None else (None, None)
         if words:

@@ -1,8 +1,10 @@
 #!/usr/bin/env python3
-"""Tries the edits of crates/*/wrong/, each of which the prover must refuse, with the gate's tool on a copy of the repository.
+"""Tries the edits of crates/*/wrong/, each of which the prover must refuse, with the gate's tool on a copy of the
+repository.
 
 wrong.py [CRATE [EDIT..]]   every edit, those of a crate, or those named: for each, refused or PROVED (a hole)
-wrong.py --lint             tries none, and looks at the form of each edit of must-fail/ and wrong/, and at docs/CLAIMS.md
+wrong.py --lint             tries none, and looks at the form of each edit of must-fail/ and wrong/, and at
+                            docs/CLAIMS.md
 """
 import os
 import re
@@ -39,7 +41,8 @@ def lowest_first(names, known):
     """These crates and all of the repository below them, each behind those that it uses."""
     found = []
     for name in names:
-        found += [it for it in [*lowest_first([it for it in known[name] if it in known], known), name] if it not in found]
+        below = lowest_first([it for it in known[name] if it in known], known)
+        found += [it for it in [*below, name] if it not in found]
     return found
 
 
@@ -90,7 +93,8 @@ def fault_in(crate, edit):
 
 def claims():
     """The rows of the table in docs/CLAIMS.md: the columns of contract, edits and tests."""
-    rows = [re.split(r"(?<!\\)\|", line) for line in read(TOP, "docs", "CLAIMS.md").splitlines() if line.startswith("| ")]
+    lines = read(TOP, "docs", "CLAIMS.md").splitlines()
+    rows = [re.split(r"(?<!\\)\|", line) for line in lines if line.startswith("| ")]
     return [row[2:5] for row in rows if len(row) == 6 and row[1].strip() != "Claim, in plain words"]
 
 
@@ -109,7 +113,8 @@ def text_of(crate):
 
 
 def false_claims(rows, guarded, others):
-    """What docs/CLAIMS.md names that is not there: a contract, an edit of must-fail/ or, in brackets, of wrong/, a test."""
+    """What docs/CLAIMS.md names that is not there: a contract, an edit of must-fail/ or, in brackets, of wrong/, a
+    test."""
     texts = {crate: text_of(crate) for crate in crates()}
     every = "\n".join(texts.values())
     for contract, edits, tests in rows:
@@ -139,8 +144,10 @@ def lint():
         guarded |= {*first}
         others |= {*second}
         if len(first) > MOST:
-            said.append(f"crates/{crate}/must-fail has {len(first)} edits, and the gate has time for {MOST} of a crate: move others to wrong/")
-        said += [f"crates/{crate}/{folder}/{file} is no edit" for folder in ("must-fail", "wrong") for file in strange_files(crate, folder)]
+            said.append(f"crates/{crate}/must-fail has {len(first)} edits, and the gate has time for {MOST} of a "
+                        "crate: move others to wrong/")
+        said += [f"crates/{crate}/{folder}/{file} is no edit"
+                 for folder in ("must-fail", "wrong") for file in strange_files(crate, folder)]
         said += [f"crates/{crate}: {name} stands in must-fail/ and in wrong/" for name in first if name in second]
         for folder, edits in (("must-fail", first), ("wrong", second)):
             for name, edit in edits.items():
@@ -177,12 +184,14 @@ def copied(room, chosen, known):
 def tried(room, crate, edits):
     """What the gate's tool says of each edit of the crate, as (edit, kind, words)."""
     print(f"{crate}: trying {len(edits)} edits", flush=True)
-    done = subprocess.run(["rt", "must-fail", crate], cwd=room, stdout=subprocess.PIPE, stderr=subprocess.STDOUT, text=True, errors="replace")
+    done = subprocess.run(["rt", "must-fail", crate], cwd=room, stdout=subprocess.PIPE, stderr=subprocess.STDOUT,
+                          text=True, errors="replace")
     said = {it[2]: (it[3], it[4]) for it in map(SAID.fullmatch, done.stdout.splitlines()) if it and it[1] == crate}
-    rows = []
+    rows, named = [], {"refused, as it must be": "refused", "NOT REFUSED": "PROVED (a hole)",
+                       "BAD EDIT": "NOT TRIED (a bad edit)"}
     for name in edits:
         kind, words = said.get(name, ("NOT TRIED", f": rt ended with {done.returncode}: {done.stdout.strip()[-400:]}"))
-        told = {"refused, as it must be": "refused", "NOT REFUSED": "PROVED (a hole)", "BAD EDIT": "NOT TRIED (a bad edit)"}.get(kind, kind)
+        told = named.get(kind, kind)
         rows.append((name, kind, words))
         print(f"{crate}/{name}: {told}{words[:200] if kind != 'NOT REFUSED' else ''}", flush=True)
     return rows
@@ -211,11 +220,13 @@ def main(words):
     with tempfile.TemporaryDirectory(prefix="wrong_") as room:
         copied(room, chosen, known)
         for crate in libraries_below(chosen, known):
-            if subprocess.run(["rt", "lib"], cwd=os.path.join(room, "crates", crate), stdout=subprocess.DEVNULL).returncode:
+            folder = os.path.join(room, "crates", crate)
+            if subprocess.run(["rt", "lib"], cwd=folder, stdout=subprocess.DEVNULL).returncode:
                 sys.exit(f"{crate} is not proved, so nothing above it was tried")
         with ThreadPoolExecutor(AT_ONCE) as pool:
             rows = {crate: pool.submit(tried, room, crate, edits) for crate, edits in chosen.items()}
-            rows = [(f"{crate}/{name}", kind, words) for crate, row in rows.items() for name, kind, words in row.result()]
+            rows = [(f"{crate}/{name}", kind, words)
+                    for crate, row in rows.items() for name, kind, words in row.result()]
     refused = [name for name, kind, words in rows if kind.startswith("refused")]
     by_name = [name for name, kind, words in rows if "only because a proof file names" in words]
     others = [f"{name}: {kind}" for name, kind, words in rows if not kind.startswith("refused")]

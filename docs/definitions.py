@@ -2,8 +2,9 @@
 """Writes DEFINITIONS.md: the definitions in crates/*/specs, the limits and the laws, each by the comment over it.
 
 definitions.py           writes the file
-definitions.py --check   says where the file differs, where two definitions share a name, where one has no comment, and which
-                         lines of .rt, .antt and .md files are over 120 columns or left of a merge; ends with 1 where there is any of these
+definitions.py --check   says where the file differs, where two definitions share a name, where one has no comment, and
+                         which lines of .rt, .antt, .md, .py and .c files are over 120 columns or left of a merge; ends
+                         with 1 where there is any of these
 definitions.py --unreached   lists definitions that no public contract or law seems to reach, by their names
 """
 import difflib
@@ -59,7 +60,8 @@ def specification(crate):
     """The files of the crate's specs/ but for those that only name others and those of private functions."""
     inner = os.path.join(TOP, "crates", crate, "specs", "Inner")
     files = files_below(crate, "specs", ".antt")
-    return [it for it in files if os.path.basename(it) not in ("Lib.antt", "Inner.antt") and not it.startswith(inner + os.sep)]
+    return [it for it in files
+            if os.path.basename(it) not in ("Lib.antt", "Inner.antt") and not it.startswith(inner + os.sep)]
 
 
 def definitions(path):
@@ -144,7 +146,8 @@ def whole():
     listed |= {name: file for name, _, _, file in limits()} | {name: file for name, _, file in laws()}
     for word in sorted(WORDS, key=str.lower):
         names = [] if isinstance(WORDS[word], str) else WORDS[word]
-        faults += [f"the word '{word}' leads to {name}, which is no definition, limit or law" for name in names if name not in listed]
+        faults += [f"the word '{word}' leads to {name}, which is no definition, limit or law"
+                   for name in names if name not in listed]
         see = ", ".join(f"`{name}` ({listed.get(name)})" for name in names) or WORDS[word]
         text.append(f"| {word} | {see} |\n")
     text.append("\n## Limits\n\n| Name | In words | Value | File |\n|---|---|---|---|\n")
@@ -162,7 +165,7 @@ def long_lines():
     for folder, folders, files in os.walk(TOP):
         folders[:] = sorted(it for it in folders if it not in (".git", "out"))
         for file in sorted(files):
-            if file.endswith((".rt", ".antt", ".md")):
+            if file.endswith((".rt", ".antt", ".md", ".py", ".c")):
                 path = os.path.join(folder, file)
                 for number, line in enumerate(read(path).splitlines(), 1):
                     if len(line) > WIDTH and not re.match(r"\||\s*(pub )?(ghost )?use ", line):
@@ -171,43 +174,55 @@ def long_lines():
                         yield f"{os.path.relpath(path, TOP)}:{number} is left of a merge"
 
 
+def names_in(text):
+    return set(re.findall(r"[^\s(){}\[\],;:.λ→×⊎≡]+", text))
+
+
+def public_names(path):
+    """The names in a file of sources, but for those in its private functions."""
+    found, is_public = set(), False
+    for line in read(path).splitlines():
+        if re.match(r"\s*(///|//|ghost use|use )", line):
+            continue
+        if re.match(r"\s*(pub )?(const )?(fn|struct|enum|trait|impl)\b", line):
+            is_inside = line.startswith(" ") and line.strip().startswith("fn") and "impl" in line
+            is_public = not re.match(r"fn ", line) or is_inside
+        if is_public:
+            found |= names_in(line)
+    return found
+
+
+def parts_of(path):
+    """Each part of a file of specs/: the name that it defines, whether it is a law, and the part."""
+    # what stands in a module is read as if it stood alone
+    inside, lines = False, []
+    for line in read(path).splitlines():
+        inside = line.startswith("module ") or inside and (not line or line.startswith(" "))
+        lines.append(line.removeprefix("  ") if inside else line)
+    for part in re.split(r"\n(?=--|\S)", "\n".join(lines)):
+        named = DEFINED.match(part)
+        if part.startswith(("use ", "--")):
+            continue
+        head = re.match(r"\S+", part)
+        yield named[3] if named else head[0] if head else "", bool(named) and named[2].strip() == "pub", part
+
+
 def unreached():
     """Definitions whose names no public contract, nor a definition that one names, has among its words."""
-    names = lambda text: set(re.findall(r"[^\s(){}\[\],;:.λ→×⊎≡]+", text))
     seeds, bodies = set(), {}
     for crate in crates():
         for path in files_below(crate, "src", ".rt"):
-            is_public = False
-            for line in read(path).splitlines():
-                if re.match(r"\s*(///|//|ghost use|use )", line):
-                    continue
-                if re.match(r"\s*(pub )?(const )?(fn|struct|enum|trait|impl)\b", line):
-                    is_inside = line.startswith(" ") and line.strip().startswith("fn") and "impl" in line
-                    is_public = not re.match(r"fn ", line) or is_inside
-                if is_public:
-                    seeds |= names(line)
+            seeds |= public_names(path)
         for path in specification(crate):
-            # what stands in a module is read as if it stood alone
-            inside, lines = False, []
-            for line in read(path).splitlines():
-                inside = line.startswith("module ") or inside and (not line or line.startswith(" "))
-                lines.append(line.removeprefix("  ") if inside else line)
-            text = "\n".join(lines)
-            for part in re.split(r"\n(?=--|\S)", text):
-                named = DEFINED.match(part)
-                if part.startswith(("use ", "--")):
-                    continue
-                head = re.match(r"\S+", part)
-                name = named[3] if named else head[0] if head else ""
+            for name, is_law, part in parts_of(path):
                 bodies[name] = bodies.get(name, "") + "\n" + part
-                # a law that stands in specs/ itself
-                seeds |= {name} if named and named[2].strip() == "pub" else set()
+                seeds |= {name} if is_law else set()
     reached, left = set(), list(seeds & set(bodies))
     while left:
         name = left.pop()
         if name not in reached:
             reached.add(name)
-            left += names(bodies[name]) & set(bodies)
+            left += names_in(bodies[name]) & set(bodies)
     for crate in crates():
         for path in specification(crate):
             for name, is_public, _ in definitions(path):
@@ -219,7 +234,8 @@ def check():
     text, faults = whole()
     path = os.path.join(HERE, "DEFINITIONS.md")
     has = read(path) if os.path.isfile(path) else ""
-    differs = list(difflib.unified_diff(has.splitlines(), text.splitlines(), "docs/DEFINITIONS.md", "as it is made", n=0, lineterm=""))
+    differs = list(difflib.unified_diff(has.splitlines(), text.splitlines(), "docs/DEFINITIONS.md", "as it is made",
+                                        n=0, lineterm=""))
     faults += long_lines()
     print("\n".join([*[line[:200] for line in differs[:60]], *faults]), end="\n" if differs or faults else "")
     if differs:

@@ -9,7 +9,7 @@ use std::marker::Model;
 use tape_disk::{Disk, Failures};
 use vtl_base::DevFault;
 
-/// The bytes that a file has at most: the system counts them in 63 bits (POSIX, `off_t` of 64).
+/// The bytes that a file has at most: the system counts them in 63 bits (POSIX, `off_t` of 64 bits).
 pub const MAX_FILE: u64 = 9_223_372_036_854_775_807;
 
 // The length of a file, and whether the system told it since a call last failed.

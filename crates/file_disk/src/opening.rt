@@ -52,7 +52,9 @@ fn error_of_kind(kind: ErrorKind) -> FileError
 }
 
 /// Makes a file of no bytes and opens it, for this process alone. At Ok the name is sure. A file
-/// that exists is not touched. The name is taken as it stands, from the working directory.
+/// that exists is not touched. The name is taken as it stands, from the working directory. Else
+/// `Exists`; `Missing`, of its folder; `NotAFile`, of a name that ends in `/`; `Device`; `InUse`
+/// where another process locked the new file first, which then stays.
 pub fn create(rt: &HostRuntime, path: &str) -> Result<FileDisk, FileError>
     ensures ok { IfOk result (λ disk. disk.failures ≡ 0) }
     ensures device { IfErr result IsOneFailure }
@@ -93,7 +95,7 @@ pub fn create(rt: &HostRuntime, path: &str) -> Result<FileDisk, FileError>
 /// before its sync, from the start of their first page of 4,096 on, or all where it has fewer: where
 /// a sync failed before, an earlier process may have left bytes in the system's memory that never
 /// reached the device, and that a sync alone passes over. A fault in that is `Device`. What a crash
-/// in it leaves stands in docs/PREMISES.md.
+/// in it leaves stands in docs/PREMISES.md. Else `Missing`, `NotAFile`, `InUse` or `Device`.
 pub fn open(rt: &HostRuntime, path: &str) -> Result<FileDisk, FileError>
     ensures ok { IfOk result (λ disk. disk.failures ≡ 0) }
     ensures device { IfErr result IsOneFailure }
@@ -102,7 +104,8 @@ pub fn open(rt: &HostRuntime, path: &str) -> Result<FileDisk, FileError>
 }
 
 /// Opens a file to be read, for this process alone: each call that would change it fails. Nothing is
-/// written again, so where a sync failed before, what is read may not be on the device.
+/// written again, so where a sync failed before, what is read may not be on the device. Else
+/// `Missing`, `NotAFile`, `InUse` or `Device`.
 pub fn open_to_read(rt: &HostRuntime, path: &str) -> Result<FileDisk, FileError>
     ensures ok { IfOk result (λ disk. disk.failures ≡ 0) }
     ensures device { IfErr result IsOneFailure }

@@ -27,6 +27,7 @@ impl Address {
 /// A cartridge of the library.
 #[derive(Drop, Debug)]
 pub struct CartridgeEntry {
+    /// Its name.
     pub barcode: Barcode,
     /// The name of its file, as it stands.
     pub file: String,
@@ -39,6 +40,7 @@ pub struct CartridgeEntry {
 /// A drive of the library.
 #[derive(Drop, Debug)]
 pub struct DriveEntry {
+    /// Its number, which is its element address too.
     pub number: DriveNo,
     /// The name of the file of its reservations, as it stands.
     pub reservations: String,
@@ -47,6 +49,8 @@ pub struct DriveEntry {
 /// A configuration: what a library has, in the order of the text.
 #[derive(Drop, Debug)]
 pub struct Config {
+    /// Its cartridges.
     pub cartridges: Vec<CartridgeEntry>,
+    /// Its drives.
     pub drives: Vec<DriveEntry>,
 }

@@ -1,5 +1,5 @@
 -- The command line is one whose matches are known.
-use Rattle.std.proofs.Common.{◌≡◌, ◌⊎◌, inl, inr, ℕ, true, List, Option, Some, None, option_map, Box, refl, sym, subst, ◌∙◌}
+use Rattle.std.proofs.Common.{◌≡◌, ◌⊎◌, inl, inr, ℕ, true, List, [], Option, Some, None, option_map, Box, refl, sym, subst, ◌∙◌}
 use Rattle.std.proofs.lemmas.Option.{same_Some}
 use Rattle.std.specs.Box.{box_value}
 use Rattle.clap.specs.Faults.{fault_of, is_simple_and_free}
@@ -49,10 +49,10 @@ told_refused words kind Refused tells (inl memory) = absurd (tells.1 memory)
 told_refused words kind Refused tells (inr among) = inl (kind, tells.0, among)
 told_refused words kind NoMemory tells has = tt
 
--- matches that ask for nothing refuse the words
+-- words without a fault whose matches ask for nothing are refused
 pub nothing_refused :
-    (words : List (List ℕ)) (asked : Option Asked) (error : WordsError)
+    (words : List (List ℕ)) (asked : Option Asked) (error : WordsError) → fault_of vtl_command words ≡ []
     → asked ≡ order_from (subcommand_of vtl_command words) → AsksNothing asked error → RefusesWords words error
-nothing_refused words asked (Help text) same nothing = absurd nothing
-nothing_refused words asked Refused same nothing = inr (sym same ∙ nothing)
-nothing_refused words asked NoMemory same nothing = tt
+nothing_refused words asked (Help text) faultless same nothing = absurd nothing
+nothing_refused words asked Refused faultless same nothing = inr (faultless, sym same ∙ nothing)
+nothing_refused words asked NoMemory faultless same nothing = tt

@@ -54,11 +54,11 @@ pub record Asks (words : List (List ℕ)) (asked : Asked) : Type 0 where
   pub no_fault : fault_of vtl_command words ≡ []
   pub matches : order_from (subcommand_of vtl_command words) ≡ Some asked
 
--- the parser finds such a fault in the words, or its matches ask for nothing (own)
+-- the parser finds a fault in the words that is no request for help, or none, and its matches ask for nothing (own)
 abbrev pub AreRefused : List (List ℕ) → Type 0
 AreRefused words =
     ((kind : ErrorKind) × (kind ≢ DisplayHelp) × IsAmong kind (fault_of vtl_command words))
-    ⊎ (order_from (subcommand_of vtl_command words) ≡ None)
+    ⊎ ((fault_of vtl_command words ≡ []) × (order_from (subcommand_of vtl_command words) ≡ None))
 
 -- why words give no order; memory may run out at any (own)
 abbrev pub RefusesWords : List (List ℕ) → WordsError → Type 0

@@ -15,12 +15,13 @@ const AFTER_HELP: &str = "\
 Example:
   vtl create --config library.toml
   vtl run --config library.toml < backup.script
-  vtl check t1.tape
+  vtl check daily1.tape
 
 Statuses:
   0  done
-  1  command words, configuration, script or checked file refused
-  2  device, file or stream
+  1  refused: the command line, a configuration, a script line or a checked file
+  2  failed: a device, a file or a stream; a missing file, or one in use;
+     a refused store of reservations
   3  out of memory
 ";
 
@@ -33,7 +34,14 @@ const CHECK_ABOUT: &str = "Tells what the file of a cartridge or of a drive's re
 
 const CONFIG_HELP: &str = "The configuration: a TOML file of cartridges and drives";
 
-const MEMORY_HELP: &str = "Keeps cartridges and reservations in memory; no file is touched";
+const RUN_CONFIG_HELP: &str = "\
+The configuration: a TOML file of cartridges and drives;
+without it one empty cartridge in memory is used, in
+drive 1, and is gone at the end";
+
+const MEMORY_HELP: &str = "\
+Makes the cartridges and reservations anew in memory;
+no file is touched, and nothing is kept at the end";
 
 const FILE_HELP: &str = "The file to look at; it is not changed";
 
@@ -54,14 +62,15 @@ fn config_option<'a>(alloc: Global) -> Arg<'a>
     let option = Arg::new(alloc, "config")
         .long("config")
         .action(ArgAction::Set);
-    option.value_name("FILE").help(CONFIG_HELP)
+    option.value_name("FILE").help(RUN_CONFIG_HELP)
 }
 
 fn config_required<'a>(alloc: Global) -> Arg<'a>
     ensures rule { rule_of result ≡ line.config_required }
     ensures local { result.global ≡ false }
 {
-    config_option(alloc).required(true)
+    let option = config_option(alloc).help(CONFIG_HELP);
+    option.required(true)
 }
 
 fn file_word<'a>(alloc: Global) -> Arg<'a>

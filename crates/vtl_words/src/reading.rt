@@ -140,7 +140,8 @@ fn order_in(alloc: Global, matches: &ArgMatches<'_>) -> Result<Order, WordsError
     }
 }
 
-/// The order that the words of a command line give. The first word is the program's name.
+/// The order that the words of a command line give. The first word is the program's name. Else the text of help,
+/// `Refused`, or `NoMemory`.
 pub fn read_words(alloc: Global, words: &[String]) -> Result<Order, WordsError>
     ensures ok { IfOk result (λ order. Asks (texts_of words.now) (asked_of order)) }
     ensures err { IfErr result (RefusesWords (texts_of words.now)) }

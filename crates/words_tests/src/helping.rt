@@ -19,12 +19,13 @@ Options:
 Example:
   vtl create --config library.toml
   vtl run --config library.toml < backup.script
-  vtl check t1.tape
+  vtl check daily1.tape
 
 Statuses:
   0  done
-  1  command words, configuration, script or checked file refused
-  2  device, file or stream
+  1  refused: the command line, a configuration, a script line or a checked file
+  2  failed: a device, a file or a stream; a missing file, or one in use;
+     a refused store of reservations
   3  out of memory
 ";
 
@@ -34,8 +35,11 @@ Runs the script on standard input and prints its answers
 Usage: vtl run [OPTIONS]
 
 Options:
-      --memory         Keeps cartridges and reservations in memory; no file is touched
-      --config <FILE>  The configuration: a TOML file of cartridges and drives
+      --memory         Makes the cartridges and reservations anew in memory;
+                       no file is touched, and nothing is kept at the end
+      --config <FILE>  The configuration: a TOML file of cartridges and drives;
+                       without it one empty cartridge in memory is used, in
+                       drive 1, and is gone at the end
   -h, --help           Print help
 ";
 
@@ -86,7 +90,7 @@ fn help_is_told_whole(rt: HostRuntime) -> Result<(), Fail> {
 static EXAMPLES: &'static [&'static str] = &[
     "vtl create --config library.toml",
     "vtl run --config library.toml",
-    "vtl check t1.tape",
+    "vtl check daily1.tape",
 ];
 
 #[test]

@@ -19,5 +19,5 @@ returns-clause-err c =
     IfErr-weaker c.order_in.result _ _
     (λ error nothing.
     nothing_refused (texts_of c.args.words.now) (order_from (subcommand_rows_of c.in-Ok.matches)) error
-    (ap order_from c.in-Ok.ensures.ok) nothing)
+    c.in-Ok.ensures.no_fault (ap order_from c.in-Ok.ensures.ok) nothing)
     c.order_in.ensures.err
