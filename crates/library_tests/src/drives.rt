@@ -77,31 +77,38 @@ fn a_library_of_sixteen_drives(rt: HostRuntime) -> Result<(), Fail> {
     Ok(())
 }
 
-// A host's command is answered with this status and these bytes.
-fn tells<D: TapeDisk>(rt: &impl Abort, bay: &mut Bay<D>, cdb: &[u8], sent: &[u8], told: &[u8]) {
+// Host 1 asks whether the drive is ready, and is answered so.
+fn is_told(rt: &impl Abort, bay: &mut Bay<Disk>, wanted: Answer, at: usize) {
+    let host = Nexus::new(1).expect(rt, "a nexus");
+    is_answer(rt, &bay.execute(host, READY, b""), wanted, at);
+}
+
+// A command of host 1 is GOOD, and gives these bytes.
+fn gives(rt: &impl Abort, bay: &mut Bay<Disk>, cdb: &[u8], sent: &[u8], wanted: &[u8]) {
     let host = Nexus::new(1).expect(rt, "a nexus");
     let reply = bay.execute(host, cdb, sent);
     assert_eq!(rt; reply.status, Status::Good);
-    assert_eq!(rt; reply.bytes.as_slice(), told);
+    assert_eq!(rt; reply.bytes.as_slice(), wanted);
+}
+
+// The cartridge goes out of the drive, is closed, and is loaded again.
+fn is_taken_back(alloc: Global, bay: &mut Bay<Disk>) -> bool {
+    match bay.unload() {
+        Ok(parked) if bay.is_empty() => {
+            bay.load(Parked::of(alloc, parked.into_shelved())).is_ok()
+        }
+        _ => false,
+    }
 }
 
 #[test]
 fn a_cartridge_is_closed_and_taken_back(rt: HostRuntime) -> Result<(), Fail> {
-    let alloc = rt.alloc();
-    let mut bay = loaded(alloc, 1, b"T00001L6")?;
-    let host = Nexus::new(1).expect(&rt, "a nexus");
-    is_answer(&rt, &bay.execute(host, READY, b""), POWERED_ON, 0);
-    tells(&rt, &mut bay, &[0x0a, 0, 0, 0, 5, 0], b"hello", b"");
-    let Ok(parked) = bay.unload() else {
-        return Err(Fail::from("not unloaded"));
-    };
-    let shelved = parked.into_shelved();
-    assert!(rt; bay.is_empty());
-    if bay.load(Parked::of(alloc, shelved)).is_err() {
-        return Err(Fail::from("not loaded"));
-    }
-    is_answer(&rt, &bay.execute(host, READY, b""), MEDIUM_CHANGED, 1);
-    tells(&rt, &mut bay, &[0x08, 0, 0, 0, 5, 0], b"", b"hello");
+    let mut bay = loaded(rt.alloc(), 1, b"T00001L6")?;
+    is_told(&rt, &mut bay, POWERED_ON, 0);
+    gives(&rt, &mut bay, &[0x0a, 0, 0, 0, 5, 0], b"hello", b"");
+    assert!(rt; is_taken_back(rt.alloc(), &mut bay));
+    is_told(&rt, &mut bay, MEDIUM_CHANGED, 1);
+    gives(&rt, &mut bay, &[0x08, 0, 0, 0, 5, 0], b"", b"hello");
     Ok(())
 }
 
