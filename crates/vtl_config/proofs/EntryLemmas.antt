@@ -7,7 +7,7 @@ use Rattle.toml.specs.Data.{Data, string, integer, float, boolean, datetime, arr
 use Rattle.toml.specs.Parse.{parse_document}
 use Rattle.toml.specs.View.{view}
 use Rattle.toml.specs.declared.value.Value.{Value}
-use Rattle.vtl_config.specs.Configs.{EntriesAt, AreDrives, AreCartridges, IsAtHome, BrokenAt, at_drive, at_cartridge, RefusesText}
+use Rattle.vtl_config.specs.Configs.{EntriesAt, AreDrives, AreCartridges, IsAtHome, BrokenAt, at_drive, at_cartridge, its_document, RefusesText}
 use Rattle.vtl_config.specs.Entries.{address_of, numbers_of, drive_files, barcodes_of, cartridge_files, homes_of, IsDrive, IsCartridge}
 use Rattle.vtl_config.specs.Rules.{EntryBreaks}
 use Rattle.vtl_config.specs.Inner.Found.{FitsDrive, FitsDriveTable, FitsCartridge, FitsCartridgeTable, DrivesRefused, CartridgesRefused, TableRefused}
@@ -15,7 +15,7 @@ use Rattle.vtl_config.specs.declared.entries.CartridgeEntry.{CartridgeEntry}
 use Rattle.vtl_config.specs.declared.entries.DriveEntry.{DriveEntry}
 use Rattle.vtl_config.specs.declared.keys.Key.TheVariants.{Cartridge, Drive}
 use Rattle.vtl_config.specs.declared.rules.ConfigError.{ConfigError}
-use Rattle.vtl_config.specs.declared.rules.ConfigError.TheVariants.{NotUtf8, NotToml, Refused, NoMemory}
+use Rattle.vtl_config.specs.declared.rules.ConfigError.TheVariants.{Refused, NoMemory}
 use Rattle.vtl_config.specs.declared.rules.Place.{Place}
 use Rattle.vtl_config.specs.declared.rules.Rule.{Rule}
 use Rattle.vtl_config.proofs.ListLemmas.{each_push, distinct_push, split_here, length_taken}
@@ -119,8 +119,6 @@ cartridges_push drives entries cartridges value cartridge are fits =
 pub drives_refused :
     (root : Members) (entries : List Data) (error : ConfigError) → EntriesAt Drive root entries
     → DrivesRefused entries error → TableRefused root error
-drives_refused root entries NotUtf8 there why = absurd why
-drives_refused root entries NotToml there why = absurd why
 drives_refused root entries (Refused place rule) there why = at_drive entries there why
 drives_refused root entries NoMemory there why = tt
 
@@ -128,8 +126,6 @@ pub cartridges_refused :
     (root : Members) (entries more : List Data) (drives : List DriveEntry) (error : ConfigError)
     → EntriesAt Drive root entries → AreDrives entries drives → EntriesAt Cartridge root more
     → CartridgesRefused drives more error → TableRefused root error
-cartridges_refused root entries more drives NotUtf8 there are here why = absurd why
-cartridges_refused root entries more drives NotToml there are here why = absurd why
 cartridges_refused root entries more drives (Refused place rule) there are here why =
     at_cartridge entries more drives there are here why
 cartridges_refused root entries more drives NoMemory there are here why = tt
@@ -138,8 +134,5 @@ cartridges_refused root entries more drives NoMemory there are here why = tt
 pub text_refused :
     (text : List ℕ) (root : Members) (error : ConfigError) → IsUtf8 text → parse_document text ≡ Some root
     → TableRefused root error → RefusesText text error
-text_refused text root NotUtf8 utf8 parsed why = absurd why
-text_refused text root NotToml utf8 parsed why = absurd why
-text_refused text root (Refused place rule) utf8 parsed why =
-    record { is_text = utf8; table = root; document = parsed; broken = why }
+text_refused text root (Refused place rule) utf8 parsed why = its_document root utf8 parsed why
 text_refused text root NoMemory utf8 parsed why = tt

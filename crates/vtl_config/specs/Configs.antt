@@ -16,9 +16,9 @@ use Rattle.vtl_config.specs.declared.keys.Key.TheVariants as key
 use Rattle.vtl_config.specs.declared.rules.Place.{Place}
 use Rattle.vtl_config.specs.declared.rules.Place.TheVariants.{Top, Drive, Cartridge}
 use Rattle.vtl_config.specs.declared.rules.Rule.{Rule}
-use Rattle.vtl_config.specs.declared.rules.Rule.TheVariants.{OtherKey, OtherKind}
+use Rattle.vtl_config.specs.declared.rules.Rule.TheVariants.{NotUtf8, NotToml, OtherKey, OtherKind}
 use Rattle.vtl_config.specs.declared.rules.ConfigError.{ConfigError}
-use Rattle.vtl_config.specs.declared.rules.ConfigError.TheVariants.{NotUtf8, NotToml, Refused, NoMemory}
+use Rattle.vtl_config.specs.declared.rules.ConfigError.TheVariants.{Refused, NoMemory}
 
 -- the entries of a list, none where the list is missing (own)
 abbrev pub EntriesAt : Key → Members → List Data → Type 0
@@ -87,16 +87,15 @@ pub record Says (text : List ℕ) (config : Config) : Type 0 where
   pub document : parse_document text ≡ Some table
   pub says : IsConfig table config
 
--- a text is refused by a rule: it is a TOML document, whose table breaks the rule (own)
-pub record IsRefusedBy (text : List ℕ) (place : Place) (rule : Rule) : Type 0 where
-  pub is_text : IsUtf8 text
-  pub table : Members
-  pub document : parse_document text ≡ Some table
-  pub broken : ConfigBreaks table place rule
+-- The place where a text breaks a rule: it is no UTF-8, or no TOML document, or its table breaks the rule (own).
+pub data TextBreaks (text : List ℕ) (place : Place) (rule : Rule) : Type 0 where
+  no_text : place ≡ Top → rule ≡ NotUtf8 → ¬ IsUtf8 text → TextBreaks text place rule
+  no_document : place ≡ Top → rule ≡ NotToml → IsUtf8 text → parse_document text ≡ None → TextBreaks text place rule
+  its_document :
+      (table : Members) → IsUtf8 text → parse_document text ≡ Some table → ConfigBreaks table place rule
+      → TextBreaks text place rule
 
 -- why a text gives no configuration; memory may run out at any (own)
 abbrev pub RefusesText : List ℕ → ConfigError → Type 0
-RefusesText text NotUtf8 = ¬ IsUtf8 text
-RefusesText text NotToml = IsUtf8 text × (parse_document text ≡ None)
-RefusesText text (Refused place rule) = IsRefusedBy text place rule
+RefusesText text (Refused place rule) = TextBreaks text place rule
 RefusesText text NoMemory = ⊤

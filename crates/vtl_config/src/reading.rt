@@ -17,6 +17,16 @@ use toml::{Table, Value};
 
 const KEYS: [Key; 2] = [Key::Cartridge, Key::Drive];
 
+// The refusal of a rule that is broken outside all entries.
+fn refused(rule: Rule) -> ConfigError
+    ensures { result ≡ ConfigError.Refused Place.Top rule }
+{
+    ConfigError::Refused {
+        place: Place::Top,
+        rule,
+    }
+}
+
 // The entries of a list, none where it is missing.
 fn entries_at<'a>(table: &'a Table, list: Key) -> Result<&'a [Value], ConfigError>
     requires { kind_of_key list ≡ entries }
@@ -26,10 +36,7 @@ fn entries_at<'a>(table: &'a Table, list: Key) -> Result<&'a [Value], ConfigErro
     match value_at(table, list) {
         Some(value) => match value.as_array() {
             Some(items) => Ok(items.as_slice()),
-            None => Err(ConfigError::Refused {
-                place: Place::Top,
-                rule: Rule::OtherKind(list),
-            }),
+            None => Err(refused(Rule::OtherKind(list))),
         },
         None => Ok(&[]),
     }
@@ -40,10 +47,7 @@ fn read_table(alloc: Global, table: &Table) -> Result<Config, ConfigError>
     ensures err { IfErr result (TableRefused (table_view table.now)) }
 {
     if !has_only(table, &KEYS) {
-        return Err(ConfigError::Refused {
-            place: Place::Top,
-            rule: Rule::OtherKey,
-        });
+        return Err(refused(Rule::OtherKey));
     }
     let drives = match entries_at(table, Key::Drive) {
         Ok(entries) => entries,
@@ -64,18 +68,18 @@ fn read_table(alloc: Global, table: &Table) -> Result<Config, ConfigError>
     Ok(Config { cartridges, drives })
 }
 
-/// The configuration that a text says; else `NotUtf8`, `NotToml`, `Refused` with place and rule, or `NoMemory`. Drives
-/// are read before cartridges; where several rules are broken, the first that is met is told.
+/// The configuration that a text says; else `Refused` with place and rule, or `NoMemory`. Drives are read before
+/// cartridges; where several rules are broken, the first that is met is told.
 pub fn read_config(alloc: Global, text: &[u8]) -> Result<Config, ConfigError>
     ensures ok { IfOk result (Says text.now) }
     ensures err { IfErr result (RefusesText text.now) }
 {
     let Ok(text) = std::str::from_utf8(text) else {
-        return Err(ConfigError::NotUtf8);
+        return Err(refused(Rule::NotUtf8));
     };
     match toml::table_from_str(alloc, text) {
         Ok(table) => read_table(alloc, &table),
         Err(error) if error.is_memory() => Err(ConfigError::NoMemory),
-        Err(_) => Err(ConfigError::NotToml),
+        Err(_) => Err(refused(Rule::NotToml)),
     }
 }

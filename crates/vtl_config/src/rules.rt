@@ -6,14 +6,21 @@ use thiserror::Error;
 /// Where in a configuration a rule is broken. Entries are counted from 1 on, in the order of the text.
 #[derive(Clone, Copy, PartialEq, Eq, Debug)]
 pub enum Place {
+    /// Outside all entries.
     Top,
+    /// In this drive's entry.
     Drive(usize),
+    /// In this cartridge's entry.
     Cartridge(usize),
 }
 
-/// The rules of a configuration (own): each line is a refusal.
+/// The rules of a configuration (own): each line is a refusal, and there is no other.
 #[derive(Clone, Copy, PartialEq, Eq, Debug)]
 pub enum Rule {
+    /// The bytes are no UTF-8.
+    NotUtf8,
+    /// The text is no TOML document.
+    NotToml,
     /// An entry of a list is no table.
     NotATable,
     /// A key is none of those that the place has.
@@ -33,13 +40,7 @@ pub enum Rule {
 /// Why a text gives no configuration.
 #[derive(Clone, Copy, PartialEq, Eq, Debug, Error)]
 pub enum ConfigError {
-    /// The bytes are no text.
-    #[error("not UTF-8")]
-    NotUtf8,
-    /// The text is no TOML document.
-    #[error("no TOML document")]
-    NotToml,
-    /// The document breaks a rule.
+    /// The text breaks a rule.
     #[error("{place:?}: {rule:?}")]
     Refused { place: Place, rule: Rule },
     /// A growth was refused.

@@ -141,10 +141,14 @@ fn what_is_no_document_is_refused(rt: HostRuntime) {
     let latin = [b'a', 0xe9, b'='];
     assert_eq!(rt;
         read_config(alloc, latin.as_slice()).err(),
-        Some(ConfigError::NotUtf8)
+        broken(Place::Top, Rule::NotUtf8)
     );
     for &text in NO_DOCUMENTS {
-        assert_eq!(rt; refusal(alloc, text), Some(ConfigError::NotToml), "{text}");
+        assert_eq!(rt;
+            refusal(alloc, text),
+            broken(Place::Top, Rule::NotToml),
+            "{text}"
+        );
     }
 }
 

@@ -12,7 +12,7 @@ use Rattle.vtl_config.specs.Values.{value_at, kind_of_key, is_of_kind}
 use Rattle.vtl_config.specs.declared.keys.Key.{Key}
 use Rattle.vtl_config.specs.declared.rules.Rule.TheVariants.{OtherKind}
 use Rattle.vtl_config.specs.declared.rules.ConfigError.{ConfigError}
-use Rattle.vtl_config.specs.declared.rules.ConfigError.TheVariants.{NotUtf8, NotToml, Refused, NoMemory}
+use Rattle.vtl_config.specs.declared.rules.ConfigError.TheVariants.{Refused, NoMemory}
 
 -- a drive's table, none of whose values stands before
 pub record FitsDriveTable (before : List DriveEntry) (entry : Members) (number : ℕ) (file : List ℕ) : Type 0 where
@@ -40,14 +40,10 @@ FitsCartridge drives before _ barcode file capacities home = ⊥
 
 -- why drives or cartridges are refused; memory may run out at any
 abbrev pub DrivesRefused : List Data → ConfigError → Type 0
-DrivesRefused entries NotUtf8 = ⊥
-DrivesRefused entries NotToml = ⊥
 DrivesRefused entries (Refused place rule) = BrokenAt AreDrives DriveTableBreaks Drive entries place rule
 DrivesRefused entries NoMemory = ⊤
 
 abbrev pub CartridgesRefused : List DriveEntry → List Data → ConfigError → Type 0
-CartridgesRefused drives entries NotUtf8 = ⊥
-CartridgesRefused drives entries NotToml = ⊥
 CartridgesRefused drives entries (Refused place rule) =
     BrokenAt (AreCartridges drives) (CartridgeTableBreaks drives) Cartridge entries place rule
 CartridgesRefused drives entries NoMemory = ⊤
@@ -60,7 +56,5 @@ IsNoList list entry error =
 
 -- why a table is refused; memory may run out at any
 abbrev pub TableRefused : Members → ConfigError → Type 0
-TableRefused entry NotUtf8 = ⊥
-TableRefused entry NotToml = ⊥
 TableRefused entry (Refused place rule) = ConfigBreaks entry place rule
 TableRefused entry NoMemory = ⊤
