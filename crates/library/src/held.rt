@@ -16,6 +16,16 @@ use tape_disk::Disk;
 use vtl_base::limits::DRIVES;
 use vtl_base::{DriveNo, Nexus, NoMemory};
 
+/// Where every cartridge of a library stands: 256 slots and 16 drives, whatever is configured.
+#[derive(Drop)]
+pub struct Inventory<'a, D: Disk> {
+    /// What each slot holds, from element address 1001 on.
+    pub slots: &'a [Option<Parked<D>>],
+    /// Each drive, from number 1 on, or `None` where none is configured. `Bay::is_empty` tells whether there is
+    /// something in it, and `Bay::drive` shows it.
+    pub drives: &'a [Option<Bay<D>>],
+}
+
 /// The slots and drives of a library, held by one thread: 256 slots, whatever is configured, and up to 16 drives. To a
 /// contract they are two rows.
 #[derive(Drop)]
@@ -103,12 +113,16 @@ impl<D: Disk + Drop> Held<D> {
         }
     }
 
-    /// What each slot holds, from element address 1001 on: 256 of them. It takes no memory.
-    pub fn inventory(&self) -> &[Option<Parked<D>>]
-        ensures row { result.now ≡ self.now.slots }
-        ensures all { length result.now ≡ SLOTS }
+    /// Where every cartridge stands: all slots and all drives, as they are now. It takes no memory.
+    pub fn inventory(&self) -> Inventory<'_, D>
+        ensures slots { result.slots.now ≡ self.now.slots }
+        ensures drives { result.drives.now ≡ self.now.bays }
+        ensures all { (length result.slots.now ≡ SLOTS) × (length result.drives.now ≡ DRIVES) }
     {
-        self.slots.inventory()
+        Inventory {
+            slots: self.slots.inventory(),
+            drives: self.bays.as_slice(),
+        }
     }
 
     /// The drive of this number, where it is configured.

@@ -11,7 +11,7 @@ pub mod runs;
 
 pub use bays::{Bay, NotOn};
 pub use finishing::Unwritten;
-pub use held::Held;
+pub use held::{Held, Inventory};
 pub use parked::Parked;
 pub use runs::run_held;
 pub use vtl_script::run_script;
