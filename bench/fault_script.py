@@ -48,7 +48,7 @@ class Drive:
     """Drive 1, with the first cartridge in it, and what it answers; at power on that one may not have been opened."""
 
     def __init__(self, is_open=True):
-        # whether a call has failed for which a command was answered; what of the medium and of the orders is lost
+        # whether a command was answered for a call that failed; whether the medium has failed, or the saving of orders
         self.is_hit, self.medium_failed, self.orders_failed = not is_open, False, False
         self.tape, self.is_loaded, self.told, self.is_registered = FIRST, is_open, 0x2900, False
 
