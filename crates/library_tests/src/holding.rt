@@ -1,4 +1,4 @@
-//! What the slots of a library hold.
+//! What the slots and the drives of a library hold.
 use crate::samples::{Answer, Disk, GOOD, NEVER, cartridge, is_answer, library};
 use library::{Held, Parked};
 use scsi_sense::Status;
@@ -21,7 +21,7 @@ fn barcode(parked: &Parked<Disk>) -> &[u8] {
 
 // Just these places hold a cartridge, of these barcodes.
 fn assert_held(rt: &impl Abort, held: &Held<Disk>, wanted: &[(usize, &[u8])]) {
-    let row = held.inventory();
+    let row = held.inventory().slots;
     assert_eq!(rt; row.len(), 256);
     let mut found = 0usize;
     for (at, place) in row.iter().enumerate() {
@@ -37,6 +37,16 @@ fn assert_held(rt: &impl Abort, held: &Held<Disk>, wanted: &[(usize, &[u8])]) {
         }
     }
     assert_eq!(rt; found, wanted.len());
+}
+
+// Of 16 places for drives just the first two have one, and there is a cartridge in it where this says so.
+fn assert_drives(rt: &impl Abort, held: &Held<Disk>, wanted: &[bool; 2]) {
+    let row = held.inventory().drives;
+    assert_eq!(rt; row.len(), 16);
+    for (at, place) in row.iter().enumerate() {
+        let found = place.as_ref().map(|bay| !bay.is_empty());
+        assert_eq!(rt; found, wanted.get(at).copied(), "drive at {at}");
+    }
 }
 
 // A move, how it is answered, and what the slots hold then.
@@ -61,14 +71,16 @@ static MOVES: &'static [Row] = &[
 ];
 
 #[test]
-fn each_slot_is_shown(rt: HostRuntime) -> Result<(), Fail> {
+fn each_slot_and_each_drive_is_shown(rt: HostRuntime) -> Result<(), Fail> {
     let mut held = library(rt.alloc(), NEVER)?;
     assert_held(&rt, &held, &[(0, FIRST)]);
+    assert_drives(&rt, &held, &[false, false]);
     let second = cartridge(rt.alloc(), b"T00002L6", NEVER)?;
     if held.place(1256, Parked::of(rt.alloc(), second)).is_err() {
         return Err(Fail::from("not placed"));
     }
     assert_held(&rt, &held, &[(0, FIRST), (255, SECOND)]);
     moves(&rt, &mut held, MOVES);
+    assert_drives(&rt, &held, &[false, true]);
     Ok(())
 }
