@@ -2,6 +2,8 @@
 use Rattle.std.specs.Prelude.{ℕ, List, ◌++◌, codes, decimal}
 use Rattle.std.specs.declared.io.ErrorKind.{ErrorKind}
 use Rattle.std.specs.declared.io.ErrorKind.TheVariants as kinds
+use Rattle.aptpl_store.specs.declared.error.StoreError.{StoreError}
+use Rattle.aptpl_store.specs.declared.error.StoreError.TheVariants as refusals
 use Rattle.vtl_script.specs.declared.faults.ScriptFault.{ScriptFault}
 use Rattle.vtl_script.specs.declared.faults.ScriptFault.TheVariants as script
 use Rattle.vtl.specs.declared.programs.VtlFault.{VtlFault}
@@ -18,6 +20,11 @@ fault_of script.NoMemory = NoMemory
 abbrev pub fault_of_error : ErrorKind → VtlFault
 fault_of_error kinds.OutOfMemory = NoMemory
 fault_of_error _ = Device
+
+-- the program's fault for a store that is not opened: want of memory, and else a device fault (own)
+abbrev pub fault_of_store : StoreError → VtlFault
+fault_of_store refusals.NoMemory = NoMemory
+fault_of_store _ = Device
 
 -- the status: 1 where something is refused, 2 at a device, a file or a stream, 3 where memory ran out (own)
 abbrev pub status_of : VtlFault → ℕ

@@ -40,9 +40,16 @@ pub trait ChangeFiles<D> {
     // The answers that a call may have, by the name.
     ghost opens: { List ℕ → Result D FileError → Type 0 };
 
+    // The disk that was handed back for a name: no side was found on it.
+    ghost hands_back: { List ℕ → D → Type 0 };
+
     /// A disk over the file of this name.
     fn open(&self, name: &str) -> Result<D, FileError>
         ensures { opens name.now result };
+
+    /// Takes back a disk on which no side was found, as it is.
+    fn hand_back(&self, name: &str, disk: D)
+        ensures { hands_back name.now disk };
 }
 
 /// Files that are made.
@@ -100,8 +107,14 @@ impl<'a> ReadFiles<FileDisk> for SystemFiles<'a> {
 impl<'a> ChangeFiles<FileDisk> for SystemFiles<'a> {
     ghost opens = { λ name answer. Unit {0} };
 
+    ghost hands_back = { λ name disk. Unit {0} };
+
     fn open(&self, name: &str) -> Result<FileDisk, FileError> {
         file_disk::open(self.rt, name)
+    }
+
+    fn hand_back(&self, _: &str, disk: FileDisk) {
+        drop(disk);
     }
 }
 

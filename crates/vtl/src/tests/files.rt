@@ -1,7 +1,6 @@
 //! Files that are made, kept, told and refused, to the byte.
 use super::folders::{
-    CREATE, DEVICE, RUN, assert_holds, assert_step, assert_steps, done, failed, new_folder, put,
-    put_config, told,
+    CREATE, DEVICE, RUN, assert_holds, assert_steps, failed, new_folder, put, put_config, told,
 };
 use std::fs;
 use std::test::Fail;
@@ -120,16 +119,6 @@ fn what_is_refused_before_a_script(rt: HostRuntime) -> Result<(), Fail> {
             told("check @bad.tape", 1, "damaged at 35\n"),
         ],
     )?;
-    put_config(&rt, name, 1001)?;
-    // No cartridge's file, then no store's, then a store that is refused.
-    put(&rt, name, "d1.pr", b"\xa5VTLRESV1\0\0DRIVE1          \0")?;
-    assert_step(&rt, &rt, name, &failed(RUN, 2, DEVICE))?;
-    put(&rt, name, "t1.tape", b"mine")?;
-    assert_step(&rt, &rt, name, &failed(RUN, 2, DEVICE))?;
-    put(&rt, name, "d2.pr", b"mine")?;
-    assert_step(&rt, &rt, name, &failed(RUN, 2, DEVICE))?;
-    put(&rt, name, "d2.pr", b"\xa5VTLRESV1\0\0DRIVE2          \0")?;
-    assert_step(&rt, &rt, name, &done(RUN, "", ""))?;
     fs::remove_dir_all(&rt, name)?;
     Ok(())
 }
