@@ -1,5 +1,5 @@
 -- How a fault is reported (own).
-use Rattle.std.specs.Prelude.{ℕ, List, ◌++◌, codes, decimal}
+use Rattle.std.specs.Prelude.{ℕ, List, [], ◌∷◌, ◌++◌, codes, decimal}
 use Rattle.std.specs.declared.io.ErrorKind.{ErrorKind}
 use Rattle.std.specs.declared.io.ErrorKind.TheVariants as kinds
 use Rattle.aptpl_store.specs.declared.error.StoreError.{StoreError}
@@ -41,6 +41,10 @@ fault_text Config = codes "vtl: configuration refused"
 fault_text (Script line) = codes "vtl: script line " ++ decimal line ++ codes " refused"
 fault_text Device = codes "vtl: device fault"
 fault_text NoMemory = codes "vtl: out of memory"
+
+-- the line with its line feed (own)
+abbrev pub whole_line : VtlFault → List ℕ
+whole_line fault = fault_text fault ++ 10 ∷ []
 
 -- a device, a file or a stream failed, or memory ran out (own)
 abbrev pub IsFailure : VtlFault → Type 0
