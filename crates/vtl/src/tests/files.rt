@@ -1,6 +1,7 @@
 //! Files that are made, kept, told and refused, to the byte.
 use super::folders::{
-    CREATE, DEVICE, RUN, assert_holds, assert_steps, failed, new_folder, put, put_config, told,
+    CREATE, DEVICE, RUN, Step, assert_holds, assert_steps, failed, new_folder, put, put_config,
+    told,
 };
 use std::fs;
 use std::test::Fail;
@@ -82,6 +83,37 @@ fn a_file_that_exists_is_not_touched(rt: HostRuntime) -> Result<(), Fail> {
     )?;
     assert_holds(&rt, &rt, name, "t1.tape", b"mine")?;
     assert_holds(&rt, &rt, name, "d2.pr", b"")?;
+    fs::remove_dir_all(&rt, name)?;
+    Ok(())
+}
+
+#[test]
+fn one_file_has_two_names(rt: HostRuntime) -> Result<(), Fail> {
+    let folder = new_folder(&rt)?;
+    let name = folder.as_str();
+    let text = format!(in rt.alloc();
+        "[[cartridge]]\nbarcode = \"AA\"\nfile = \"{name}/a\"\ncapacities = [4096]\nhome = 1001\n\
+        [[cartridge]]\nbarcode = \"BB\"\nfile = \"{name}/./a\"\ncapacities = [4096]\nhome = 1002\n"
+    )?;
+    put(&rt, name, "lib.toml", text.as_bytes())?;
+    // No line of the script is read: the first one is bad.
+    let refused = Step {
+        script: "x\n",
+        ..failed(RUN, 2, DEVICE)
+    };
+    assert_steps(
+        &rt,
+        &rt,
+        name,
+        &[told(CREATE, 0, "created AA\nkept BB\n"), refused],
+    )?;
+    assert_holds(
+        &rt,
+        &rt,
+        name,
+        "a",
+        b"\xa5VTLCART1\0\x01AA              \0\0\0\0\0\0\x10\0\0",
+    )?;
     fs::remove_dir_all(&rt, name)?;
     Ok(())
 }

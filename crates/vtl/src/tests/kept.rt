@@ -1,7 +1,7 @@
 //! Runs over files: what one leaves, and what the next one finds.
 use super::folders::{
-    CREATE, DEVICE, RUN, Step, assert_step, assert_steps, done, failed, new_folder, put,
-    put_config, told,
+    CREATE, DEVICE, RUN, Step, assert_holds, assert_step, assert_steps, done, failed, new_folder,
+    put, put_config, told,
 };
 use super::libraries::{MOVED, moves};
 use super::{ATTENTION, joined};
@@ -30,11 +30,14 @@ fn a_refused_cartridge_is_there_unloaded(rt: HostRuntime) -> Result<(), Fail> {
             "CHECK 700002000000000a000000003a0000000000\n\
             CHECK 700003000000000a00000000110000000000\n\
             CHECK 700003000000000a00000000110000000000\n\
-            CHECK 700005000000000a000000003b0e00000000\n",
+            CHECK 700005000000000a000000003b0e00000000\n\
+            GOOD\nCHECK 700005000000000a000000003b0e00000000\n",
         ],
     )?;
     let text = text_of(text.as_slice())?;
-    let script = "1 1 000000000000\n1 1 000000000000\n1 1 1b0000000100\nmove 1 2\nmove 2 1\n";
+    // It is at drive 1 still, and goes out as it is.
+    let script = "1 1 000000000000\n1 1 000000000000\n1 1 1b0000000100\nmove 1 2\nmove 2 1\n\
+        move 1 1001\nmove 1 1002\n";
     assert_step(
         &rt,
         &rt,
@@ -42,6 +45,7 @@ fn a_refused_cartridge_is_there_unloaded(rt: HostRuntime) -> Result<(), Fail> {
         &told(CREATE, 0, "kept T00001L6\ncreated DRIVE1\ncreated DRIVE2\n"),
     )?;
     assert_step(&rt, &rt, name, &done(RUN, script, text))?;
+    assert_holds(&rt, &rt, name, "t1.tape", b"mine")?;
     fs::remove_dir_all(&rt, name)?;
     Ok(())
 }
