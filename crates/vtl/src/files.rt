@@ -62,7 +62,7 @@ pub trait MakeFiles<D> {
 
     ghost takes_away: { List ℕ → D → Type 0 };
 
-    /// A disk over a new file of this name. What has the name already is not touched.
+    /// A disk over a new file of this name; `Exists` where something has the name, which is not touched.
     fn make(&self, name: &str) -> Result<D, FileError>
         ensures { makes name.now result };
 
@@ -79,6 +79,7 @@ pub trait MakeFiles<D> {
 /// The files of the operating system. What they hold no contract of its calls says, so any answer is taken as it comes.
 #[derive(Clone, Copy)]
 pub struct SystemFiles<'a> {
+    /// What reaches the system.
     pub rt: &'a HostRuntime,
 }
 

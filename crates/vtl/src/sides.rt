@@ -18,7 +18,9 @@ use vtl_config::{CartridgeEntry, DriveEntry};
 /// A store of a drive's reservations, and what of them a loss of power left.
 #[derive(Drop)]
 pub struct DriveStore<D: Disk> {
+    /// The store, open.
     pub store: AptplStore<D>,
+    /// The reservations that a loss of power left of the state that it saved last.
     pub left: Reservations,
 }
 
@@ -45,6 +47,7 @@ pub trait Sides<D: Disk> {
 /// The sides that files hold.
 #[derive(Clone, Copy)]
 pub struct FileSides<'a, F> {
+    /// The files, by their names.
     pub files: &'a F,
 }
 

@@ -1,65 +1,50 @@
 //! Files that are made, kept, told and refused, to the byte.
 use super::folders::{
-    CREATE, DEVICE, RUN, Step, assert_holds, assert_steps, failed, new_folder, put, put_config,
-    told,
+    CREATE, DEVICE, RUN, Step, assert_holds, assert_step, assert_steps, failed, new_folder, put,
+    put_config, told,
 };
 use std::fs;
 use std::test::Fail;
+
+// Words, and the text that is wanted.
+static TOLD: &'static [(&'static str, &'static str)] = &[
+    (CREATE, "created T00001L6\ncreated DRIVE1\ncreated DRIVE2\n"),
+    (CREATE, "kept T00001L6\nkept DRIVE1\nkept DRIVE2\n"),
+    (
+        "check @t1.tape",
+        "cartridge T00001L6 partitions 1 frames 0\npartition 0 objects 0 used 0\n",
+    ),
+    (
+        "check @d1.pr",
+        "reservations DRIVE1 frames 0 registrations 0\n",
+    ),
+    (
+        "check @d2.pr",
+        "reservations DRIVE2 frames 0 registrations 0\n",
+    ),
+];
+
+// The files, and the bytes of new sides.
+static NEW_FILES: &'static [(&'static str, &'static [u8])] = &[
+    (
+        "t1.tape",
+        b"\xa5VTLCART1\0\x01T00001L6        \0\0\0\0\0\0\x10\0\0",
+    ),
+    ("d1.pr", b"\xa5VTLRESV1\0\0DRIVE1          \0"),
+    ("d2.pr", b"\xa5VTLRESV1\0\0DRIVE2          \0"),
+];
 
 #[test]
 fn files_are_made_kept_and_told(rt: HostRuntime) -> Result<(), Fail> {
     let folder = new_folder(&rt)?;
     let name = folder.as_str();
     put_config(&rt, name, 1001)?;
-    assert_steps(
-        &rt,
-        &rt,
-        name,
-        &[
-            told(
-                CREATE,
-                0,
-                "created T00001L6\ncreated DRIVE1\ncreated DRIVE2\n",
-            ),
-            told(CREATE, 0, "kept T00001L6\nkept DRIVE1\nkept DRIVE2\n"),
-            told(
-                "check @t1.tape",
-                0,
-                "cartridge T00001L6 partitions 1 frames 0\npartition 0 objects 0 used 0\n",
-            ),
-            told(
-                "check @d1.pr",
-                0,
-                "reservations DRIVE1 frames 0 registrations 0\n",
-            ),
-            told(
-                "check @d2.pr",
-                0,
-                "reservations DRIVE2 frames 0 registrations 0\n",
-            ),
-        ],
-    )?;
-    assert_holds(
-        &rt,
-        &rt,
-        name,
-        "t1.tape",
-        b"\xa5VTLCART1\0\x01T00001L6        \0\0\0\0\0\0\x10\0\0",
-    )?;
-    assert_holds(
-        &rt,
-        &rt,
-        name,
-        "d1.pr",
-        b"\xa5VTLRESV1\0\0DRIVE1          \0",
-    )?;
-    assert_holds(
-        &rt,
-        &rt,
-        name,
-        "d2.pr",
-        b"\xa5VTLRESV1\0\0DRIVE2          \0",
-    )?;
+    for (words, text) in TOLD {
+        assert_step(&rt, &rt, name, &told(words, 0, text))?;
+    }
+    for (file, bytes) in NEW_FILES {
+        assert_holds(&rt, &rt, name, file, bytes)?;
+    }
     fs::remove_dir_all(&rt, name)?;
     Ok(())
 }

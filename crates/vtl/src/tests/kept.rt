@@ -106,6 +106,17 @@ const FOUND: &str = "CHECK 700006000000000a00000000290000000000\n\
 const THIRD: &str = "2 1 000000000000\n2 1 5e000000000000001000\n2 1 110000000100\n\
     2 1 080000000100\n";
 
+// What `check` tells of cartridge and store after the first run, and after the second.
+const BLOCK_AND_MARK: &str =
+    "cartridge T00001L6 partitions 1 frames 1\npartition 0 objects 2 used 37\n";
+
+const ONE_KEY: &str = "reservations DRIVE1 frames 2 registrations 1\n";
+
+const TWO_BLOCKS: &str =
+    "cartridge T00001L6 partitions 1 frames 2\npartition 0 objects 2 used 38\n";
+
+const NO_KEY: &str = "reservations DRIVE1 frames 3 registrations 0\n";
+
 #[test]
 fn what_a_run_leaves_the_next_one_finds(rt: HostRuntime) -> Result<(), Fail> {
     let folder = new_folder(&rt)?;
@@ -123,27 +134,11 @@ fn what_a_run_leaves_the_next_one_finds(rt: HostRuntime) -> Result<(), Fail> {
         &[
             told(CREATE, 0, MADE),
             done(RUN, FIRST, text_of(first.as_slice())?),
-            told(
-                "check @t1.tape",
-                0,
-                "cartridge T00001L6 partitions 1 frames 1\npartition 0 objects 2 used 37\n",
-            ),
-            told(
-                "check @d1.pr",
-                0,
-                "reservations DRIVE1 frames 2 registrations 1\n",
-            ),
+            told("check @t1.tape", 0, BLOCK_AND_MARK),
+            told("check @d1.pr", 0, ONE_KEY),
             done(RUN, SECOND, FOUND),
-            told(
-                "check @t1.tape",
-                0,
-                "cartridge T00001L6 partitions 1 frames 2\npartition 0 objects 2 used 38\n",
-            ),
-            told(
-                "check @d1.pr",
-                0,
-                "reservations DRIVE1 frames 3 registrations 0\n",
-            ),
+            told("check @t1.tape", 0, TWO_BLOCKS),
+            told("check @d1.pr", 0, NO_KEY),
             done(RUN, THIRD, text_of(third.as_slice())?),
         ],
     )?;
