@@ -25,10 +25,10 @@ configured reads name text (Err fault) read says why = inr (text, read, why)
 
 -- there was none
 pub not_configured : {D : Type 0} (state : D → DiskState) (reads : List ℕ → Result (Vec ℕ Global) Error → Type 0)
-    (opens : List ℕ → Result D FileError → Type 0) (memory : Bool) (name : List ℕ) (fault : VtlFault)
-    (left before : Option (List ℕ)) → ReadsConfig reads name (Err fault)
-    → RunsOrder state reads opens memory (Some name) left left before before (Err fault)
-not_configured state reads opens true name fault left before why =
+    (opens : List ℕ → Result D FileError → Type 0) (hands_back : List ℕ → D → Type 0) (memory : Bool)
+    (name : List ℕ) (fault : VtlFault) (left before : Option (List ℕ)) → ReadsConfig reads name (Err fault)
+    → RunsOrder state reads opens hands_back memory (Some name) left left before before (Err fault)
+not_configured state reads opens hands_back true name fault left before why =
     (Err fault, why, (refl, (keeps_same left, keeps_same before)))
-not_configured state reads opens false name fault left before why =
+not_configured state reads opens hands_back false name fault left before why =
     (Err fault, why, (refl, (keeps_same left, keeps_same before)))

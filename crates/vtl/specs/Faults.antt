@@ -1,7 +1,9 @@
 -- How a fault is reported (own).
-use Rattle.std.specs.Prelude.{ℕ, List, ◌++◌, codes, decimal}
+use Rattle.std.specs.Prelude.{ℕ, List, [], ◌∷◌, ◌++◌, codes, decimal}
 use Rattle.std.specs.declared.io.ErrorKind.{ErrorKind}
 use Rattle.std.specs.declared.io.ErrorKind.TheVariants as kinds
+use Rattle.aptpl_store.specs.declared.error.StoreError.{StoreError}
+use Rattle.aptpl_store.specs.declared.error.StoreError.TheVariants as refusals
 use Rattle.vtl_script.specs.declared.faults.ScriptFault.{ScriptFault}
 use Rattle.vtl_script.specs.declared.faults.ScriptFault.TheVariants as script
 use Rattle.vtl.specs.declared.programs.VtlFault.{VtlFault}
@@ -19,6 +21,11 @@ abbrev pub fault_of_error : ErrorKind → VtlFault
 fault_of_error kinds.OutOfMemory = NoMemory
 fault_of_error _ = Device
 
+-- the program's fault for a store that is not opened: want of memory, and else a device fault (own)
+abbrev pub fault_of_store : StoreError → VtlFault
+fault_of_store refusals.NoMemory = NoMemory
+fault_of_store _ = Device
+
 -- the status: 1 where something is refused, 2 at a device, a file or a stream, 3 where memory ran out (own)
 abbrev pub status_of : VtlFault → ℕ
 status_of Words = 1
@@ -34,6 +41,10 @@ fault_text Config = codes "vtl: configuration refused"
 fault_text (Script line) = codes "vtl: script line " ++ decimal line ++ codes " refused"
 fault_text Device = codes "vtl: device fault"
 fault_text NoMemory = codes "vtl: out of memory"
+
+-- the line with its line feed (own)
+abbrev pub whole_line : VtlFault → List ℕ
+whole_line fault = fault_text fault ++ 10 ∷ []
 
 -- a device, a file or a stream failed, or memory ran out (own)
 abbrev pub IsFailure : VtlFault → Type 0

@@ -1,9 +1,8 @@
 -- What the calls for files answer, by the names of the files (own).
-use Rattle.std.specs.Prelude.{◌≡◌, ◌⊎◌, ◌<◌, ℕ, List, Result, Ok, Err, Vec}
+use Rattle.std.specs.Prelude.{◌≡◌, ◌⊎◌, ℕ, List, Result, Ok, Err, Vec}
 use Rattle.std.specs.declared.alloc.Global.{Global}
 use Rattle.std.specs.IoError.{error_kind}
 use Rattle.std.specs.declared.io.Error.{Error}
-use Rattle.tape_disk.specs.Disk.{DiskState}
 use Rattle.file_disk.specs.declared.error.FileError.{FileError}
 use Rattle.vtl_config.specs.Configs.{Says}
 use Rattle.vtl_config.specs.declared.entries.Config.{Config}
@@ -20,8 +19,9 @@ pub record FileAnswers (D : Type 0) : Type 1 where
   -- a file is opened to be read, and its disk is handed back
   pub opens_to_read : List ℕ → Result D FileError → Type 0
   pub closes : List ℕ → D → Type 0
-  -- a file is opened to be changed
+  -- a file is opened to be changed, and its disk is handed back, where no side is found on it
   pub opens : List ℕ → Result D FileError → Type 0
+  pub hands_back : List ℕ → D → Type 0
   -- a missing file is made, and its disk is handed back, with the file or to have it taken away
   pub makes : List ℕ → Result D FileError → Type 0
   pub leaves : List ℕ → D → Type 0
@@ -30,21 +30,19 @@ pub record FileAnswers (D : Type 0) : Type 1 where
 -- the answers of these calls (own)
 abbrev pub answers_of : {D : Type 0} → (List ℕ → Result (Vec ℕ Global) Error → Type 0)
     → (opens_to_read : List ℕ → Result D FileError → Type 0) → (closes : List ℕ → D → Type 0)
-    → (opens makes : List ℕ → Result D FileError → Type 0) → (leaves takes_away : List ℕ → D → Type 0)
+    → (opens : List ℕ → Result D FileError → Type 0) → (hands_back : List ℕ → D → Type 0)
+    → (makes : List ℕ → Result D FileError → Type 0) → (leaves takes_away : List ℕ → D → Type 0)
     → FileAnswers D
-answers_of reads opens_to_read closes opens makes leaves takes_away = record {
+answers_of reads opens_to_read closes opens hands_back makes leaves takes_away = record {
   reads = reads;
   opens_to_read = opens_to_read;
   closes = closes;
   opens = opens;
+  hands_back = hands_back;
   makes = makes;
   leaves = leaves;
   takes_away = takes_away;
 }
-
--- a call of this disk failed: there is a value of it with more failures (own)
-abbrev pub HasFailed : {D : Type 0} → (D → DiskState) → D → Type 0
-HasFailed {D} state disk = (later : D) × (state disk).failures < (state later).failures
 
 -- the configuration that the file of a name says; or there is none, since the file is not read, its text is refused, or
 -- memory runs out (own)

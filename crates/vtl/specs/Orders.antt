@@ -68,17 +68,17 @@ module _ {D : Type 0} (state : D → DiskState) where
   module _ (reads : List ℕ → Result (Vec ℕ Global) Error → Type 0) where
     -- what `vtl run` does: over the built-in configuration in memory; over that of a file, in memory where that is
     -- asked for, and else over its files (own)
-    abbrev pub RunsOrder : (List ℕ → Result D FileError → Type 0) → Bool → Option (List ℕ)
+    abbrev pub RunsOrder : (List ℕ → Result D FileError → Type 0) → (List ℕ → D → Type 0) → Bool → Option (List ℕ)
         → (left left' before now : Option (List ℕ)) → Result (Unit {0}) VtlFault → Type 0
-    RunsOrder opens memory None left left' before now outcome =
+    RunsOrder opens hands_back memory None left left' before now outcome =
         RunsOver memory_state (IsBuiltIn memory_state built_in_barcode built_in_capacities)
         (λ fault. fault ≡ Faults.NoMemory) left left' before now outcome
-    RunsOrder opens true (Some name) left left' before now outcome =
+    RunsOrder opens hands_back true (Some name) left left' before now outcome =
         (config : Result Config VtlFault) × ReadsConfig reads name config
         × RunsNamed memory_state new_sides config left left' before now outcome
-    RunsOrder opens false (Some name) left left' before now outcome =
+    RunsOrder opens hands_back false (Some name) left left' before now outcome =
         (config : Result Config VtlFault) × ReadsConfig reads name config
-        × RunsNamed state (file_sides state opens) config left left' before now outcome
+        × RunsNamed state (file_sides state opens hands_back) config left left' before now outcome
 
   module _ (makes : List ℕ → Result D FileError → Type 0) (leaves takes_away : List ℕ → D → Type 0) where
     -- the missing files of a configuration are made, and each is told of; where there is no configuration, nothing is
@@ -118,7 +118,7 @@ module _ {D : Type 0} (state : D → DiskState) (files : FileAnswers D) where
   abbrev pub DoesOrder : Asked → (left left' before now : Option (List ℕ)) → Result Verdict VtlFault → Type 0
   DoesOrder (run memory config) left left' before now result =
       (outcome : Result (Unit {0}) VtlFault)
-      × RunsOrder state files.reads files.opens memory config left left' before now outcome
+      × RunsOrder state files.reads files.opens files.hands_back memory config left left' before now outcome
       × (result ≡ verdict_from outcome)
   DoesOrder (create config) left left' before now result =
       (outcome : Result (Unit {0}) VtlFault)

@@ -1,5 +1,5 @@
 -- What the program does over its streams (own).
-use Rattle.std.specs.Prelude.{◌≡◌, ◌≢◌, ℕ, ◌++◌, ◌∷◌, [], true, List, Option, Result, Ok, Err, OnOk}
+use Rattle.std.specs.Prelude.{◌≡◌, ◌≢◌, ℕ, Bool, true, false, List, Option, Result, Ok, Err, OnOk}
 use Rattle.std.specs.Io.KnownBytes.{Appends, Keeps}
 use Rattle.vtl_script.specs.declared.faults.ScriptFault.{ScriptFault}
 use Rattle.vtl_script.specs.declared.faults.ScriptFault.TheVariants.{ReadFault}
@@ -14,8 +14,9 @@ use Rattle.vtl.specs.declared.programs.Verdict.TheVariants.{Done, Refused}
 use Rattle.vtl.specs.declared.programs.VtlFault.{VtlFault}
 use Rattle.vtl.specs.declared.programs.VtlFault.TheVariants.{Device}
 use Rattle.vtl.specs.declared.programs.Ended.{Ended}
-use Rattle.vtl.specs.Faults.{fault_of, status_of, fault_text}
+use Rattle.vtl.specs.Faults.{fault_of, status_of, whole_line}
 use Rattle.vtl_script.specs.Runs.{RunsScript, TakesWithin}
+use Rattle.vtl_script.specs.Text.{AppendsPart}
 
 -- the program's outcome, by how its script ended and whether all was then written out: the first fault decides (own)
 abbrev pub outcome_of : Result (Unit {0}) ScriptFault → Result (Unit {0}) Unwritten → Result (Unit {0}) VtlFault
@@ -52,11 +53,15 @@ abbrev pub verdict_status : Verdict → ℕ
 verdict_status Done = 0
 verdict_status Refused = 1
 
--- the status and the line on standard error: none where nothing failed, and else the line of the fault, where it
--- could be written (own)
+-- the line of a fault is out, or a beginning of it is (own)
+abbrev pub Reports : VtlFault → (before now : Option (List ℕ)) → Bool → Type 0
+Reports fault before now true = Appends before now (whole_line fault)
+Reports fault before now false = AppendsPart before now (whole_line fault)
+
+-- the status and the line on standard error: none where nothing failed, and else the line of the fault, or a beginning
+-- of it, where it could not be written (own)
 abbrev pub EndsProgram : Result Verdict VtlFault → Option (List ℕ) → Option (List ℕ) → Ended → Type 0
 EndsProgram (Ok verdict) before now ended =
     (ended ≡ record { status = verdict_status verdict; is_reported = true }) × Keeps before now
 EndsProgram (Err fault) before now ended =
-    (ended.status ≡ status_of fault)
-    × (ended.is_reported ≡ true → Appends before now (fault_text fault ++ 10 ∷ []))
+    (ended.status ≡ status_of fault) × Reports fault before now ended.is_reported

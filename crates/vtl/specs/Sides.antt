@@ -1,5 +1,5 @@
 -- Where the sides of a library come from: out of files, or made in memory (own).
-use Rattle.std.specs.Prelude.{◌≡◌, ◌≢◌, ◌⊎◌, ℕ, [], true, false, List, None, Result, Ok, Err, string_bytes}
+use Rattle.std.specs.Prelude.{◌≡◌, ◌⊎◌, ◌<◌, ℕ, [], true, false, List, None, Result, Ok, Err, string_bytes}
 use Rattle.tape_disk.specs.CallLog.{log_state}
 use Rattle.tape_disk.specs.Disk.{DiskState, Keeps, Only}
 use Rattle.tape_disk.specs.Moments.{LeavesOnly}
@@ -14,12 +14,11 @@ use Rattle.aptpl_store.specs.Answers.{IsStoreNotOpened}
 use Rattle.aptpl_store.specs.Contents.{GivesStates, heading_for}
 use Rattle.aptpl_store.specs.State.{OpenStore}
 use Rattle.aptpl_store.specs.declared.error.StoreError.{StoreError}
-use Rattle.aptpl_store.specs.declared.error.StoreError.TheVariants as refusals
 use Rattle.vtl_config.specs.declared.entries.CartridgeEntry.{CartridgeEntry}
 use Rattle.vtl_config.specs.declared.entries.DriveEntry.{DriveEntry}
-use Rattle.vtl.specs.Files.{HasFailed}
+use Rattle.vtl.specs.Faults.{fault_of_store}
 use Rattle.vtl.specs.declared.programs.VtlFault.{VtlFault}
-use Rattle.vtl.specs.declared.programs.VtlFault.TheVariants.{Words, Config, Script, Device, NoMemory}
+use Rattle.vtl.specs.declared.programs.VtlFault.TheVariants.{Device, NoMemory}
 
 -- what the sides of a library are, entry by entry, and why one is not given (own)
 pub record SidesGiven (D : Type 0) : Type 1 where
@@ -71,31 +70,43 @@ module _ {D : Type 0} where
       pub sure : (state disk).honest → Only (state disk).seen (state store.disk).may_leave
       pub any_moment : (state disk).honest → LeavesOnly (state disk) (state store.disk) (state disk).may_leave
 
-    -- why a disk gives no store: a call of it failed, it holds none, or memory ran out (own)
-    abbrev pub IsNoStoreOn : D → VtlFault → Type 0
-    IsNoStoreOn disk Device =
-        (error : StoreError) × (error ≢ refusals.NoMemory)
-        × ((later : D) × IsStoreNotOpened error (state disk) (state later))
-    IsNoStoreOn disk NoMemory = (later : D) × IsStoreNotOpened refusals.NoMemory (state disk) (state later)
-    IsNoStoreOn disk Config = ⊥
-    IsNoStoreOn disk Words = ⊥
-    IsNoStoreOn disk (Script line) = ⊥
+    -- a disk was not taken for a cartridge, since a call of it failed, and this is what it is last: at no moment since
+    -- it was opened a crash left anything new (own)
+    pub record IsNoCartridgeOn (disk last : D) : Type 0 where
+      pub failed : (state disk).failures < (state last).failures
+      pub keeps : Keeps (state disk) (state last)
+      pub any_moment : (state disk).honest → LeavesOnly (state disk) (state last) (state disk).may_leave
 
-    module _ (opens : List ℕ → Result D FileError → Type 0) where
-      -- the sides that files hold, by what an opening of a file may answer: a cartridge or a store that was found on
-      -- the disk that the opening of its entry's file gave; or the file was not opened, or the disk gives none (own)
+    -- A disk gives no store, for such a fault, and this is what it is last: a call of it failed, it holds none, or
+    -- memory ran out. But for a failed call a read of it gives what one gave before; and at no moment since it was
+    -- opened a crash left anything new (own).
+    pub record IsNoStoreOn (disk last : D) (fault : VtlFault) : Type 0 where
+      pub error : StoreError
+      pub told : fault ≡ fault_of_store error
+      pub cause : IsStoreNotOpened error (state disk) (state last)
+      pub keeps : Keeps (state disk) (state last)
+      pub same : (state disk).honest → NoneFailed (state disk) (state last)
+          → (state last).seen ≡ (state disk).seen
+      pub any_moment : (state disk).honest → LeavesOnly (state disk) (state last) (state disk).may_leave
+
+    module _ (opens : List ℕ → Result D FileError → Type 0) (hands_back : List ℕ → D → Type 0) where
+      -- the sides that files hold, by what an opening of a file may answer and which disks may be handed back: a
+      -- cartridge or a store that was found on the disk that the opening of its entry's file gave; or the file was not
+      -- opened, or the disk gives none, and it was handed back for this file (own)
       abbrev pub file_sides : SidesGiven D
       file_sides = record {
         gives_cartridge = λ entry cartridge.
             (disk : D) × opens (string_bytes entry.file) (Ok disk) × IsFoundOn disk cartridge;
         refuses_cartridge = λ entry fault. (fault ≡ Device)
             × (((error : FileError) × opens (string_bytes entry.file) (Err error))
-            ⊎ ((disk : D) × opens (string_bytes entry.file) (Ok disk) × HasFailed state disk));
+            ⊎ ((disk : D) × opens (string_bytes entry.file) (Ok disk)
+            × ((last : D) × hands_back (string_bytes entry.file) last × IsNoCartridgeOn disk last)));
         gives_store = λ entry store.
             (disk : D) × opens (string_bytes entry.reservations) (Ok disk) × IsStoreOn disk store;
         refuses_store = λ entry fault.
             ((fault ≡ Device) × ((error : FileError) × opens (string_bytes entry.reservations) (Err error)))
-            ⊎ ((disk : D) × opens (string_bytes entry.reservations) (Ok disk) × IsNoStoreOn disk fault);
+            ⊎ ((disk : D) × opens (string_bytes entry.reservations) (Ok disk)
+            × ((last : D) × hands_back (string_bytes entry.reservations) last × IsNoStoreOn disk last fault));
       }
 
 -- new sides, made as their entries say: only memory may run out (own)

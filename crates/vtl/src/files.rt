@@ -40,9 +40,16 @@ pub trait ChangeFiles<D> {
     // The answers that a call may have, by the name.
     ghost opens: { List ℕ → Result D FileError → Type 0 };
 
+    // The disk that was handed back for a name: no side was found on it.
+    ghost hands_back: { List ℕ → D → Type 0 };
+
     /// A disk over the file of this name.
     fn open(&self, name: &str) -> Result<D, FileError>
         ensures { opens name.now result };
+
+    /// Takes back a disk on which no side was found, as it is.
+    fn hand_back(&self, name: &str, disk: D)
+        ensures { hands_back name.now disk };
 }
 
 /// Files that are made.
@@ -55,7 +62,7 @@ pub trait MakeFiles<D> {
 
     ghost takes_away: { List ℕ → D → Type 0 };
 
-    /// A disk over a new file of this name. What has the name already is not touched.
+    /// A disk over a new file of this name; `Exists` where something has the name, which is not touched.
     fn make(&self, name: &str) -> Result<D, FileError>
         ensures { makes name.now result };
 
@@ -72,6 +79,7 @@ pub trait MakeFiles<D> {
 /// The files of the operating system. What they hold no contract of its calls says, so any answer is taken as it comes.
 #[derive(Clone, Copy)]
 pub struct SystemFiles<'a> {
+    /// What reaches the system.
     pub rt: &'a HostRuntime,
 }
 
@@ -100,8 +108,14 @@ impl<'a> ReadFiles<FileDisk> for SystemFiles<'a> {
 impl<'a> ChangeFiles<FileDisk> for SystemFiles<'a> {
     ghost opens = { λ name answer. Unit {0} };
 
+    ghost hands_back = { λ name disk. Unit {0} };
+
     fn open(&self, name: &str) -> Result<FileDisk, FileError> {
         file_disk::open(self.rt, name)
+    }
+
+    fn hand_back(&self, _: &str, disk: FileDisk) {
+        drop(disk);
     }
 }
 

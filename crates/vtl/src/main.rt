@@ -6,6 +6,7 @@ pub mod configs;
 pub mod creating;
 pub mod files;
 pub mod laws;
+pub mod lines;
 pub mod orders;
 pub mod programs;
 pub mod side_checks;

@@ -85,7 +85,7 @@ fn run_order<D: Disk + Drop, F: TextFiles + ChangeFiles<D>, R: Read, W: Write>(
     reader: &mut R,
     writer: &mut W,
 ) -> Result<(), VtlFault>
-    ensures { RunsOrder D.state F.reads F.opens memory (option_map string_bytes config)
+    ensures { RunsOrder D.state F.reads F.opens F.hands_back memory (option_map string_bytes config)
         (R.remaining reader.old) (R.remaining reader.new)
         (W.contents writer.old) (W.contents writer.new) result }
 {
@@ -148,7 +148,7 @@ fn do_order<
     writer: &mut W,
 ) -> Result<Verdict, VtlFault>
     ensures { DoesOrder D.state
-        (answers_of F.reads F.opens_to_read F.closes F.opens F.makes F.leaves F.takes_away)
+        (answers_of F.reads F.opens_to_read F.closes F.opens F.hands_back F.makes F.leaves F.takes_away)
         (asked_of order)
         (R.remaining reader.old) (R.remaining reader.new)
         (W.contents writer.old) (W.contents writer.new) result }
@@ -195,7 +195,7 @@ pub fn obey<
     writer: &mut W,
 ) -> Result<Verdict, VtlFault>
     ensures { Obeys D.state
-        (answers_of F.reads F.opens_to_read F.closes F.opens F.makes F.leaves F.takes_away)
+        (answers_of F.reads F.opens_to_read F.closes F.opens F.hands_back F.makes F.leaves F.takes_away)
         (texts_of words.now)
         (R.remaining reader.old) (R.remaining reader.new)
         (W.contents writer.old) (W.contents writer.new) result }
@@ -223,7 +223,7 @@ pub fn run<
     errors: &mut E,
 ) -> Ended
     ensures { RunsProgram D.state
-        (answers_of F.reads F.opens_to_read F.closes F.opens F.makes F.leaves F.takes_away)
+        (answers_of F.reads F.opens_to_read F.closes F.opens F.hands_back F.makes F.leaves F.takes_away)
         (given_words words)
         (R.remaining reader.old) (R.remaining reader.new)
         (W.contents writer.old) (W.contents writer.new)

@@ -1,12 +1,13 @@
 //! How the program ends, and how a fault is reported.
 ghost use Rattle.std.specs.Prelude.{◌≡◌};
 ghost use Rattle.vtl.specs.Faults.{status_of};
-ghost use Rattle.vtl.specs.Program.{EndsProgram};
+ghost use Rattle.vtl.specs.Program.{EndsProgram, Reports};
 
+use crate::lines::whole_line;
 use std::fmt;
 use std::io::{self, ErrorKind, Write};
 use vtl_base::NoMemory;
-use vtl_script::ScriptFault;
+use vtl_script::{ScriptFault, write_text};
 
 /// Why the program ends with a status that is not 0.
 #[derive(Clone, Copy, PartialEq, Eq, Debug)]
@@ -67,6 +68,7 @@ impl From<NoMemory> for VtlFault {
 /// The line on standard error that reports a fault. It takes no memory.
 #[derive(Clone, Copy, PartialEq, Eq, Debug)]
 pub struct FaultLine {
+    /// The fault.
     pub fault: VtlFault,
 }
 
@@ -112,12 +114,27 @@ pub enum Verdict {
 /// How the program ends: its status, and whether no fault is left without its line.
 #[derive(Clone, Copy, PartialEq, Eq, Debug)]
 pub struct Ended {
+    /// The status: 0 to 3.
     pub status: u8,
+    /// False where a fault's line could not be written.
     pub is_reported: bool,
 }
 
+// Writes the line of a fault: whether it is out. Where a write fails, a beginning of it is.
+fn report<E: Write>(line: FaultLine, errors: &mut E) -> bool
+    ensures { Reports line.fault (E.contents errors.old) (E.contents errors.new) result }
+{
+    match whole_line(line) {
+        Ok(text) => match write_text(errors, text.as_bytes()) {
+            Ok(()) => true,
+            Err(_) => false,
+        },
+        Err(_) => false,
+    }
+}
+
 /// Reports how the program ends: a fault by one line on the error stream and by its status, a file that was refused by
-/// status 1 alone.
+/// status 1 alone. Where a write fails, a beginning of the line is written. It takes no memory.
 pub fn end<E: Write>(outcome: Result<Verdict, VtlFault>, errors: &mut E) -> Ended
     ensures { EndsProgram outcome (E.contents errors.old) (E.contents errors.new) result }
 {
@@ -133,7 +150,7 @@ pub fn end<E: Write>(outcome: Result<Verdict, VtlFault>, errors: &mut E) -> Ende
             let (status, line) = fault_line(&fault);
             Ended {
                 status,
-                is_reported: writeln!(errors, "{line}").is_ok(),
+                is_reported: report(line, errors),
             }
         }
     }

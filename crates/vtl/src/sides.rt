@@ -2,9 +2,8 @@
 ghost use Rattle.std.specs.Prelude.{◌≡◌, IfOk, IfErr};
 ghost use Rattle.aptpl_store.specs.Kept.{store_kept};
 ghost use Rattle.drive_core.specs.State.{left_of};
-ghost use Rattle.vtl.specs.Faults.{IsFailure};
-ghost use Rattle.vtl.specs.Files.{HasFailed};
-ghost use Rattle.vtl.specs.Sides.{IsFoundOn, IsNoStoreOn, IsStoreOn, SidesGiven};
+ghost use Rattle.vtl.specs.Faults.{IsFailure, fault_of_store};
+ghost use Rattle.vtl.specs.Sides.{IsFoundOn, IsNoCartridgeOn, IsNoStoreOn, IsStoreOn, SidesGiven};
 
 use crate::files::ChangeFiles;
 use crate::programs::VtlFault;
@@ -19,7 +18,9 @@ use vtl_config::{CartridgeEntry, DriveEntry};
 /// A store of a drive's reservations, and what of them a loss of power left.
 #[derive(Drop)]
 pub struct DriveStore<D: Disk> {
+    /// The store, open.
     pub store: AptplStore<D>,
+    /// The reservations that a loss of power left of the state that it saved last.
     pub left: Reservations,
 }
 
@@ -46,6 +47,7 @@ pub trait Sides<D: Disk> {
 /// The sides that files hold.
 #[derive(Clone, Copy)]
 pub struct FileSides<'a, F> {
+    /// The files, by their names.
     pub files: &'a F,
 }
 
@@ -53,48 +55,82 @@ pub struct FileSides<'a, F> {
 #[derive(Clone, Copy)]
 pub struct NewSides;
 
-// A closed cartridge of which nothing is known but what the disk holds.
-fn settled<D: Disk + Drop>(alloc: Global, mut disk: D) -> Result<Parked<D>, VtlFault>
+// A closed cartridge of which nothing is known but what the disk holds; or the disk, where it failed.
+fn settled<D: Disk>(alloc: Global, mut disk: D) -> Result<Parked<D>, D>
     ensures ok { IfOk result (IsFoundOn D.state disk) }
-    ensures err { IfErr result (λ fault. (fault ≡ VtlFault.Device) × HasFailed D.state disk) }
+    ensures err { IfErr result (IsNoCartridgeOn D.state disk) }
 {
     match disk.sync() {
         Ok(()) => Ok(Parked::of(alloc, Shelved::of(disk))),
-        Err(_) => Err(VtlFault::Device),
+        Err(_) => Err(disk),
     }
 }
 
-// The store that a disk holds.
-fn opened<D: Disk + Drop>(alloc: Global, disk: D) -> Result<DriveStore<D>, VtlFault>
+// A disk that gives no store, and the fault for it.
+#[derive(Drop)]
+struct NoStore<D> {
+    fault: VtlFault,
+    disk: D,
+}
+
+// The fault for a store that is not opened.
+fn fault_of_store(error: StoreError) -> VtlFault
+    ensures { result ≡ fault_of_store error }
+{
+    match error {
+        StoreError::NoMemory => VtlFault::NoMemory,
+        _ => VtlFault::Device,
+    }
+}
+
+// The store that a disk holds; or the disk, where it gives none.
+fn opened<D: Disk>(alloc: Global, disk: D) -> Result<DriveStore<D>, NoStore<D>>
     ensures ok { IfOk result (λ opened. IsStoreOn D.state disk opened.store) }
     ensures left { IfOk result (λ opened.
         opened.left ≡ left_of (store_kept opened.store).saved) }
-    ensures err { IfErr result (IsNoStoreOn D.state disk) }
+    ensures err { IfErr result (λ none. IsNoStoreOn D.state disk none.disk none.fault) }
 {
     match AptplStore::open(alloc, disk) {
         Ok((store, left)) => Ok(DriveStore { store, left }),
-        Err(refused) => match refused.error {
-            StoreError::NoMemory => Err(VtlFault::NoMemory),
-            _ => Err(VtlFault::Device),
-        },
+        Err(refused) => {
+            let StoreRefused { error, disk } = refused;
+            let fault = fault_of_store(error);
+            Err(NoStore { fault, disk })
+        }
     }
 }
 
-impl<'a, D: Disk + Drop, F: ChangeFiles<D>> Sides<D> for FileSides<'a, F> {
+// No disk can be dropped here: each that was opened is in a side, or handed back.
+impl<'a, D: Disk, F: ChangeFiles<D>> Sides<D> for FileSides<'a, F> {
     ghost use Rattle.vtl.specs.Sides.{file_sides};
 
-    ghost given = { file_sides D.state F.opens };
+    ghost given = { file_sides D.state F.opens F.hands_back };
 
     fn cartridge(&self, alloc: Global, entry: &CartridgeEntry) -> Result<Parked<D>, VtlFault> {
-        match self.files.open(entry.file.as_str()) {
-            Ok(disk) => settled(alloc, disk),
+        let name = entry.file.as_str();
+        match self.files.open(name) {
+            Ok(disk) => match settled(alloc, disk) {
+                Ok(cartridge) => Ok(cartridge),
+                Err(disk) => {
+                    self.files.hand_back(name, disk);
+                    Err(VtlFault::Device)
+                }
+            },
             Err(_) => Err(VtlFault::Device),
         }
     }
 
     fn store(&self, alloc: Global, entry: &DriveEntry) -> Result<DriveStore<D>, VtlFault> {
-        match self.files.open(entry.reservations.as_str()) {
-            Ok(disk) => opened(alloc, disk),
+        let name = entry.reservations.as_str();
+        match self.files.open(name) {
+            Ok(disk) => match opened(alloc, disk) {
+                Ok(store) => Ok(store),
+                Err(none) => {
+                    let NoStore { fault, disk } = none;
+                    self.files.hand_back(name, disk);
+                    Err(fault)
+                }
+            },
             Err(_) => Err(VtlFault::Device),
         }
     }

@@ -170,7 +170,7 @@ pub fn start<D: Disk + Drop, S: Sides<D>>(
 }
 
 /// The library of the built-in configuration, in memory: drive 1 alone, holding `T00001L6` of one
-/// partition of 16,777,216 bytes.
+/// partition of 16,777,216 bytes. Else `NoMemory`.
 pub fn built_in(alloc: Global) -> Result<Held<MemDisk>, VtlFault>
     ensures { IsStart (IsBuiltIn memory_state built_in_barcode built_in_capacities)
         (λ fault. fault ≡ Faults.NoMemory) result }

@@ -9,6 +9,7 @@ mod motions;
 mod noted_files;
 mod plain_sides;
 mod programs;
+mod refusals;
 mod sides;
 mod streams;
 

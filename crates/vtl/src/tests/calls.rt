@@ -15,13 +15,13 @@ const DEVICE: &str = "vtl: device fault\n";
 const DEVICE_ERROR: FileError = FileError::Device(DevFault { failures: 1 });
 
 // One run: what fails and the words behind the name; what is wanted: the calls, the text, and the line with the status.
-type Row<'a> = (Failing, &'a str, &'a str, &'a str, (&'a str, u8));
+pub type Row<'a> = (Failing, &'a str, &'a str, &'a str, (&'a str, u8));
 
 const DONE: (&str, u8) = ("", 0);
 
 const REFUSED_WORDS: (&str, u8) = ("vtl: command line refused\n", 1);
 
-const FAILED: (&str, u8) = (DEVICE, 2);
+pub const FAILED: (&str, u8) = (DEVICE, 2);
 
 const NO_MEMORY: (&str, u8) = ("vtl: out of memory\n", 3);
 
@@ -60,17 +60,12 @@ fn assert_row(abort: &impl Abort, alloc: Global, row: Row, at: usize) -> Result<
     Ok(())
 }
 
-fn assert_rows(abort: &impl Abort, alloc: Global, rows: &[Row]) -> Result<(), Fail> {
+pub fn assert_rows(abort: &impl Abort, alloc: Global, rows: &[Row]) -> Result<(), Fail> {
     for (at, row) in rows.iter().enumerate() {
         assert_row(abort, alloc, *row, at)?;
     }
     Ok(())
 }
-
-// A store with a frame that is not whole, and one with a frame that spells no state.
-const DAMAGED: &[u8] = b"\xa5VTLRESV1\0\0DRIVE1          \xa5";
-
-const BAD_STATE: &[u8] = b"\xa5VTLRESV1\0\0DRIVE1          \xa5\0\0\0\x01\x02\0";
 
 const RUN: &str = "vtl run --config c";
 
@@ -112,17 +107,6 @@ static RUNS: &'static [Row<'static>] = &[
     ),
     (Failing::Call(4, FileError::Missing), RUN, THREE, "", FAILED),
     (Failing::Call(5, FileError::Missing), RUN, FOUR, "", FAILED),
-    (Failing::Disk("t", 0), RUN, "read c;open t;", "", FAILED),
-    (
-        Failing::Disk("u", 0),
-        RUN,
-        "read c;open t;open u;",
-        "",
-        FAILED,
-    ),
-    (Failing::Disk("1", 0), RUN, THREE, "", FAILED),
-    (Failing::Side("1", DAMAGED), RUN, THREE, "", FAILED),
-    (Failing::Side("2", BAD_STATE), RUN, FOUR, "", FAILED),
     (Failing::Memory, RUN, "read c;", "", NO_MEMORY),
 ];
 

@@ -1,65 +1,50 @@
 //! Files that are made, kept, told and refused, to the byte.
 use super::folders::{
-    CREATE, DEVICE, RUN, assert_holds, assert_step, assert_steps, done, failed, new_folder, put,
+    CREATE, DEVICE, RUN, Step, assert_holds, assert_step, assert_steps, failed, new_folder, put,
     put_config, told,
 };
 use std::fs;
 use std::test::Fail;
+
+// Words, and the text that is wanted.
+static TOLD: &'static [(&'static str, &'static str)] = &[
+    (CREATE, "created T00001L6\ncreated DRIVE1\ncreated DRIVE2\n"),
+    (CREATE, "kept T00001L6\nkept DRIVE1\nkept DRIVE2\n"),
+    (
+        "check @t1.tape",
+        "cartridge T00001L6 partitions 1 frames 0\npartition 0 objects 0 used 0\n",
+    ),
+    (
+        "check @d1.pr",
+        "reservations DRIVE1 frames 0 registrations 0\n",
+    ),
+    (
+        "check @d2.pr",
+        "reservations DRIVE2 frames 0 registrations 0\n",
+    ),
+];
+
+// The files, and the bytes of new sides.
+static NEW_FILES: &'static [(&'static str, &'static [u8])] = &[
+    (
+        "t1.tape",
+        b"\xa5VTLCART1\0\x01T00001L6        \0\0\0\0\0\0\x10\0\0",
+    ),
+    ("d1.pr", b"\xa5VTLRESV1\0\0DRIVE1          \0"),
+    ("d2.pr", b"\xa5VTLRESV1\0\0DRIVE2          \0"),
+];
 
 #[test]
 fn files_are_made_kept_and_told(rt: HostRuntime) -> Result<(), Fail> {
     let folder = new_folder(&rt)?;
     let name = folder.as_str();
     put_config(&rt, name, 1001)?;
-    assert_steps(
-        &rt,
-        &rt,
-        name,
-        &[
-            told(
-                CREATE,
-                0,
-                "created T00001L6\ncreated DRIVE1\ncreated DRIVE2\n",
-            ),
-            told(CREATE, 0, "kept T00001L6\nkept DRIVE1\nkept DRIVE2\n"),
-            told(
-                "check @t1.tape",
-                0,
-                "cartridge T00001L6 partitions 1 frames 0\npartition 0 objects 0 used 0\n",
-            ),
-            told(
-                "check @d1.pr",
-                0,
-                "reservations DRIVE1 frames 0 registrations 0\n",
-            ),
-            told(
-                "check @d2.pr",
-                0,
-                "reservations DRIVE2 frames 0 registrations 0\n",
-            ),
-        ],
-    )?;
-    assert_holds(
-        &rt,
-        &rt,
-        name,
-        "t1.tape",
-        b"\xa5VTLCART1\0\x01T00001L6        \0\0\0\0\0\0\x10\0\0",
-    )?;
-    assert_holds(
-        &rt,
-        &rt,
-        name,
-        "d1.pr",
-        b"\xa5VTLRESV1\0\0DRIVE1          \0",
-    )?;
-    assert_holds(
-        &rt,
-        &rt,
-        name,
-        "d2.pr",
-        b"\xa5VTLRESV1\0\0DRIVE2          \0",
-    )?;
+    for (words, text) in TOLD {
+        assert_step(&rt, &rt, name, &told(words, 0, text))?;
+    }
+    for (file, bytes) in NEW_FILES {
+        assert_holds(&rt, &rt, name, file, bytes)?;
+    }
     fs::remove_dir_all(&rt, name)?;
     Ok(())
 }
@@ -83,6 +68,37 @@ fn a_file_that_exists_is_not_touched(rt: HostRuntime) -> Result<(), Fail> {
     )?;
     assert_holds(&rt, &rt, name, "t1.tape", b"mine")?;
     assert_holds(&rt, &rt, name, "d2.pr", b"")?;
+    fs::remove_dir_all(&rt, name)?;
+    Ok(())
+}
+
+#[test]
+fn one_file_has_two_names(rt: HostRuntime) -> Result<(), Fail> {
+    let folder = new_folder(&rt)?;
+    let name = folder.as_str();
+    let text = format!(in rt.alloc();
+        "[[cartridge]]\nbarcode = \"AA\"\nfile = \"{name}/a\"\ncapacities = [4096]\nhome = 1001\n\
+        [[cartridge]]\nbarcode = \"BB\"\nfile = \"{name}/./a\"\ncapacities = [4096]\nhome = 1002\n"
+    )?;
+    put(&rt, name, "lib.toml", text.as_bytes())?;
+    // No line of the script is read: the first one is bad.
+    let refused = Step {
+        script: "x\n",
+        ..failed(RUN, 2, DEVICE)
+    };
+    assert_steps(
+        &rt,
+        &rt,
+        name,
+        &[told(CREATE, 0, "created AA\nkept BB\n"), refused],
+    )?;
+    assert_holds(
+        &rt,
+        &rt,
+        name,
+        "a",
+        b"\xa5VTLCART1\0\x01AA              \0\0\0\0\0\0\x10\0\0",
+    )?;
     fs::remove_dir_all(&rt, name)?;
     Ok(())
 }
@@ -120,16 +136,6 @@ fn what_is_refused_before_a_script(rt: HostRuntime) -> Result<(), Fail> {
             told("check @bad.tape", 1, "damaged at 35\n"),
         ],
     )?;
-    put_config(&rt, name, 1001)?;
-    // No cartridge's file, then no store's, then a store that is refused.
-    put(&rt, name, "d1.pr", b"\xa5VTLRESV1\0\0DRIVE1          \0")?;
-    assert_step(&rt, &rt, name, &failed(RUN, 2, DEVICE))?;
-    put(&rt, name, "t1.tape", b"mine")?;
-    assert_step(&rt, &rt, name, &failed(RUN, 2, DEVICE))?;
-    put(&rt, name, "d2.pr", b"mine")?;
-    assert_step(&rt, &rt, name, &failed(RUN, 2, DEVICE))?;
-    put(&rt, name, "d2.pr", b"\xa5VTLRESV1\0\0DRIVE2          \0")?;
-    assert_step(&rt, &rt, name, &done(RUN, "", ""))?;
     fs::remove_dir_all(&rt, name)?;
     Ok(())
 }

@@ -1,7 +1,7 @@
 //! Runs over files: what one leaves, and what the next one finds.
 use super::folders::{
-    CREATE, DEVICE, RUN, Step, assert_step, assert_steps, done, failed, new_folder, put,
-    put_config, told,
+    CREATE, DEVICE, RUN, Step, assert_holds, assert_step, assert_steps, done, failed, new_folder,
+    put, put_config, told,
 };
 use super::libraries::{MOVED, moves};
 use super::{ATTENTION, joined};
@@ -30,11 +30,14 @@ fn a_refused_cartridge_is_there_unloaded(rt: HostRuntime) -> Result<(), Fail> {
             "CHECK 700002000000000a000000003a0000000000\n\
             CHECK 700003000000000a00000000110000000000\n\
             CHECK 700003000000000a00000000110000000000\n\
-            CHECK 700005000000000a000000003b0e00000000\n",
+            CHECK 700005000000000a000000003b0e00000000\n\
+            GOOD\nCHECK 700005000000000a000000003b0e00000000\n",
         ],
     )?;
     let text = text_of(text.as_slice())?;
-    let script = "1 1 000000000000\n1 1 000000000000\n1 1 1b0000000100\nmove 1 2\nmove 2 1\n";
+    // It is at drive 1 still, and goes out as it is.
+    let script = "1 1 000000000000\n1 1 000000000000\n1 1 1b0000000100\nmove 1 2\nmove 2 1\n\
+        move 1 1001\nmove 1 1002\n";
     assert_step(
         &rt,
         &rt,
@@ -42,6 +45,7 @@ fn a_refused_cartridge_is_there_unloaded(rt: HostRuntime) -> Result<(), Fail> {
         &told(CREATE, 0, "kept T00001L6\ncreated DRIVE1\ncreated DRIVE2\n"),
     )?;
     assert_step(&rt, &rt, name, &done(RUN, script, text))?;
+    assert_holds(&rt, &rt, name, "t1.tape", b"mine")?;
     fs::remove_dir_all(&rt, name)?;
     Ok(())
 }
@@ -102,6 +106,17 @@ const FOUND: &str = "CHECK 700006000000000a00000000290000000000\n\
 const THIRD: &str = "2 1 000000000000\n2 1 5e000000000000001000\n2 1 110000000100\n\
     2 1 080000000100\n";
 
+// What `check` tells of cartridge and store after the first run, and after the second.
+const BLOCK_AND_MARK: &str =
+    "cartridge T00001L6 partitions 1 frames 1\npartition 0 objects 2 used 37\n";
+
+const ONE_KEY: &str = "reservations DRIVE1 frames 2 registrations 1\n";
+
+const TWO_BLOCKS: &str =
+    "cartridge T00001L6 partitions 1 frames 2\npartition 0 objects 2 used 38\n";
+
+const NO_KEY: &str = "reservations DRIVE1 frames 3 registrations 0\n";
+
 #[test]
 fn what_a_run_leaves_the_next_one_finds(rt: HostRuntime) -> Result<(), Fail> {
     let folder = new_folder(&rt)?;
@@ -119,27 +134,11 @@ fn what_a_run_leaves_the_next_one_finds(rt: HostRuntime) -> Result<(), Fail> {
         &[
             told(CREATE, 0, MADE),
             done(RUN, FIRST, text_of(first.as_slice())?),
-            told(
-                "check @t1.tape",
-                0,
-                "cartridge T00001L6 partitions 1 frames 1\npartition 0 objects 2 used 37\n",
-            ),
-            told(
-                "check @d1.pr",
-                0,
-                "reservations DRIVE1 frames 2 registrations 1\n",
-            ),
+            told("check @t1.tape", 0, BLOCK_AND_MARK),
+            told("check @d1.pr", 0, ONE_KEY),
             done(RUN, SECOND, FOUND),
-            told(
-                "check @t1.tape",
-                0,
-                "cartridge T00001L6 partitions 1 frames 2\npartition 0 objects 2 used 38\n",
-            ),
-            told(
-                "check @d1.pr",
-                0,
-                "reservations DRIVE1 frames 3 registrations 0\n",
-            ),
+            told("check @t1.tape", 0, TWO_BLOCKS),
+            told("check @d1.pr", 0, NO_KEY),
             done(RUN, THIRD, text_of(third.as_slice())?),
         ],
     )?;

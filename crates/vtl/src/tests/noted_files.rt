@@ -13,9 +13,10 @@ const CONFIG: &[u8] = b"cartridge = [\
     { barcode = \"T00002L6\", file = \"u\", capacities = [4096, 4096], home = 2 }]\n\
     drive = [{ number = 1, reservations = \"1\" }, { number = 2, reservations = \"2\" }]\n";
 
-// The sides of its first cartridge and of its first drive, new.
-const CARTRIDGE: &[u8] = b"\xa5VTLCART1\0\x01T00001L6        \0\0\0\0\0\0\x10\0\0";
+/// The side of its first cartridge, new.
+pub const CARTRIDGE: &[u8] = b"\xa5VTLCART1\0\x01T00001L6        \0\0\0\0\0\0\x10\0\0";
 
+// The side of its first drive, new.
 const STORE: &[u8] = b"\xa5VTLRESV1\0\0DRIVE1          \0";
 
 /// What fails: nothing; the call for a file of this number (from 1 on), with what it answers; the memory for a text;
@@ -77,22 +78,32 @@ impl NotedFiles {
 
     // A disk of this name that holds these bytes.
     fn disk(&self, name: &str, bytes: &[u8]) -> Result<OnceDisk<MemDisk>, FileError> {
-        let (calls, bytes) = match self.failing {
-            Failing::Disk(bad, calls) if bad == name => (calls, bytes),
-            Failing::Side(bad, other) if bad == name => (u64::MAX, other),
-            _ => (u64::MAX, bytes),
+        let calls = match self.failing {
+            Failing::Disk(bad, calls) if bad == name => calls,
+            _ => u64::MAX,
         };
         match MemDisk::from_bytes(self.alloc, bytes) {
             Ok(disk) => Ok(OnceDisk::new(disk, calls)),
             Err(_) => Err(FileError::Device(DevFault { failures: 1 })),
         }
     }
-}
 
-fn side_of(name: &str) -> &'static [u8] {
-    match name {
-        "t" | "u" => CARTRIDGE,
-        _ => STORE,
+    // The side of this name.
+    fn side(&self, name: &str) -> &'static [u8] {
+        match (self.failing, name) {
+            (Failing::Side(bad, bytes), _) if bad == name => bytes,
+            (_, "t" | "u") => CARTRIDGE,
+            _ => STORE,
+        }
+    }
+
+    // The word for a disk that is handed back: whether it holds the side of this name.
+    fn word_of(&self, disk: &OnceDisk<MemDisk>, name: &str) -> &'static str {
+        if disk.inner().bytes() == self.side(name) {
+            "back"
+        } else {
+            "changed"
+        }
     }
 }
 
@@ -119,7 +130,7 @@ impl ReadFiles<OnceDisk<MemDisk>> for NotedFiles {
 
     fn open_to_read(&self, name: &str) -> Result<OnceDisk<MemDisk>, FileError> {
         self.call("look", name)?;
-        self.disk(name, side_of(name))
+        self.disk(name, self.side(name))
     }
 
     fn close(&self, name: &str, disk: OnceDisk<MemDisk>) {
@@ -131,9 +142,16 @@ impl ReadFiles<OnceDisk<MemDisk>> for NotedFiles {
 impl ChangeFiles<OnceDisk<MemDisk>> for NotedFiles {
     ghost opens = { λ name answer. Unit {0} };
 
+    ghost hands_back = { λ name disk. Unit {0} };
+
     fn open(&self, name: &str) -> Result<OnceDisk<MemDisk>, FileError> {
         self.call("open", name)?;
-        self.disk(name, side_of(name))
+        self.disk(name, self.side(name))
+    }
+
+    fn hand_back(&self, name: &str, disk: OnceDisk<MemDisk>) {
+        let _ = self.noted(self.word_of(&disk, name), name);
+        drop(disk);
     }
 }
 
