@@ -7,7 +7,8 @@ pub returns-in_err-config : goal.returns-in_err-config
 returns-in_err-config g c =
     let told = err_from_is_err_and c.from_residual.result c.from_residual.ensures.1 in
     rw (c.in-Some.is, told.1, told.2) (not_configured g.D.Disk.state g.F.TextFiles.reads g.F.ChangeFiles.opens
-    g.F.ChangeFiles.hands_back c.args.memory _ c.in_err-config.field-0.0 _ _ (rw c.as_str.ensures.value at c.in_err-config.ensures))
+    g.F.ChangeFiles.hands_back c.args.memory _ c.in_err-config.field-0.0 _ _
+    (rw c.as_str.ensures.value at c.in_err-config.ensures))
 
 pub returns-then-memory : goal.returns-then-memory
 returns-then-memory g c =
