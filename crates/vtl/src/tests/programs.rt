@@ -208,6 +208,12 @@ fn a_text_is_written_in_parts(rt: HostRuntime) -> Result<(), Fail> {
 
 static TAKEN_IN_PARTS: &'static [Parts<'static>] = &[
     (4, &[], b"vtl: out of memory\n", true),
+    (
+        4,
+        &[None, Some(ErrorKind::Interrupted)],
+        b"vtl: out of memory\n",
+        true,
+    ),
     (4, &[None, Some(ErrorKind::Other)], b"vtl:", false),
     (0, &[], b"", false),
 ];
@@ -225,6 +231,21 @@ fn a_line_is_taken_in_parts(rt: HostRuntime) -> Result<(), Fail> {
         let written = writer.into_text();
         assert_eq!(rt; written.as_slice(), *text, "text of {at}");
     }
+    Ok(())
+}
+
+#[test]
+fn the_longest_line_is_reported(rt: HostRuntime) -> Result<(), Fail> {
+    let mut writer = PartWriter::new(rt.alloc(), 64, &[]);
+    let ended = end(Err(VtlFault::Script { line: u64::MAX }), &mut writer);
+    let wanted = Ended {
+        status: 1,
+        is_reported: true,
+    };
+    assert_eq!(rt; ended, wanted);
+    let line = b"vtl: script line 18446744073709551615 refused\n";
+    let written = writer.into_text();
+    assert_eq!(rt; written.as_slice(), line.as_slice());
     Ok(())
 }
 

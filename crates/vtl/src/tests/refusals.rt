@@ -52,6 +52,14 @@ const STORE_1: &[u8] = b"\xa5VTLRESV1\0\0DRIVE1          \0";
 
 const STORE_2: &[u8] = b"\xa5VTLRESV1\0\0DRIVE2          \0";
 
+// Files that are refused as a store.
+static NO_STORES: &'static [&'static [u8]] = &[
+    b"mine",
+    b"\xa5VTLRESV1\0\0DRIVE2          \xa5",
+    b"\xa5VTLRESV1\0\0DRIVE2          \xa5\0\0\0\x01\x02\0",
+    b"\xa5VTLCART1\0\x01T00001L6        \0\0\0\0\0\0\x10\0\0",
+];
+
 #[test]
 fn a_refused_file_stays_as_it_is(rt: HostRuntime) -> Result<(), Fail> {
     let folder = new_folder(&rt)?;
@@ -62,9 +70,11 @@ fn a_refused_file_stays_as_it_is(rt: HostRuntime) -> Result<(), Fail> {
     assert_step(&rt, &rt, name, &failed(RUN, 2, DEVICE))?;
     put(&rt, name, "t1.tape", b"mine")?;
     assert_step(&rt, &rt, name, &failed(RUN, 2, DEVICE))?;
-    put(&rt, name, "d2.pr", b"mine")?;
-    assert_step(&rt, &rt, name, &failed(RUN, 2, DEVICE))?;
-    assert_holds(&rt, &rt, name, "d2.pr", b"mine")?;
+    for side in NO_STORES {
+        put(&rt, name, "d2.pr", side)?;
+        assert_step(&rt, &rt, name, &failed(RUN, 2, DEVICE))?;
+        assert_holds(&rt, &rt, name, "d2.pr", side)?;
+    }
     assert_holds(&rt, &rt, name, "d1.pr", STORE_1)?;
     assert_holds(&rt, &rt, name, "t1.tape", b"mine")?;
     // A cartridge that is no side is in its slot.
