@@ -146,10 +146,11 @@ EDITS = [
      "        if address > 2 {\n"
      "            return Err((cartridge, check(self.alloc, Sense::insufficient_resources())));\n        }\n",
      ["a_library_of_sixteen_drives"]),
-    ("help of another text is written", "vtl", "src/orders.rt", "        Err(error) => answer_words(error, writer),",
+    ("help of another text is written", "vtl_program", "src/orders.rt",
+     "        Err(error) => answer_words(error, writer),",
      "        Err(WordsError::Help(_)) => answer_words(WordsError::Help(String::new(alloc)), writer),\n"
      "        Err(error) => answer_words(error, writer),", ["help_is_written_as_it_was_given"]),
-    ("the line of a fault that is out is said not to be out", "vtl", "src/programs.rt",
+    ("the line of a fault that is out is said not to be out", "vtl_program", "src/programs.rt",
      "                is_reported: report(line, errors),",
      "                is_reported: report(line, errors) && false,", ["status_and_line_of_each_end"]),
 ]

@@ -1,6 +1,7 @@
 //! A buffered medium on its own: what waits, and what it costs.
 use crate::drives::sure;
 use crate::samples::{EMPTY, ONE};
+use assertions::assert_equal;
 use cartridge::Shelved;
 use std::alloc::Global;
 use std::process::Abort;
@@ -64,7 +65,7 @@ static WAITS: &'static [(u32, usize, (usize, u64))] = &[
 fn what_waits_is_counted(rt: HostRuntime) -> Result<(), Fail> {
     for &(count, size, expected) in WAITS {
         let found = waiting(rt.alloc(), count, size)?;
-        assert_eq!(rt; found, expected, "{count} of {size} bytes");
+        assert_equal!(rt; found, expected; (count, size));
     }
     Ok(())
 }
@@ -148,7 +149,7 @@ fn sees(
             stores(medium, parks)?;
         }
         let (found, all) = seen(alloc, medium)?;
-        assert_eq!(rt; (found.as_slice(), all), (text, used), "change {i}");
+        assert_equal!(rt; (found.as_slice(), all), (text, used); i);
     }
     Ok(())
 }

@@ -4,6 +4,7 @@ use crate::samples::{
     EMPTY, ERASE, GOOD, LOCATE_1, MARK_AT_ONCE, MODE_0, MODE_1, NONE, Row, SELECT_4, WRITE_1,
     WRITE_OUT, ask, assert_turn, found, greeted, syncs, write,
 };
+use assertions::assert_equal;
 use std::alloc::Global;
 use std::process::Abort;
 use std::test::Fail;
@@ -129,7 +130,7 @@ fn goes(rt: &impl Abort, alloc: Global, drive: &mut Tape<MemDisk>, steps: &[Step
             }
         };
         let taken = syncs(drive).saturating_sub(before);
-        assert_eq!(rt; taken, wanted, "syncs of step {at}");
+        assert_equal!(rt; taken, wanted; at);
     }
 }
 
@@ -150,7 +151,7 @@ fn left(rt: &impl Abort, alloc: Global, drive: &Tape<MemDisk>, wanted: &[u8]) ->
         };
         let disk = medium.disk().copy()?.crash(keep, fill)?;
         let text = found(alloc, disk)?;
-        assert_eq!(rt; text.as_slice(), wanted, "{keep} bytes, then {fill}");
+        assert_equal!(rt; text.as_slice(), wanted; (keep, fill));
     }
     Ok(())
 }

@@ -1,5 +1,6 @@
 //! A drive over a cartridge on a disk, and what tests ask of it.
 use crate::drives::{Tape, sure, switched_on};
+use assertions::assert_equal;
 use cartridge::{Cartridge, Shelved};
 use scsi_sense::{Reply, Status};
 use std::alloc::Global;
@@ -125,7 +126,7 @@ pub fn ask<D: Disk + Drop>(rt: &impl Abort, drive: &mut Tape<D>, row: Row, at: u
     let (host, cdb, sent, wanted) = row;
     let nexus = Nexus::new(host).expect(rt, "a nexus");
     let reply = drive.execute(nexus, cdb, sent);
-    assert_eq!(rt; heard(&reply), told(wanted), "reply to {at}");
+    assert_equal!(rt; heard(&reply), told(wanted); at);
 }
 
 pub fn asks<D: Disk + Drop>(rt: &impl Abort, drive: &mut Tape<D>, rows: &[Row]) {
@@ -169,7 +170,7 @@ pub fn greeted<D: Disk + Drop>(rt: &impl Abort, alloc: Global, disk: D) -> Resul
 /// A flusher's turn answers so.
 pub fn assert_turn<D: Disk + Drop>(rt: &impl Abort, drive: &mut Tape<D>, wanted: Turn) {
     let turn = drive.turn();
-    assert_eq!(rt; turn, wanted);
+    assert_equal!(rt; turn, wanted);
 }
 
 /// Host 1 writes a block of so many bytes, which is GOOD.

@@ -4,6 +4,7 @@ use crate::samples::{
     EMPTY, GOOD, LOCATE_1, NONE, POWERED_ON, Row, TEST_UNIT_READY, WRITE_1, WRITE_OUT, answered,
     found,
 };
+use assertions::{assert_equal, assert_holds};
 use gate_journal::stops::{Run, Stop, stop_at_each_call};
 use std::alloc::Global;
 use std::test::Fail;
@@ -66,13 +67,13 @@ fn a_stop_never_leaves_a_cut_without_its_block(rt: HostRuntime) -> Result<(), Fa
     let disk = MemDisk::from_bytes(alloc, EMPTY)?;
     let stops = stop_at_each_call(alloc, &disk, &Rewriting)?;
     // Before each of 13 calls and behind them all, nine crashes.
-    assert_eq!(rt; stops.len(), 126);
+    assert_equal!(rt; stops.len(), 126);
     for Stop { calls, ended, disk } in stops {
-        assert_eq!(rt; ended, calls == 13);
+        assert_equal!(rt; ended, calls == 13);
         let (old, new) = may_be_found(calls);
         let left = found(alloc, disk)?;
         let left = left.as_slice();
-        assert!(rt; left == old || left == new, "{left:?} after {calls} calls");
+        assert_holds!(rt; left == old || left == new; (left, calls));
     }
     Ok(())
 }

@@ -1,6 +1,7 @@
 //! The layout byte by byte, every cut and every gate.
 use crate::journal_samples::{FAULT, FIRST, SECOND, body_of, frames_of, made, shut, written};
 use crate::samples::SIDE;
+use assertions::assert_equal;
 use gate_journal::{Header, Journal, JournalError, SideKind};
 use std::test::Fail;
 use tape_disk::MemDisk;
@@ -45,8 +46,8 @@ fn a_side_byte_by_byte(rt: HostRuntime) -> Result<(), Fail> {
     for &(frames, gate, room) in LENGTHS {
         let journal = written(alloc, frames)?;
         let state = (journal.frames(), journal.has_failed(), journal.room());
-        assert_eq!(rt; state, (frames, false, room));
-        assert_eq!(rt; journal.disk().bytes(), shut(alloc, gate)?.as_slice());
+        assert_equal!(rt; state, (frames, false, room));
+        assert_equal!(rt; journal.disk().bytes(), shut(alloc, gate)?.as_slice());
     }
     Ok(())
 }
@@ -58,13 +59,13 @@ fn bodies_are_read_back(rt: HostRuntime) -> Result<(), Fail> {
         return Err(Fail::from("not opened"));
     };
     let header = journal.header();
-    assert_eq!(rt; header.name, *b"T00001L6        ");
-    assert_eq!(rt; header.capacities.as_slice(), [4096].as_slice());
+    assert_equal!(rt; header.name, *b"T00001L6        ");
+    assert_equal!(rt; header.capacities.as_slice(), [4096].as_slice());
     for &(frame, place, bytes) in BODIES {
         let Ok((at, body)) = body_of(alloc, &mut journal, frame) else {
             return Err(Fail::from("not read"));
         };
-        assert_eq!(rt; (at, body.as_slice()), (place, bytes));
+        assert_equal!(rt; (at, body.as_slice()), (place, bytes));
     }
     Ok(())
 }
@@ -83,13 +84,13 @@ fn sides_of_each_kind(rt: HostRuntime) -> Result<(), Fail> {
         };
         // No room was asked for before.
         for _ in 0..5 {
-            assert_eq!(rt; journal.append(FIRST), Ok(()));
+            assert_equal!(rt; journal.append(FIRST), Ok(()));
         }
         let Ok(journal) = Journal::open(alloc, journal.close()) else {
             return Err(Fail::from("not opened"));
         };
         let header = journal.header();
-        assert_eq!(rt;
+        assert_equal!(rt;
             (
                 header.kind,
                 header.name,
@@ -105,7 +106,7 @@ fn sides_of_each_kind(rt: HostRuntime) -> Result<(), Fail> {
 #[test]
 fn the_texts_of_the_refusals(rt: HostRuntime) -> Result<(), Fail> {
     for &(error, text) in TEXTS {
-        assert_eq!(rt; format!(in rt.alloc(); "{error}")?.as_str(), text);
+        assert_equal!(rt; format!(in rt.alloc(); "{error}")?.as_str(), text);
     }
     Ok(())
 }
@@ -120,7 +121,7 @@ fn every_cut(rt: HostRuntime) -> Result<(), Fail> {
             35..=55 => Err(JournalError::Damaged { at: 35 }),
             _ => Err(JournalError::Damaged { at: 55 }),
         };
-        assert_eq!(rt; found, expected, "cut to {len} bytes");
+        assert_equal!(rt; found, expected; len);
     }
     Ok(())
 }
@@ -136,7 +137,7 @@ fn every_gate(rt: HostRuntime) -> Result<(), Fail> {
             }
             let found = frames_of(alloc, MemDisk::from_bytes(alloc, &bytes)?);
             let expected = if value == 0xa5 { open } else { Ok(shut) };
-            assert_eq!(rt; found, expected, "{value} at {gate}");
+            assert_equal!(rt; found, expected; (value, gate));
         }
     }
     Ok(())
@@ -163,7 +164,7 @@ fn a_side_is_opened_as_its_kind(rt: HostRuntime) -> Result<(), Fail> {
                 Ok(journal) => Ok(journal.frames()),
                 Err(refused) => Err(refused.error),
             };
-            assert_eq!(rt; found, told, "{size} bytes as {kind:?}");
+            assert_equal!(rt; found, told; (size, kind));
         }
     }
     Ok(())

@@ -3,6 +3,7 @@ use crate::journal_samples::{
     FAULT, FIRST, SECOND, body_of, cartridge, frames_of, made, shut, written,
 };
 use crate::samples::SIDE;
+use assertions::{assert_equal, assert_holds};
 use gate_journal::stops::{Run, Stop, stop_at_each_call};
 use gate_journal::{Journal, JournalError};
 use std::alloc::Global;
@@ -71,14 +72,11 @@ fn a_stop_at_each_call(rt: HostRuntime) -> Result<(), Fail> {
     for &(work, before, count) in STOPS {
         let disk = MemDisk::from_bytes(alloc, before)?;
         let stops = stop_at_each_call(alloc, &disk, &work)?;
-        assert_eq!(rt; stops.len(), count);
+        assert_equal!(rt; stops.len(), count);
         for Stop { calls, ended, disk } in stops {
-            assert!(rt; work != Work::Open || disk.bytes() == before);
+            assert_holds!(rt; work != Work::Open || disk.bytes() == before);
             let found = frames_of(alloc, disk);
-            assert!(rt;
-                may_be_left(work, before.len(), calls, ended, found),
-                "{work:?} left {found:?} after {calls} calls"
-            );
+            assert_holds!(rt; may_be_left(work, before.len(), calls, ended, found); (work, found, calls));
         }
     }
     Ok(())
@@ -113,15 +111,15 @@ fn what_the_stops_leave(rt: HostRuntime) -> Result<(), Fail> {
     let alloc = rt.alloc();
     let disk = MemDisk::from_bytes(alloc, b"..")?;
     let stops = stop_at_each_call(alloc, &disk, &TwoBytes)?;
-    assert_eq!(rt; stops.len(), 27);
+    assert_equal!(rt; stops.len(), 27);
     for (i, Stop { calls, ended, disk }) in stops.into_iter().enumerate() {
         let left = match i / 9 {
             0 => *b"..",
             1 => LANDED[i % 9],
             _ => *b"ab",
         };
-        assert_eq!(rt; (calls, ended), (i as u64 / 9, i >= 18));
-        assert_eq!(rt; disk.bytes(), left.as_slice(), "stop {i}");
+        assert_equal!(rt; (calls, ended), (i as u64 / 9, i >= 18));
+        assert_equal!(rt; disk.bytes(), left.as_slice(); i);
     }
     Ok(())
 }
@@ -141,11 +139,11 @@ fn a_stop_in_an_append(rt: HostRuntime) -> Result<(), Fail> {
     for &(calls, keep, fill, frames) in CRASHES {
         let before = MemDisk::from_bytes(alloc, &shut(alloc, 35)?)?;
         let (reached, ended) = Work::Append.run(alloc, FuseDisk::new(before, calls));
-        assert!(rt; !ended);
-        assert_eq!(rt;
+        assert_holds!(rt; !ended);
+        assert_equal!(rt;
             frames_of(alloc, reached.crash(keep, fill)?),
-            Ok(frames),
-            "{calls} calls, {keep} bytes, then {fill}"
+            Ok(frames);
+            (calls, keep, fill)
         );
     }
     Ok(())
@@ -187,7 +185,7 @@ fn a_fault_at_each_call(rt: HostRuntime) -> Result<(), Fail> {
             11..=14 => Ok(([Ok(()), Ok(()), Err(FAULT)], 3)),
             _ => Ok(([Ok(()), Ok(()), Ok(())], 4)),
         };
-        assert_eq!(rt; found, expected, "a fault after {calls} calls");
+        assert_equal!(rt; found, expected; calls);
     }
     Ok(())
 }
@@ -210,11 +208,11 @@ fn added_elsewhere<D: Disk + Drop + Send, R: Threads>(rt: &R, side: Journal<D>) 
 fn a_side_in_another_thread(rt: HostRuntime) -> Result<(), Fail> {
     let alloc = rt.alloc();
     let side = added_elsewhere(&rt, written(alloc, 0)?);
-    assert_eq!(rt; side.frames(), 1);
+    assert_equal!(rt; side.frames(), 1);
     let Ok(side) = Journal::open(alloc, FuseDisk::new(side.close(), 9)) else {
         return Err(Fail::from("not opened"));
     };
     let side = added_elsewhere(&rt, side);
-    assert_eq!(rt; (side.frames(), side.has_failed()), (2, false));
+    assert_equal!(rt; (side.frames(), side.has_failed()), (2, false));
     Ok(())
 }

@@ -2,6 +2,8 @@
 #![tactic(auto)]
 
 #[cfg(test)]
+mod asserted;
+#[cfg(test)]
 mod journal_layouts;
 #[cfg(test)]
 mod journal_samples;

@@ -1,5 +1,6 @@
 //! The vector byte by byte, and changed copies of it.
 use crate::samples::{FAULT, SIDE, STORE, block, fetched, found, marks, opened, told, written};
+use assertions::{assert_equal, assert_holds};
 use cartridge::{Cartridge, CartridgeError, Shelved};
 use known_cartridge::Known;
 use std::alloc::Global;
@@ -46,9 +47,9 @@ fn the_vector_is_read(rt: HostRuntime) -> Result<(), Fail> {
     let Ok(mut cartridge) = opened(alloc, MemDisk::from_bytes(alloc, SIDE)?) else {
         return Err(Fail::from("not opened"));
     };
-    assert_eq!(rt; told(&cartridge), (2, 2, 37));
-    assert_eq!(rt; *cartridge.barcode(), *b"T00001L6        ");
-    assert_eq!(rt;
+    assert_equal!(rt; told(&cartridge), (2, 2, 37));
+    assert_equal!(rt; *cartridge.barcode(), *b"T00001L6        ");
+    assert_equal!(rt;
         (
             cartridge.parts(),
             cartridge.capacity(0),
@@ -56,31 +57,21 @@ fn the_vector_is_read(rt: HostRuntime) -> Result<(), Fail> {
         ),
         (1, 4_096, 0)
     );
-    assert_eq!(rt;
-        (cartridge.room(), cartridge.has_failed()),
-        (1_099_511_627_705, false)
-    );
+    assert_equal!(rt; (cartridge.room(), cartridge.has_failed()), (1_099_511_627_705, false));
     for &(at, kind, used) in OBJECTS {
-        assert_eq!(rt;
-            (cartridge.kind_at(0, at), cartridge.used(0, at)),
-            (kind, used),
-            "object {at}"
-        );
+        assert_equal!(rt; (cartridge.kind_at(0, at), cartridge.used(0, at)), (kind, used); at);
     }
     let Ok(found) = fetched(alloc, &mut cartridge, 0, 0) else {
         return Err(Fail::from("not fetched"));
     };
-    assert_eq!(rt; found.as_slice(), b"hello".as_slice());
-    assert_eq!(rt; cartridge.reserve(0, 100, 4), Ok(()));
-    assert_eq!(rt; cartridge.reserve(9, 0, 4), Ok(()));
-    assert_eq!(rt; told(&cartridge), (2, 2, 37));
+    assert_equal!(rt; found.as_slice(), b"hello".as_slice());
+    assert_equal!(rt; cartridge.reserve(0, 100, 4), Ok(()));
+    assert_equal!(rt; cartridge.reserve(9, 0, 4), Ok(()));
+    assert_equal!(rt; told(&cartridge), (2, 2, 37));
     let shelved = cartridge.shelve();
     shelved.known();
-    assert_eq!(rt; shelved.disk().bytes(), SIDE.as_slice());
-    assert_eq!(rt;
-        Shelved::of(shelved.into_disk()).into_disk().bytes(),
-        SIDE.as_slice()
-    );
+    assert_equal!(rt; shelved.disk().bytes(), SIDE.as_slice());
+    assert_equal!(rt; Shelved::of(shelved.into_disk()).into_disk().bytes(), SIDE.as_slice());
     Ok(())
 }
 
@@ -96,15 +87,15 @@ const WHOLE: &'static [u8; 97] = b"\xa5VTLCART1\0\x01T00001L6        \0\0\0\0\0\
 // What stands on the disk of a cartridge that was just made where a longer side stood.
 fn assert_made(rt: &impl Abort, alloc: Global, disk: MemDisk) {
     match Known::made(alloc, disk, &[4_096]) {
-        Ok(known) => assert_eq!(rt; known.cartridge().disk().bytes(), BEGIN.as_slice()),
-        Err(_) => assert!(rt; false, "not made"),
+        Ok(known) => assert_equal!(rt; known.cartridge().disk().bytes(), BEGIN.as_slice()),
+        Err(_) => assert_holds!(rt; false, "not made"),
     }
 }
 
 // Two marks in the place of the block, and a block behind the first.
 fn store_two(rt: &impl Abort, alloc: Global, known: &mut Known<MemDisk>) -> Result<(), Fail> {
     let changes = [marks(0, 0, 2), block(alloc, 0, 1, b"x")?];
-    assert_eq!(rt; known.store(alloc, &changes), Ok(()));
+    assert_equal!(rt; known.store(alloc, &changes), Ok(()));
     Ok(())
 }
 
@@ -114,19 +105,19 @@ fn the_vector_is_written(rt: HostRuntime) -> Result<(), Fail> {
     assert_made(&rt, alloc, MemDisk::from_bytes(alloc, STORE)?);
     let mut known = written(alloc)?;
     known.cartridge().known();
-    assert_eq!(rt; known.cartridge().disk().bytes(), SIDE.as_slice());
+    assert_equal!(rt; known.cartridge().disk().bytes(), SIDE.as_slice());
     // Two syncs to make it, one to open it, and two for each frame.
-    assert_eq!(rt; known.cartridge().disk().syncs(), 7);
+    assert_equal!(rt; known.cartridge().disk().syncs(), 7);
     store_two(&rt, alloc, &mut known)?;
-    assert_eq!(rt; known.cartridge().disk().bytes(), WHOLE.as_slice());
-    assert_eq!(rt; known.cartridge().disk().syncs(), 9);
+    assert_equal!(rt; known.cartridge().disk().bytes(), WHOLE.as_slice());
+    assert_equal!(rt; known.cartridge().disk().syncs(), 9);
     Ok(())
 }
 
 #[test]
 fn the_texts_of_the_refusals(rt: HostRuntime) -> Result<(), Fail> {
     for &(error, text) in TEXTS {
-        assert_eq!(rt; format!(in rt.alloc(); "{error}")?.as_str(), text);
+        assert_equal!(rt; format!(in rt.alloc(); "{error}")?.as_str(), text);
     }
     Ok(())
 }
@@ -140,7 +131,7 @@ fn changed_copies(rt: HostRuntime) -> Result<(), Fail> {
             bytes[place] = value;
         }
         let found = found(alloc, MemDisk::from_bytes(alloc, &bytes)?);
-        assert_eq!(rt; found, expected, "{value} at {place}");
+        assert_equal!(rt; found, expected; (value, place));
     }
     Ok(())
 }
@@ -162,11 +153,11 @@ fn every_cut_and_a_store(rt: HostRuntime) -> Result<(), Fail> {
             35..=55 => Err(CartridgeError::Damaged { at: 35 }),
             _ => Err(CartridgeError::Damaged { at: 55 }),
         };
-        assert_eq!(rt; found, expected, "cut to {len} bytes");
+        assert_equal!(rt; found, expected; len);
     }
     for &bytes in STORES {
         let found = found(alloc, MemDisk::from_bytes(alloc, bytes)?);
-        assert_eq!(rt; found, Err(CartridgeError::NotOurs));
+        assert_equal!(rt; found, Err(CartridgeError::NotOurs));
     }
     Ok(())
 }
@@ -204,7 +195,7 @@ fn partitions_and_blocks(rt: HostRuntime) -> Result<(), Fail> {
     let long = vec![in alloc; 0x5a; 1_048_576]?;
     for parts in 1..=4 {
         let mut cartridge = with_blocks(alloc, parts, &long)?;
-        assert_eq!(rt; (cartridge.parts(), cartridge.frames()), (parts, 2));
+        assert_equal!(rt; (cartridge.parts(), cartridge.frames()), (parts, 2));
         for part in 0..5 {
             let count = cartridge.count(part);
             let told = (cartridge.capacity(part), count, cartridge.used(part, count));
@@ -213,7 +204,7 @@ fn partitions_and_blocks(rt: HostRuntime) -> Result<(), Fail> {
                 last if part == last => (4_194_304, 5, 1_048_658),
                 _ => (4_194_304, 0, 0),
             };
-            assert_eq!(rt; told, expected, "partition {part} of {parts}");
+            assert_equal!(rt; told, expected; (part, parts));
         }
         for at in 0..6 {
             let bytes = match at {
@@ -225,7 +216,7 @@ fn partitions_and_blocks(rt: HostRuntime) -> Result<(), Fail> {
             let Ok(found) = fetched(alloc, &mut cartridge, parts - 1, at) else {
                 return Err(Fail::from("not fetched"));
             };
-            assert!(rt; found.as_slice() == bytes, "block {at}");
+            assert_holds!(rt; found.as_slice() == bytes; at);
         }
     }
     Ok(())
@@ -238,7 +229,7 @@ fn many_frames_and_the_longest_body(rt: HostRuntime) -> Result<(), Fail> {
         return Err(Fail::from("not made"));
     };
     for at in 0..300 {
-        assert_eq!(rt; known.store(alloc, &[marks(0, at, 1)]), Ok(()), "mark {at}");
+        assert_equal!(rt; known.store(alloc, &[marks(0, at, 1)]), Ok(()); at);
     }
     // Eight records of 1,048,576 bytes, ten of them the head: 8,388,608.
     let long = vec![in alloc; 0x5a; 1_048_566]?;
@@ -246,15 +237,15 @@ fn many_frames_and_the_longest_body(rt: HostRuntime) -> Result<(), Fail> {
     for at in 300..308 {
         changes.push(block(alloc, 0, at, &long)?)?;
     }
-    assert_eq!(rt; known.store(alloc, &changes), Ok(()));
+    assert_equal!(rt; known.store(alloc, &changes), Ok(()));
     let Ok(known) = known.opened_again(alloc) else {
         return Err(Fail::from("not opened again"));
     };
     let mut cartridge = known.into_cartridge();
-    assert_eq!(rt; told(&cartridge), (301, 308, 8_393_456));
+    assert_equal!(rt; told(&cartridge), (301, 308, 8_393_456));
     let Ok(found) = fetched(alloc, &mut cartridge, 0, 307) else {
         return Err(Fail::from("not fetched"));
     };
-    assert!(rt; found.as_slice() == long.as_slice());
+    assert_holds!(rt; found.as_slice() == long.as_slice());
     Ok(())
 }

@@ -1,5 +1,6 @@
 //! A stop and a fault at each call of the disk.
 use crate::samples::{FAULT, SIDE, block, erased, fetched, found, marks, opened, two_changes};
+use assertions::{assert_equal, assert_holds};
 use cartridge::{CartridgeError, NotCreated};
 use gate_journal::stops::{Run, Stop, stop_at_each_call};
 use known_cartridge::Known;
@@ -83,12 +84,12 @@ fn a_stop_at_each_call(rt: HostRuntime) -> Result<(), Fail> {
         let disk = MemDisk::from_bytes(alloc, bytes)?;
         let stops = stop_at_each_call(alloc, &disk, &Work)?;
         // Before each of 39 calls and behind them all, nine crashes.
-        assert_eq!(rt; stops.len(), 360);
+        assert_equal!(rt; stops.len(), 360);
         for Stop { calls, ended, disk } in stops {
-            assert_eq!(rt; ended, calls == 39);
+            assert_equal!(rt; ended, calls == 39);
             let left = found(alloc, disk);
             let (old, new) = may_be_found(calls, before);
-            assert!(rt; left == old || left == new, "{left:?} after {calls} calls");
+            assert_holds!(rt; left == old || left == new; (left, calls));
         }
     }
     Ok(())
@@ -112,10 +113,10 @@ fn a_stop_of_an_opening(rt: HostRuntime) -> Result<(), Fail> {
     let disk = MemDisk::from_bytes(alloc, SIDE)?;
     let stops = stop_at_each_call(alloc, &disk, &Opening)?;
     // A sync, two reads of the header, three of gates and two of bodies.
-    assert_eq!(rt; stops.len(), 81);
+    assert_equal!(rt; stops.len(), 81);
     for Stop { calls, ended, disk } in stops {
-        assert_eq!(rt; ended, calls == 8);
-        assert_eq!(rt; disk.bytes(), SIDE.as_slice(), "after {calls} calls");
+        assert_equal!(rt; ended, calls == 8);
+        assert_equal!(rt; disk.bytes(), SIDE.as_slice(); calls);
     }
     Ok(())
 }
@@ -158,7 +159,7 @@ fn a_fault_at_each_call(rt: HostRuntime) -> Result<(), Fail> {
             18..=21 => Ok(([Ok(()), Ok(()), Err(FAULT)], 2)),
             _ => Ok(([Ok(()), Ok(()), Ok(())], 3)),
         };
-        assert_eq!(rt; used(alloc, disk), expected, "a fault after {calls} calls");
+        assert_equal!(rt; used(alloc, disk), expected; calls);
     }
     Ok(())
 }

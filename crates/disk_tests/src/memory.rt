@@ -5,6 +5,7 @@ ghost use Rattle.tape_disk.specs.FuseDisk.{fuse_calls_left, fuse_disk_below};
 ghost use Rattle.tape_disk.specs.MemDisk.{mem_log};
 
 use crate::steps::{Step, act, fails};
+use assertions::assert_equal;
 use std::alloc::Global;
 use std::test::Fail;
 use std::thread;
@@ -26,12 +27,9 @@ static IN_MEMORY: &'static [(Step, &'static [u8], u64)] = &[
 fn a_disk_in_memory(rt: HostRuntime) -> Result<(), Fail> {
     let mut disk = MemDisk::new(rt.alloc());
     for &(ask, bytes, syncs) in IN_MEMORY {
-        assert_eq!(rt; act(&mut disk, ask), Ok(()));
+        assert_equal!(rt; act(&mut disk, ask), Ok(()));
         let copy = disk.copy()?;
-        assert_eq!(rt;
-            (copy.bytes(), copy.len(), copy.syncs()),
-            (bytes, bytes.len() as u64, syncs)
-        );
+        assert_equal!(rt; (copy.bytes(), copy.len(), copy.syncs()), (bytes, bytes.len() as u64, syncs));
     }
     Ok(())
 }
@@ -40,8 +38,8 @@ fn a_disk_in_memory(rt: HostRuntime) -> Result<(), Fail> {
 fn a_read(rt: HostRuntime) -> Result<(), Fail> {
     let mut disk = MemDisk::from_bytes(rt.alloc(), b"abcdXYZ")?;
     let mut buffer = [0; 3];
-    assert_eq!(rt; disk.read_at(3, &mut buffer), Ok(()));
-    assert_eq!(rt; buffer, *b"dXY");
+    assert_equal!(rt; disk.read_at(3, &mut buffer), Ok(()));
+    assert_equal!(rt; buffer, *b"dXY");
     Ok(())
 }
 
@@ -71,11 +69,7 @@ fn what_a_crash_leaves(rt: HostRuntime) -> Result<(), Fail> {
     for &(ask, keep, fill, left) in CRASHES {
         act(&mut disk, ask)?;
         let crashed = disk.copy()?.crash(keep, fill)?;
-        assert_eq!(rt;
-            (crashed.bytes(), crashed.syncs()),
-            (left, 0),
-            "{keep} bytes landed"
-        );
+        assert_equal!(rt; (crashed.bytes(), crashed.syncs()), (left, 0); keep);
     }
     Ok(())
 }
@@ -94,8 +88,8 @@ static FUSE: &'static [(Step, u64)] = &[
 fn a_fuse(rt: HostRuntime) -> Result<(), Fail> {
     let mut disk = FuseDisk::new(MemDisk::from_bytes(rt.alloc(), b"abc")?, 2);
     fails(&rt, &mut disk, FUSE);
-    assert_eq!(rt; (disk.len(), disk.inner().syncs()), (3, 1));
-    assert_eq!(rt; disk.into_inner().bytes(), b"xbc".as_slice());
+    assert_equal!(rt; (disk.len(), disk.inner().syncs()), (3, 1));
+    assert_equal!(rt; disk.into_inner().bytes(), b"xbc".as_slice());
     Ok(())
 }
 
@@ -112,8 +106,8 @@ static ONCE: &'static [(Step, u64)] = &[
 fn one_call_fails(rt: HostRuntime) -> Result<(), Fail> {
     let mut disk = OnceDisk::new(MemDisk::from_bytes(rt.alloc(), b"abc")?, 1);
     fails(&rt, &mut disk, ONCE);
-    assert_eq!(rt; (disk.len(), disk.inner().syncs()), (0, 1));
-    assert_eq!(rt; disk.into_inner().bytes(), b"".as_slice());
+    assert_equal!(rt; (disk.len(), disk.inner().syncs()), (0, 1));
+    assert_equal!(rt; disk.into_inner().bytes(), b"".as_slice());
     Ok(())
 }
 
@@ -131,7 +125,7 @@ fn a_fault_of_the_disk_below(rt: HostRuntime) -> Result<(), Fail> {
     let below = FuseDisk::new(MemDisk::from_bytes(rt.alloc(), b"abc")?, 1);
     let mut disk = OnceDisk::new(FuseDisk::new(below, 9), 9);
     fails(&rt, &mut disk, BELOW);
-    assert_eq!(rt; disk.inner().inner().inner().bytes(), b"xbc".as_slice());
+    assert_equal!(rt; disk.inner().inner().inner().bytes(), b"xbc".as_slice());
     Ok(())
 }
 
@@ -157,10 +151,10 @@ fn blown(disk: &mut FuseDisk<MemDisk>) -> Result<(), DevFault>
 #[test]
 fn what_the_log_has(rt: HostRuntime) -> Result<(), Fail> {
     let mut disk = MemDisk::new(rt.alloc());
-    assert_eq!(rt; synced(&mut disk), Ok(()));
+    assert_equal!(rt; synced(&mut disk), Ok(()));
     let mut fuse = FuseDisk::new(disk, 0);
-    assert_eq!(rt; blown(&mut fuse), Err(DevFault { failures: 1 }));
-    assert_eq!(rt; fuse.inner().syncs(), 1);
+    assert_equal!(rt; blown(&mut fuse), Err(DevFault { failures: 1 }));
+    assert_equal!(rt; fuse.inner().syncs(), 1);
     Ok(())
 }
 
@@ -181,10 +175,10 @@ pub fn written_elsewhere<D: Disk + Drop + Send, R: Threads>(rt: &R, disk: D) -> 
 #[test]
 fn a_disk_in_another_thread(rt: HostRuntime) -> Result<(), Fail> {
     let plain = written_elsewhere(&rt, MemDisk::new(rt.alloc()));
-    assert_eq!(rt; plain.bytes(), b"abc".as_slice());
+    assert_equal!(rt; plain.bytes(), b"abc".as_slice());
     let fuse = written_elsewhere(&rt, FuseDisk::new(plain.copy()?, 0));
-    assert_eq!(rt; fuse.inner().bytes(), b"abc".as_slice());
+    assert_equal!(rt; fuse.inner().bytes(), b"abc".as_slice());
     let once = written_elsewhere(&rt, OnceDisk::new(plain, 1));
-    assert_eq!(rt; once.inner().bytes(), b"abc".as_slice());
+    assert_equal!(rt; once.inner().bytes(), b"abc".as_slice());
     Ok(())
 }

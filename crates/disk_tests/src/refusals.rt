@@ -3,6 +3,7 @@ use crate::steps::{
     Folder, cut_to, failures, forget_time, get, holds, is_written, named, new_folder, put,
     taken_away,
 };
+use assertions::{assert_equal, assert_holds};
 use file_disk::{FileDisk, FileError, create, open, open_to_read};
 use std::fs;
 use std::process::Abort;
@@ -29,9 +30,9 @@ fn are_answered(
     made: Option<FileError>,
     opened: Option<FileError>,
 ) {
-    assert_eq!(abort; refusal(create(rt, path)), made, "{path}");
-    assert_eq!(abort; refusal(open(rt, path)), opened, "{path}");
-    assert_eq!(abort; refusal(open_to_read(rt, path)), opened, "{path}");
+    assert_equal!(abort; refusal(create(rt, path)), made; path);
+    assert_equal!(abort; refusal(open(rt, path)), opened; path);
+    assert_equal!(abort; refusal(open_to_read(rt, path)), opened; path);
 }
 
 fn refused(abort: &impl Abort, rt: &HostRuntime, folder: &Folder) -> Result<(), Fail> {
@@ -58,7 +59,7 @@ fn opened_once(abort: &impl Abort, rt: &HostRuntime, path: &str) -> Result<(), F
     let disk = open_to_read(rt, path)?;
     are_answered(abort, rt, path, EXISTS, IN_USE);
     drop(disk);
-    assert_eq!(abort; refusal(open(rt, path)), None);
+    assert_equal!(abort; refusal(open(rt, path)), None);
     Ok(())
 }
 
@@ -74,13 +75,13 @@ fn not_written(abort: &impl Abort, rt: &HostRuntime, path: &str) -> Result<(), F
     put(&mut disk, 0, b"abc")?;
     forget_time(rt, path)?;
     are_answered(abort, rt, path, EXISTS, IN_USE);
-    assert!(abort; !is_written(rt, path)?);
+    assert_holds!(abort; !is_written(rt, path)?);
     holds(abort, rt, path, b"abc")?;
     // Nor does it take the lock of the first one.
     put(&mut disk, 3, b"d")?;
     are_answered(abort, rt, path, EXISTS, IN_USE);
     drop(disk);
-    assert_eq!(abort; refusal(open(rt, path)), None);
+    assert_equal!(abort; refusal(open(rt, path)), None);
     Ok(())
 }
 
@@ -93,9 +94,9 @@ fn a_refused_opening_writes_nothing(rt: HostRuntime) -> Result<(), Fail> {
 }
 
 fn not_made(abort: &impl Abort, rt: &HostRuntime, path: &str) -> Result<(), Fail> {
-    assert_eq!(abort; refusal(open(rt, path)), MISSING);
-    assert_eq!(abort; refusal(open_to_read(rt, path)), MISSING);
-    assert!(abort; !fs::exists(rt, path)?);
+    assert_equal!(abort; refusal(open(rt, path)), MISSING);
+    assert_equal!(abort; refusal(open_to_read(rt, path)), MISSING);
+    assert_holds!(abort; !fs::exists(rt, path)?);
     Ok(())
 }
 
@@ -108,13 +109,13 @@ fn a_missing_file_is_not_made(rt: HostRuntime) -> Result<(), Fail> {
 
 // The calls that would change a file fail, and the other ones don't.
 fn only_read(abort: &impl Abort, disk: &mut FileDisk) {
-    assert_eq!(abort; disk.sync(), Ok(()));
-    assert_eq!(abort; failures(put(disk, 0, b"x")), 1);
-    assert_eq!(abort; failures(cut_to(disk, 0)), 2);
+    assert_equal!(abort; disk.sync(), Ok(()));
+    assert_equal!(abort; failures(put(disk, 0, b"x")), 1);
+    assert_equal!(abort; failures(cut_to(disk, 0)), 2);
     let mut buffer = [0; 3];
-    assert_eq!(abort; failures(get(disk, 0, &mut buffer)), 0);
-    assert_eq!(abort; (buffer, disk.len()), (*b"abc", 3));
-    assert_eq!(abort; failures(put(disk, 3, b"d")), 3);
+    assert_equal!(abort; failures(get(disk, 0, &mut buffer)), 0);
+    assert_equal!(abort; (buffer, disk.len()), (*b"abc", 3));
+    assert_equal!(abort; failures(put(disk, 3, b"d")), 3);
 }
 
 fn opened_to_read(abort: &impl Abort, rt: &HostRuntime, path: &str) -> Result<(), Fail> {

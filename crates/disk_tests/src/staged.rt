@@ -1,6 +1,7 @@
 //! Disks over files in memory whose calls move fewer bytes than were asked for, are interrupted, fail or forget.
 use crate::doubles::Untold;
 use crate::steps::{Step, act, fails, failures, get, put};
+use assertions::assert_equal;
 use file_disk::{DiskOver, ForgetfulFile, RawFile, StagedFile, Stop, Turn};
 use std::alloc::Global;
 use std::collections::VecDeque;
@@ -28,13 +29,13 @@ static SHORT: &'static [&'static [Turn]] = &[
 fn short_and_interrupted_calls_are_gone_on_with(rt: HostRuntime) -> Result<(), Fail> {
     for turns in SHORT {
         let mut disk = DiskOver::new(staged(rt.alloc(), b"abc", turns)?);
-        assert_eq!(rt; failures(put(&mut disk, 2, b"uvwxyz")), 0);
-        assert_eq!(rt; disk.file().disk().bytes(), b"abuvwxyz".as_slice());
-        assert_eq!(rt; disk.len(), 8);
+        assert_equal!(rt; failures(put(&mut disk, 2, b"uvwxyz")), 0);
+        assert_equal!(rt; disk.file().disk().bytes(), b"abuvwxyz".as_slice());
+        assert_equal!(rt; disk.len(), 8);
         let mut disk = DiskOver::new(staged(rt.alloc(), b"abuvwxyz", turns)?);
         let mut buffer = [0; 6];
-        assert_eq!(rt; failures(get(&mut disk, 1, &mut buffer)), 0);
-        assert_eq!(rt; buffer, *b"buvwxy");
+        assert_equal!(rt; failures(get(&mut disk, 1, &mut buffer)), 0);
+        assert_equal!(rt; buffer, *b"buvwxy");
     }
     Ok(())
 }
@@ -59,12 +60,12 @@ fn many_calls_make_one(rt: HostRuntime) -> Result<(), Fail> {
     let turns = many_turns();
     let bytes = many_bytes();
     let mut disk = DiskOver::new(staged(rt.alloc(), b"", &turns)?);
-    assert_eq!(rt; failures(put(&mut disk, 0, &bytes)), 0);
-    assert_eq!(rt; disk.file().disk().bytes(), bytes.as_slice());
+    assert_equal!(rt; failures(put(&mut disk, 0, &bytes)), 0);
+    assert_equal!(rt; disk.file().disk().bytes(), bytes.as_slice());
     let mut disk = DiskOver::new(staged(rt.alloc(), &bytes, &turns)?);
     let mut buffer = [0; 1500];
-    assert_eq!(rt; failures(get(&mut disk, 0, &mut buffer)), 0);
-    assert_eq!(rt; buffer.as_slice(), bytes.as_slice());
+    assert_equal!(rt; failures(get(&mut disk, 0, &mut buffer)), 0);
+    assert_equal!(rt; buffer.as_slice(), bytes.as_slice());
     Ok(())
 }
 
@@ -82,13 +83,10 @@ fn a_sync_after_a_failed_write(rt: HostRuntime) -> Result<(), Fail> {
     let mut disk = DiskOver::new(staged(rt.alloc(), b"abcdef", FAILED_WRITE)?);
     fails(&rt, &mut disk, AFTER_FAILED_WRITE);
     let mut buffer = [0; 6];
-    assert_eq!(rt; failures(get(&mut disk, 0, &mut buffer)), 0);
-    assert_eq!(rt; (buffer, disk.len()), (*b"aWXdef", 6));
+    assert_equal!(rt; failures(get(&mut disk, 0, &mut buffer)), 0);
+    assert_equal!(rt; (buffer, disk.len()), (*b"aWXdef", 6));
     let left = disk.file().disk().copy()?.crash(0, b'.')?;
-    assert_eq!(rt;
-        (left.bytes(), disk.file().disk().syncs()),
-        (b"aWXdef".as_slice(), 1)
-    );
+    assert_equal!(rt; (left.bytes(), disk.file().disk().syncs()), (b"aWXdef".as_slice(), 1));
     Ok(())
 }
 
@@ -120,10 +118,10 @@ static COUNTED: &'static [(Step, u64, u64)] = &[
 fn each_error_is_counted(rt: HostRuntime) -> Result<(), Fail> {
     let mut disk = DiskOver::new(staged(rt.alloc(), b"abc", ERRORS)?);
     for &(step, failed, len) in COUNTED {
-        assert_eq!(rt; (failures(act(&mut disk, step)), disk.len()), (failed, len));
+        assert_equal!(rt; (failures(act(&mut disk, step)), disk.len()), (failed, len));
     }
-    assert_eq!(rt; disk.file().disk().syncs(), 0);
-    assert_eq!(rt; disk.file().disk().bytes(), b"a".as_slice());
+    assert_equal!(rt; disk.file().disk().syncs(), 0);
+    assert_equal!(rt; disk.file().disk().bytes(), b"a".as_slice());
     Ok(())
 }
 
@@ -139,8 +137,8 @@ static UNTOLD: &'static [(Step, u64)] = &[
 fn a_length_that_is_not_told(rt: HostRuntime) {
     for &(step, len) in UNTOLD {
         let mut disk = DiskOver::new(Untold { calls: 0 });
-        assert_eq!(rt; (failures(act(&mut disk, step)), disk.len()), (1, 0));
-        assert_eq!(rt; (failures(act(&mut disk, step)), disk.len()), (0, len));
+        assert_equal!(rt; (failures(act(&mut disk, step)), disk.len()), (1, 0));
+        assert_equal!(rt; (failures(act(&mut disk, step)), disk.len()), (0, len));
     }
 }
 
@@ -161,9 +159,9 @@ fn what_a_file_has_room_for(rt: HostRuntime) {
     for &(at, count, fit) in ROOM {
         let mut disk = DiskOver::new(Untold { calls: 1 });
         let read = disk.read_at(at, &mut [0][..count.min(1)]);
-        assert_eq!(rt; read.is_ok(), fit, "{count} at {at}");
+        assert_equal!(rt; read.is_ok(), fit; (count, at));
         let written = disk.write_at(at, &[0][..count.min(1)]);
-        assert_eq!(rt; written.is_ok(), fit, "{count} at {at}");
+        assert_equal!(rt; written.is_ok(), fit; (count, at));
     }
 }
 
@@ -181,8 +179,8 @@ static TURNS: &'static [(Turn, Result<usize, Stop>)] = &[
 fn what_a_turn_moves(rt: HostRuntime) -> Result<(), Fail> {
     for &(turn, moved) in TURNS {
         let mut file = staged(rt.alloc(), b"abcd", &[turn, turn])?;
-        assert_eq!(rt; file.read_some(0, &mut [0; 4]), moved);
-        assert_eq!(rt; file.write_some(0, b"wxyz"), moved);
+        assert_equal!(rt; file.read_some(0, &mut [0; 4]), moved);
+        assert_equal!(rt; file.write_some(0, b"wxyz"), moved);
     }
     Ok(())
 }
@@ -201,8 +199,8 @@ fn a_disk_makes_no_sync_after_one_that_failed(rt: HostRuntime) -> Result<(), Fai
     let file = ForgetfulFile::new(MemDisk::from_bytes(rt.alloc(), b"old ")?);
     let mut disk = DiskOver::new(file);
     fails(&rt, &mut disk, FORGOTTEN);
-    assert_eq!(rt; disk.file().disk().syncs(), 0);
+    assert_equal!(rt; disk.file().disk().syncs(), 0);
     let left = disk.file().disk().copy()?.crash(0, b'.')?;
-    assert_eq!(rt; left.bytes(), b"....".as_slice());
+    assert_equal!(rt; left.bytes(), b"....".as_slice());
     Ok(())
 }

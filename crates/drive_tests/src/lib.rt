@@ -4,6 +4,8 @@
 #[cfg(test)]
 mod asking;
 #[cfg(test)]
+mod asserted;
+#[cfg(test)]
 mod driving;
 #[cfg(test)]
 mod loading;

@@ -1,5 +1,6 @@
 //! Drives for the tests, and replies by rows.
 use crate::tables::{Row, Wanted};
+use assertions::{assert_equal, assert_holds};
 use drive_core::Drive;
 use pr_core::{NoKeeper, Reservations};
 use scsi_sense::{Reply, Status};
@@ -28,9 +29,9 @@ pub fn assert_told(
     bytes: &[u8],
     at: usize,
 ) {
-    assert_eq!(rt; reply.status, status, "status at {at}");
-    assert_eq!(rt; sense_of(reply), sense, "sense at {at}");
-    assert_eq!(rt; reply.bytes.as_slice(), bytes, "bytes at {at}");
+    assert_equal!(rt; reply.status, status; at);
+    assert_equal!(rt; sense_of(reply), sense; at);
+    assert_equal!(rt; reply.bytes.as_slice(), bytes; at);
 }
 
 pub fn assert_reply(rt: &impl Abort, reply: &Reply, wanted: Wanted, at: usize) {
@@ -81,7 +82,7 @@ pub fn load(
     medium: StagedMedium,
 ) -> Option<Reply> {
     if !drive.is_empty() {
-        assert!(rt; false, "not empty");
+        assert_holds!(rt; false, "not empty");
         return None;
     }
     match drive.load(medium) {

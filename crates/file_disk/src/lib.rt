@@ -1,6 +1,8 @@
 //! A disk over a file of the operating system.
 #![tactic(auto)]
 
+#[cfg(test)]
+mod asserted;
 pub mod disk;
 pub mod error;
 pub mod forgetful;

@@ -1,5 +1,6 @@
 //! What the slots and the drives of a library hold.
 use crate::samples::{Answer, Disk, GOOD, NEVER, cartridge, is_answer, library};
+use assertions::{assert_equal, assert_holds};
 use library::{Held, Parked};
 use scsi_sense::Status;
 use std::process::Abort;
@@ -22,30 +23,30 @@ fn barcode(parked: &Parked<Disk>) -> &[u8] {
 // Just these places hold a cartridge, of these barcodes.
 fn assert_held(rt: &impl Abort, held: &Held<Disk>, wanted: &[(usize, &[u8])]) {
     let row = held.inventory().slots;
-    assert_eq!(rt; row.len(), 256);
+    assert_equal!(rt; row.len(), 256);
     let mut found = 0usize;
     for (at, place) in row.iter().enumerate() {
         if let Some(parked) = place {
             match wanted.get(found) {
                 Some((place, name)) => {
-                    assert_eq!(rt; at, *place);
-                    assert_eq!(rt; barcode(parked), *name, "at {at}");
+                    assert_equal!(rt; at, *place);
+                    assert_equal!(rt; barcode(parked), *name; at);
                 }
-                None => assert!(rt; false, "a cartridge at {at}"),
+                None => assert_holds!(rt; false; at),
             }
             found = found.saturating_add(1);
         }
     }
-    assert_eq!(rt; found, wanted.len());
+    assert_equal!(rt; found, wanted.len());
 }
 
 // Of 16 places for drives just the first two have one, and there is a cartridge in it where this says so.
 fn assert_drives(rt: &impl Abort, held: &Held<Disk>, wanted: &[bool; 2]) {
     let row = held.inventory().drives;
-    assert_eq!(rt; row.len(), 16);
+    assert_equal!(rt; row.len(), 16);
     for (at, place) in row.iter().enumerate() {
         let found = place.as_ref().map(|bay| !bay.is_empty());
-        assert_eq!(rt; found, wanted.get(at).copied(), "drive at {at}");
+        assert_equal!(rt; found, wanted.get(at).copied(); at);
     }
 }
 

@@ -1,5 +1,6 @@
 //! Scripts that are run over a library.
 use crate::samples::{Disk, NEVER, library};
+use assertions::assert_equal;
 use library::{Held, run_held};
 use std::alloc::Global;
 use std::test::Fail;
@@ -40,8 +41,8 @@ const TEXT: &str = "CHECK 700006000000000a00000000290000000000\n\
 fn a_script_is_run_by_the_drives_that_it_names(rt: HostRuntime) -> Result<(), Fail> {
     let mut held = library(rt.alloc(), NEVER)?;
     let ran = ran(rt.alloc(), &mut held, SCRIPT);
-    assert_eq!(rt; ran.text.as_slice(), TEXT.as_bytes());
-    assert_eq!(rt; ran.end, Ok(()));
+    assert_equal!(rt; ran.text.as_slice(), TEXT.as_bytes());
+    assert_equal!(rt; ran.end, Ok(()));
     Ok(())
 }
 
@@ -53,10 +54,7 @@ fn a_drive_that_is_not_there_is_refused(rt: HostRuntime) -> Result<(), Fail> {
         &mut held,
         b"move 1002 1\n1 1 000000000000\n1 3 000000000000\n",
     );
-    assert_eq!(rt;
-        ran.text.as_slice(),
-        "CHECK 700005000000000a000000003b0e00000000\n".as_bytes()
-    );
-    assert_eq!(rt; ran.end, Err(ScriptFault::BadLine { line: 3 }));
+    assert_equal!(rt; ran.text.as_slice(), "CHECK 700005000000000a000000003b0e00000000\n".as_bytes());
+    assert_equal!(rt; ran.end, Err(ScriptFault::BadLine { line: 3 }));
     Ok(())
 }

@@ -2,6 +2,7 @@
 ghost use Rattle.std.specs.Prelude.{◌≡◌, [], IfOk, true};
 
 use aptpl_store::AptplStore;
+use assertions::{assert_equal, assert_holds};
 use cartridge::{Cartridge, Shelved};
 use library::{Bay, Held, Parked};
 use pr_core::Reservations;
@@ -79,8 +80,8 @@ pub fn library(alloc: Global, fails: u64) -> Result<Held<Disk>, Fail> {
 /// A reply is this answer, with no bytes.
 pub fn is_answer(rt: &impl Abort, reply: &Reply, wanted: Answer, at: usize) {
     let (status, key, code, qualifier) = wanted;
-    assert_eq!(rt; reply.status, status, "status at {at}");
-    assert_eq!(rt; reply.bytes.as_slice().len(), 0, "bytes at {at}");
+    assert_equal!(rt; reply.status, status; at);
+    assert_equal!(rt; reply.bytes.as_slice().len(), 0; at);
     let told = match reply.sense {
         Some(sense) => {
             let bytes = sense.bytes();
@@ -88,7 +89,7 @@ pub fn is_answer(rt: &impl Abort, reply: &Reply, wanted: Answer, at: usize) {
         }
         None => (0, 0, 0),
     };
-    assert_eq!(rt; told, (key, code, qualifier), "sense at {at}");
+    assert_equal!(rt; told, (key, code, qualifier); at);
 }
 
 /// A host's command to a drive that is there is answered so.
@@ -102,6 +103,6 @@ pub fn asks(
 ) {
     let nexus = Nexus::new(place.0).expect(rt, "a nexus");
     let drive = DriveNo::new(place.1).expect(rt, "a drive");
-    assert!(rt; held.configured(drive));
+    assert_holds!(rt; held.configured(drive));
     is_answer(rt, &held.command(nexus, drive, cdb, sent), wanted, 0);
 }

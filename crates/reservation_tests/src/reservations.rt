@@ -20,6 +20,7 @@ mod preemptions;
 mod reads;
 mod unregistering;
 
+use assertions::assert_equal;
 use pr_core::{PrAnswer, PrState, Reservations};
 use scsi_attention::{Attention, AttnSet};
 use scsi_lists::{PrOut, PrType};
@@ -116,22 +117,14 @@ fn gives(
 ) {
     let mut now = reservations;
     let (answered, tells) = now.pr_out(host(rt, number), &order);
-    assert_eq!(rt; answered, answer, "{order:?}");
+    assert_equal!(rt; answered, answer; order);
     let state = now.state();
-    assert_eq!(rt; held(state), after.held, "{order:?}");
-    assert_eq!(rt; state.generation, after.generation, "{order:?}");
+    assert_equal!(rt; held(state), after.held; order);
+    assert_equal!(rt; state.generation, after.generation; order);
     for number in 1..=64u8 {
         let nexus = host(rt, number);
-        assert_eq!(rt;
-            tells.of(nexus),
-            told_in(told, number),
-            "{order:?} tells {number}"
-        );
-        assert_eq!(rt;
-            key_of(state, nexus),
-            listed(after.keys, number),
-            "{order:?}, key of {number}"
-        );
+        assert_equal!(rt; tells.of(nexus), told_in(told, number); (order, number));
+        assert_equal!(rt; key_of(state, nexus), listed(after.keys, number); (order, number));
     }
 }
 

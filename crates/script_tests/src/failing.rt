@@ -1,6 +1,7 @@
 //! Readers and writers that fail at each call in turn.
 use crate::outcomes::{DONE, answered, joined};
 use crate::wires::Plan;
+use assertions::{assert_equal, assert_holds};
 use std::io::ErrorKind;
 use std::test::Fail;
 use vtl_script::ScriptFault;
@@ -38,23 +39,20 @@ fn reads_that_fail(rt: HostRuntime) -> Result<(), Fail> {
             } else {
                 (Err(ScriptFault::ReadFault), NO_ANSWER, call)
             };
-            assert_eq!(rt; failed.end, end, "read {call} of {reads}");
-            assert_eq!(rt;
-                failed.text.as_slice(),
-                joined(rt.alloc(), text)?.as_slice()
-            );
-            assert_eq!(rt; failed.reads, calls, "reads at read {call} of {reads}");
+            assert_equal!(rt; failed.end, end; (call, reads));
+            assert_equal!(rt; failed.text.as_slice(), joined(rt.alloc(), text)?.as_slice());
+            assert_equal!(rt; failed.reads, calls; (call, reads));
             let plan = Plan {
                 bad_read: Some((call, ErrorKind::Interrupted)),
                 ..plan
             };
             let interrupted = answered(rt.alloc(), TWO_PHASES, plan);
-            assert_eq!(rt; interrupted.end, DONE, "interrupted read {call} of {reads}");
-            assert_eq!(rt;
+            assert_equal!(rt; interrupted.end, DONE; (call, reads));
+            assert_equal!(rt;
                 interrupted.reads,
                 calls.max(reads).saturating_add(u32::from(call <= reads))
             );
-            assert!(rt; !interrupted.read_early, "early read {call} of {reads}");
+            assert_holds!(rt; !interrupted.read_early; (call, reads));
         }
     }
     Ok(())
@@ -86,11 +84,11 @@ fn writes_that_fail(rt: HostRuntime) -> Result<(), Fail> {
             } else {
                 Err(ScriptFault::WriteFault)
             };
-            assert_eq!(rt; failed.end, end, "write {call} of {taken} bytes");
-            assert_eq!(rt;
+            assert_equal!(rt; failed.end, end; (call, taken));
+            assert_equal!(rt;
                 failed.text.as_slice(),
-                &whole.as_slice()[..(*length).min(whole.len())],
-                "write {call}"
+                &whole.as_slice()[..(*length).min(whole.len())];
+                call
             );
         }
     }
@@ -122,12 +120,12 @@ fn reads_that_would_block_or_time_out(rt: HostRuntime) -> Result<(), Fail> {
                 ..Plan::whole()
             };
             let failed = answered(rt.alloc(), TWO_PHASES, plan);
-            assert_eq!(rt; failed.end, Err(ScriptFault::ReadFault), "read {call}");
-            assert_eq!(rt; failed.reads, call, "reads at read {call}");
-            assert_eq!(rt;
+            assert_equal!(rt; failed.end, Err(ScriptFault::ReadFault); call);
+            assert_equal!(rt; failed.reads, call; call);
+            assert_equal!(rt;
                 failed.text.as_slice(),
-                &whole.as_slice()[..length.min(whole.len())],
-                "text at read {call}"
+                &whole.as_slice()[..length.min(whole.len())];
+                call
             );
         }
     }
@@ -156,15 +154,11 @@ fn writes_that_would_block_or_time_out(rt: HostRuntime) -> Result<(), Fail> {
                 ..Plan::whole()
             };
             let failed = answered(rt.alloc(), TWO_PHASES, plan);
-            assert_eq!(rt;
-                failed.end,
-                Err(ScriptFault::WriteFault),
-                "write {call} of {taken} bytes"
-            );
-            assert_eq!(rt;
+            assert_equal!(rt; failed.end, Err(ScriptFault::WriteFault); (call, taken));
+            assert_equal!(rt;
                 failed.text.as_slice(),
-                &whole.as_slice()[..length.min(whole.len())],
-                "text at write {call} of {taken} bytes"
+                &whole.as_slice()[..length.min(whole.len())];
+                (call, taken)
             );
         }
     }
@@ -180,14 +174,14 @@ fn writes_that_are_interrupted_or_take_nothing(rt: HostRuntime) -> Result<(), Fa
         ..Plan::whole()
     };
     let interrupted = answered(rt.alloc(), TWO_PHASES, plan);
-    assert_eq!(rt; interrupted.end, DONE);
-    assert_eq!(rt; interrupted.text.as_slice(), whole.as_slice());
+    assert_equal!(rt; interrupted.end, DONE);
+    assert_equal!(rt; interrupted.text.as_slice(), whole.as_slice());
     let plan = Plan {
         taken: 0,
         ..Plan::whole()
     };
     let stuck = answered(rt.alloc(), TWO_PHASES, plan);
-    assert_eq!(rt; stuck.end, Err(ScriptFault::WriteFault));
-    assert!(rt; stuck.text.is_empty());
+    assert_equal!(rt; stuck.end, Err(ScriptFault::WriteFault));
+    assert_holds!(rt; stuck.text.is_empty());
     Ok(())
 }

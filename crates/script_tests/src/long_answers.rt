@@ -1,6 +1,7 @@
 //! Phases with many bytes of answers, which are written in pieces.
 use crate::outcomes::{DONE, answered};
 use crate::wires::Plan;
+use assertions::{assert_equal, assert_holds};
 use std::alloc::{AllocError, Global};
 use std::io::ErrorKind;
 use std::test::Fail;
@@ -69,18 +70,15 @@ static TAKEN: &'static [usize] = &[usize::MAX, 65_537, 65_536, 65_535, 7, 1];
 #[test]
 fn answers_of_more_than_64_kib(rt: HostRuntime) -> Result<(), Fail> {
     let long = phase_of_two_hosts(rt.alloc())?;
-    assert_eq!(rt; long.text.len(), 126_000);
+    assert_equal!(rt; long.text.len(), 126_000);
     for &taken in TAKEN {
         let plan = Plan {
             taken,
             ..Plan::whole()
         };
         let outcome = answered(rt.alloc(), long.script.as_slice(), plan);
-        assert_eq!(rt; outcome.end, DONE, "{taken} bytes a write");
-        assert!(rt;
-            outcome.text.as_slice() == long.text.as_slice(),
-            "text at {taken} bytes a write"
-        );
+        assert_equal!(rt; outcome.end, DONE; taken);
+        assert_holds!(rt; outcome.text.as_slice() == long.text.as_slice(); taken);
     }
     Ok(())
 }
@@ -101,16 +99,13 @@ static COUNTS: &'static [(&'static [usize], usize)] = &[
 fn answers_of_64_kib(rt: HostRuntime) -> Result<(), Fail> {
     for &(counts, length) in COUNTS {
         let long = phase_of(rt.alloc(), counts)?;
-        assert_eq!(rt; long.text.len(), length);
+        assert_equal!(rt; long.text.len(), length);
         for spared in 0..2 {
             let count = counts.len().saturating_sub(spared);
             let long = phase_of(rt.alloc(), &counts[..count])?;
             let outcome = answered(rt.alloc(), long.script.as_slice(), Plan::whole());
-            assert_eq!(rt; outcome.end, DONE, "{count} answers of {length} bytes");
-            assert!(rt;
-                outcome.text.as_slice() == long.text.as_slice(),
-                "text of {count} answers of {length} bytes"
-            );
+            assert_equal!(rt; outcome.end, DONE; (count, length));
+            assert_holds!(rt; outcome.text.as_slice() == long.text.as_slice(); (count, length));
         }
     }
     Ok(())
@@ -141,19 +136,11 @@ fn a_write_of_many_that_fails(rt: HostRuntime) -> Result<(), Fail> {
             ..Plan::whole()
         };
         let failed = answered(rt.alloc(), long.script.as_slice(), plan);
-        assert_eq!(rt;
-            failed.end,
-            Err(ScriptFault::WriteFault),
-            "write {call} of {taken} bytes"
-        );
-        assert_eq!(rt;
-            failed.text.len(),
-            length,
-            "out at write {call} of {taken} bytes"
-        );
-        assert!(rt;
-            failed.text.as_slice() == &long.text.as_slice()[..length.min(long.text.len())],
-            "text at write {call} of {taken} bytes"
+        assert_equal!(rt; failed.end, Err(ScriptFault::WriteFault); (call, taken));
+        assert_equal!(rt; failed.text.len(), length; (call, taken));
+        assert_holds!(rt;
+            failed.text.as_slice() == &long.text.as_slice()[..length.min(long.text.len())];
+            (call, taken)
         );
     }
     Ok(())

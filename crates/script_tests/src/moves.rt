@@ -1,6 +1,7 @@
 //! Moves: what a line of a move may be, and when it is run.
 use crate::outcomes::{BAD_1, BAD_2, BAD_3, BAD_4, DONE, answered, joined};
 use crate::wires::Plan;
+use assertions::{assert_equal, assert_holds};
 use std::alloc::Global;
 use std::io::ErrorKind;
 use std::process::Abort;
@@ -27,10 +28,10 @@ type Row<'a> = (&'a [u8], &'a [&'a str], Result<(), ScriptFault>, u32);
 fn assert_rows(rt: &impl Abort, alloc: Global, rows: &[Row]) -> Result<(), Fail> {
     for (at, (script, wanted, end, items)) in rows.iter().enumerate() {
         let outcome = answered(alloc, script, Plan::whole());
-        assert_eq!(rt; outcome.end, *end, "end of {at}");
-        assert_eq!(rt; outcome.items, *items, "items of {at}");
+        assert_equal!(rt; outcome.end, *end; at);
+        assert_equal!(rt; outcome.items, *items; at);
         let text = joined(alloc, wanted)?;
-        assert_eq!(rt; outcome.text.as_slice(), text.as_slice(), "text of {at}");
+        assert_equal!(rt; outcome.text.as_slice(), text.as_slice(); at);
     }
     Ok(())
 }
@@ -107,14 +108,10 @@ fn a_move_behind_a_write_that_fails(rt: HostRuntime) -> Result<(), Fail> {
             ..Plan::whole()
         };
         let failed = answered(rt.alloc(), b"1 1 00\nmove 1001 1\n", plan);
-        assert_eq!(rt; failed.end, Err(ScriptFault::WriteFault), "write {call}");
-        assert_eq!(rt; failed.items, items, "items of write {call}");
-        assert_eq!(rt;
-            failed.text.as_slice(),
-            &whole.as_slice()[..length.min(whole.len())],
-            "text of write {call}"
-        );
-        assert!(rt; !failed.read_early);
+        assert_equal!(rt; failed.end, Err(ScriptFault::WriteFault); call);
+        assert_equal!(rt; failed.items, items; call);
+        assert_equal!(rt; failed.text.as_slice(), &whole.as_slice()[..length.min(whole.len())]; call);
+        assert_holds!(rt; !failed.read_early);
     }
     Ok(())
 }

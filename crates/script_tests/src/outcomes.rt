@@ -1,6 +1,7 @@
 //! Scripts over a runner of the tests' own.
 use crate::echoes::Echo;
 use crate::wires::{Plan, Wire, WireReader, WireWriter};
+use assertions::{assert_equal, assert_holds};
 use std::alloc::{AllocError, Global};
 use std::process::Abort;
 use std::test::Fail;
@@ -68,8 +69,8 @@ pub fn assert_ends(
 ) -> Result<(), Fail> {
     let text = joined(alloc, wanted.0)?;
     let outcome = answered(alloc, script, Plan::whole());
-    assert_eq!(rt; outcome.end, wanted.1, "end of {at}");
-    assert_eq!(rt; outcome.text.as_slice(), text.as_slice(), "text of {at}");
+    assert_equal!(rt; outcome.end, wanted.1; at);
+    assert_equal!(rt; outcome.text.as_slice(), text.as_slice(); at);
     Ok(())
 }
 
@@ -86,9 +87,9 @@ fn many_phases(rt: HostRuntime) -> Result<(), Fail> {
         ..Plan::whole()
     };
     let outcome = answered(rt.alloc(), script.as_slice(), plan);
-    assert_eq!(rt; outcome.end, DONE);
-    assert!(rt; !outcome.read_early);
-    assert_eq!(rt; outcome.items, 1_001);
-    assert_eq!(rt; outcome.text.as_slice(), wanted.as_slice());
+    assert_equal!(rt; outcome.end, DONE);
+    assert_holds!(rt; !outcome.read_early);
+    assert_equal!(rt; outcome.items, 1_001);
+    assert_equal!(rt; outcome.text.as_slice(), wanted.as_slice());
     Ok(())
 }

@@ -1,6 +1,7 @@
 //! How far a script is read before it is run or refused, and calls that are interrupted many times in a row.
 use crate::outcomes::{BAD_1, BAD_3, DONE, answered, joined};
 use crate::wires::Plan;
+use assertions::assert_equal;
 use std::io::ErrorKind;
 use std::test::Fail;
 use vtl_script::ScriptFault;
@@ -52,15 +53,15 @@ fn nothing_behind_is_read_first(rt: HostRuntime) -> Result<(), Fail> {
             ..Plan::whole()
         };
         let failed = answered(rt.alloc(), script, plan);
-        assert_eq!(rt; failed.end, end, "end of {at}");
+        assert_equal!(rt; failed.end, end; at);
         let wanted = joined(rt.alloc(), text)?;
-        assert_eq!(rt; failed.text.as_slice(), wanted.as_slice(), "text of {at}");
+        assert_equal!(rt; failed.text.as_slice(), wanted.as_slice(); at);
         let reads = if end == FAULT {
             call
         } else {
             call.saturating_sub(1)
         };
-        assert_eq!(rt; failed.reads, reads, "reads of {at}");
+        assert_equal!(rt; failed.reads, reads; at);
     }
     Ok(())
 }
@@ -80,17 +81,9 @@ fn reads_that_are_interrupted_many_times(rt: HostRuntime) -> Result<(), Fail> {
                 ..Plan::whole()
             };
             let interrupted = answered(rt.alloc(), TWO_PHASES, plan);
-            assert_eq!(rt; interrupted.end, DONE, "read {call} of {reads}");
-            assert_eq!(rt;
-                interrupted.reads,
-                reads.saturating_add(40),
-                "reads at read {call} of {reads}"
-            );
-            assert_eq!(rt;
-                interrupted.text.as_slice(),
-                whole.as_slice(),
-                "text at read {call}"
-            );
+            assert_equal!(rt; interrupted.end, DONE; (call, reads));
+            assert_equal!(rt; interrupted.reads, reads.saturating_add(40); (call, reads));
+            assert_equal!(rt; interrupted.text.as_slice(), whole.as_slice(); call);
         }
     }
     Ok(())
@@ -118,12 +111,8 @@ fn writes_that_are_interrupted_many_times(rt: HostRuntime) -> Result<(), Fail> {
             ..Plan::whole()
         };
         let interrupted = answered(rt.alloc(), TWO_PHASES, plan);
-        assert_eq!(rt; interrupted.end, DONE, "write {call} of {taken} bytes");
-        assert_eq!(rt;
-            interrupted.text.as_slice(),
-            whole.as_slice(),
-            "text at write {call}"
-        );
+        assert_equal!(rt; interrupted.end, DONE; (call, taken));
+        assert_equal!(rt; interrupted.text.as_slice(), whole.as_slice(); call);
     }
     // A flush that is interrupted is a fault: a writer that holds bytes makes its own writes again.
     let plan = Plan {
@@ -131,7 +120,7 @@ fn writes_that_are_interrupted_many_times(rt: HostRuntime) -> Result<(), Fail> {
         ..Plan::whole()
     };
     let interrupted = answered(rt.alloc(), TWO_PHASES, plan);
-    assert_eq!(rt; interrupted.end, Err(ScriptFault::WriteFault));
-    assert_eq!(rt; interrupted.text.as_slice(), ONE.as_bytes());
+    assert_equal!(rt; interrupted.end, Err(ScriptFault::WriteFault));
+    assert_equal!(rt; interrupted.text.as_slice(), ONE.as_bytes());
     Ok(())
 }

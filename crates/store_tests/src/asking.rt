@@ -4,6 +4,7 @@ ghost use Rattle.aptpl_store.specs.Kept.{store_kept};
 ghost use Rattle.drive_core.specs.State.{left_of};
 
 use aptpl_store::{AptplStore, StoreError, StoreRefused};
+use assertions::{assert_equal, assert_holds};
 use drive_core::Drive;
 use pr_core::Reservations;
 use scsi_sense::Reply;
@@ -108,7 +109,7 @@ pub fn ask_all<D: Disk + Drop>(rt: &impl Abort, drive: &mut Host<D>, rows: &[Row
     for (at, (host, cdb, sent, status, told, frames)) in rows.iter().enumerate() {
         let nexus = Nexus::new(*host).expect(rt, "a nexus");
         let reply = drive.execute(nexus, cdb, sent);
-        assert!(rt; is_answer(&reply, *status, told), "answer to {at}");
-        assert_eq!(rt; drive.keeper().frames(), *frames, "frames after {at}");
+        assert_holds!(rt; is_answer(&reply, *status, told); at);
+        assert_equal!(rt; drive.keeper().frames(), *frames; at);
     }
 }

@@ -4,6 +4,7 @@ use crate::asking::{
     REGISTER_AND_IGNORE, RESERVE_5, Row, TEST_UNIT_READY, ask_all, host_over, new_host,
 };
 use crate::samples::{FAULT, NEW, REGISTERED, found};
+use assertions::{assert_equal, assert_holds};
 use pr_core::Keeper;
 use std::alloc::Global;
 use std::process::Abort;
@@ -37,7 +38,7 @@ static CRASHES: &'static [(u64, u8)] = &[
 fn is_left(rt: &impl Abort, alloc: Global, reached: &MemDisk) -> Result<(), Fail> {
     for (keep, fill) in CRASHES {
         let left = found(alloc, reached.copy()?.crash(*keep, *fill)?);
-        assert!(rt; left == NEW || left == REGISTERED, "{left:?}");
+        assert_holds!(rt; left == NEW || left == REGISTERED; left);
     }
     let Ok(mut drive) = host_over(alloc, reached.copy()?) else {
         return Err(Fail::from("not opened"));
@@ -48,10 +49,7 @@ fn is_left(rt: &impl Abort, alloc: Global, reached: &MemDisk) -> Result<(), Fail
         (1, REGISTER_AND_IGNORE, A_NEW, GOOD, NONE, 1),
     ];
     ask_all(rt, &mut drive, &rows);
-    assert_eq!(rt;
-        found(alloc, drive.keeper().disk().copy()?.crash(0, 0xa5)?),
-        REGISTERED
-    );
+    assert_equal!(rt; found(alloc, drive.keeper().disk().copy()?.crash(0, 0xa5)?), REGISTERED);
     Ok(())
 }
 
@@ -63,10 +61,10 @@ fn a_fault_at_each_call_of_a_save(rt: HostRuntime) -> Result<(), Fail> {
         match new_host(alloc, OnceDisk::new(MemDisk::new(alloc), calls)) {
             Ok(mut drive) => {
                 ask_all(&rt, &mut drive, FAILING);
-                assert_eq!(rt; (drive.keeper().has_failed(), calls >= 5), (true, true));
+                assert_equal!(rt; (drive.keeper().has_failed(), calls >= 5), (true, true));
                 is_left(&rt, alloc, drive.keeper().disk().inner())?;
             }
-            Err(refused) => assert_eq!(rt; (refused.error, calls < 5), (FAULT, true)),
+            Err(refused) => assert_equal!(rt; (refused.error, calls < 5), (FAULT, true)),
         }
     }
     Ok(())

@@ -4,6 +4,8 @@
 #[cfg(test)]
 mod asking;
 #[cfg(test)]
+mod asserted;
+#[cfg(test)]
 mod fault_tests;
 #[cfg(test)]
 mod order_tests;

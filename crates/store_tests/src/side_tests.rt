@@ -6,6 +6,7 @@ use crate::samples::{
     found, seen_of,
 };
 use aptpl_store::{AptplStore, StoreError};
+use assertions::{assert_equal, assert_holds};
 use pr_core::{Keeper, Reservations};
 use scsi_lists::PrOut;
 use std::alloc::Global;
@@ -43,7 +44,7 @@ static SIDES: &'static [(&'static [u8], usize, Found)] = &[
 // What is found where these bytes are on the disk. The plain program says the same.
 fn agreed(rt: &impl Abort, alloc: Global, bytes: &[u8]) -> Result<Found, NoMemory> {
     let seen = found(alloc, MemDisk::from_bytes(alloc, bytes)?);
-    assert_eq!(rt; seen, judged(bytes), "{bytes:?}");
+    assert_equal!(rt; seen, judged(bytes); bytes);
     Ok(seen)
 }
 
@@ -51,7 +52,7 @@ fn agreed(rt: &impl Abort, alloc: Global, bytes: &[u8]) -> Result<Found, NoMemor
 fn sides_are_read(rt: HostRuntime) -> Result<(), Fail> {
     for (side, size, wanted) in SIDES {
         let bytes = side.get(..*size).unwrap_or(NONE);
-        assert_eq!(rt; agreed(&rt, rt.alloc(), bytes)?, *wanted, "{size} bytes");
+        assert_equal!(rt; agreed(&rt, rt.alloc(), bytes)?, *wanted; size);
     }
     Ok(())
 }
@@ -76,21 +77,21 @@ fn bad_copies(rt: &impl Abort, alloc: Global, side: &[u8]) -> Result<u32, NoMemo
 #[test]
 fn each_byte_set_to_each_value(rt: HostRuntime) -> Result<(), Fail> {
     let bad = bad_copies(&rt, rt.alloc(), SIDE)?;
-    assert!(rt; bad > 2_000, "{bad}");
+    assert_holds!(rt; bad > 2_000; bad);
     Ok(())
 }
 
 #[test]
 fn each_byte_of_all_registrants_set_to_each_value(rt: HostRuntime) -> Result<(), Fail> {
     let bad = bad_copies(&rt, rt.alloc(), SIDE_OF_ALL)?;
-    assert!(rt; bad > 2_000, "{bad}");
+    assert_holds!(rt; bad > 2_000; bad);
     Ok(())
 }
 
 // Host after host is registered and saved, which takes the room of a frame and two syncs.
 fn save_each(rt: &impl Abort, store: &mut AptplStore<MemDisk>, state: &mut Reservations) {
     let (mut room, mut syncs) = (1_099_511_627_748u64, 2u64);
-    assert_eq!(rt; (store.room(), store.disk().syncs()), (room, syncs));
+    assert_equal!(rt; (store.room(), store.disk().syncs()), (room, syncs));
     for number in 1..=64u8 {
         let host = Nexus::new(number).expect(rt, "a nexus");
         let order = PrOut::Register {
@@ -101,8 +102,8 @@ fn save_each(rt: &impl Abort, store: &mut AptplStore<MemDisk>, state: &mut Reser
         let _ = state.pr_out(host, &order);
         room = room.saturating_sub(9 + 9 * u64::from(number));
         syncs = syncs.saturating_add(2);
-        assert!(rt; store.save(state).is_ok(), "save {number}");
-        assert_eq!(rt; (store.room(), store.disk().syncs()), (room, syncs));
+        assert_holds!(rt; store.save(state).is_ok(); number);
+        assert_equal!(rt; (store.room(), store.disk().syncs()), (room, syncs));
     }
 }
 
@@ -117,8 +118,8 @@ fn is_left(
         return Err(Fail::from("not opened"));
     };
     let (left, saved) = (left.state(), state.state());
-    assert_eq!(rt; (store.frames(), seen_of(left)), (364, [1, 0, 0, 64]));
-    assert!(rt; left.keys == saved.keys && left.generation == 0);
+    assert_equal!(rt; (store.frames(), seen_of(left)), (364, [1, 0, 0, 64]));
+    assert_holds!(rt; left.keys == saved.keys && left.generation == 0);
     Ok(())
 }
 
@@ -132,9 +133,9 @@ fn the_longest_state_and_many_saves(rt: HostRuntime) -> Result<(), Fail> {
     let mut state = Reservations::empty();
     save_each(&rt, &mut store, &mut state);
     for _save in 0..300 {
-        assert!(rt; store.save(&state).is_ok());
+        assert_holds!(rt; store.save(&state).is_ok());
     }
     store.known();
-    assert_eq!(rt; store.name(), b"DRIVE1          ");
+    assert_equal!(rt; store.name(), b"DRIVE1          ");
     is_left(&rt, alloc, store.close(), &state)
 }

@@ -6,6 +6,7 @@ use crate::asking::{
 use crate::samples::{
     Found, NEW, NO_STORE, REGISTERED, RESERVED, SIDE, SIDE_WITHOUT_APTPL, WITHOUT_APTPL, found,
 };
+use assertions::{assert_equal, assert_holds};
 use gate_journal::stops::{Run, Stop, stop_at_each_call};
 use std::alloc::Global;
 use std::process::Abort;
@@ -135,11 +136,8 @@ fn may_be_found(left: &Found, calls: u64, moments: &[Moment]) -> bool {
 fn is_right(rt: &impl Abort, alloc: Global, stop: Stop, total: u64, moments: &[Moment]) {
     let Stop { calls, ended, disk } = stop;
     let left = found(alloc, disk);
-    assert!(rt;
-        may_be_found(&left, calls, moments),
-        "{left:?} after {calls} calls"
-    );
-    assert_eq!(rt; ended, calls == total, "after {calls} calls");
+    assert_holds!(rt; may_be_found(&left, calls, moments); (left, calls));
+    assert_equal!(rt; ended, calls == total; calls);
 }
 
 // Stops the work at each of its calls of a disk of these bytes, nine times each.
@@ -153,10 +151,10 @@ fn stopped(
 ) -> Result<(), NoMemory> {
     let disk = MemDisk::from_bytes(alloc, bytes)?;
     let stops = stop_at_each_call(alloc, &disk, work)?;
-    assert_eq!(rt; stops.len() as u64 / 9, total.saturating_add(1));
+    assert_equal!(rt; stops.len() as u64 / 9, total.saturating_add(1));
     for stop in stops {
         // An opening writes nothing.
-        assert!(rt; !work.orders.is_empty() || stop.disk.bytes() == bytes);
+        assert_holds!(rt; !work.orders.is_empty() || stop.disk.bytes() == bytes);
         is_right(rt, alloc, stop, total, moments);
     }
     Ok(())

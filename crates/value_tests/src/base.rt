@@ -1,4 +1,5 @@
 //! Values at the borders; each public call of vtl_base once.
+use assertions::{assert_equal, assert_holds};
 use std::test::Fail;
 use vtl_base::{BadBarcode, Barcode, Bytes, DevFault, DriveNo, Nexus, NoMemory, SlotNo};
 
@@ -25,27 +26,15 @@ static ADDRESSES: &'static [(u32, Option<usize>)] = &[
 #[test]
 fn numbers_stay_in_their_ranges(rt: HostRuntime) {
     for &(number, host, drive) in NUMBERS {
-        assert_eq!(rt;
-            Nexus::new(number).map(|n| n.place()),
-            host,
-            "host {number}"
-        );
-        assert_eq!(rt;
-            DriveNo::new(number).map(|n| n.place()),
-            drive,
-            "drive {number}"
-        );
+        assert_equal!(rt; Nexus::new(number).map(|n| n.place()), host; number);
+        assert_equal!(rt; DriveNo::new(number).map(|n| n.place()), drive; number);
     }
     for &(address, place) in ADDRESSES {
-        assert_eq!(rt;
-            SlotNo::new(address).map(|n| n.place()),
-            place,
-            "slot {address}"
-        );
+        assert_equal!(rt; SlotNo::new(address).map(|n| n.place()), place; address);
     }
-    assert_eq!(rt; Nexus::new(7).map(|n| n.number()), Some(7));
-    assert_eq!(rt; DriveNo::new(7).map(|n| n.number()), Some(7));
-    assert_eq!(rt; SlotNo::new(1007).map(|n| n.address()), Some(1007));
+    assert_equal!(rt; Nexus::new(7).map(|n| n.number()), Some(7));
+    assert_equal!(rt; DriveNo::new(7).map(|n| n.number()), Some(7));
+    assert_equal!(rt; SlotNo::new(1007).map(|n| n.address()), Some(1007));
 }
 
 static BARCODES: &'static [&'static str] = &["A", "T00001L6", "Z9Z9Z9Z9Z9Z9Z9Z9"];
@@ -65,16 +54,10 @@ static NO_BARCODES: &'static [&'static str] = &[
 fn barcodes_are_short_and_plain(rt: HostRuntime) {
     for &bytes in BARCODES {
         let barcode = Barcode::parse(bytes.as_bytes());
-        assert_eq!(rt;
-            barcode.as_ref().ok().map(|b| b.as_bytes()),
-            Some(bytes.as_bytes())
-        );
+        assert_equal!(rt; barcode.as_ref().ok().map(|b| b.as_bytes()), Some(bytes.as_bytes()));
     }
     for &bytes in NO_BARCODES {
-        assert!(rt;
-            matches!(Barcode::parse(bytes.as_bytes()), Err(BadBarcode)),
-            "{bytes}"
-        );
+        assert_holds!(rt; matches!(Barcode::parse(bytes.as_bytes()), Err(BadBarcode)); bytes);
     }
 }
 
@@ -82,19 +65,16 @@ fn barcodes_are_short_and_plain(rt: HostRuntime) {
 fn bytes_come_back_as_they_went_in(rt: HostRuntime) {
     let alloc = rt.alloc();
     let none = Bytes::new(alloc);
-    assert!(rt; none.is_empty());
+    assert_holds!(rt; none.is_empty());
     let Ok(some) = Bytes::from_slice(alloc, b"tape") else {
-        assert!(rt; false, "memory is there");
+        assert_holds!(rt; false, "memory is there");
         return;
     };
-    assert_eq!(rt;
-        (some.len(), some.is_empty(), some.as_slice()),
-        (4, false, b"tape".as_slice())
-    );
+    assert_equal!(rt; (some.len(), some.is_empty(), some.as_slice()), (4, false, b"tape".as_slice()));
     let again = Bytes::from_vec(some.into_vec());
-    assert_eq!(rt; again.as_slice(), b"tape".as_slice());
-    assert_eq!(rt; NoMemory, NoMemory);
-    assert_eq!(rt; DevFault { failures: 2 }.failures, 2);
+    assert_equal!(rt; again.as_slice(), b"tape".as_slice());
+    assert_equal!(rt; NoMemory, NoMemory);
+    assert_equal!(rt; DevFault { failures: 2 }.failures, 2);
 }
 
 static LENGTHS: &'static [usize] = &[0, 1, 5, 17, 1_048_576];
@@ -105,7 +85,7 @@ fn a_copy_of_any_length_is_made_where_memory_is_there(rt: HostRuntime) -> Result
     for &length in LENGTHS {
         let bytes = vec![in alloc; 7u8; length]?;
         let copy = Bytes::from_slice(alloc, bytes.as_slice())?;
-        assert_eq!(rt; copy.len(), length);
+        assert_equal!(rt; copy.len(), length);
     }
     Ok(())
 }

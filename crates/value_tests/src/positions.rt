@@ -5,6 +5,7 @@ mod counting;
 mod plain;
 mod reports;
 
+use assertions::{assert_equal, assert_holds};
 use counting::Counting;
 use plain::stepped;
 use positioning::{Moved, Pos, SpaceCode, Stop, locate, space};
@@ -78,10 +79,10 @@ fn goes_as_the_plain_program(rt: &impl Abort, alloc: Global, objects: &str) -> R
         for &code in CODES {
             for &count in COUNTS {
                 let (to, stop, left) = stepped(objects.as_bytes(), end, obj, code, count);
-                assert_eq!(rt;
+                assert_equal!(rt;
                     spaced(&medium, Pos { part: 0, obj }, code, count),
-                    ended(0, to, stop, left),
-                    "{count} from {obj}"
+                    ended(0, to, stop, left);
+                    (count, obj)
                 );
             }
         }
@@ -132,10 +133,10 @@ static SPACES: &'static [(u32, SpaceCode, i32, u32, Stop, u32)] = &[
 fn space_by_rows(rt: HostRuntime) -> Result<(), Fail> {
     let medium = tape(rt.alloc(), "bbmb")?;
     for &(obj, code, count, end, stop, left) in SPACES {
-        assert_eq!(rt;
+        assert_equal!(rt;
             spaced(&medium, Pos { part: 0, obj }, code, count),
-            ended(0, end, stop, left),
-            "{count} from {obj}"
+            ended(0, end, stop, left);
+            (count, obj)
         );
     }
     Ok(())
@@ -156,10 +157,10 @@ static LOCATES: &'static [(u8, u32, u32, Stop)] = &[
 fn locate_by_rows(rt: HostRuntime) -> Result<(), Fail> {
     let medium = tape(rt.alloc(), "bbmb")?;
     for &(part, to, obj, stop) in LOCATES {
-        assert_eq!(rt;
+        assert_equal!(rt;
             located(&medium, Pos { part, obj: 0 }, to),
-            ended(part, obj, stop, 0),
-            "to {to} in {part}"
+            ended(part, obj, stop, 0);
+            (to, part)
         );
     }
     Ok(())
@@ -188,17 +189,14 @@ fn no_motion_looks_at_more_than_there_is(rt: HostRuntime) -> Result<(), Fail> {
     for &(obj, code, count, most) in LOOKS {
         let counting = Counting::new(&medium);
         let moved = spaced(&counting, Pos { part: 0, obj }, code, count);
-        assert!(rt; moved.is_some(), "{count} from {obj}");
-        assert!(rt; counting.looks() <= most, "{count} from {obj}");
+        assert_holds!(rt; moved.is_some(); (count, obj));
+        assert_holds!(rt; counting.looks() <= most; (count, obj));
     }
     let counting = Counting::new(&medium);
     let there = located(&counting, Pos { part: 0, obj: 1 }, 7);
     let report = reports::reported(&counting, Pos { part: 0, obj: 7 });
-    assert!(rt; there.is_some() && report.is_some());
-    assert_eq!(rt; counting.looks(), 0);
-    assert_eq!(rt;
-        (counting.kind_at(0, 2), counting.looks()),
-        (Some(Kind::Mark), 1)
-    );
+    assert_holds!(rt; there.is_some() && report.is_some());
+    assert_equal!(rt; counting.looks(), 0);
+    assert_equal!(rt; (counting.kind_at(0, 2), counting.looks()), (Some(Kind::Mark), 1));
     Ok(())
 }

@@ -5,6 +5,7 @@ mod fields;
 mod modes;
 mod reservations;
 
+use assertions::assert_equal;
 use scsi_sense::Sense;
 use scsi_wire::{Cdb, Command};
 use std::process::Abort;
@@ -13,6 +14,6 @@ use std::process::Abort;
 // field.
 fn is_decoded(rt: &impl Abort, block: &[u8], command: Option<Command>, sent: u32) {
     let expected = command.ok_or(Sense::invalid_field());
-    assert_eq!(rt; Cdb::decode(block), expected, "{block:?}");
-    assert_eq!(rt; command.map_or(0, |c| c.sent_length()), sent, "{block:?}");
+    assert_equal!(rt; Cdb::decode(block), expected; block);
+    assert_equal!(rt; command.map_or(0, |c| c.sent_length()), sent; block);
 }

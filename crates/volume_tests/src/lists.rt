@@ -1,4 +1,5 @@
 //! An index against a plain list of objects.
+use assertions::assert_equal;
 use record_index::{Index, Placed, Record};
 use std::process::Abort;
 use std::test::Fail;
@@ -66,21 +67,21 @@ fn follow(list: &mut Vec<Placed>, item: Record, place: u64) -> Result<(), Fail> 
 
 // The index has these objects, and each first part of them takes what their lengths say.
 fn assert_same(rt: &impl Abort, index: &Index, list: &[Placed]) {
-    assert_eq!(rt; index.count(1) as usize, list.len());
-    assert_eq!(rt; index.place(1, index.count(1)), None);
+    assert_equal!(rt; index.count(1) as usize, list.len());
+    assert_equal!(rt; index.place(1, index.count(1)), None);
     let mut used = 0u64;
     let mut at = 0u32;
     for placed in list {
-        assert_eq!(rt; index.place(1, at), Some(*placed), "object {at}");
-        assert_eq!(rt; index.kind_at(1, at), Some(placed.kind()), "object {at}");
-        assert_eq!(rt; index.used(1, at), used, "up to {at}");
+        assert_equal!(rt; index.place(1, at), Some(*placed); at);
+        assert_equal!(rt; index.kind_at(1, at), Some(placed.kind()); at);
+        assert_equal!(rt; index.used(1, at), used; at);
         used = used.saturating_add(match placed {
             Placed::Block { length, .. } => *length as u64 + 16,
             Placed::Mark => 16,
         });
         at = at.saturating_add(1);
     }
-    assert_eq!(rt; index.used(1, u32::MAX), used);
+    assert_equal!(rt; index.used(1, u32::MAX), used);
 }
 
 #[test]
@@ -90,19 +91,19 @@ fn index_against_a_list(rt: HostRuntime) -> Result<(), Fail> {
     let mut list = Vec::new(alloc);
     for (part, at, add, place, refusal) in ROWS {
         let item = record(*part, *at, *add);
-        assert_eq!(rt; index.refusal(item), *refusal, "{add:?} at {at}");
+        assert_equal!(rt; index.refusal(item), *refusal; (add, at));
         let wanted = match refusal {
             Some(cause) => Err(ApplyError::Refused(*cause)),
             None => Ok(()),
         };
         if *place < u64::MAX {
-            assert_eq!(rt; index.apply(item, *place), wanted, "{add:?} at {at}");
+            assert_equal!(rt; index.apply(item, *place), wanted; (add, at));
         }
         if refusal.is_none() {
             follow(&mut list, item, *place)?;
         }
         assert_same(&rt, &index, &list);
-        assert_eq!(rt; index.count(0), 0);
+        assert_equal!(rt; index.count(0), 0);
     }
     Ok(())
 }
@@ -112,27 +113,21 @@ fn index_against_a_list(rt: HostRuntime) -> Result<(), Fail> {
 fn a_run_of_all_marks(rt: HostRuntime) -> Result<(), Fail> {
     let alloc = rt.alloc();
     let mut index = Index::new(alloc, &[4_096, 1_099_511_627_776])?;
-    assert_eq!(rt;
-        index.apply(record(1, 0, Add::Marks(16_000_000)), 0),
-        Ok(())
-    );
-    assert_eq!(rt; index.count(1), 16_000_000);
-    assert_eq!(rt; index.place(1, 15_999_999), Some(Placed::Mark));
-    assert_eq!(rt; index.kind_at(1, 16_000_000), None::<Kind>);
-    assert_eq!(rt; index.used(1, 7_000_000), 112_000_000);
-    assert_eq!(rt;
-        index.refusal(record(1, 16_000_000, Add::Marks(1))),
-        Some(Refusal::NoRoom)
-    );
-    assert_eq!(rt; index.apply(record(1, 8_000_000, Add::Block(9)), 5), Ok(()));
-    assert_eq!(rt; index.count(1), 8_000_001);
-    assert_eq!(rt;
+    assert_equal!(rt; index.apply(record(1, 0, Add::Marks(16_000_000)), 0), Ok(()));
+    assert_equal!(rt; index.count(1), 16_000_000);
+    assert_equal!(rt; index.place(1, 15_999_999), Some(Placed::Mark));
+    assert_equal!(rt; index.kind_at(1, 16_000_000), None::<Kind>);
+    assert_equal!(rt; index.used(1, 7_000_000), 112_000_000);
+    assert_equal!(rt; index.refusal(record(1, 16_000_000, Add::Marks(1))), Some(Refusal::NoRoom));
+    assert_equal!(rt; index.apply(record(1, 8_000_000, Add::Block(9)), 5), Ok(()));
+    assert_equal!(rt; index.count(1), 8_000_001);
+    assert_equal!(rt;
         index.place(1, 8_000_000),
         Some(Placed::Block {
             place: 5,
             length: 9
         })
     );
-    assert_eq!(rt; index.used(1, 8_000_001), 128_000_025);
+    assert_equal!(rt; index.used(1, 8_000_001), 128_000_025);
     Ok(())
 }

@@ -2,6 +2,7 @@
 ghost use Rattle.std.specs.Prelude.{◌≡◌, OnOk, true};
 
 use crate::volumes::{Add, make_change};
+use assertions::{assert_equal, assert_holds};
 use std::alloc::Global;
 use std::process::Abort;
 use std::test::Fail;
@@ -68,13 +69,13 @@ fn fetch<M: Medium>(
 {
     let mut bytes = vec![in alloc; 1u8, 2, 3]?;
     if medium.kind_at(0, at) != Some(Kind::Block) {
-        assert!(rt; false, "no block at {at}");
+        assert_holds!(rt; false; at);
         return Ok(Answer::Done);
     }
     let fetched = medium.fetch(0, at, &mut bytes);
     if fetched.is_ok() {
         let wanted = vec![in alloc; 7u8; length]?;
-        assert_eq!(rt; bytes.as_slice(), wanted.as_slice(), "block {at}");
+        assert_equal!(rt; bytes.as_slice(), wanted.as_slice(); at);
     }
     Ok(as_answer(fetched))
 }
@@ -134,10 +135,10 @@ pub fn assert_rows<M: Medium>(
 {
     for (ask, wanted, pending, failed, count) in rows {
         let given = answered(rt, alloc, medium, *ask)?;
-        assert_eq!(rt; given, *wanted, "{ask:?}");
-        assert_eq!(rt; medium.pending(), *pending, "{ask:?}");
-        assert_eq!(rt; medium.has_failed(), *failed, "{ask:?}");
-        assert_eq!(rt; medium.count(0), *count, "{ask:?}");
+        assert_equal!(rt; given, *wanted; ask);
+        assert_equal!(rt; medium.pending(), *pending; ask);
+        assert_equal!(rt; medium.has_failed(), *failed; ask);
+        assert_equal!(rt; medium.count(0), *count; ask);
     }
     Ok(())
 }
@@ -163,9 +164,6 @@ static IN_MEMORY: &'static [Row] = &[
 fn a_medium_in_memory_answers(rt: HostRuntime) -> Result<(), Fail> {
     let alloc = rt.alloc();
     let mut medium = PlainMedium::new(alloc, &[4_096])?;
-    assert_eq!(rt;
-        (medium.parts(), medium.capacity(0), medium.used(0, 1)),
-        (1, 4_096, 0)
-    );
+    assert_equal!(rt; (medium.parts(), medium.capacity(0), medium.used(0, 1)), (1, 4_096, 0));
     assert_rows(&rt, alloc, &mut medium, IN_MEMORY)
 }

@@ -1,4 +1,5 @@
 //! Records by their bytes, and an index against a plain list.
+use assertions::assert_equal;
 use record_index::{Record, RecordError, decode_changes, encode_change};
 use std::alloc::Global;
 use std::test::Fail;
@@ -44,7 +45,7 @@ static ROWS: &'static [(&'static [u8], Result<usize, usize>)] = &[
 fn rows_of_bytes(rt: HostRuntime) -> Result<(), Fail> {
     let alloc = rt.alloc();
     for (bytes, wanted) in ROWS {
-        assert_eq!(rt; decoded(alloc, bytes)?, *wanted, "{bytes:?}");
+        assert_equal!(rt; decoded(alloc, bytes)?, *wanted; bytes);
     }
     Ok(())
 }
@@ -66,7 +67,7 @@ fn lists_that_end_early(rt: HostRuntime) -> Result<(), Fail> {
         } else {
             Ok(2)
         };
-        assert_eq!(rt; decoded(alloc, &whole[..end])?, wanted, "{end} bytes");
+        assert_equal!(rt; decoded(alloc, &whole[..end])?, wanted; end);
     }
     Ok(())
 }
@@ -92,8 +93,8 @@ fn spelled_changes(rt: HostRuntime) -> Result<(), Fail> {
     encode_change(&erase, &mut bytes)?;
     let wanted =
         *b"\x01\x03\x01\x02\x03\x04\0\0\0\x05hello\x02\0\0\0\0\x01\0\xf4\x24\0\x03\x01\0\0\0\x07\0\0\0\0";
-    assert_eq!(rt; bytes.as_slice(), wanted.as_slice());
-    assert_eq!(rt; decoded(alloc, &bytes)?, Ok(3));
+    assert_equal!(rt; bytes.as_slice(), wanted.as_slice());
+    assert_equal!(rt; decoded(alloc, &bytes)?, Ok(3));
     Ok(())
 }
 
@@ -106,7 +107,7 @@ fn records_at_the_front(rt: HostRuntime) {
         at: 2,
         length: 5,
     };
-    assert_eq!(rt; Record::read(&bytes), Some(wanted));
-    assert_eq!(rt; wanted.size(), 15);
-    assert_eq!(rt; Record::read(&bytes[..14]), None);
+    assert_equal!(rt; Record::read(&bytes), Some(wanted));
+    assert_equal!(rt; wanted.size(), 15);
+    assert_equal!(rt; Record::read(&bytes[..14]), None);
 }

@@ -1,4 +1,5 @@
 //! Refusals in their order, capacities at their borders; each public call once.
+use assertions::{assert_equal, assert_holds};
 use std::alloc::Global;
 use std::process::Abort;
 use std::test::Fail;
@@ -42,16 +43,16 @@ fn assert_rows(
 ) -> Result<(), Fail> {
     for (part, at, add, refusal, count, used, early) in rows {
         let change = make_change(alloc, *part, *at, *add)?;
-        assert_eq!(rt; volume.refusal(&change), *refusal, "{add:?} at {at}");
+        assert_equal!(rt; volume.refusal(&change), *refusal; (add, at));
         let wanted = match refusal {
             Some(cause) => Err(ApplyError::Refused(*cause)),
             None => Ok(()),
         };
-        assert_eq!(rt; volume.apply(change), wanted, "{add:?} at {at}");
-        assert_eq!(rt; volume.count(*part), *count, "{add:?} at {at}");
-        assert_eq!(rt; volume.used(*part, u32::MAX), *used, "{add:?} at {at}");
+        assert_equal!(rt; volume.apply(change), wanted; (add, at));
+        assert_equal!(rt; volume.count(*part), *count; (add, at));
+        assert_equal!(rt; volume.used(*part, u32::MAX), *used; (add, at));
         let is_early = is_in_early_zone(volume.capacity(*part), *used);
-        assert_eq!(rt; is_early, *early, "{add:?} at {at}");
+        assert_equal!(rt; is_early, *early; (add, at));
     }
     Ok(())
 }
@@ -162,7 +163,7 @@ fn refusals_come_in_their_order_and_a_partition_fills(rt: HostRuntime) -> Result
         ([4_096, TEBIBYTE].as_slice(), REFUSALS),
         ([4_096].as_slice(), FILLING),
     ] {
-        assert!(&rt; are_capacities(capacities));
+        assert_holds!(&rt; are_capacities(capacities));
         if are_capacities(capacities) {
             assert_rows(&rt, alloc, &mut Volume::new(alloc, capacities)?, rows)?;
         }
@@ -201,19 +202,19 @@ fn a_write_in_the_middle_drops_what_is_behind(rt: HostRuntime) -> Result<(), Fai
     let alloc = rt.alloc();
     let mut volume = Volume::new(alloc, &[4_096, 5_000, 6_000, 7_000])?;
     assert_rows(&rt, alloc, &mut volume, &IN_THE_MIDDLE[..4])?;
-    assert_eq!(rt; volume.block_at(2, 1), Some([7u8; 5].as_slice()));
+    assert_equal!(rt; volume.block_at(2, 1), Some([7u8; 5].as_slice()));
     assert_rows(&rt, alloc, &mut volume, &IN_THE_MIDDLE[4..5])?;
-    assert_eq!(rt; volume.block_at(2, 1), None);
-    assert_eq!(rt; volume.used(2, 1), 26);
+    assert_equal!(rt; volume.block_at(2, 1), None);
+    assert_equal!(rt; volume.used(2, 1), 26);
     for (at, kind) in KINDS {
-        assert_eq!(rt; volume.kind_at(2, *at), *kind, "object {at}");
+        assert_equal!(rt; volume.kind_at(2, *at), *kind; at);
     }
     assert_rows(&rt, alloc, &mut volume, &IN_THE_MIDDLE[5..])?;
     for (part, capacity, count) in PARTS {
-        assert_eq!(rt; volume.capacity(*part), *capacity, "part {part}");
-        assert_eq!(rt; volume.count(*part), *count, "part {part}");
+        assert_equal!(rt; volume.capacity(*part), *capacity; part);
+        assert_equal!(rt; volume.count(*part), *count; part);
     }
-    assert_eq!(rt; volume.parts(), 4);
+    assert_equal!(rt; volume.parts(), 4);
     Ok(())
 }
 
@@ -239,17 +240,10 @@ static EARLY: &'static [(u64, u64, bool)] = &[
 #[test]
 fn capacities_have_their_limits(rt: HostRuntime) {
     for (capacities, taken) in CAPACITIES {
-        assert_eq!(rt; are_capacities(capacities), *taken, "{capacities:?}");
+        assert_equal!(rt; are_capacities(capacities), *taken; capacities);
     }
     for (capacity, used, early) in EARLY {
-        assert_eq!(rt;
-            is_in_early_zone(*capacity, *used),
-            *early,
-            "{used} of {capacity}"
-        );
+        assert_equal!(rt; is_in_early_zone(*capacity, *used), *early; (used, capacity));
     }
-    assert_eq!(rt;
-        (Object::Mark.cost(), Object::Mark.kind()),
-        (16, Kind::Mark)
-    );
+    assert_equal!(rt; (Object::Mark.cost(), Object::Mark.kind()), (16, Kind::Mark));
 }

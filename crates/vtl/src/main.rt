@@ -1,27 +1,12 @@
 //! A virtual tape library: runs scripts of commands against drives, over cartridges in files or in memory.
 #![tactic(auto)]
 
-pub mod checking;
-pub mod configs;
-pub mod creating;
-pub mod files;
-pub mod laws;
-pub mod lines;
-pub mod orders;
-pub mod programs;
-pub mod side_checks;
-pub mod sides;
-pub mod starting;
-#[cfg(test)]
-mod tests;
-mod writing;
-
-use files::SystemFiles;
-use orders::run;
-use programs::VtlFault;
 use std::env;
 use std::io::{self, ErrorKind};
 use std::process::ExitCode;
+use vtl_program::files::SystemFiles;
+use vtl_program::orders::run;
+use vtl_program::programs::VtlFault;
 
 // The words of the command line.
 fn words_of(rt: &HostRuntime) -> Result<Vec<String>, VtlFault> {

@@ -1,5 +1,6 @@
 //! What a cartridge's entry may have. What is expected was worked out by hand.
 use crate::configs::{broken, refusal};
+use assertions::assert_equal;
 use std::alloc::Global;
 use vtl_config::{ConfigError, Key, Place, Rule};
 
@@ -66,11 +67,7 @@ static WITHOUT_A_KEY: &'static [(&'static str, Rule)] = &[
 fn a_cartridge_has_four_keys(rt: HostRuntime) {
     let alloc = rt.alloc();
     for &(text, rule) in WITHOUT_A_KEY {
-        assert_eq!(rt;
-            second_cartridge(alloc, text),
-            broken(Place::Cartridge(2), rule),
-            "{text}"
-        );
+        assert_equal!(rt; second_cartridge(alloc, text), broken(Place::Cartridge(2), rule); text);
     }
 }
 
@@ -92,10 +89,10 @@ fn a_cartridges_values_have_their_kinds(rt: HostRuntime) {
     let alloc = rt.alloc();
     for &(barcode, file, capacities, home, key) in OTHER_KINDS {
         let refused = second(alloc, barcode, file, capacities, home);
-        assert_eq!(rt;
+        assert_equal!(rt;
             refused,
-            broken(Place::Cartridge(2), Rule::OtherKind(key)),
-            "{capacities} {home}"
+            broken(Place::Cartridge(2), Rule::OtherKind(key));
+            (capacities, home)
         );
     }
 }
@@ -129,10 +126,10 @@ fn a_cartridges_values_have_limits(rt: HostRuntime) {
     let alloc = rt.alloc();
     for &(barcode, capacities, home, key) in PAST_LIMITS {
         let refused = second(alloc, barcode, "\"b\"", capacities, home);
-        assert_eq!(rt;
+        assert_equal!(rt;
             refused,
-            broken(Place::Cartridge(2), Rule::OutOfRange(key)),
-            "{capacities} {home}"
+            broken(Place::Cartridge(2), Rule::OutOfRange(key));
+            (capacities, home)
         );
     }
 }
@@ -151,11 +148,7 @@ fn no_value_of_a_cartridge_is_double(rt: HostRuntime) {
     let alloc = rt.alloc();
     for &(barcode, file, home, rule) in DOUBLES {
         let refused = second(alloc, barcode, file, "[4096]", home);
-        assert_eq!(rt;
-            refused,
-            broken(Place::Cartridge(2), rule),
-            "{barcode} {file} {home}"
-        );
+        assert_equal!(rt; refused, broken(Place::Cartridge(2), rule); (barcode, file, home));
     }
-    assert_eq!(rt; second(alloc, "\"B\"", "\"b\"", "[4096]", "1"), None);
+    assert_equal!(rt; second(alloc, "\"B\"", "\"b\"", "[4096]", "1"), None);
 }

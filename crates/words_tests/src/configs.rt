@@ -1,4 +1,5 @@
 //! Configurations that are taken, and each refusal once. What is expected was worked out by hand.
+use assertions::{assert_equal, assert_holds};
 use std::alloc::Global;
 use std::test::Fail;
 use vtl_config::{Address, Config, ConfigError, Key, Place, Rule, read_config};
@@ -65,11 +66,7 @@ static NOTHING: &'static [&'static str] = &[
 fn the_empty_configuration_has_nothing(rt: HostRuntime) -> Result<(), Fail> {
     for &text in NOTHING {
         let config = read(rt.alloc(), text)?;
-        assert_eq!(rt;
-            (config.cartridges.len(), config.drives.len()),
-            (0, 0),
-            "{text}"
-        );
+        assert_equal!(rt; (config.cartridges.len(), config.drives.len()), (0, 0); text);
     }
     Ok(())
 }
@@ -93,21 +90,21 @@ static CARTRIDGES: &'static [(&'static str, &'static str, u16, &'static [u64])] 
 #[test]
 fn two_drives_and_four_cartridges(rt: HostRuntime) -> Result<(), Fail> {
     let config = read(rt.alloc(), TWO_DRIVES)?;
-    assert_eq!(rt; config.drives.len(), 2);
+    assert_equal!(rt; config.drives.len(), 2);
     for (drive, &(number, file)) in config.drives.iter().zip(DRIVES) {
-        assert_eq!(rt; drive.number.number(), number);
-        assert_eq!(rt; drive.reservations.as_str(), file);
+        assert_equal!(rt; drive.number.number(), number);
+        assert_equal!(rt; drive.reservations.as_str(), file);
     }
-    assert_eq!(rt; config.cartridges.len(), 4);
+    assert_equal!(rt; config.cartridges.len(), 4);
     for (cartridge, &(barcode, file, home, capacities)) in config
         .cartridges
         .iter()
         .zip(CARTRIDGES)
     {
-        assert_eq!(rt; cartridge.barcode.as_bytes(), barcode.as_bytes());
-        assert_eq!(rt; cartridge.file.as_str(), file);
-        assert_eq!(rt; cartridge.home.number(), home);
-        assert_eq!(rt; cartridge.capacities.as_slice(), capacities);
+        assert_equal!(rt; cartridge.barcode.as_bytes(), barcode.as_bytes());
+        assert_equal!(rt; cartridge.file.as_str(), file);
+        assert_equal!(rt; cartridge.home.number(), home);
+        assert_equal!(rt; cartridge.capacities.as_slice(), capacities);
     }
     Ok(())
 }
@@ -119,10 +116,10 @@ cartridge = [{ barcode = "B1", file = "b", capacities = [4096], home = 16 }]
 drive = [{ number = 16, reservations = "r" }, { reservations = "s", number = 3 }]
 "#;
     let config = read(rt.alloc(), text)?;
-    assert_eq!(rt; (config.cartridges.len(), config.drives.len()), (1, 2));
+    assert_equal!(rt; (config.cartridges.len(), config.drives.len()), (1, 2));
     for cartridge in &config.cartridges {
-        assert!(rt; matches!(cartridge.home, Address::Drive(_)));
-        assert_eq!(rt; cartridge.home.number(), 16);
+        assert_holds!(rt; matches!(cartridge.home, Address::Drive(_)));
+        assert_equal!(rt; cartridge.home.number(), 16);
     }
     Ok(())
 }
@@ -139,16 +136,9 @@ static NO_DOCUMENTS: &'static [&'static str] = &[
 fn what_is_no_document_is_refused(rt: HostRuntime) {
     let alloc = rt.alloc();
     let latin = [b'a', 0xe9, b'='];
-    assert_eq!(rt;
-        read_config(alloc, latin.as_slice()).err(),
-        broken(Place::Top, Rule::NotUtf8)
-    );
+    assert_equal!(rt; read_config(alloc, latin.as_slice()).err(), broken(Place::Top, Rule::NotUtf8));
     for &text in NO_DOCUMENTS {
-        assert_eq!(rt;
-            refusal(alloc, text),
-            broken(Place::Top, Rule::NotToml),
-            "{text}"
-        );
+        assert_equal!(rt; refusal(alloc, text), broken(Place::Top, Rule::NotToml); text);
     }
 }
 
@@ -171,18 +161,14 @@ static NO_LISTS: &'static [&'static str] = &[
 fn the_top_has_two_lists(rt: HostRuntime) {
     let alloc = rt.alloc();
     for &text in OTHER_KEYS {
-        assert_eq!(rt;
-            refusal(alloc, text),
-            broken(Place::Top, Rule::OtherKey),
-            "{text}"
-        );
+        assert_equal!(rt; refusal(alloc, text), broken(Place::Top, Rule::OtherKey); text);
     }
     let kind = Rule::OtherKind(Key::Drive);
     for &text in NO_LISTS {
-        assert_eq!(rt; refusal(alloc, text), broken(Place::Top, kind), "{text}");
+        assert_equal!(rt; refusal(alloc, text), broken(Place::Top, kind); text);
     }
     let kind = Rule::OtherKind(Key::Cartridge);
-    assert_eq!(rt; refusal(alloc, "cartridge = {}"), broken(Place::Top, kind));
+    assert_equal!(rt; refusal(alloc, "cartridge = {}"), broken(Place::Top, kind));
 }
 
 // Lists of drives that break a rule.
@@ -239,14 +225,10 @@ fn a_drive_has_a_number_and_a_file(rt: HostRuntime) {
     let alloc = rt.alloc();
     for &(text, rule) in BROKEN_DRIVES {
         let Ok(document) = format!(in alloc; "drive = {text}") else {
-            assert!(rt; false, "memory is there");
+            assert_holds!(rt; false, "memory is there");
             return;
         };
-        assert_eq!(rt;
-            refusal(alloc, document.as_str()),
-            broken(Place::Drive(1), rule),
-            "{text}"
-        );
+        assert_equal!(rt; refusal(alloc, document.as_str()), broken(Place::Drive(1), rule); text);
     }
 }
 
@@ -255,14 +237,8 @@ fn no_number_and_no_file_is_double(rt: HostRuntime) {
     let alloc = rt.alloc();
     let numbers =
         r#"drive = [{ number = 1, reservations = "r" }, { number = 1, reservations = "s" }]"#;
-    assert_eq!(rt;
-        refusal(alloc, numbers),
-        broken(Place::Drive(2), Rule::Double(Key::Number))
-    );
+    assert_equal!(rt; refusal(alloc, numbers), broken(Place::Drive(2), Rule::Double(Key::Number)));
     let files =
         r#"drive = [{ number = 1, reservations = "r" }, { number = 2, reservations = "r" }]"#;
-    assert_eq!(rt;
-        refusal(alloc, files),
-        broken(Place::Drive(2), Rule::Double(Key::Reservations))
-    );
+    assert_equal!(rt; refusal(alloc, files), broken(Place::Drive(2), Rule::Double(Key::Reservations)));
 }

@@ -1,5 +1,6 @@
 //! The text of each help, whole.
 use crate::words::asked;
+use assertions::{assert_equal, assert_holds};
 use std::test::Fail;
 use vtl_words::WordsError;
 
@@ -78,10 +79,10 @@ static HELPS: &'static [(&'static str, &'static str)] = &[
 fn help_is_told_whole(rt: HostRuntime) -> Result<(), Fail> {
     for &(line, wanted) in HELPS {
         let Err(WordsError::Help(text)) = asked(rt.alloc(), line) else {
-            assert!(rt; false, "{line}");
+            assert_holds!(rt; false; line);
             return Ok(());
         };
-        assert_eq!(rt; text.as_str(), wanted, "{line}");
+        assert_equal!(rt; text.as_str(), wanted; line);
     }
     Ok(())
 }
@@ -96,7 +97,7 @@ static EXAMPLES: &'static [&'static str] = &[
 #[test]
 fn the_example_of_help_is_taken(rt: HostRuntime) {
     for &line in EXAMPLES {
-        assert!(rt; OF_VTL.contains(line), "{line}");
-        assert!(rt; asked(rt.alloc(), line).is_ok(), "{line}");
+        assert_holds!(rt; OF_VTL.contains(line); line);
+        assert_holds!(rt; asked(rt.alloc(), line).is_ok(); line);
     }
 }

@@ -1,6 +1,7 @@
 //! Which rule is told where several are broken. What is expected was worked out by hand.
 use crate::cartridges::second_cartridge;
 use crate::configs::{broken, refusal};
+use assertions::{assert_equal, assert_holds};
 use std::alloc::Global;
 use vtl_config::{ConfigError, Key, Place, Rule};
 
@@ -32,7 +33,7 @@ static OF_THE_TOP: &'static [(&'static str, Place, Rule)] = &[
 fn the_top_comes_first_and_drives_before_cartridges(rt: HostRuntime) {
     let alloc = rt.alloc();
     for &(text, place, rule) in OF_THE_TOP {
-        assert_eq!(rt; refusal(alloc, text), broken(place, rule), "{text}");
+        assert_equal!(rt; refusal(alloc, text), broken(place, rule); text);
     }
 }
 
@@ -69,11 +70,7 @@ static OF_A_DRIVE: &'static [(&'static str, Rule)] = &[
 #[test]
 fn keys_of_a_drive_come_before_what_is_double(rt: HostRuntime) {
     for &(values, rule) in OF_A_DRIVE {
-        assert_eq!(rt;
-            second_drive(rt.alloc(), values),
-            broken(Place::Drive(2), rule),
-            "{values}"
-        );
+        assert_equal!(rt; second_drive(rt.alloc(), values), broken(Place::Drive(2), rule); values);
     }
 }
 
@@ -129,13 +126,13 @@ static OF_A_CARTRIDGE: &'static [(&'static str, Rule)] = &[
 fn keys_of_a_cartridge_come_before_what_is_double(rt: HostRuntime) {
     for &(values, rule) in OF_A_CARTRIDGE {
         let Ok(entry) = format!(in rt.alloc(); "{{ {values} }}") else {
-            assert!(rt; false, "memory is there");
+            assert_holds!(rt; false, "memory is there");
             return;
         };
-        assert_eq!(rt;
+        assert_equal!(rt;
             second_cartridge(rt.alloc(), entry.as_str()),
-            broken(Place::Cartridge(2), rule),
-            "{values}"
+            broken(Place::Cartridge(2), rule);
+            values
         );
     }
 }

@@ -1,4 +1,5 @@
 //! Words that are taken, refused, or ask for help. What is expected was worked out by hand.
+use assertions::{assert_equal, assert_holds};
 use std::alloc::Global;
 use std::test::Fail;
 use vtl_words::{Order, WordsError, read_words};
@@ -30,11 +31,11 @@ fn run_has_a_flag_and_an_option(rt: HostRuntime) {
     for &(line, in_memory, file) in RUNS {
         let answer = asked(alloc, line);
         let Ok(Order::Run { memory, config }) = answer else {
-            assert!(rt; false, "{line}");
+            assert_holds!(rt; false; line);
             return;
         };
-        assert_eq!(rt; memory, in_memory, "{line}");
-        assert_eq!(rt; config.as_ref().map(|file| file.as_str()), file, "{line}");
+        assert_equal!(rt; memory, in_memory; line);
+        assert_equal!(rt; config.as_ref().map(|file| file.as_str()), file; line);
     }
 }
 
@@ -56,17 +57,17 @@ fn create_and_check_have_a_file(rt: HostRuntime) {
     let alloc = rt.alloc();
     for &line in CREATES {
         let Ok(Order::Create { config }) = asked(alloc, line) else {
-            assert!(rt; false, "{line}");
+            assert_holds!(rt; false; line);
             return;
         };
-        assert_eq!(rt; config.as_str(), "lib.toml");
+        assert_equal!(rt; config.as_str(), "lib.toml");
     }
     for &(line, name) in CHECKS {
         let Ok(Order::Check { file }) = asked(alloc, line) else {
-            assert!(rt; false, "{line}");
+            assert_holds!(rt; false; line);
             return;
         };
-        assert_eq!(rt; file.as_str(), name);
+        assert_equal!(rt; file.as_str(), name);
     }
 }
 
@@ -98,13 +99,10 @@ static REFUSED: &'static [&'static str] = &[
 fn other_words_are_refused(rt: HostRuntime) {
     let alloc = rt.alloc();
     for &line in REFUSED {
-        assert!(rt;
-            matches!(asked(alloc, line), Err(WordsError::Refused)),
-            "{line}"
-        );
+        assert_holds!(rt; matches!(asked(alloc, line), Err(WordsError::Refused)); line);
     }
     let none: Vec<String> = Vec::new(alloc);
-    assert!(rt; matches!(read_words(alloc, none.as_slice()), Err(WordsError::Refused)));
+    assert_holds!(rt; matches!(read_words(alloc, none.as_slice()), Err(WordsError::Refused)));
 }
 
 #[test]
@@ -126,15 +124,15 @@ fn long_names_are_names(rt: HostRuntime) -> Result<(), Fail> {
         },
     ) = answer
     else {
-        assert!(rt; false, "run");
+        assert_holds!(rt; false, "run");
         return Ok(());
     };
-    assert_eq!(rt; config.as_str(), file);
+    assert_equal!(rt; config.as_str(), file);
     let answer = asked(alloc, format!(in alloc; "vtl check {file}")?.as_str());
     let Ok(Order::Check { file: checked }) = answer else {
-        assert!(rt; false, "check");
+        assert_holds!(rt; false, "check");
         return Ok(());
     };
-    assert_eq!(rt; checked.as_str(), file);
+    assert_equal!(rt; checked.as_str(), file);
     Ok(())
 }

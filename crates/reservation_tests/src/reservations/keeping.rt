@@ -1,5 +1,6 @@
 //! A keeper whose store fills, or one of whose saves fails.
 use super::{ONE_REGISTERS, TWO_REGISTER, after};
+use assertions::{assert_equal, assert_holds};
 use pr_core::{Keeper, KeeperError, Reservations, SaveFault, SavePlan, StagedKeeper};
 use std::process::Abort;
 
@@ -15,7 +16,7 @@ fn answer(save: u32, after: u32, by: SaveFault) -> Result<(), KeeperError> {
 
 // Whether a keeper holds just these as the reservations that were saved last.
 fn holds(rt: &impl Abort, keeper: &StagedKeeper, state: &Reservations) {
-    assert!(rt; !keeper.saved().needs_save(state));
+    assert_holds!(rt; !keeper.saved().needs_save(state));
 }
 
 // How many saves come before the one that fails, how that fails, and how many hosts are registered in what was
@@ -43,11 +44,7 @@ fn one_save_fails(rt: HostRuntime) {
         let mut keeper = StagedKeeper::new(empty, 1_000, Some(plan));
         for save in 0..4u32 {
             let state = if save % 2 == 0 { &one } else { &two };
-            assert_eq!(rt;
-                keeper.save(state),
-                answer(save, behind, by),
-                "{save} of {behind}"
-            );
+            assert_equal!(rt; keeper.save(state), answer(save, behind, by); (save, behind));
         }
         let last = match hosts {
             0 => &empty,
@@ -56,8 +53,8 @@ fn one_save_fails(rt: HostRuntime) {
         };
         holds(&rt, &keeper, last);
         let failed = by == SaveFault::Device && behind < 4;
-        assert_eq!(rt; keeper.has_failed(), failed, "{behind}");
-        assert_eq!(rt; keeper.torn().is_some(), failed, "{behind}");
+        assert_equal!(rt; keeper.has_failed(), failed; behind);
+        assert_equal!(rt; keeper.torn().is_some(), failed; behind);
     }
 }
 
@@ -77,11 +74,11 @@ fn a_store_fills(rt: HostRuntime) {
     let mut keeper = StagedKeeper::new(empty, 35, None);
     for &(is_registered, answer, left) in SAVES {
         let state = if is_registered { &one } else { &empty };
-        assert_eq!(rt; keeper.save(state), answer);
-        assert_eq!(rt; keeper.room(), left);
+        assert_equal!(rt; keeper.save(state), answer);
+        assert_equal!(rt; keeper.room(), left);
     }
     holds(&rt, &keeper, &empty);
-    assert!(rt; !keeper.has_failed());
+    assert_holds!(rt; !keeper.has_failed());
 }
 
 // What was under way as the device failed is told apart from what was saved.
@@ -93,12 +90,9 @@ fn a_save_is_torn(rt: HostRuntime) {
         by: SaveFault::Device,
     };
     let mut keeper = StagedKeeper::new(Reservations::empty(), 18, Some(plan));
-    assert_eq!(rt; keeper.save(&one), Err(KeeperError::Device));
+    assert_equal!(rt; keeper.save(&one), Err(KeeperError::Device));
     holds(&rt, &keeper, &Reservations::empty());
-    assert!(rt; keeper.torn().is_some_and(|torn| !torn.needs_save(&one)));
-    assert_eq!(rt; keeper.room(), 18);
-    assert_eq!(rt;
-        keeper.save(&Reservations::empty()),
-        Err(KeeperError::Failed)
-    );
+    assert_holds!(rt; keeper.torn().is_some_and(|torn| !torn.needs_save(&one)));
+    assert_equal!(rt; keeper.room(), 18);
+    assert_equal!(rt; keeper.save(&Reservations::empty()), Err(KeeperError::Failed));
 }

@@ -3,6 +3,7 @@ use super::{
     A, B, C, ONE_REGISTERS, Standing, TWO_REGISTER, TYPES, after, gives, held, host, key_of,
     reserved,
 };
+use assertions::assert_equal;
 use pr_core::PrAnswer::{BadRelease, Conflict, Good};
 use pr_core::{PrAnswer, Reservations};
 use scsi_attention::Attention;
@@ -91,13 +92,13 @@ static APTPL: &'static [(u8, &'static [(u8, PrOut)], bool)] = &[
 fn aptpl_is_set_by_those_who_register(rt: HostRuntime) {
     for &(number, orders, aptpl) in APTPL {
         let reservations = after(&rt, orders);
-        assert_eq!(rt; reservations.state().aptpl, aptpl, "row {number}");
+        assert_equal!(rt; reservations.state().aptpl, aptpl; number);
         let lost = reservations.power_loss();
-        assert_eq!(rt; lost.state().generation, 0, "row {number}");
-        assert_eq!(rt;
+        assert_equal!(rt; lost.state().generation, 0; number);
+        assert_equal!(rt;
             key_of(lost.state(), host(&rt, 1)).is_some(),
-            number == 2 || number == 5,
-            "row {number}"
+            number == 2 || number == 5;
+            number
         );
     }
 }
@@ -259,10 +260,10 @@ static ONE_SETS_APTPL: &'static [(u8, PrOut)] = &[(1, register!(0, A, true))];
 fn a_reservation_outlives_a_loss_of_power(rt: HostRuntime) {
     for &kind in TYPES {
         let lost = reserved(&rt, ONE_SETS_APTPL, 1, A, kind).power_loss();
-        assert_eq!(&rt; held(lost.state()), held_by_1(kind));
-        assert_eq!(&rt; lost.state().generation, 0);
-        assert_eq!(&rt; lost.state().aptpl, true);
-        assert_eq!(&rt; key_of(lost.state(), host(&rt, 1)), Some(A));
-        assert_eq!(&rt; lost.allowed(host(&rt, 2)), false);
+        assert_equal!(&rt; held(lost.state()), held_by_1(kind));
+        assert_equal!(&rt; lost.state().generation, 0);
+        assert_equal!(&rt; lost.state().aptpl, true);
+        assert_equal!(&rt; key_of(lost.state(), host(&rt, 1)), Some(A));
+        assert_equal!(&rt; lost.allowed(host(&rt, 2)), false);
     }
 }

@@ -1,5 +1,6 @@
 //! What PERSISTENT RESERVE IN reads, byte for byte; a keeper that keeps nothing.
 use super::{A, ONE_REGISTERS, TWO_REGISTER, host, reserved};
+use assertions::{assert_equal, assert_holds};
 use pr_core::{Keeper, NoKeeper, Reservations};
 use scsi_lists::{PrOut, PrType};
 use std::alloc::Global;
@@ -14,11 +15,8 @@ fn reads(
     keys: &[u8],
     reservation: &[u8],
 ) -> Result<(), Fail> {
-    assert_eq!(rt; reservations.read_keys(alloc)?.as_slice(), keys);
-    assert_eq!(rt;
-        reservations.read_reservation(alloc)?.as_slice(),
-        reservation
-    );
+    assert_equal!(rt; reservations.read_keys(alloc)?.as_slice(), keys);
+    assert_equal!(rt; reservations.read_reservation(alloc)?.as_slice(), reservation);
     Ok(())
 }
 
@@ -54,15 +52,12 @@ fn all_hosts_register(rt: HostRuntime) -> Result<(), Fail> {
         let _ = reservations.pr_out(host(&rt, number), &register!(0, key));
         wanted.extend_from_slice(&[0, 0, 0, 0, 0, 0, 1, number])?;
     }
-    assert_eq!(rt;
-        reservations.read_keys(alloc)?.as_slice(),
-        wanted.as_slice()
-    );
+    assert_equal!(rt; reservations.read_keys(alloc)?.as_slice(), wanted.as_slice());
     Ok(())
 }
 
 #[test]
 fn a_keeper_keeps_nothing(rt: HostRuntime) {
     let mut keeper = NoKeeper;
-    assert!(rt; keeper.save(&Reservations::empty()).is_ok() && !keeper.has_failed());
+    assert_holds!(rt; keeper.save(&Reservations::empty()).is_ok() && !keeper.has_failed());
 }

@@ -1,5 +1,6 @@
 //! Unregistering under each type, who is let through, and the generation.
 use super::{A, B, ONE_REGISTERS, Standing, TWO_REGISTER, TYPES, after, gives, host, reserved};
+use assertions::{assert_equal, assert_holds};
 use pr_core::PrAnswer::Good;
 use pr_core::Reservations;
 use scsi_attention::Attention;
@@ -51,14 +52,10 @@ fn a_reservation_lets_through(rt: HostRuntime) {
     for &kind in TYPES {
         let taken = reserved(&rt, TWO_REGISTER, 1, A, kind);
         for &(number, least) in PASSES {
-            assert_eq!(rt;
-                taken.allowed(host(&rt, number)),
-                kind.number() >= least,
-                "{kind:?}, host {number}"
-            );
+            assert_equal!(rt; taken.allowed(host(&rt, number)), kind.number() >= least; (kind, number));
         }
-        assert!(rt; taken.is_held(), "{kind:?}");
-        assert!(rt; free.allowed(host(&rt, 1)) && free.allowed(host(&rt, 2)) && !free.is_held());
+        assert_holds!(rt; taken.is_held(); kind);
+        assert_holds!(rt; free.allowed(host(&rt, 1)) && free.allowed(host(&rt, 2)) && !free.is_held());
     }
 }
 
@@ -68,7 +65,7 @@ fn the_generation_wraps(rt: HostRuntime) {
     state.generation = 4_294_967_295;
     let mut reservations = Reservations::of(state).expect(&rt, "nothing is registered");
     let _ = reservations.pr_out(host(&rt, 1), &register!(0, A));
-    assert_eq!(rt; reservations.state().generation, 0);
+    assert_equal!(rt; reservations.state().generation, 0);
 }
 
 static ONE_SETS_APTPL: &'static [(u8, PrOut)] = &[(1, register!(0, A, true))];
@@ -101,7 +98,7 @@ fn what_is_saved_of_two_states_differs(rt: HostRuntime) {
     for (number, order, due) in DUE {
         let mut now = one;
         let (answer, _) = now.pr_out(host(&rt, *number), order);
-        assert_eq!(rt; answer, Good, "{order:?}");
-        assert_eq!(rt; now.needs_save(&one), *due, "{order:?}");
+        assert_equal!(rt; answer, Good; order);
+        assert_equal!(rt; now.needs_save(&one), *due; order);
     }
 }

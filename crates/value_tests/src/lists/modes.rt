@@ -1,23 +1,16 @@
 //! Lists of MODE SELECT and the data of MODE SENSE against bytes written by hand.
+use assertions::assert_equal;
 use scsi_lists::{ModeList, mode_data, mode_data_without_descriptors};
 use scsi_sense::Sense;
 use std::process::Abort;
 
 // The list asks for this mode, or for none.
 fn asks(rt: &impl Abort, list: &[u8], buffered: Option<bool>) {
-    assert_eq!(rt;
-        ModeList::decode(list),
-        Ok(ModeList { buffered }),
-        "{list:?}"
-    );
+    assert_equal!(rt; ModeList::decode(list), Ok(ModeList { buffered }); list);
 }
 
 fn is_refused(rt: &impl Abort, list: &[u8]) {
-    assert_eq!(rt;
-        ModeList::decode(list),
-        Err(Sense::invalid_parameter()),
-        "{list:?}"
-    );
+    assert_equal!(rt; ModeList::decode(list), Err(Sense::invalid_parameter()); list);
 }
 
 static LISTS: &'static [(&'static [u8], Option<bool>)] = &[
@@ -119,11 +112,7 @@ fn a_list_has_4_or_12_bytes(rt: HostRuntime) {
             }),
             _ => Err(Sense::parameter_list_length_error()),
         };
-        assert_eq!(rt;
-            ModeList::decode(&list[..usize::from(length)]),
-            wanted,
-            "{length}"
-        );
+        assert_equal!(rt; ModeList::decode(&list[..usize::from(length)]), wanted; length);
     }
 }
 
@@ -134,10 +123,10 @@ static WRONG_LENGTHS: &'static [usize] = &[1, 2, 3, 5, 11, 13, 16];
 fn a_wrong_length_comes_first(rt: HostRuntime) {
     let wrong = [0xff; 16];
     for &length in WRONG_LENGTHS {
-        assert_eq!(rt;
+        assert_equal!(rt;
             ModeList::decode(&wrong[..length]),
-            Err(Sense::parameter_list_length_error()),
-            "{length}"
+            Err(Sense::parameter_list_length_error());
+            length
         );
     }
     is_refused(&rt, &wrong[..4]);
@@ -148,10 +137,10 @@ fn a_wrong_length_comes_first(rt: HostRuntime) {
 fn data_tells_the_mode(rt: HostRuntime) {
     let buffered = mode_data(true);
     let unbuffered = mode_data(false);
-    assert_eq!(rt; buffered, *b"\x0b\x00\x10\x08\0\0\0\0\0\0\0\0");
-    assert_eq!(rt; unbuffered, *b"\x0b\x00\x00\x08\0\0\0\0\0\0\0\0");
-    assert_eq!(rt; mode_data_without_descriptors(true), *b"\x03\x00\x10\x00");
-    assert_eq!(rt; mode_data_without_descriptors(false), *b"\x03\x00\x00\x00");
+    assert_equal!(rt; buffered, *b"\x0b\x00\x10\x08\0\0\0\0\0\0\0\0");
+    assert_equal!(rt; unbuffered, *b"\x0b\x00\x00\x08\0\0\0\0\0\0\0\0");
+    assert_equal!(rt; mode_data_without_descriptors(true), *b"\x03\x00\x10\x00");
+    assert_equal!(rt; mode_data_without_descriptors(false), *b"\x03\x00\x00\x00");
     asks(&rt, &buffered, Some(true));
     asks(&rt, &unbuffered, Some(false));
     asks(&rt, &mode_data_without_descriptors(true), Some(true));

@@ -1,4 +1,5 @@
 //! Lists of PERSISTENT RESERVE OUT against bytes written by hand, and the table of actions and types.
+use assertions::assert_equal;
 use scsi_lists::{PrAction, PrList, PrOut, PrType};
 use scsi_sense::Sense;
 use std::process::Abort;
@@ -23,11 +24,8 @@ fn in_table(number: u8) -> Option<PrType> {
 #[test]
 fn types_have_their_numbers(rt: HostRuntime) {
     for number in 0..=255u8 {
-        assert_eq!(rt; PrType::of(number), in_table(number), "{number}");
-        assert_eq!(rt;
-            PrType::of(number).map_or(number, |kind| kind.number()),
-            number
-        );
+        assert_equal!(rt; PrType::of(number), in_table(number); number);
+        assert_equal!(rt; PrType::of(number).map_or(number, |kind| kind.number()), number);
     }
 }
 
@@ -45,11 +43,7 @@ fn actions_stand_in_the_table(rt: HostRuntime) {
                 6 => Some(PrAction::RegisterAndIgnoreExistingKey),
                 _ => None,
             };
-            assert_eq!(rt;
-                PrAction::of(action, scope_type),
-                wanted,
-                "{action}, {scope_type}"
-            );
+            assert_equal!(rt; PrAction::of(action, scope_type), wanted; (action, scope_type));
         }
     }
 }
@@ -61,7 +55,7 @@ const LIST: [u8; 24] =
 fn reads(rt: &impl Abort, action: PrAction, bits: u8, wanted: Result<PrOut, Sense>) {
     let mut list = LIST;
     list[20] = bits;
-    assert_eq!(rt; PrList::decode(action, &list), wanted, "{action:?}, {bits}");
+    assert_equal!(rt; PrList::decode(action, &list), wanted; (action, bits));
 }
 
 // The two keys of the list.
@@ -137,10 +131,6 @@ fn a_list_has_24_bytes(rt: HostRuntime) {
         } else {
             Sense::parameter_list_length_error()
         };
-        assert_eq!(rt;
-            PrList::decode(PrAction::Register, &long[..length]),
-            Err(wanted),
-            "{length}"
-        );
+        assert_equal!(rt; PrList::decode(PrAction::Register, &long[..length]), Err(wanted); length);
     }
 }

@@ -1,6 +1,7 @@
 //! READ POSITION: its bytes, and both edges of the early zone.
 ghost use Rattle.std.specs.Prelude.{◌≡◌, true};
 
+use assertions::assert_equal;
 use positioning::{Pos, report};
 use std::alloc::Global;
 use std::test::Fail;
@@ -32,11 +33,7 @@ fn reports_by_rows(rt: HostRuntime) -> Result<(), Fail> {
     for &(part, obj, bytes) in REPORTS {
         let mut wanted = [0u8; 20];
         wanted[..12].copy_from_slice(&bytes);
-        assert_eq!(rt;
-            reported(&medium, Pos { part, obj }),
-            Some(wanted),
-            "{obj} in {part}"
-        );
+        assert_equal!(rt; reported(&medium, Pos { part, obj }), Some(wanted); (obj, part));
     }
     Ok(())
 }
@@ -71,10 +68,10 @@ static FLAGS: &'static [(u64, usize, u32, u8)] = &[
 #[test]
 fn near_the_end_from_the_edge_of_the_zone_on(rt: HostRuntime) -> Result<(), Fail> {
     for &(capacity, length, obj, byte) in FLAGS {
-        assert_eq!(rt;
+        assert_equal!(rt;
             flags(rt.alloc(), capacity, length, obj)?,
-            Some(byte),
-            "{length} bytes of {capacity}, object {obj}"
+            Some(byte);
+            (length, capacity, obj)
         );
     }
     Ok(())

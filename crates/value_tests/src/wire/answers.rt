@@ -1,4 +1,5 @@
 //! The data that a drive gives of itself, byte by byte.
+use assertions::assert_equal;
 use scsi_wire::{block_limits, cut_to, inquiry_data};
 
 // 018006021f000000, VTLIB and TAPE DRIVE padded with spaces to 8 and 16 bytes, 0001.
@@ -12,8 +13,8 @@ static BLOCK_LIMITS: &'static [u8] = &[0x00, 0x10, 0x00, 0x00, 0x00, 0x01];
 
 #[test]
 fn data_of_the_drive(rt: HostRuntime) {
-    assert_eq!(rt; inquiry_data().as_slice(), INQUIRY);
-    assert_eq!(rt; block_limits().as_slice(), BLOCK_LIMITS);
+    assert_equal!(rt; inquiry_data().as_slice(), INQUIRY);
+    assert_equal!(rt; block_limits().as_slice(), BLOCK_LIMITS);
 }
 
 // Bytes, the room for them, and what is given.
@@ -30,6 +31,6 @@ static CUTS: &'static [(&'static [u8], usize, &'static [u8])] = &[
 #[test]
 fn data_is_cut(rt: HostRuntime) {
     for &(bytes, allocation, given) in CUTS {
-        assert_eq!(rt; cut_to(bytes, allocation), given, "{allocation}");
+        assert_equal!(rt; cut_to(bytes, allocation), given; allocation);
     }
 }

@@ -1,4 +1,5 @@
 //! Every operation code in blocks of every length, and the table.
+use assertions::assert_equal;
 use scsi_lists::PrAction;
 use scsi_sense::Sense;
 use scsi_wire::{Cdb, Command, Opcode, PrRead, length_of};
@@ -75,9 +76,9 @@ fn every_code_at_every_length(rt: HostRuntime) {
         let mut block = [0u8; 16];
         block[0] = code;
         let row = known(code);
-        assert_eq!(rt; length_of(code), row.map(|(_, _, bytes)| bytes));
+        assert_equal!(rt; length_of(code), row.map(|(_, _, bytes)| bytes));
         if let Some((opcode, command, _)) = row {
-            assert_eq!(rt; command.opcode(), opcode);
+            assert_equal!(rt; command.opcode(), opcode);
         }
         for length in 0..=16usize {
             let (opcode, expected) = match row {
@@ -85,16 +86,8 @@ fn every_code_at_every_length(rt: HostRuntime) {
                 Some((opcode, _, _)) if length > 0 => (Some(opcode), Err(Sense::invalid_field())),
                 _ => (None, Err(Sense::invalid_operation_code())),
             };
-            assert_eq!(rt;
-                Opcode::of(&block[..length]),
-                opcode,
-                "{length} bytes of {code}"
-            );
-            assert_eq!(rt;
-                Cdb::decode(&block[..length]),
-                expected,
-                "{length} bytes of {code}"
-            );
+            assert_equal!(rt; Opcode::of(&block[..length]), opcode; (length, code));
+            assert_equal!(rt; Cdb::decode(&block[..length]), expected; (length, code));
         }
     }
 }
@@ -124,9 +117,9 @@ static TABLE: &'static [(Opcode, usize, bool, bool, bool)] = &[
 #[test]
 fn the_table(rt: HostRuntime) {
     for &(opcode, bytes, exempt, stopped, on_medium) in TABLE {
-        assert_eq!(rt; opcode.block_length(), bytes, "{opcode:?}");
-        assert_eq!(rt; opcode.is_exempt(), exempt, "{opcode:?}");
-        assert_eq!(rt; opcode.is_stopped_by_reservation(), stopped, "{opcode:?}");
-        assert_eq!(rt; opcode.needs_medium(), on_medium, "{opcode:?}");
+        assert_equal!(rt; opcode.block_length(), bytes; opcode);
+        assert_equal!(rt; opcode.is_exempt(), exempt; opcode);
+        assert_equal!(rt; opcode.is_stopped_by_reservation(), stopped; opcode);
+        assert_equal!(rt; opcode.needs_medium(), on_medium; opcode);
     }
 }

@@ -1,5 +1,6 @@
 //! The borders of the fields of each command.
 use super::is_decoded;
+use assertions::assert_equal;
 use scsi_sense::Sense;
 use scsi_wire::{Cdb, Command};
 use vtl_base::SpaceCode;
@@ -216,7 +217,7 @@ fn codes_of_space(rt: HostRuntime) {
         for &high in HIGH_HALVES {
             let block = [0x11, high | low, 0xff, 0xff, 0xfe, 0x00];
             let expected = command.ok_or(Sense::invalid_field());
-            assert_eq!(rt; Cdb::decode(&block), expected, "{block:?}");
+            assert_equal!(rt; Cdb::decode(&block), expected; block);
         }
     }
 }
@@ -232,7 +233,7 @@ fn service_actions_of_read_position(rt: HostRuntime) {
                 0 => Ok(Command::ReadPosition),
                 _ => Err(Sense::invalid_field()),
             };
-            assert_eq!(rt; Cdb::decode(&block), expected, "{block:?}");
+            assert_equal!(rt; Cdb::decode(&block), expected; block);
         }
     }
 }

@@ -1,5 +1,6 @@
 //! The fields of PERSISTENT RESERVE IN and OUT.
 use super::is_decoded;
+use assertions::assert_equal;
 use scsi_lists::{PrAction, PrType};
 use scsi_sense::Sense;
 use scsi_wire::{Cdb, Command, PrRead};
@@ -178,17 +179,9 @@ fn service_actions_of_reservations(rt: HostRuntime) {
         let order = action_of(action).and_then(|action| orders(action, 0x1800_0018));
         for &high in HIGH_BITS {
             let read = [0x5e, high | action, 1, 0, 0, 0x18, 0, 0, 0x18, 0];
-            assert_eq!(rt;
-                Cdb::decode(&read),
-                command.ok_or(Sense::invalid_field()),
-                "{read:?}"
-            );
+            assert_equal!(rt; Cdb::decode(&read), command.ok_or(Sense::invalid_field()); read);
             let block = [0x5f, high | action, 1, 0, 0, 0x18, 0, 0, 0x18, 0];
-            assert_eq!(rt;
-                Cdb::decode(&block),
-                order.ok_or(Sense::invalid_field()),
-                "{block:?}"
-            );
+            assert_equal!(rt; Cdb::decode(&block), order.ok_or(Sense::invalid_field()); block);
         }
     }
 }

@@ -1,5 +1,0 @@
-use Rattle.std.proofs.Common.{Ok}
-use Rattle.vtl.proofs.orders.create_order.Goals as goal
-
-pub returns : goal.returns
-returns g c = (Ok c.in_ok-config.config, c.in_ok-config.ensures, c.create_missing.ensures)

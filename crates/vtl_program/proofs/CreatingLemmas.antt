@@ -1,0 +1,155 @@
+-- Files that are made one after another.
+use Rattle.std.proofs.Common.{◌≡◌, ℕ, ◌+◌, ◌<◌, inl, inr, List, [], ◌∷◌, ◌++◌, map, take, drop, length, get_or, Option, Result, Ok, Err, OnOk, IfErr, refl, sym, ap, ◌∙◌, append_assoc, take-append-drop}
+use Rattle.std.proofs.lemmas.List.{append-nil, map-append, take_more}
+use Rattle.std.proofs.KnownBytes.{Appends-kept, Appends-nil, Appends-trans}
+use Rattle.std.specs.Io.KnownBytes.{Appends}
+use Rattle.tape_disk.specs.Disk.{DiskState}
+use Rattle.file_disk.specs.declared.error.FileError.{FileError}
+use Rattle.vtl_program.specs.declared.creating.Fate.{Fate}
+use Rattle.vtl_program.specs.declared.programs.VtlFault.{VtlFault}
+use Rattle.vtl_program.specs.declared.programs.VtlFault.TheVariants.{Words, Config, Script, Device, NoMemory}
+use Rattle.vtl_program.specs.Creating.{FailsAt, IsMadeOrKept, IsNotMade, IsNotOut, SideFile, TellsAll, TellsFiles, TellsSome, fate_line, label_of}
+
+module _ {D : Type 0} (state : D → DiskState) (makes : List ℕ → Result D FileError → Type 0)
+    (leaves takes_away : List ℕ → D → Type 0) where
+  all_on : (first second : List SideFile) (a b : List ℕ)
+      → TellsAll state makes leaves takes_away first a → TellsAll state makes leaves takes_away second b
+      → TellsAll state makes leaves takes_away (first ++ second) (a ++ b)
+  all_on [] second a b told more = rw told more
+  all_on (file ∷ first) second a b told more = (
+    told.0,
+    told.1,
+    (
+      told.2.0 ++ b,
+      ap (λ (xs : List ℕ). xs ++ b) told.2.1 ∙ append_assoc (fate_line (label_of file) told.0) told.2.0 b,
+      all_on first second told.2.0 b told.2.2 more,
+    ),
+  )
+
+  some_on : (first second : List SideFile) (fault : VtlFault) (a b : List ℕ)
+      → TellsAll state makes leaves takes_away first a → TellsSome state makes leaves takes_away second fault b
+      → TellsSome state makes leaves takes_away (first ++ second) fault (a ++ b)
+  some_on first second fault a b told more = record {
+    before = first ++ more.before;
+    file = more.file;
+    behind = more.behind;
+    are = ap (λ (xs : List SideFile). first ++ xs) more.are
+        ∙ sym (append_assoc first more.before (more.file ∷ more.behind));
+    lines = a ++ more.lines;
+    told = all_on first more.before a more.lines told more.told;
+    part = more.part;
+    fails = more.fails;
+    is = ap (λ (xs : List ℕ). a ++ xs) more.is ∙ sym (append_assoc a more.lines more.part);
+  }
+
+  some_of : (first second : List SideFile) (fault : VtlFault) (a : List ℕ)
+      → TellsSome state makes leaves takes_away first fault a
+      → TellsSome state makes leaves takes_away (first ++ second) fault a
+  some_of first second fault a so = record {
+    before = so.before;
+    file = so.file;
+    behind = so.behind ++ second;
+    are = ap (λ (xs : List SideFile). xs ++ second) so.are
+        ∙ append_assoc so.before (so.file ∷ so.behind) second;
+    lines = so.lines;
+    told = so.told;
+    part = so.part;
+    fails = so.fails;
+    is = so.is;
+  }
+
+  pub files_none : (known : Option (List ℕ)) → TellsFiles state makes leaves takes_away [] known known (Ok tt)
+  files_none known = ([], refl, Appends-nil known)
+
+  pub files_on : (first second : List SideFile) (before mid now : Option (List ℕ))
+      (result : Result (Unit {0}) VtlFault) → TellsFiles state makes leaves takes_away first before mid (Ok tt)
+      → TellsFiles state makes leaves takes_away second mid now result
+      → TellsFiles state makes leaves takes_away (first ++ second) before now result
+  files_on first second before mid now (Ok done) told more = (
+    told.0 ++ more.0,
+    all_on first second told.0 more.0 told.1 more.1,
+    Appends-trans before mid now told.0 more.0 told.2 more.2,
+  )
+  files_on first second before mid now (Err fault) told more = (
+    told.0 ++ more.0,
+    some_on first second fault told.0 more.0 told.1 more.1,
+    Appends-trans before mid now told.0 more.0 told.2 more.2,
+  )
+
+  pub files_of : (first second : List SideFile) (before now : Option (List ℕ)) (fault : VtlFault)
+      → TellsFiles state makes leaves takes_away first before now (Err fault)
+      → TellsFiles state makes leaves takes_away (first ++ second) before now (Err fault)
+  files_of first second before now fault told = (told.0, some_of first second fault told.0 told.1, told.2)
+
+  -- a fault came at a file, with this much of its line written
+  part_told : (file : SideFile) (before now : Option (List ℕ)) (fault : VtlFault) (part : List ℕ)
+      → FailsAt state makes leaves takes_away file fault part → Appends before now part
+      → TellsFiles state makes leaves takes_away (file ∷ []) before now (Err fault)
+  part_told file before now fault part fails written = (
+    part,
+    record {
+      before = [];
+      file = file;
+      behind = [];
+      are = refl;
+      lines = [];
+      told = refl;
+      part = part;
+      fails = fails;
+      is = refl;
+    },
+    written,
+  )
+
+  -- what became of a file was told, or its line is not out
+  pub file_result : (file : SideFile) (fate : Fate) (before now : Option (List ℕ))
+      (result : Result (Unit {0}) VtlFault) → IsMadeOrKept state makes leaves file fate
+      → OnOk result (Appends before now (fate_line (label_of file) fate))
+      → IfErr result (IsNotOut (fate_line (label_of file) fate) before now)
+      → TellsFiles state makes leaves takes_away (file ∷ []) before now result
+  file_result file fate before now (Ok done) became written out = (
+    fate_line (label_of file) fate,
+    (fate, became, ([], sym (append-nil (fate_line (label_of file) fate)), refl)),
+    written,
+  )
+  file_result file fate before now (Err NoMemory) became written out =
+      part_told file before now NoMemory [] (inr (fate, became, inl (refl, refl)))
+      (Appends-kept before before now [] (Appends-nil before) out)
+  file_result file fate before now (Err Device) became written out =
+      part_told file before now Device out.0 (inr (fate, became, inr (refl, out.1))) out.2
+  file_result file fate before now (Err Words) became written out = absurd out
+  file_result file fate before now (Err Config) became written out = absurd out
+  file_result file fate before now (Err (Script number)) became written out = absurd out
+
+  -- a file was not made
+  pub none_made : (file : SideFile) (known : Option (List ℕ)) (fault : VtlFault)
+      → IsNotMade state makes takes_away file fault
+      → TellsFiles state makes leaves takes_away (file ∷ []) known known (Err fault)
+  none_made file known fault why = part_told file known known fault [] (inl (why, refl)) (Appends-nil known)
+
+  -- memory ran out before the line of a file
+  pub none_told : (file : SideFile) (fate : Fate) (known : Option (List ℕ))
+      → IsMadeOrKept state makes leaves file fate
+      → TellsFiles state makes leaves takes_away (file ∷ []) known known (Err NoMemory)
+  none_told file fate known became =
+      part_told file known known NoMemory [] (inr (fate, became, inl (refl, refl))) (Appends-nil known)
+
+  -- the files of the first of some entries, one more, and all
+  module _ {A : Type 0} (file : A → SideFile) (entries : List A) (at : ℕ) where
+    pub files_more : (entry : A) (before mid now : Option (List ℕ)) (result : Result (Unit {0}) VtlFault)
+        → at < length entries → entry ≡ get_or entries at entry
+        → TellsFiles state makes leaves takes_away (map file (take at entries)) before mid (Ok tt)
+        → TellsFiles state makes leaves takes_away (file entry ∷ []) mid now result
+        → TellsFiles state makes leaves takes_away (map file (take (at + 1) entries)) before now result
+    files_more entry before mid now result within is told more =
+        let one : take (at + 1) entries ≡ take at entries ++ entry ∷ [] =
+        take_more entries at entry within ∙ ap (λ (x : A). take at entries ++ x ∷ []) (sym is) in
+        rw (one, map-append file (take at entries) (entry ∷ []))
+        (files_on (map file (take at entries)) (file entry ∷ []) before mid now result told more)
+
+    pub files_first : (before now : Option (List ℕ)) (fault : VtlFault)
+        → TellsFiles state makes leaves takes_away (map file (take at entries)) before now (Err fault)
+        → TellsFiles state makes leaves takes_away (map file entries) before now (Err fault)
+    files_first before now fault told =
+        let some = files_of (map file (take at entries)) (map file (drop at entries)) before now fault told in
+        rw (← map-append file (take at entries) (drop at entries), take-append-drop at entries) at some

@@ -1,0 +1,284 @@
+-- A library that is switched on, entry by entry.
+use Rattle.std.proofs.Common.{◌≡◌, ◌≢◌, ◌⊎◌, inl, inr, ℕ, ◌-◌, ◌<◌, Bool, true, List, [], ◌∷◌, ◌++◌, length, get_or, Option, None, Some, is_some, sym, ap, ◌∙◌, arith, subst, take, drop, append_assoc, take-append-drop, ◌+◌}
+use Rattle.std.proofs.lemmas.List.{map-append, take_more}
+use Rattle.std.proofs.lemmas.List.Elements.{All-nil, All-push, Contains-append_left, Contains-push, Contains-push_cases}
+use Rattle.std.specs.List.{Contains}
+use Rattle.tape_disk.specs.Disk.{DiskState}
+use Rattle.tape_buffer.specs.State.{BufferState}
+use Rattle.aptpl_store.specs.State.{OpenStore}
+use Rattle.changer.specs.Slots.{held_at}
+use Rattle.library.specs.Elements.{BayState, bay_at}
+use Rattle.vtl_config.specs.Entries.{AreDistinct, address_of, homes_of, numbers_of}
+use Rattle.vtl_config.specs.declared.entries.CartridgeEntry.{CartridgeEntry}
+use Rattle.vtl_config.specs.declared.entries.DriveEntry.{DriveEntry}
+use Rattle.vtl_program.specs.declared.programs.VtlFault.{VtlFault}
+use Rattle.vtl_program.specs.declared.programs.VtlFault.TheVariants.{Words, Config, Script, Device, NoMemory}
+use Rattle.vtl_program.specs.Faults.{IsFailure}
+use Rattle.vtl_program.specs.Inner.Waiting.{AreHome, AreOn, IsBare, IsNotHome, PutsHome, StartingState, SwitchesOnAt, home_at, waits_at}
+use Rattle.vtl_program.specs.Sides.{SidesGiven}
+use Rattle.vtl_program.specs.Starting.{AreGiven, IsDriveOf, IsNotStarted, IsRefusedIn, IsStarted, StandsAt}
+use Rattle.vtl_program.proofs.DistinctLemmas.{contains_map, same_or_not, twice}
+use Rattle.vtl_program.proofs.WaitingLemmas.{home_in_slot, home_waits}
+
+module _ {D : Type 0} where
+  -- where nothing is, no drive is on
+  pub home_yet : (gives : CartridgeEntry → BufferState D → Type 0) (starting : StartingState D) → IsBare starting
+      → AreHome gives [] starting
+  home_yet gives starting bare = record {
+    given = All-nil _;
+    homes = λ address. by address (home_at starting address) (bare.homes address);
+    bays = bare.bays;
+  }
+    where
+      by : (address : ℕ) (found : Option (BufferState D)) → found ≡ None → StandsAt gives [] address found
+      by address None none = λ (k, below, at). absurd (omega (arith, below))
+      by address (Some cartridge) none = absurd (cc)
+
+-- one entry more
+homes_on : (before : List CartridgeEntry) (entry : CartridgeEntry)
+    → homes_of (before ++ entry ∷ []) ≡ homes_of before ++ address_of entry.home ∷ []
+homes_on before entry = map-append (λ (e : CartridgeEntry). address_of e.home) before (entry ∷ [])
+
+numbers_on : (before : List DriveEntry) (entry : DriveEntry)
+    → numbers_of (before ++ entry ∷ []) ≡ numbers_of before ++ entry.number ∷ []
+numbers_on before entry = map-append (λ (e : DriveEntry). e.number) before (entry ∷ [])
+
+module _ {D : Type 0} (gives : CartridgeEntry → BufferState D → Type 0) where
+  -- what stands at another home stands there with one entry more
+  stands_still : (before : List CartridgeEntry) (entry : CartridgeEntry) (address : ℕ) (found : Option (BufferState D))
+      → address ≢ address_of entry.home → StandsAt gives before address found
+      → StandsAt gives (before ++ entry ∷ []) address found
+  stands_still before entry address None differs none = λ there.
+      by (Contains-push_cases (homes_of before) (address_of entry.home) address
+      (subst (λ (xs : List ℕ). Contains xs address) (homes_on before entry) there))
+    where
+      by : Contains (homes_of before) address ⊎ (address_of entry.home ≡ address) → ⊥
+      by (inl there) = none there
+      by (inr same) = differs (sym same)
+  stands_still before entry address (Some cartridge) differs stands = (
+    stands.0,
+    Contains-append_left before (entry ∷ []) stands.0 stands.1,
+    stands.2,
+    stands.3,
+  )
+
+  pub home_on : (before : List CartridgeEntry) (entry : CartridgeEntry) (cartridge : BufferState D)
+      (old new : StartingState D) → AreHome gives before old → gives entry cartridge
+      → PutsHome (address_of entry.home) cartridge old new → AreHome gives (before ++ entry ∷ []) new
+  home_on before entry cartridge old new home given puts = record {
+    given = All-push (λ (e : CartridgeEntry). (x : BufferState D) × gives e x) before entry home.given one;
+    homes = λ address. by address (same_or_not address (address_of entry.home));
+    bays = λ number. ap (λ (bays : List (Option (BayState D))). bay_at bays number) puts.bays ∙ home.bays number;
+  }
+    where
+      one : (x : BufferState D) × gives entry x
+      one = (cartridge, given)
+
+      by : (address : ℕ) → (address ≡ address_of entry.home) ⊎ (address ≢ address_of entry.home)
+          → StandsAt gives (before ++ entry ∷ []) address (home_at new address)
+      by address (inl same) =
+          subst (λ (found : Option (BufferState D)). StandsAt gives (before ++ entry ∷ []) address found)
+          (sym (ap (λ (a : ℕ). home_at new a) same ∙ puts.here))
+          (entry, Contains-push before entry, sym same, given)
+      by address (inr differs) =
+          subst (λ (found : Option (BufferState D)). StandsAt gives (before ++ entry ∷ []) address found)
+          (sym (puts.elsewhere address differs))
+          (stands_still before entry address (home_at old address) differs (home.homes address))
+
+  -- a home that is taken is that of an entry before
+  taken_home : (before : List CartridgeEntry) (address : ℕ) (found : Option (BufferState D))
+      → StandsAt gives before address found → is_some found ≡ true → Contains (homes_of before) address
+  taken_home before address None stands taken = absurd (cc)
+  taken_home before address (Some cartridge) stands taken =
+      subst (λ (a : ℕ). Contains (homes_of before) a) stands.2
+      (contains_map (λ (e : CartridgeEntry). address_of e.home) before stands.0 stands.1)
+
+  pub double_home : (before behind : List CartridgeEntry) (entry : CartridgeEntry) (starting : StartingState D)
+      → AreHome gives before starting → is_some (home_at starting (address_of entry.home)) ≡ true
+      → ¬ AreDistinct (homes_of (before ++ entry ∷ behind))
+  double_home before behind entry starting home taken distinct =
+      twice (homes_of before) (homes_of behind) (address_of entry.home)
+      (taken_home before (address_of entry.home) (home_at starting (address_of entry.home))
+      (home.homes (address_of entry.home)) taken)
+      (subst (λ (xs : List ℕ). AreDistinct xs)
+      (map-append (λ (e : CartridgeEntry). address_of e.home) before (entry ∷ behind)) distinct)
+
+  module _ (state : D → DiskState) (gives_store : DriveEntry → OpenStore D → Type 0) where
+    pub on_yet : (entries : List CartridgeEntry) (starting : StartingState D) → AreHome gives entries starting
+        → AreOn gives state gives_store entries [] starting
+    on_yet entries starting home = record {
+      given = home.given;
+      stores = All-nil _;
+      slots = λ address on.
+          subst (λ (found : Option (BufferState D)). StandsAt gives entries address found)
+          (home_in_slot starting address on) (home.homes address);
+      bays = λ number. by number (bay_at starting.held.bays number) (home.bays number);
+      waiting = λ number off none.
+          subst (λ (found : Option (BufferState D)). StandsAt gives entries number found)
+          (home_waits starting number off) (home.homes number);
+    }
+      where
+        by : (number : ℕ) (found : Option (BayState D)) → found ≡ None
+            → IsDriveOf gives state gives_store entries [] number found
+        by number None none = λ (k, below, at). absurd (omega (arith, below))
+        by number (Some bay) none = absurd (cc)
+
+    -- a drive of another number is on with one entry more
+    on_still : (entries : List CartridgeEntry) (before : List DriveEntry) (entry : DriveEntry) (number : ℕ)
+        (found : Option (BayState D)) → number ≢ entry.number
+        → IsDriveOf gives state gives_store entries before number found
+        → IsDriveOf gives state gives_store entries (before ++ entry ∷ []) number found
+    on_still entries before entry number None differs none = λ there.
+        by (Contains-push_cases (numbers_of before) entry.number number
+        (subst (λ (xs : List ℕ). Contains xs number) (numbers_on before entry) there))
+      where
+        by : Contains (numbers_of before) number ⊎ (entry.number ≡ number) → ⊥
+        by (inl there) = none there
+        by (inr same) = differs (sym same)
+    on_still entries before entry number (Some bay) differs on = (
+      on.0,
+      Contains-append_left before (entry ∷ []) on.0 on.1,
+      on.2,
+      on.3,
+    )
+
+    pub on_more : (entries : List CartridgeEntry) (before : List DriveEntry) (entry : DriveEntry) (store : OpenStore D)
+        (old new : StartingState D) → AreOn gives state gives_store entries before old → gives_store entry store
+        → SwitchesOnAt state entry.number store old new
+        → AreOn gives state gives_store entries (before ++ entry ∷ []) new
+    on_more entries before entry store old new on given switched = record {
+      given = on.given;
+      stores = All-push (λ (e : DriveEntry). (x : OpenStore D) × gives_store e x) before entry on.stores one;
+      slots = λ address is.
+          subst (λ (slots : List (Option (BufferState D))). StandsAt gives entries address (held_at slots address))
+          (sym switched.slots) (on.slots address is);
+      bays = λ number. by number (same_or_not number entry.number);
+      waiting = λ number off none.
+          let differs : number ≢ entry.number = λ same.
+          let clash : Some switched.bay ≡ None =
+          sym switched.here.here ∙ ap (λ (n : ℕ). bay_at new.held.bays n) (sym same) ∙ none in absurd (cc) in
+          subst (λ (found : Option (BufferState D)). StandsAt gives entries number found)
+          (sym (switched.elsewhere number differs))
+          (on.waiting number off (sym (switched.here.elsewhere number differs) ∙ none));
+    }
+      where
+        one : (x : OpenStore D) × gives_store entry x
+        one = (store, given)
+
+        by : (number : ℕ) → (number ≡ entry.number) ⊎ (number ≢ entry.number)
+            → IsDriveOf gives state gives_store entries (before ++ entry ∷ []) number (bay_at new.held.bays number)
+        by number (inl same) =
+            subst (λ (found : Option (BayState D)).
+            IsDriveOf gives state gives_store entries (before ++ entry ∷ []) number found)
+            (sym (ap (λ (n : ℕ). bay_at new.held.bays n) same ∙ switched.here.here)) (
+              entry,
+              Contains-push before entry,
+              sym same,
+              record {
+                store = store;
+                given = given;
+                cartridge = waits_at old.waiting entry.number;
+                stands = on.waiting entry.number switched.no_slot switched.free;
+                on = switched.on;
+              },
+            )
+        by number (inr differs) =
+            subst (λ (found : Option (BayState D)).
+            IsDriveOf gives state gives_store entries (before ++ entry ∷ []) number found)
+            (sym (switched.here.elsewhere number differs))
+            (on_still entries before entry number (bay_at old.held.bays number) differs (on.bays number))
+
+    -- a drive that is on is that of an entry before
+    taken_number : (entries : List CartridgeEntry) (before : List DriveEntry) (number : ℕ)
+        (found : Option (BayState D)) → IsDriveOf gives state gives_store entries before number found
+        → is_some found ≡ true → Contains (numbers_of before) number
+    taken_number entries before number None on taken = absurd (cc)
+    taken_number entries before number (Some bay) on taken =
+        subst (λ (n : ℕ). Contains (numbers_of before) n) on.2
+        (contains_map (λ (e : DriveEntry). e.number) before on.0 on.1)
+
+    pub double_number : (entries : List CartridgeEntry) (before behind : List DriveEntry) (entry : DriveEntry)
+        (starting : StartingState D) → AreOn gives state gives_store entries before starting
+        → is_some (bay_at starting.held.bays entry.number) ≡ true
+        → ¬ AreDistinct (numbers_of (before ++ entry ∷ behind))
+    double_number entries before behind entry starting on taken distinct =
+        twice (numbers_of before) (numbers_of behind) entry.number
+        (taken_number entries before entry.number (bay_at starting.held.bays entry.number) (on.bays entry.number) taken)
+        (subst (λ (xs : List ℕ). AreDistinct xs)
+        (map-append (λ (e : DriveEntry). e.number) before (entry ∷ behind)) distinct)
+
+    pub all_on : (entries : List CartridgeEntry) (drives : List DriveEntry) (starting : StartingState D)
+        → AreOn gives state gives_store entries drives starting
+        → IsStarted gives state gives_store entries drives starting.held
+    all_on entries drives starting on = record { slots = on.slots; bays = on.bays }
+
+-- an entry, those before it and those behind it
+pub parted : {A : Type 0} (entries : List A) (at : ℕ) (entry : A) → at < length entries
+    → entry ≡ get_or entries at entry → take at entries ++ entry ∷ drop (at + 1) entries ≡ entries
+parted {A = A} entries at entry below is =
+    sym (append_assoc (take at entries) (entry ∷ []) (drop (at + 1) entries))
+    ∙ ap (λ (xs : List A). xs ++ drop (at + 1) entries)
+    (ap (λ (x : A). take at entries ++ x ∷ []) is ∙ sym (take_more entries at entry below))
+    ∙ take-append-drop (at + 1) entries
+
+-- an entry was refused, and those before it were given something
+pub refused_at : {E G : Type 0} (gives : E → G → Type 0) (refuses : E → Type 0) (entries : List E) (at : ℕ) (entry : E)
+    → at < length entries → entry ≡ get_or entries at entry → AreGiven gives (take at entries) → refuses entry
+    → IsRefusedIn gives refuses entries
+refused_at gives refuses entries at entry below is given refused = record {
+  before = take at entries;
+  entry = entry;
+  behind = drop (at + 1) entries;
+  are = sym (parted entries at entry below is);
+  given = given;
+  refused = refused;
+}
+
+module _ {D : Type 0} (sides : SidesGiven D) (entries : List CartridgeEntry) where
+  -- why not all cartridges are at their homes
+  pub refused_home : (fault : VtlFault) → IsFailure fault
+      → IsRefusedIn sides.gives_cartridge (λ entry. sides.refuses_cartridge entry fault) entries
+      → IsNotHome sides entries fault
+  refused_home Device failure refused = refused
+  refused_home NoMemory failure refused = tt
+  refused_home Config failure refused = absurd failure
+  refused_home Words failure refused = absurd failure
+  refused_home (Script line) failure refused = absurd failure
+
+  pub not_home : (fault : VtlFault) (taken : Bool) → (fault ≡ Config) × (taken ≡ true)
+      → (taken ≡ true → ¬ AreDistinct (homes_of entries)) → IsNotHome sides entries fault
+  not_home Config taken is double = double is.1
+  not_home Words taken is double = absurd (cc)
+  not_home (Script line) taken is double = absurd (cc)
+  not_home Device taken is double = absurd (cc)
+  not_home NoMemory taken is double = absurd (cc)
+
+  module _ (drives : List DriveEntry) where
+    -- why a library is not switched on
+    pub off_of : (fault : VtlFault) → IsNotHome sides entries fault → IsNotStarted sides entries drives fault
+    off_of Device why = inl why
+    off_of NoMemory why = tt
+    off_of Config why = λ distinct. why distinct.0
+    off_of Words why = why
+    off_of (Script line) why = why
+
+    pub refused_on : (fault : VtlFault) → IsFailure fault → AreGiven sides.gives_cartridge entries
+        → IsRefusedIn sides.gives_store (λ entry. sides.refuses_store entry fault) drives
+        → IsNotStarted sides entries drives fault
+    refused_on Device failure given refused = inr (given, refused)
+    refused_on NoMemory failure given refused = tt
+    refused_on Config failure given refused = absurd failure
+    refused_on Words failure given refused = absurd failure
+    refused_on (Script line) failure given refused = absurd failure
+
+    pub not_on : (fault : VtlFault) (taken : Bool) → (fault ≡ NoMemory) ⊎ (fault ≡ Config) × (taken ≡ true)
+        → (taken ≡ true → ¬ AreDistinct (numbers_of drives)) → IsNotStarted sides entries drives fault
+    not_on NoMemory taken is double = tt
+    not_on Config taken (inl is) double = absurd (cc)
+    not_on Config taken (inr is) double = λ distinct. double is.1 distinct.1
+    not_on Device taken (inl is) double = absurd (cc)
+    not_on Device taken (inr is) double = absurd (cc)
+    not_on Words taken (inl is) double = absurd (cc)
+    not_on Words taken (inr is) double = absurd (cc)
+    not_on (Script line) taken (inl is) double = absurd (cc)
+    not_on (Script line) taken (inr is) double = absurd (cc)

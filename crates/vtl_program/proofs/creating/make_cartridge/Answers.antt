@@ -1,0 +1,16 @@
+use Rattle.vtl_program.proofs.CreatingLemmas.{file_result, none_made}
+use Rattle.vtl_program.specs.Creating.{CartridgeFile}
+use Rattle.vtl_program.proofs.creating.make_cartridge.Goals as goal
+
+pub returns-in-Ok : goal.returns-in-Ok
+returns-in-Ok g c =
+    file_result g.D.Disk.state g.F.MakeFiles.makes g.F.MakeFiles.leaves g.F.MakeFiles.takes_away
+    (CartridgeFile c.args.entry.now) c.in-Ok.fate
+    (g.W.Write.contents c.args.writer.now) (g.W.Write.contents c.tell_fate.new.writer) c.tell_fate.result
+    c.in-Ok.ensures.ok (rw c.as_bytes.ensures.bytes at c.tell_fate.ensures.ok)
+    (rw c.as_bytes.ensures.bytes at c.tell_fate.ensures.err)
+
+pub returns-in-Err : goal.returns-in-Err
+returns-in-Err g c =
+    none_made g.D.Disk.state g.F.MakeFiles.makes g.F.MakeFiles.leaves g.F.MakeFiles.takes_away
+    (CartridgeFile c.args.entry.now) _ c.in-Err.fault c.in-Err.ensures.err

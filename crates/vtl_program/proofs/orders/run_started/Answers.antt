@@ -1,0 +1,14 @@
+use Rattle.vtl_program.proofs.orders.run_started.Goals as goal
+
+pub returns : goal.returns
+returns g c = rw c.in_ok-held.was record {
+  mid = c.run_held-ran.new.held;
+  new = c.wrote_out.ensures.0;
+  ended = c.run_held-ran.result;
+  written = c.wrote_out.result;
+  runs = c.run_held-ran.ensures.runs;
+  one_host = c.run_held-ran.ensures.one_host;
+  takes = c.run_held-ran.ensures.past;
+  finishes = c.wrote_out.ensures.1;
+  outcome_is = c.outcome_of.ensures;
+}

@@ -1,0 +1,55 @@
+-- How a fault is reported (own).
+use Rattle.std.specs.Prelude.{ℕ, List, [], ◌∷◌, ◌++◌, codes, decimal}
+use Rattle.std.specs.declared.io.ErrorKind.{ErrorKind}
+use Rattle.std.specs.declared.io.ErrorKind.TheVariants as kinds
+use Rattle.aptpl_store.specs.declared.error.StoreError.{StoreError}
+use Rattle.aptpl_store.specs.declared.error.StoreError.TheVariants as refusals
+use Rattle.vtl_script.specs.declared.faults.ScriptFault.{ScriptFault}
+use Rattle.vtl_script.specs.declared.faults.ScriptFault.TheVariants as script
+use Rattle.vtl_program.specs.declared.programs.VtlFault.{VtlFault}
+use Rattle.vtl_program.specs.declared.programs.VtlFault.TheVariants.{Words, Config, Script, Device, NoMemory}
+
+-- the program's fault that a script's fault is (own)
+abbrev pub fault_of : ScriptFault → VtlFault
+fault_of (script.BadLine line) = Script line
+fault_of script.ReadFault = Device
+fault_of script.WriteFault = Device
+fault_of script.NoMemory = NoMemory
+
+-- the program's fault that an error of the system is (own)
+abbrev pub fault_of_error : ErrorKind → VtlFault
+fault_of_error kinds.OutOfMemory = NoMemory
+fault_of_error _ = Device
+
+-- the program's fault for a store that is not opened: want of memory, and else a device fault (own)
+abbrev pub fault_of_store : StoreError → VtlFault
+fault_of_store refusals.NoMemory = NoMemory
+fault_of_store _ = Device
+
+-- the status: 1 where something is refused, 2 at a device, a file or a stream, 3 where memory ran out (own)
+abbrev pub status_of : VtlFault → ℕ
+status_of Words = 1
+status_of Config = 1
+status_of (Script line) = 1
+status_of Device = 2
+status_of NoMemory = 3
+
+-- the line on standard error (own)
+abbrev pub fault_text : VtlFault → List ℕ
+fault_text Words = codes "vtl: command line refused"
+fault_text Config = codes "vtl: configuration refused"
+fault_text (Script line) = codes "vtl: script line " ++ decimal line ++ codes " refused"
+fault_text Device = codes "vtl: device fault"
+fault_text NoMemory = codes "vtl: out of memory"
+
+-- the line with its line feed (own)
+abbrev pub whole_line : VtlFault → List ℕ
+whole_line fault = fault_text fault ++ 10 ∷ []
+
+-- a device, a file or a stream failed, or memory ran out (own)
+abbrev pub IsFailure : VtlFault → Type 0
+IsFailure Device = Unit {0}
+IsFailure NoMemory = Unit {0}
+IsFailure Words = ⊥
+IsFailure Config = ⊥
+IsFailure (Script line) = ⊥

@@ -1,0 +1,163 @@
+-- What the program does for the words of its command line (own).
+use Rattle.std.specs.Prelude.{◌≡◌, ◌⊎◌, ℕ, Bool, true, false, List, [], ◌∷◌, Option, None, Some, Result, Ok, Err, String, Vec, codes, string_bytes}
+use Rattle.std.specs.Io.KnownBytes.{Appends, Keeps}
+use Rattle.std.specs.declared.alloc.Global.{Global}
+use Rattle.std.specs.declared.io.Error.{Error}
+use Rattle.tape_disk.specs.Disk.{DiskState}
+use Rattle.file_disk.specs.declared.error.FileError.{FileError}
+use Rattle.library.specs.Elements.{HeldState}
+use Rattle.vtl_script.specs.Text.{AppendsPart}
+use Rattle.vtl_config.specs.declared.entries.Config.{Config}
+use Rattle.vtl_words.specs.Orders.{Asked, Asks, RefusesWords, check, create, run, texts_of}
+use Rattle.vtl_words.specs.declared.orders.WordsError.{WordsError}
+use Rattle.vtl_words.specs.declared.orders.WordsError.TheVariants.{Help, Refused, NoMemory}
+use Rattle.vtl_program.specs.declared.programs.Ended.{Ended}
+use Rattle.vtl_program.specs.declared.programs.Verdict.{Verdict}
+use Rattle.vtl_program.specs.declared.programs.Verdict.TheVariants.{Done}
+use Rattle.vtl_program.specs.declared.programs.VtlFault.{VtlFault}
+use Rattle.vtl_program.specs.declared.programs.VtlFault.TheVariants as Faults
+use Rattle.vtl_program.specs.Checks.{LooksAt, TellsLines}
+use Rattle.vtl_program.specs.Creating.{TellsFiles, files_of}
+use Rattle.vtl_program.specs.Faults.{IsFailure}
+use Rattle.vtl_program.specs.Files.{FileAnswers, ReadsConfig}
+use Rattle.vtl_program.specs.Program.{EndsProgram, IsIdle, RunsFrom}
+use Rattle.vtl_program.specs.Sides.{SidesGiven, file_sides, memory_state, new_sides}
+use Rattle.vtl_program.specs.Starting.{IsBuiltIn, IsNotStarted, IsStarted}
+
+-- a library is like this, or it was not switched on for such a fault (own)
+abbrev pub IsStart : {D : Type 0} → (HeldState D → Type 0) → (VtlFault → Type 0)
+    → Result (HeldState D) VtlFault → Type 0
+IsStart Is IsNot (Ok held) = Is held
+IsStart Is IsNot (Err fault) = IsNot fault
+
+-- a library is switched on, a script is run over it, and every buffer is written out (own)
+abbrev pub RunsOver : {D : Type 0} → (D → DiskState) → (HeldState D → Type 0) → (VtlFault → Type 0)
+    → (left left' before now : Option (List ℕ)) → Result (Unit {0}) VtlFault → Type 0
+RunsOver {D} state Is IsNot left left' before now outcome =
+    (start : Result (HeldState D) VtlFault) × IsStart Is IsNot start
+    × RunsFrom state start left left' before now outcome
+
+-- a script is run over the library of a configuration, over such sides; that homes or numbers are double is no reason
+-- (own)
+abbrev pub RunsConfig : {D : Type 0} → (D → DiskState) → SidesGiven D → Config
+    → (left left' before now : Option (List ℕ)) → Result (Unit {0}) VtlFault → Type 0
+RunsConfig state sides config left left' before now outcome =
+    RunsOver state
+    (IsStarted sides.gives_cartridge state sides.gives_store config.cartridges.items config.drives.items)
+    (λ fault. IsFailure fault × IsNotStarted sides config.cartridges.items config.drives.items fault)
+    left left' before now outcome
+
+-- the barcode of the built-in configuration's cartridge (own)
+abbrev pub built_in_barcode : List ℕ
+built_in_barcode = codes "T00001L6"
+
+-- the capacities of the built-in configuration's cartridge: one, of 16 MiB (own)
+abbrev pub built_in_capacities : List ℕ
+built_in_capacities = 16777216 ∷ []
+
+-- a script is run over the library of the configuration that a file says, over such sides; where there is no
+-- configuration, nothing is read or written (own)
+abbrev pub RunsNamed : {D : Type 0} → (D → DiskState) → SidesGiven D → Result Config VtlFault
+    → (left left' before now : Option (List ℕ)) → Result (Unit {0}) VtlFault → Type 0
+RunsNamed state sides (Ok config) left left' before now outcome =
+    RunsConfig state sides config left left' before now outcome
+RunsNamed state sides (Err fault) left left' before now outcome =
+    (outcome ≡ Err fault) × IsIdle left left' before now
+
+module _ {D : Type 0} (state : D → DiskState) where
+  module _ (reads : List ℕ → Result (Vec ℕ Global) Error → Type 0) where
+    -- what `vtl run` does: over the built-in configuration in memory; over that of a file, in memory where that is
+    -- asked for, and else over its files (own)
+    abbrev pub RunsOrder : (List ℕ → Result D FileError → Type 0) → (List ℕ → D → Type 0) → Bool → Option (List ℕ)
+        → (left left' before now : Option (List ℕ)) → Result (Unit {0}) VtlFault → Type 0
+    RunsOrder opens hands_back memory None left left' before now outcome =
+        RunsOver memory_state (IsBuiltIn memory_state built_in_barcode built_in_capacities)
+        (λ fault. fault ≡ Faults.NoMemory) left left' before now outcome
+    RunsOrder opens hands_back true (Some name) left left' before now outcome =
+        (config : Result Config VtlFault) × ReadsConfig reads name config
+        × RunsNamed memory_state new_sides config left left' before now outcome
+    RunsOrder opens hands_back false (Some name) left left' before now outcome =
+        (config : Result Config VtlFault) × ReadsConfig reads name config
+        × RunsNamed state (file_sides state opens hands_back) config left left' before now outcome
+
+  module _ (makes : List ℕ → Result D FileError → Type 0) (leaves takes_away : List ℕ → D → Type 0) where
+    -- the missing files of a configuration are made, and each is told of; where there is no configuration, nothing is
+    -- written (own)
+    abbrev pub CreatesNamed :
+        Result Config VtlFault → (before now : Option (List ℕ)) → Result (Unit {0}) VtlFault → Type 0
+    CreatesNamed (Ok config) before now outcome =
+        TellsFiles state makes leaves takes_away (files_of config) before now outcome
+    CreatesNamed (Err fault) before now outcome = (outcome ≡ Err fault) × Keeps before now
+
+  -- what `vtl create` does, by the configuration that a file says (own)
+  abbrev pub CreatesOrder : (List ℕ → Result (Vec ℕ Global) Error → Type 0)
+      → (List ℕ → Result D FileError → Type 0) → (leaves takes_away : List ℕ → D → Type 0) → List ℕ
+      → (before now : Option (List ℕ)) → Result (Unit {0}) VtlFault → Type 0
+  CreatesOrder reads makes leaves takes_away name before now outcome =
+      (config : Result Config VtlFault) × ReadsConfig reads name config
+      × CreatesNamed makes leaves takes_away config before now outcome
+
+  -- what `vtl check` does: the disk of the file is looked at and handed back, and the side on it is told; or the file
+  -- is not opened, and nothing is written (own)
+  abbrev pub ChecksOrder : (List ℕ → Result D FileError → Type 0) → (List ℕ → D → Type 0) → List ℕ
+      → (before now : Option (List ℕ)) → Result Verdict VtlFault → Type 0
+  ChecksOrder opens_to_read closes name before now result =
+      (((error : FileError) × opens_to_read name (Err error)) × (result ≡ Err Faults.Device) × Keeps before now)
+      ⊎ ((disk : D) × opens_to_read name (Ok disk)
+      × ((last : D) × closes name last
+      × ((lines : Result (List ℕ) VtlFault) × LooksAt (state disk) (state last) lines
+      × TellsLines lines before now result)))
+
+-- it is done, or a fault came (own)
+abbrev pub verdict_from : Result (Unit {0}) VtlFault → Result Verdict VtlFault
+verdict_from (Ok done) = Ok Done
+verdict_from (Err fault) = Err fault
+
+module _ {D : Type 0} (state : D → DiskState) (files : FileAnswers D) where
+  -- what an order does; but for a run no script is read (own)
+  abbrev pub DoesOrder : Asked → (left left' before now : Option (List ℕ)) → Result Verdict VtlFault → Type 0
+  DoesOrder (run memory config) left left' before now result =
+      (outcome : Result (Unit {0}) VtlFault)
+      × RunsOrder state files.reads files.opens files.hands_back memory config left left' before now outcome
+      × (result ≡ verdict_from outcome)
+  DoesOrder (create config) left left' before now result =
+      (outcome : Result (Unit {0}) VtlFault)
+      × CreatesOrder state files.reads files.makes files.leaves files.takes_away config before now outcome
+      × (result ≡ verdict_from outcome) × Keeps left left'
+  DoesOrder (check file) left left' before now result =
+      ChecksOrder state files.opens_to_read files.closes file before now result × Keeps left left'
+
+-- what is done where words give no order: help is written; or a fault is answered, and nothing is written (own)
+abbrev pub AnswersWords : WordsError → Option (List ℕ) → Option (List ℕ) → Result Verdict VtlFault → Type 0
+AnswersWords (Help text) before now (Ok verdict) = (verdict ≡ Done) × Appends before now (string_bytes text)
+AnswersWords (Help text) before now (Err fault) =
+    (fault ≡ Faults.Device) × AppendsPart before now (string_bytes text)
+AnswersWords Refused before now result = (result ≡ Err Faults.Words) × Keeps before now
+AnswersWords NoMemory before now result = (result ≡ Err Faults.NoMemory) × Keeps before now
+
+module _ {D : Type 0} (state : D → DiskState) (files : FileAnswers D) where
+  -- what the program does for some words: the order that they give, or else what they are answered (own)
+  abbrev pub Obeys : List (List ℕ) → (left left' before now : Option (List ℕ)) → Result Verdict VtlFault → Type 0
+  Obeys words left left' before now result =
+      ((asked : Asked) × Asks words asked × DoesOrder state files asked left left' before now result)
+      ⊎ ((error : WordsError) × RefusesWords words error × AnswersWords error before now result × Keeps left left')
+
+  -- what the program does for the words that the system gave, and for none that it did not (own)
+  abbrev pub ObeysGiven :
+      Result (List (List ℕ)) VtlFault → (left left' before now : Option (List ℕ)) → Result Verdict VtlFault → Type 0
+  ObeysGiven (Ok words) left left' before now result = Obeys words left left' before now result
+  ObeysGiven (Err fault) left left' before now result = (result ≡ Err fault) × IsIdle left left' before now
+
+-- the words that the system gave, as bytes, or why it gave none (own)
+abbrev pub given_words : Result (Vec (String Global) Global) VtlFault → Result (List (List ℕ)) VtlFault
+given_words (Ok words) = Ok (texts_of words.items)
+given_words (Err fault) = Err fault
+
+-- the whole program over its streams: it does what its words ask for, and its status and line are those of the outcome
+-- (own)
+pub record RunsProgram {D : Type 0} (state : D → DiskState) (files : FileAnswers D)
+    (words : Result (List (List ℕ)) VtlFault) (left left' before now errors errors' : Option (List ℕ))
+    (ended : Ended) : Type 0 where
+  pub outcome : Result Verdict VtlFault
+  pub obeys : ObeysGiven state files words left left' before now outcome
+  pub ends : EndsProgram outcome errors errors' ended

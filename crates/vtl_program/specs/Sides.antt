@@ -1,0 +1,123 @@
+-- Where the sides of a library come from: out of files, or made in memory (own).
+use Rattle.std.specs.Prelude.{◌≡◌, ◌⊎◌, ◌<◌, ℕ, [], true, false, List, None, Result, Ok, Err, string_bytes}
+use Rattle.tape_disk.specs.CallLog.{log_state}
+use Rattle.tape_disk.specs.Disk.{DiskState, Keeps, Only}
+use Rattle.tape_disk.specs.Moments.{LeavesOnly}
+use Rattle.tape_disk.specs.MemDisk.{mem_failures, mem_log}
+use Rattle.tape_disk.specs.declared.memory.MemDisk.{MemDisk}
+use Rattle.file_disk.specs.declared.error.FileError.{FileError}
+use Rattle.gate_journal.specs.Answers.{NoneFailed}
+use Rattle.cartridge.specs.Contents.{contents_from, heading_with}
+use Rattle.cartridge.specs.State.{ClosedCartridge}
+use Rattle.tape_buffer.specs.State.{BufferState, closed_buffer}
+use Rattle.aptpl_store.specs.Answers.{IsStoreNotOpened}
+use Rattle.aptpl_store.specs.Contents.{GivesStates, heading_for}
+use Rattle.aptpl_store.specs.State.{OpenStore}
+use Rattle.aptpl_store.specs.declared.error.StoreError.{StoreError}
+use Rattle.vtl_config.specs.declared.entries.CartridgeEntry.{CartridgeEntry}
+use Rattle.vtl_config.specs.declared.entries.DriveEntry.{DriveEntry}
+use Rattle.vtl_program.specs.Faults.{fault_of_store}
+use Rattle.vtl_program.specs.declared.programs.VtlFault.{VtlFault}
+use Rattle.vtl_program.specs.declared.programs.VtlFault.TheVariants.{Device, NoMemory}
+
+-- what the sides of a library are, entry by entry, and why one is not given (own)
+pub record SidesGiven (D : Type 0) : Type 1 where
+  pub gives_cartridge : CartridgeEntry → BufferState D → Type 0
+  pub refuses_cartridge : CartridgeEntry → VtlFault → Type 0
+  pub gives_store : DriveEntry → OpenStore D → Type 0
+  pub refuses_store : DriveEntry → VtlFault → Type 0
+
+module _ {D : Type 0} where
+  -- a cartridge that was just made, closed: it has this barcode and these capacities, and no object (own)
+  pub record IsNewCartridge (barcode capacities : List ℕ) (cartridge : BufferState D) : Type 0 where
+    pub shelved : ClosedCartridge D
+    pub closed : cartridge ≡ closed_buffer shelved
+    pub known : shelved.known ≡ true
+    pub torn : shelved.torn ≡ []
+    pub contents : shelved.contents ≡ contents_from (heading_with barcode capacities) []
+
+  -- a store of a drive that works, with no save under way (own)
+  abbrev pub IsFoundStore : OpenStore D → Type 0
+  IsFoundStore store = (store.torn ≡ None) × (store.failed ≡ false)
+
+  -- the store of the drive of this number that was just made: nothing was saved (own)
+  pub record IsNewStore (number : ℕ) (store : OpenStore D) : Type 0 where
+    pub heading : store.heading ≡ heading_for number
+    pub states : store.states ≡ []
+    pub works : IsFoundStore store
+
+  module _ (state : D → DiskState) where
+    -- the cartridge that was found on a disk: closed, and what its side gives is not known yet; no call failed, a read
+    -- of its disk gives what one gave before, that is sure, and at no moment a crash left anything new (own)
+    pub record IsFoundOn (disk : D) (cartridge : BufferState D) : Type 0 where
+      pub shelved : ClosedCartridge D
+      pub closed : cartridge ≡ closed_buffer shelved
+      pub known : shelved.known ≡ false
+      pub keeps : Keeps (state disk) (state shelved.disk)
+      pub none_failed : NoneFailed (state disk) (state shelved.disk)
+      pub same : (state disk).honest → (state shelved.disk).seen ≡ (state disk).seen
+      pub sure : (state disk).honest → Only (state disk).seen (state shelved.disk).may_leave
+      pub any_moment : (state disk).honest
+          → LeavesOnly (state disk) (state shelved.disk) (state disk).may_leave
+
+    -- the store that was found on a disk: it works, and its states are those that the disk's bytes give; no call
+    -- failed, the bytes are sure, and at no moment a crash left anything new (own)
+    pub record IsStoreOn (disk : D) (store : OpenStore D) : Type 0 where
+      pub works : IsFoundStore store
+      pub keeps : Keeps (state disk) (state store.disk)
+      pub none_failed : NoneFailed (state disk) (state store.disk)
+      pub gives : (state disk).honest → GivesStates store.heading store.states (state disk).seen
+      pub sure : (state disk).honest → Only (state disk).seen (state store.disk).may_leave
+      pub any_moment : (state disk).honest → LeavesOnly (state disk) (state store.disk) (state disk).may_leave
+
+    -- a disk was not taken for a cartridge, since a call of it failed, and this is what it is last: at no moment since
+    -- it was opened a crash left anything new (own)
+    pub record IsNoCartridgeOn (disk last : D) : Type 0 where
+      pub failed : (state disk).failures < (state last).failures
+      pub keeps : Keeps (state disk) (state last)
+      pub any_moment : (state disk).honest → LeavesOnly (state disk) (state last) (state disk).may_leave
+
+    -- A disk gives no store, for such a fault, and this is what it is last: a call of it failed, it holds none, or
+    -- memory ran out. But for a failed call a read of it gives what one gave before; and at no moment since it was
+    -- opened a crash left anything new (own).
+    pub record IsNoStoreOn (disk last : D) (fault : VtlFault) : Type 0 where
+      pub error : StoreError
+      pub told : fault ≡ fault_of_store error
+      pub cause : IsStoreNotOpened error (state disk) (state last)
+      pub keeps : Keeps (state disk) (state last)
+      pub same : (state disk).honest → NoneFailed (state disk) (state last)
+          → (state last).seen ≡ (state disk).seen
+      pub any_moment : (state disk).honest → LeavesOnly (state disk) (state last) (state disk).may_leave
+
+    module _ (opens : List ℕ → Result D FileError → Type 0) (hands_back : List ℕ → D → Type 0) where
+      -- the sides that files hold, by what an opening of a file may answer and which disks may be handed back: a
+      -- cartridge or a store that was found on the disk that the opening of its entry's file gave; or the file was not
+      -- opened, or the disk gives none, and it was handed back for this file (own)
+      abbrev pub file_sides : SidesGiven D
+      file_sides = record {
+        gives_cartridge = λ entry cartridge.
+            (disk : D) × opens (string_bytes entry.file) (Ok disk) × IsFoundOn disk cartridge;
+        refuses_cartridge = λ entry fault. (fault ≡ Device)
+            × (((error : FileError) × opens (string_bytes entry.file) (Err error))
+            ⊎ ((disk : D) × opens (string_bytes entry.file) (Ok disk)
+            × ((last : D) × hands_back (string_bytes entry.file) last × IsNoCartridgeOn disk last)));
+        gives_store = λ entry store.
+            (disk : D) × opens (string_bytes entry.reservations) (Ok disk) × IsStoreOn disk store;
+        refuses_store = λ entry fault.
+            ((fault ≡ Device) × ((error : FileError) × opens (string_bytes entry.reservations) (Err error)))
+            ⊎ ((disk : D) × opens (string_bytes entry.reservations) (Ok disk)
+            × ((last : D) × hands_back (string_bytes entry.reservations) last × IsNoStoreOn disk last fault));
+      }
+
+-- new sides, made as their entries say: only memory may run out (own)
+abbrev pub new_sides : SidesGiven MemDisk
+new_sides = record {
+  gives_cartridge = λ entry cartridge. IsNewCartridge entry.barcode entry.capacities cartridge;
+  refuses_cartridge = λ entry fault. fault ≡ NoMemory;
+  gives_store = λ entry store. IsNewStore entry.number store;
+  refuses_store = λ entry fault. fault ≡ NoMemory;
+}
+
+-- the state of a disk in memory (own)
+abbrev pub memory_state : MemDisk → DiskState
+memory_state disk = log_state (mem_log disk) (mem_failures disk)

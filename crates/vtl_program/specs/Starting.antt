@@ -1,0 +1,96 @@
+-- What a library holds when it was just switched on.
+use Rattle.std.specs.Prelude.{◌≡◌, ◌⊎◌, ℕ, ◌∷◌, ◌++◌, true, List, Option, None, Some, Ok}
+use Rattle.std.specs.List.{All, Contains}
+use Rattle.tape_disk.specs.Disk.{DiskState}
+use Rattle.tape_buffer.specs.Moves.{buffer_below}
+use Rattle.tape_buffer.specs.State.{BufferState, state_of}
+use Rattle.aptpl_store.specs.Kept.{store_kept}
+use Rattle.aptpl_store.specs.State.{OpenStore}
+use Rattle.changer.specs.Slots.{held_at, is_slot}
+use Rattle.drive_core.specs.Media.{SwitchesOn}
+use Rattle.drive_core.specs.State.{left_of}
+use Rattle.library.specs.Elements.{BayState, HeldState, bay_at}
+use Rattle.vtl_config.specs.Entries.{AreDistinct, address_of, homes_of, numbers_of}
+use Rattle.vtl_config.specs.declared.entries.CartridgeEntry.{CartridgeEntry}
+use Rattle.vtl_config.specs.declared.entries.DriveEntry.{DriveEntry}
+use Rattle.vtl_program.specs.Sides.{IsNewCartridge, IsNewStore, SidesGiven}
+use Rattle.vtl_program.specs.declared.programs.VtlFault.{VtlFault}
+use Rattle.vtl_program.specs.declared.programs.VtlFault.TheVariants.{Words, Config, Script, Device, NoMemory}
+
+module _ {D : Type 0} where
+  module _ (state : D → DiskState) where
+    -- The library of the built-in configuration: drive 1 alone, switched on over a new store, with a new cartridge of
+    -- this barcode and these capacities; no slot holds anything (own).
+    pub record IsBuiltIn (barcode capacities : List ℕ) (held : HeldState D) : Type 0 where
+      pub slots : (address : ℕ) → held_at held.slots address ≡ None
+      pub others : (number : ℕ) → ¬ (number ≡ 1) → bay_at held.bays number ≡ None
+      pub bay : BayState D
+      pub here : bay_at held.bays 1 ≡ Some bay
+      pub store : OpenStore D
+      pub is_new : IsNewStore 1 store
+      pub cartridge : BufferState D
+      pub is_empty : IsNewCartridge barcode capacities cartridge
+      pub on :
+          SwitchesOn (state_of state) (buffer_below state) (Some cartridge) (left_of (store_kept store).saved) store
+          (Ok bay)
+
+  module _ (gives_cartridge : CartridgeEntry → BufferState D → Type 0) where
+    -- what stands at a home: the cartridge that was given for an entry of this home; nothing where no entry has it
+    -- (own)
+    abbrev pub StandsAt : List CartridgeEntry → ℕ → Option (BufferState D) → Type 0
+    StandsAt entries address None = ¬ Contains (homes_of entries) address
+    StandsAt entries address (Some cartridge) =
+        (entry : CartridgeEntry) × Contains entries entry × (address_of entry.home ≡ address)
+        × gives_cartridge entry cartridge
+
+    module _ (state : D → DiskState) (gives_store : DriveEntry → OpenStore D → Type 0) where
+      -- the drive of an entry was switched on over the store that was given for it, with the cartridge whose home it
+      -- is, and with the reservations that a loss of power leaves of what the store saved last (own)
+      pub record IsSwitchedOn (entries : List CartridgeEntry) (entry : DriveEntry) (bay : BayState D) : Type 0 where
+        pub store : OpenStore D
+        pub given : gives_store entry store
+        pub cartridge : Option (BufferState D)
+        pub stands : StandsAt entries entry.number cartridge
+        pub on :
+            SwitchesOn (state_of state) (buffer_below state) cartridge (left_of (store_kept store).saved) store
+            (Ok bay)
+
+      -- the drive of a number: that of an entry, switched on; none where no entry has the number (own)
+      abbrev pub IsDriveOf : List CartridgeEntry → List DriveEntry → ℕ → Option (BayState D) → Type 0
+      IsDriveOf entries drives number None = ¬ Contains (numbers_of drives) number
+      IsDriveOf entries drives number (Some bay) =
+          (entry : DriveEntry) × Contains drives entry × (entry.number ≡ number) × IsSwitchedOn entries entry bay
+
+      -- a library was switched on: each slot has the cartridge whose home it is, and each drive of the configuration
+      -- is on, with the cartridge whose home it is (own)
+      pub record IsStarted (entries : List CartridgeEntry) (drives : List DriveEntry) (held : HeldState D) :
+          Type 0 where
+        pub slots : (address : ℕ) → is_slot address ≡ true → StandsAt entries address (held_at held.slots address)
+        pub bays : (number : ℕ) → IsDriveOf entries drives number (bay_at held.bays number)
+
+-- each of these entries was given something (own)
+abbrev pub AreGiven : {E G : Type 0} → (E → G → Type 0) → List E → Type 0
+AreGiven {E} {G} gives entries = All (λ entry. (given : G) × gives entry given) entries
+
+-- each of these entries before one was given something, and that one was refused so (own)
+pub record IsRefusedIn {E G : Type 0} (gives : E → G → Type 0) (refuses : E → Type 0) (entries : List E) :
+    Type 0 where
+  pub before : List E
+  pub entry : E
+  pub behind : List E
+  pub are : entries ≡ before ++ entry ∷ behind
+  pub given : AreGiven gives before
+  pub refused : refuses entry
+
+module _ {D : Type 0} (sides : SidesGiven D) (entries : List CartridgeEntry) (drives : List DriveEntry) where
+  -- why a library is not switched on over such sides: one is refused, the first in the order of cartridges and then of
+  -- drives; memory runs out; or homes or numbers are double, which they are not in a configuration (own)
+  abbrev pub IsNotStarted : VtlFault → Type 0
+  IsNotStarted Device =
+      IsRefusedIn sides.gives_cartridge (λ entry. sides.refuses_cartridge entry Device) entries
+      ⊎ (AreGiven sides.gives_cartridge entries
+      × IsRefusedIn sides.gives_store (λ entry. sides.refuses_store entry Device) drives)
+  IsNotStarted NoMemory = Unit {0}
+  IsNotStarted Config = ¬ (AreDistinct (homes_of entries) × AreDistinct (numbers_of drives))
+  IsNotStarted Words = ⊥
+  IsNotStarted (Script line) = ⊥

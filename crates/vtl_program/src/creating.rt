@@ -1,0 +1,233 @@
+//! The missing files of a configuration are made.
+ghost use Rattle.std.specs.Prelude.{◌≡◌, ◌++◌, ◌∷◌, [], IfOk, IfErr, OnOk, map, codes, decimal, string_bytes};
+ghost use Rattle.std.specs.Io.KnownBytes.{Appends};
+ghost use Rattle.vtl_program.specs.Creating.{CartridgeFile, IsMadeOrKept, IsNewFile, IsNotMade, IsNotOut, StoreFile, TellsFiles, fate_line, fate_word, files_of};
+
+use crate::files::MakeFiles;
+use crate::programs::VtlFault;
+use crate::writing::tell;
+use aptpl_store::{AptplStore, StoreError, StoreRefused};
+use cartridge::{Cartridge, CartridgeError, NotCreated};
+use file_disk::FileError;
+use std::alloc::{AllocError, Global};
+use std::io::Write;
+use tape_disk::Disk;
+use vtl_base::DriveNo;
+use vtl_config::{CartridgeEntry, Config, DriveEntry};
+
+/// What became of a file.
+#[derive(Clone, Copy, PartialEq, Eq, Debug)]
+pub enum Fate {
+    /// It was missing, and is made.
+    Created,
+    /// It was there, and was not touched.
+    Kept,
+}
+
+// A disk over a new file of this name, or nothing where something has the name.
+fn new_file<D, F: MakeFiles<D>>(files: &F, name: &str) -> Result<Option<D>, VtlFault>
+    ensures { IsNewFile F.makes name.now result }
+{
+    match files.make(name) {
+        Ok(disk) => Ok(Some(disk)),
+        Err(FileError::Exists) => Ok(None),
+        Err(_) => Err(VtlFault::Device),
+    }
+}
+
+// Makes the file of a cartridge, where it is missing.
+fn create_cartridge<D: Disk + Drop, F: MakeFiles<D>>(
+    alloc: Global,
+    files: &F,
+    entry: &CartridgeEntry,
+) -> Result<Fate, VtlFault>
+    ensures ok { IfOk result (IsMadeOrKept D.state F.makes F.leaves (CartridgeFile entry.now)) }
+    ensures err { IfErr result (IsNotMade D.state F.makes F.takes_away (CartridgeFile entry.now)) }
+{
+    let name = entry.file.as_str();
+    let Some(disk) = new_file::<D, F>(files, name)? else {
+        return Ok(Fate::Kept);
+    };
+    match Cartridge::create(alloc, disk, &entry.barcode, entry.capacities.as_slice()) {
+        Ok(shelved) => {
+            files.leave(name, shelved.into_disk());
+            Ok(Fate::Created)
+        }
+        Err(refused) => {
+            let NotCreated { error, disk } = refused;
+            files.take_away(name, disk);
+            match error {
+                CartridgeError::NoMemory => Err(VtlFault::NoMemory),
+                _ => Err(VtlFault::Device),
+            }
+        }
+    }
+}
+
+// Makes the file of a drive's reservations, where it is missing.
+fn create_store<D: Disk + Drop, F: MakeFiles<D>>(
+    alloc: Global,
+    files: &F,
+    entry: &DriveEntry,
+) -> Result<Fate, VtlFault>
+    ensures ok { IfOk result (IsMadeOrKept D.state F.makes F.leaves (StoreFile entry.now)) }
+    ensures err { IfErr result (IsNotMade D.state F.makes F.takes_away (StoreFile entry.now)) }
+{
+    let name = entry.reservations.as_str();
+    let Some(disk) = new_file::<D, F>(files, name)? else {
+        return Ok(Fate::Kept);
+    };
+    match AptplStore::create(alloc, disk, entry.number) {
+        Ok(store) => {
+            files.leave(name, store.close());
+            Ok(Fate::Created)
+        }
+        Err(refused) => {
+            let StoreRefused { error, disk } = refused;
+            files.take_away(name, disk);
+            match error {
+                StoreError::NoMemory => Err(VtlFault::NoMemory),
+                _ => Err(VtlFault::Device),
+            }
+        }
+    }
+}
+
+// The word that tells of it.
+fn word_of(fate: Fate) -> &'static str
+    ensures { result.now ≡ fate_word fate }
+{
+    match fate {
+        Fate::Created => "created ",
+        Fate::Kept => "kept ",
+    }
+}
+
+// The line of a file that is called so.
+fn line_of(alloc: Global, fate: Fate, label: &[u8]) -> Result<Vec<u8>, AllocError>
+    ensures { IfOk result (λ line. line.items ≡ fate_line label.now fate) }
+{
+    let mut line = Vec::new(alloc);
+    line.extend_from_slice(word_of(fate).as_bytes())?;
+    line.extend_from_slice(label)?;
+    line.push(b'\n')?;
+    Ok(line)
+}
+
+// Tells what became of a file that is called so.
+fn tell_fate<W: Write>(
+    alloc: Global,
+    writer: &mut W,
+    fate: Fate,
+    label: &[u8],
+) -> Result<(), VtlFault>
+    ensures ok { OnOk result
+        (Appends (W.contents writer.old) (W.contents writer.new) (fate_line label.now fate)) }
+    ensures err { IfErr result
+        (IsNotOut (fate_line label.now fate) (W.contents writer.old) (W.contents writer.new)) }
+{
+    match line_of(alloc, fate, label) {
+        Ok(line) => tell(writer, line.as_slice()),
+        Err(_) => Err(VtlFault::NoMemory),
+    }
+}
+
+// What the file of a drive's reservations is called.
+fn label_of(alloc: Global, number: DriveNo) -> Result<String, AllocError>
+    ensures { IfOk result (λ label. string_bytes label ≡ codes "DRIVE" ++ decimal number) }
+{
+    let number = number.number();
+    format!(in alloc; "DRIVE{number}")
+}
+
+// Makes the missing file of a cartridge, and tells of it.
+fn make_cartridge<D: Disk + Drop, F: MakeFiles<D>, W: Write>(
+    alloc: Global,
+    files: &F,
+    entry: &CartridgeEntry,
+    writer: &mut W,
+) -> Result<(), VtlFault>
+    ensures { TellsFiles D.state F.makes F.leaves F.takes_away (CartridgeFile entry.now ∷ [])
+        (W.contents writer.old) (W.contents writer.new) result }
+{
+    match create_cartridge::<D, F>(alloc, files, entry) {
+        Ok(fate) => tell_fate(alloc, writer, fate, entry.barcode.as_bytes()),
+        Err(fault) => Err(fault),
+    }
+}
+
+// Makes the missing files of cartridges, and tells of each.
+fn make_cartridges<D: Disk + Drop, F: MakeFiles<D>, W: Write>(
+    alloc: Global,
+    files: &F,
+    entries: &[CartridgeEntry],
+    writer: &mut W,
+) -> Result<(), VtlFault>
+    ensures { TellsFiles D.state F.makes F.leaves F.takes_away (map CartridgeFile entries.now)
+        (W.contents writer.old) (W.contents writer.new) result }
+{
+    for entry in entries {
+        if let Err(fault) = make_cartridge::<D, F, W>(alloc, files, entry, writer) {
+            return Err(fault);
+        }
+    }
+    Ok(())
+}
+
+// Makes the missing file of a drive's reservations, and tells of it.
+fn make_store<D: Disk + Drop, F: MakeFiles<D>, W: Write>(
+    alloc: Global,
+    files: &F,
+    entry: &DriveEntry,
+    writer: &mut W,
+) -> Result<(), VtlFault>
+    ensures { TellsFiles D.state F.makes F.leaves F.takes_away (StoreFile entry.now ∷ [])
+        (W.contents writer.old) (W.contents writer.new) result }
+{
+    match create_store::<D, F>(alloc, files, entry) {
+        Ok(fate) => match label_of(alloc, entry.number) {
+            Ok(label) => tell_fate(alloc, writer, fate, label.as_bytes()),
+            Err(_) => Err(VtlFault::NoMemory),
+        },
+        Err(fault) => Err(fault),
+    }
+}
+
+// Makes the missing files of the reservations of drives, and tells of each.
+fn make_stores<D: Disk + Drop, F: MakeFiles<D>, W: Write>(
+    alloc: Global,
+    files: &F,
+    entries: &[DriveEntry],
+    writer: &mut W,
+) -> Result<(), VtlFault>
+    ensures { TellsFiles D.state F.makes F.leaves F.takes_away (map StoreFile entries.now)
+        (W.contents writer.old) (W.contents writer.new) result }
+{
+    for entry in entries {
+        if let Err(fault) = make_store::<D, F, W>(alloc, files, entry, writer) {
+            return Err(fault);
+        }
+    }
+    Ok(())
+}
+
+/// Makes each file of a configuration that is missing, cartridges first, then the stores of drives,
+/// each in the order of the configuration, and writes a line for each: `created NAME`, or `kept NAME`
+/// where something has the file's name already, which is not touched. NAME is the barcode, or `DRIVE`
+/// and the number. At the first fault it ends, and the file that was being made is gone again, where
+/// the system could take it away: `Device` where a file or the writer fails, `NoMemory`.
+pub fn create_missing<D: Disk + Drop, F: MakeFiles<D>, W: Write>(
+    alloc: Global,
+    files: &F,
+    config: &Config,
+    writer: &mut W,
+) -> Result<(), VtlFault>
+    ensures { TellsFiles D.state F.makes F.leaves F.takes_away (files_of config.now)
+        (W.contents writer.old) (W.contents writer.new) result }
+{
+    let cartridges = config.cartridges.as_slice();
+    if let Err(fault) = make_cartridges::<D, F, W>(alloc, files, cartridges, writer) {
+        return Err(fault);
+    }
+    make_stores::<D, F, W>(alloc, files, config.drives.as_slice(), writer)
+}

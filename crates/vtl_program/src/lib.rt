@@ -1,0 +1,15 @@
+//! What the program does for each order of its words: libraries made, run and looked at, in files or in memory.
+#![tactic(auto)]
+
+pub mod checking;
+pub mod configs;
+pub mod creating;
+pub mod files;
+pub mod laws;
+pub mod lines;
+pub mod orders;
+pub mod programs;
+pub mod side_checks;
+pub mod sides;
+pub mod starting;
+pub mod writing;

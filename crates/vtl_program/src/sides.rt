@@ -1,0 +1,166 @@
+//! Where the sides of a library come from: out of files, or made in memory.
+ghost use Rattle.std.specs.Prelude.{◌≡◌, IfOk, IfErr};
+ghost use Rattle.aptpl_store.specs.Kept.{store_kept};
+ghost use Rattle.drive_core.specs.State.{left_of};
+ghost use Rattle.vtl_program.specs.Faults.{IsFailure, fault_of_store};
+ghost use Rattle.vtl_program.specs.Sides.{IsFoundOn, IsNoCartridgeOn, IsNoStoreOn, IsStoreOn, SidesGiven};
+
+use crate::files::ChangeFiles;
+use crate::programs::VtlFault;
+use aptpl_store::{AptplStore, StoreError, StoreRefused};
+use cartridge::{Cartridge, CartridgeError, NotCreated, Shelved};
+use library::Parked;
+use pr_core::Reservations;
+use std::alloc::Global;
+use tape_disk::{Disk, MemDisk};
+use vtl_config::{CartridgeEntry, DriveEntry};
+
+/// A store of a drive's reservations, and what of them a loss of power left.
+#[derive(Drop)]
+pub struct DriveStore<D: Disk> {
+    /// The store, open.
+    pub store: AptplStore<D>,
+    /// The reservations that a loss of power left of the state that it saved last.
+    pub left: Reservations,
+}
+
+/// What gives the sides of a library, entry by entry.
+pub trait Sides<D: Disk> {
+    // What a side may be, and why one may be refused.
+    ghost given: { SidesGiven D };
+
+    /// The cartridge of this entry, closed.
+    fn cartridge(&self, alloc: Global, entry: &CartridgeEntry) -> Result<Parked<D>, VtlFault>
+        ensures ok { IfOk result (given.gives_cartridge entry.now) }
+        ensures err { IfErr result (given.refuses_cartridge entry.now) }
+        ensures failure { IfErr result IsFailure };
+
+    /// The store of this entry, and what a loss of power leaves of the state that it saved last.
+    fn store(&self, alloc: Global, entry: &DriveEntry) -> Result<DriveStore<D>, VtlFault>
+        ensures ok { IfOk result (λ opened. given.gives_store entry.now opened.store) }
+        ensures left { IfOk result (λ opened.
+            opened.left ≡ left_of (store_kept opened.store).saved) }
+        ensures err { IfErr result (given.refuses_store entry.now) }
+        ensures failure { IfErr result IsFailure };
+}
+
+/// The sides that files hold.
+#[derive(Clone, Copy)]
+pub struct FileSides<'a, F> {
+    /// The files, by their names.
+    pub files: &'a F,
+}
+
+/// New sides, in memory.
+#[derive(Clone, Copy)]
+pub struct NewSides;
+
+// A closed cartridge of which nothing is known but what the disk holds; or the disk, where it failed.
+fn settled<D: Disk>(alloc: Global, mut disk: D) -> Result<Parked<D>, D>
+    ensures ok { IfOk result (IsFoundOn D.state disk) }
+    ensures err { IfErr result (IsNoCartridgeOn D.state disk) }
+{
+    match disk.sync() {
+        Ok(()) => Ok(Parked::of(alloc, Shelved::of(disk))),
+        Err(_) => Err(disk),
+    }
+}
+
+// A disk that gives no store, and the fault for it.
+#[derive(Drop)]
+struct NoStore<D> {
+    fault: VtlFault,
+    disk: D,
+}
+
+// The fault for a store that is not opened.
+fn fault_of_store(error: StoreError) -> VtlFault
+    ensures { result ≡ fault_of_store error }
+{
+    match error {
+        StoreError::NoMemory => VtlFault::NoMemory,
+        _ => VtlFault::Device,
+    }
+}
+
+// The store that a disk holds; or the disk, where it gives none.
+fn opened<D: Disk>(alloc: Global, disk: D) -> Result<DriveStore<D>, NoStore<D>>
+    ensures ok { IfOk result (λ opened. IsStoreOn D.state disk opened.store) }
+    ensures left { IfOk result (λ opened.
+        opened.left ≡ left_of (store_kept opened.store).saved) }
+    ensures err { IfErr result (λ none. IsNoStoreOn D.state disk none.disk none.fault) }
+{
+    match AptplStore::open(alloc, disk) {
+        Ok((store, left)) => Ok(DriveStore { store, left }),
+        Err(refused) => {
+            let StoreRefused { error, disk } = refused;
+            let fault = fault_of_store(error);
+            Err(NoStore { fault, disk })
+        }
+    }
+}
+
+// No disk can be dropped here: each that was opened is in a side, or handed back.
+impl<'a, D: Disk, F: ChangeFiles<D>> Sides<D> for FileSides<'a, F> {
+    ghost use Rattle.vtl_program.specs.Sides.{file_sides};
+
+    ghost given = { file_sides D.state F.opens F.hands_back };
+
+    fn cartridge(&self, alloc: Global, entry: &CartridgeEntry) -> Result<Parked<D>, VtlFault> {
+        let name = entry.file.as_str();
+        match self.files.open(name) {
+            Ok(disk) => match settled(alloc, disk) {
+                Ok(cartridge) => Ok(cartridge),
+                Err(disk) => {
+                    self.files.hand_back(name, disk);
+                    Err(VtlFault::Device)
+                }
+            },
+            Err(_) => Err(VtlFault::Device),
+        }
+    }
+
+    fn store(&self, alloc: Global, entry: &DriveEntry) -> Result<DriveStore<D>, VtlFault> {
+        let name = entry.reservations.as_str();
+        match self.files.open(name) {
+            Ok(disk) => match opened(alloc, disk) {
+                Ok(store) => Ok(store),
+                Err(none) => {
+                    let NoStore { fault, disk } = none;
+                    self.files.hand_back(name, disk);
+                    Err(fault)
+                }
+            },
+            Err(_) => Err(VtlFault::Device),
+        }
+    }
+}
+
+impl Sides<MemDisk> for NewSides {
+    ghost use Rattle.vtl_program.specs.Sides.{new_sides};
+
+    ghost given = { new_sides };
+
+    // The one failure of a disk in memory is a growth that was refused.
+    fn cartridge(
+        &self,
+        alloc: Global,
+        entry: &CartridgeEntry,
+    ) -> Result<Parked<MemDisk>, VtlFault> {
+        let disk = MemDisk::new(alloc);
+        match Cartridge::create(alloc, disk, &entry.barcode, entry.capacities.as_slice()) {
+            Ok(shelved) => Ok(Parked::of(alloc, shelved)),
+            Err(_) => Err(VtlFault::NoMemory),
+        }
+    }
+
+    fn store(&self, alloc: Global, entry: &DriveEntry) -> Result<DriveStore<MemDisk>, VtlFault> {
+        match AptplStore::create(alloc, MemDisk::new(alloc), entry.number) {
+            Ok(store) => Ok(DriveStore {
+                store,
+                left: Reservations::empty(),
+            }),
+            Err(_) => Err(VtlFault::NoMemory),
+        }
+    }
+}

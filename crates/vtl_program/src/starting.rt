@@ -1,0 +1,193 @@
+//! A library is switched on: each cartridge is at its home.
+ghost use Rattle.std.specs.Prelude.{◌≡◌, ◌⊎◌, true, IfOk, IfErr, OnOk, is_some};
+ghost use Rattle.aptpl_store.specs.Kept.{store_kept};
+ghost use Rattle.drive_core.specs.State.{left_of};
+ghost use Rattle.library.specs.Elements.{bay_at};
+ghost use Rattle.vtl_config.specs.Entries.{address_of};
+ghost use Rattle.vtl_program.specs.Inner.Waiting.{AreHome, IsBare, IsNotHome, PutsHome, SwitchesOnAt, home_at};
+ghost use Rattle.vtl_program.specs.Orders.{IsStart, built_in_barcode, built_in_capacities};
+ghost use Rattle.vtl_program.specs.Sides.{memory_state};
+ghost use Rattle.vtl_program.specs.Starting.{IsBuiltIn, IsNotStarted, IsStarted};
+ghost use Rattle.vtl_program.specs.declared.programs.VtlFault.TheVariants as Faults;
+
+use crate::programs::VtlFault;
+use crate::sides::{DriveStore, Sides};
+use aptpl_store::AptplStore;
+use cartridge::Cartridge;
+use library::{Bay, Held, Parked};
+use pr_core::Reservations;
+use std::alloc::Global;
+use std::marker::Model;
+use std::mem;
+use tape_disk::{Disk, MemDisk};
+use vtl_base::limits::DRIVES;
+use vtl_base::{Barcode, DriveNo, NoMemory, SlotNo};
+use vtl_config::{Address, CartridgeEntry, DriveEntry};
+
+// The drive, the barcode and the capacity of the built-in configuration.
+const DRIVE: u8 = 1;
+
+const BARCODE: &[u8] = b"T00001L6";
+
+const CAPACITY: u64 = 16_777_216;
+
+// A library whose slots are filled, and the cartridges for drives that are not switched on yet, from
+// drive 1 on.
+#[derive(Drop)]
+struct Starting<D: Disk> {
+    held: Held<D>,
+    waiting: Vec<Option<Parked<D>>>,
+}
+
+impl<D: Disk> Model for Starting<D> {
+    ghost use Rattle.std.specs.Prelude.{◌≡◌, length};
+    ghost use Rattle.vtl_base.specs.declared.limits.TheConstants.{DRIVES};
+    ghost use Rattle.vtl_program.specs.Inner.Waiting.{StartingState};
+
+    ghost Value = { StartingState D };
+
+    ghost view = { λ s. record { held = s.held; waiting = s.waiting.items } };
+
+    ghost invariant = { λ s. length s.waiting.items ≡ DRIVES };
+}
+
+impl<D: Disk + Drop> Starting<D> {
+    // A library of no drive, with no cartridge.
+    fn new(alloc: Global) -> Result<Starting<D>, NoMemory>
+        ensures { IfOk result IsBare }
+    {
+        let held = Held::new(alloc)?;
+        let mut waiting = Vec::with_capacity(alloc, DRIVES as usize)?;
+        for _ in 0..DRIVES {
+            if waiting.push(None).is_err() {
+                return Err(NoMemory);
+            }
+        }
+        Ok(Starting { held, waiting })
+    }
+
+    // Puts a cartridge into its home, or has it wait for the drive that is its home.
+    fn put(&mut self, home: Address, cartridge: Parked<D>) -> Result<(), VtlFault>
+        ensures ok { OnOk result (PutsHome (address_of home) cartridge self.old self.new) }
+        ensures err { IfErr result (λ fault.
+            (fault ≡ Faults.Config) × (is_some (home_at self.old (address_of home)) ≡ true)) }
+    {
+        match home {
+            Address::Slot(slot) => self.put_in(slot, cartridge),
+            Address::Drive(drive) => self.put_beside(drive, cartridge),
+        }
+    }
+
+    // Puts a cartridge into the slot that is its home.
+    fn put_in(&mut self, slot: SlotNo, cartridge: Parked<D>) -> Result<(), VtlFault>
+        ensures ok { OnOk result (PutsHome slot cartridge self.old self.new) }
+        ensures err { IfErr result (λ fault.
+            (fault ≡ Faults.Config) × (is_some (home_at self.old slot) ≡ true)) }
+    {
+        match self.held.place(slot.address() as u32, cartridge) {
+            Ok(()) => Ok(()),
+            Err(_) => Err(VtlFault::Config),
+        }
+    }
+
+    // Has a cartridge wait for the drive that is its home.
+    fn put_beside(&mut self, drive: DriveNo, cartridge: Parked<D>) -> Result<(), VtlFault>
+        ensures ok { OnOk result (PutsHome drive cartridge self.old self.new) }
+        ensures err { IfErr result (λ fault.
+            (fault ≡ Faults.Config) × (is_some (home_at self.old drive) ≡ true)) }
+    {
+        // Asked for the proof's sake: the numbers of drives begin with 1.
+        let _ = drive.number();
+        let place = &mut self.waiting[drive.place()];
+        if place.is_some() {
+            return Err(VtlFault::Config);
+        }
+        *place = Some(cartridge);
+        Ok(())
+    }
+
+    // Switches a drive on, with the cartridge that waits for it.
+    fn switch_on(
+        &mut self,
+        alloc: Global,
+        number: DriveNo,
+        opened: DriveStore<D>,
+    ) -> Result<(), VtlFault>
+        requires { opened.left ≡ left_of (store_kept opened.store).saved }
+        ensures ok { OnOk result (SwitchesOnAt D.state number opened.store self.old self.new) }
+        ensures err { IfErr result (λ fault. (fault ≡ Faults.NoMemory)
+            ⊎ (fault ≡ Faults.Config) × (is_some (bay_at self.old.held.bays number) ≡ true)) }
+    {
+        // Asked for the proof's sake: the numbers of drives begin with 1.
+        let _ = number.number();
+        let DriveStore { store, left } = opened;
+        let cartridge = mem::replace(&mut self.waiting[number.place()], None);
+        match Bay::power_on(alloc, store, left, cartridge) {
+            Ok(bay) => match self.held.install(number, bay) {
+                Ok(()) => Ok(()),
+                Err(_) => Err(VtlFault::Config),
+            },
+            Err(_) => Err(VtlFault::NoMemory),
+        }
+    }
+}
+
+// Gets the cartridges, in the order of the configuration, each into its home.
+fn place_all<D: Disk + Drop, S: Sides<D>>(
+    alloc: Global,
+    sides: &S,
+    cartridges: &[CartridgeEntry],
+) -> Result<Starting<D>, VtlFault>
+    ensures ok { IfOk result (AreHome S.given.gives_cartridge cartridges.now) }
+    ensures err { IfErr result (IsNotHome S.given cartridges.now) }
+{
+    let mut starting = Starting::new(alloc)?;
+    for entry in cartridges {
+        let cartridge = sides.cartridge(alloc, entry)?;
+        starting.put(entry.home, cartridge)?;
+    }
+    Ok(starting)
+}
+
+/// The library of a configuration, over these sides: first its cartridges, then its drives, in the
+/// order of the configuration. What is refused first decides the fault.
+pub fn start<D: Disk + Drop, S: Sides<D>>(
+    alloc: Global,
+    sides: &S,
+    cartridges: &[CartridgeEntry],
+    drives: &[DriveEntry],
+) -> Result<Held<D>, VtlFault>
+    ensures ok { IfOk result
+        (IsStarted S.given.gives_cartridge D.state S.given.gives_store cartridges.now drives.now) }
+    ensures err { IfErr result (IsNotStarted S.given cartridges.now drives.now) }
+{
+    let mut starting = place_all(alloc, sides, cartridges)?;
+    for entry in drives {
+        let opened = sides.store(alloc, entry)?;
+        starting.switch_on(alloc, entry.number, opened)?;
+    }
+    Ok(starting.held)
+}
+
+/// The library of the built-in configuration, in memory: drive 1 alone, holding `T00001L6` of one
+/// partition of 16,777,216 bytes. Else `NoMemory`.
+pub fn built_in(alloc: Global) -> Result<Held<MemDisk>, VtlFault>
+    ensures { IsStart (IsBuiltIn memory_state built_in_barcode built_in_capacities)
+        (λ fault. fault ≡ Faults.NoMemory) result }
+{
+    let (Some(number), Ok(barcode)) = (DriveNo::new(DRIVE), Barcode::parse(BARCODE)) else {
+        return Err(VtlFault::Config);
+    };
+    let (Ok(shelved), Ok(store)) = (
+        Cartridge::create(alloc, MemDisk::new(alloc), &barcode, &[CAPACITY]),
+        AptplStore::create(alloc, MemDisk::new(alloc), number),
+    ) else {
+        return Err(VtlFault::NoMemory);
+    };
+    let cartridge = Parked::of(alloc, shelved);
+    let mut starting = Starting::new(alloc)?;
+    starting.put(Address::Drive(number), cartridge)?;
+    let left = Reservations::empty();
+    starting.switch_on(alloc, number, DriveStore { store, left })?;
+    Ok(starting.held)
+}

@@ -1,0 +1,7 @@
+//! The tests of vtl_program.
+#![tactic(auto)]
+
+#[cfg(test)]
+mod asserted;
+#[cfg(test)]
+mod tests;

@@ -1,0 +1,274 @@
+//! Which calls for files the program makes, in which order, and where it stops.
+use super::noted_files::{Failing, NotedFiles};
+use super::streams::{BadReader, BadWriter};
+use vtl_program::orders::run;
+use vtl_program::programs::Ended;
+use assertions::{assert_equal, assert_holds};
+use file_disk::FileError;
+use std::alloc::Global;
+use std::process::Abort;
+use std::test::Fail;
+use vtl_base::DevFault;
+use vtl_words::{WordsError, read_words};
+
+const DEVICE: &str = "vtl: device fault\n";
+
+const DEVICE_ERROR: FileError = FileError::Device(DevFault { failures: 1 });
+
+// One run: what fails and the words behind the name; what is wanted: the calls, the text, and the line with the status.
+pub type Row<'a> = (Failing, &'a str, &'a str, &'a str, (&'a str, u8));
+
+const DONE: (&str, u8) = ("", 0);
+
+const REFUSED_WORDS: (&str, u8) = ("vtl: command line refused\n", 1);
+
+pub const FAILED: (&str, u8) = (DEVICE, 2);
+
+const NO_MEMORY: (&str, u8) = ("vtl: out of memory\n", 3);
+
+fn words_of(alloc: Global, line: &str) -> Result<Vec<String>, Fail> {
+    let mut words = Vec::new(alloc);
+    for word in line.split(' ') {
+        words.push(String::from_str(alloc, word)?)?;
+    }
+    Ok(words)
+}
+
+fn assert_row(abort: &impl Abort, alloc: Global, row: Row, at: usize) -> Result<(), Fail> {
+    let (failing, words, calls, text, (line, status)) = row;
+    let files = NotedFiles::new(alloc, failing);
+    let words = words_of(alloc, words)?;
+    let mut reader = BadReader::new(b"", None);
+    let mut writer = BadWriter::new(alloc, None);
+    let mut lines = BadWriter::new(alloc, None);
+    let ended = run(
+        alloc,
+        &files,
+        Ok(words),
+        &mut reader,
+        &mut writer,
+        &mut lines,
+    );
+    let (told, reported, called) = (writer.into_text(), lines.into_text(), files.into_note());
+    assert_equal!(abort; called.as_slice(), calls.as_bytes(); at);
+    assert_equal!(abort; told.as_slice(), text.as_bytes(); at);
+    assert_equal!(abort; reported.as_slice(), line.as_bytes(); at);
+    let wanted = Ended {
+        status,
+        is_reported: true,
+    };
+    assert_equal!(abort; ended, wanted; at);
+    Ok(())
+}
+
+pub fn assert_rows(abort: &impl Abort, alloc: Global, rows: &[Row]) -> Result<(), Fail> {
+    for (at, row) in rows.iter().enumerate() {
+        assert_row(abort, alloc, *row, at)?;
+    }
+    Ok(())
+}
+
+const RUN: &str = "vtl run --config c";
+
+const THREE: &str = "read c;open t;open u;open 1;";
+
+const FOUR: &str = "read c;open t;open u;open 1;open 2;";
+
+static RUNS: &'static [Row<'static>] = &[
+    (Failing::Nothing, RUN, FOUR, "", DONE),
+    (
+        Failing::Nothing,
+        "vtl run --memory --config c",
+        "read c;",
+        "",
+        DONE,
+    ),
+    (Failing::Nothing, "vtl run", "", "", DONE),
+    (Failing::Nothing, "vtl run --memory", "", "", DONE),
+    (
+        Failing::Call(1, FileError::Missing),
+        RUN,
+        "read c;",
+        "",
+        FAILED,
+    ),
+    (
+        Failing::Call(2, FileError::Missing),
+        RUN,
+        "read c;open t;",
+        "",
+        FAILED,
+    ),
+    (
+        Failing::Call(3, FileError::Missing),
+        RUN,
+        "read c;open t;open u;",
+        "",
+        FAILED,
+    ),
+    (Failing::Call(4, FileError::Missing), RUN, THREE, "", FAILED),
+    (Failing::Call(5, FileError::Missing), RUN, FOUR, "", FAILED),
+    (Failing::Memory, RUN, "read c;", "", NO_MEMORY),
+];
+
+#[test]
+fn a_run_opens_cartridges_and_then_stores(rt: HostRuntime) -> Result<(), Fail> {
+    assert_rows(&rt, rt.alloc(), RUNS)
+}
+
+const CREATE: &str = "vtl create --config c";
+
+static MADE: &'static [Row<'static>] = &[
+    (
+        Failing::Nothing,
+        CREATE,
+        "read c;make t;leave t;make u;leave u;make 1;leave 1;make 2;leave 2;",
+        "created T00001L6\ncreated T00002L6\ncreated DRIVE1\ncreated DRIVE2\n",
+        DONE,
+    ),
+    (
+        Failing::Call(3, FileError::Exists),
+        CREATE,
+        "read c;make t;leave t;make u;make 1;leave 1;make 2;leave 2;",
+        "created T00001L6\nkept T00002L6\ncreated DRIVE1\ncreated DRIVE2\n",
+        DONE,
+    ),
+    (
+        Failing::Call(5, FileError::Exists),
+        CREATE,
+        "read c;make t;leave t;make u;leave u;make 1;leave 1;make 2;",
+        "created T00001L6\ncreated T00002L6\ncreated DRIVE1\nkept DRIVE2\n",
+        DONE,
+    ),
+];
+
+#[test]
+fn a_creation_makes_what_is_missing(rt: HostRuntime) -> Result<(), Fail> {
+    assert_rows(&rt, rt.alloc(), MADE)
+}
+
+const ONE: &str = "read c;make t;leave t;make u;";
+
+const TWO: &str = "read c;make t;leave t;make u;leave u;make 1;";
+
+const FIRST: &str = "created T00001L6\n";
+
+const BOTH: &str = "created T00001L6\ncreated T00002L6\n";
+
+static TAKEN_AWAY: &'static [Row<'static>] = &[
+    (
+        Failing::Call(1, FileError::Missing),
+        CREATE,
+        "read c;",
+        "",
+        FAILED,
+    ),
+    (
+        Failing::Call(2, FileError::Missing),
+        CREATE,
+        "read c;make t;",
+        "",
+        FAILED,
+    ),
+    (
+        Failing::Call(2, FileError::InUse),
+        CREATE,
+        "read c;make t;",
+        "",
+        FAILED,
+    ),
+    (Failing::Call(3, DEVICE_ERROR), CREATE, ONE, FIRST, FAILED),
+    (Failing::Call(4, DEVICE_ERROR), CREATE, TWO, BOTH, FAILED),
+    (
+        Failing::Disk("t", 0),
+        CREATE,
+        "read c;make t;take t;",
+        "",
+        FAILED,
+    ),
+    (
+        Failing::Disk("t", 1),
+        CREATE,
+        "read c;make t;take t;",
+        "",
+        FAILED,
+    ),
+    (
+        Failing::Disk("u", 0),
+        CREATE,
+        "read c;make t;leave t;make u;take u;",
+        FIRST,
+        FAILED,
+    ),
+    (
+        Failing::Disk("1", 1),
+        CREATE,
+        "read c;make t;leave t;make u;leave u;make 1;take 1;",
+        BOTH,
+        FAILED,
+    ),
+];
+
+#[test]
+fn a_creation_takes_away_what_is_not_whole(rt: HostRuntime) -> Result<(), Fail> {
+    assert_rows(&rt, rt.alloc(), TAKEN_AWAY)
+}
+
+const CHECK: &str = "vtl check t";
+
+static CHECKS: &'static [Row<'static>] = &[
+    (
+        Failing::Nothing,
+        CHECK,
+        "look t;close t;",
+        "cartridge T00001L6 partitions 1 frames 0\npartition 0 objects 0 used 0\n",
+        DONE,
+    ),
+    (
+        Failing::Nothing,
+        "vtl check 1",
+        "look 1;close 1;",
+        "reservations DRIVE1 frames 0 registrations 0\n",
+        DONE,
+    ),
+    (
+        Failing::Call(1, FileError::InUse),
+        CHECK,
+        "look t;",
+        "",
+        FAILED,
+    ),
+    (Failing::Disk("t", 0), CHECK, "look t;close t;", "", FAILED),
+];
+
+#[test]
+fn a_check_opens_one_file_to_read(rt: HostRuntime) -> Result<(), Fail> {
+    assert_rows(&rt, rt.alloc(), CHECKS)
+}
+
+static REFUSED: &'static [Row<'static>] = &[
+    (Failing::Nothing, "vtl", "", "", REFUSED_WORDS),
+    (Failing::Nothing, "vtl walk", "", "", REFUSED_WORDS),
+    (Failing::Nothing, "vtl create", "", "", REFUSED_WORDS),
+    (Failing::Nothing, "vtl check", "", "", REFUSED_WORDS),
+    (Failing::Nothing, "vtl run --config", "", "", REFUSED_WORDS),
+];
+
+#[test]
+fn refused_words_ask_for_no_file(rt: HostRuntime) -> Result<(), Fail> {
+    assert_rows(&rt, rt.alloc(), REFUSED)
+}
+
+#[test]
+fn help_is_written_as_it_was_given(rt: HostRuntime) -> Result<(), Fail> {
+    for (at, line) in ["vtl --help", "vtl run -h"].into_iter().enumerate() {
+        let words = words_of(rt.alloc(), line)?;
+        let Err(WordsError::Help(text)) = read_words(rt.alloc(), words.as_slice()) else {
+            return Err(Fail::from("no help"));
+        };
+        assert_holds!(rt; !text.is_empty(); at);
+        let row = (Failing::Nothing, line, "", text.as_str(), DONE);
+        assert_row(&rt, rt.alloc(), row, at)?;
+    }
+    Ok(())
+}

@@ -1,0 +1,105 @@
+//! A script over a disk of which one call fails: what is written, and which fault is told.
+use super::streams::{BadReader, BadWriter};
+use vtl_program::orders::run_started;
+use vtl_program::programs::VtlFault;
+use vtl_program::sides::{DriveStore, Sides};
+use vtl_program::starting::start;
+use aptpl_store::AptplStore;
+use assertions::assert_equal;
+use cartridge::Cartridge;
+use library::Parked;
+use pr_core::Reservations;
+use std::alloc::Global;
+use std::test::Fail;
+use tape_disk::{MemDisk, OnceDisk};
+use vtl_config::{CartridgeEntry, DriveEntry, read_config};
+
+// New sides in memory, whose cartridges fail at the call after this many.
+#[derive(Clone, Copy)]
+struct FailingSides {
+    calls: u64,
+}
+
+impl Sides<OnceDisk<MemDisk>> for FailingSides {
+    ghost given = { record {
+      gives_cartridge = λ entry cartridge. Unit {0};
+      refuses_cartridge = λ entry fault. Unit {0};
+      gives_store = λ entry store. Unit {0};
+      refuses_store = λ entry fault. Unit {0};
+    } };
+
+    fn cartridge(
+        &self,
+        alloc: Global,
+        entry: &CartridgeEntry,
+    ) -> Result<Parked<OnceDisk<MemDisk>>, VtlFault> {
+        let disk = OnceDisk::new(MemDisk::new(alloc), self.calls);
+        match Cartridge::create(alloc, disk, &entry.barcode, entry.capacities.as_slice()) {
+            Ok(shelved) => Ok(Parked::of(alloc, shelved)),
+            Err(_) => Err(VtlFault::Device),
+        }
+    }
+
+    fn store(
+        &self,
+        alloc: Global,
+        entry: &DriveEntry,
+    ) -> Result<DriveStore<OnceDisk<MemDisk>>, VtlFault> {
+        let disk = OnceDisk::new(MemDisk::new(alloc), u64::MAX);
+        match AptplStore::create(alloc, disk, entry.number) {
+            Ok(store) => Ok(DriveStore {
+                store,
+                left: Reservations::empty(),
+            }),
+            Err(_) => Err(VtlFault::Device),
+        }
+    }
+}
+
+const CONFIG: &[u8] =
+    b"cartridge = [{ barcode = \"T00001L6\", file = \"t\", capacities = [4096], home = 1 }]\n\
+    drive = [{ number = 1, reservations = \"1\" }]\n";
+
+// Runs a script over a library whose cartridge fails at that call: what it writes, and how it ends.
+fn ran(alloc: Global, script: &[u8], calls: u64) -> Result<(Vec<u8>, Result<(), VtlFault>), Fail> {
+    let config = match read_config(alloc, CONFIG) {
+        Ok(config) => config,
+        Err(_) => return Err(Fail::from("no configuration")),
+    };
+    let (cartridges, drives) = (config.cartridges.as_slice(), config.drives.as_slice());
+    let held = start(alloc, &FailingSides { calls }, cartridges, drives);
+    let mut reader = BadReader::new(script, None);
+    let mut writer = BadWriter::new(alloc, None);
+    let outcome = run_started(alloc, held, &mut reader, &mut writer);
+    Ok((writer.into_text(), outcome))
+}
+
+// A block that waits until the end; and one behind which a line is refused.
+const WAITS: &[u8] = b"1 1 000000000000\n1 1 0a0000000100 61\n";
+
+const REFUSED: &[u8] = b"1 1 000000000000\n1 1 0a0000000100 61\n--\nx\n";
+
+#[test]
+fn the_first_fault_is_told(rt: HostRuntime) -> Result<(), Fail> {
+    let good = "CHECK 700006000000000a00000000290000000000\nGOOD\n";
+    let mut unwritten = 0u32;
+    for calls in 0..40 {
+        let (text, outcome) = ran(rt.alloc(), WAITS, calls)?;
+        if text.as_slice() != good.as_bytes() {
+            continue;
+        }
+        let (again, refused) = ran(rt.alloc(), REFUSED, calls)?;
+        assert_equal!(rt; again.as_slice(), good.as_bytes(); calls);
+        assert_equal!(rt; refused, Err(VtlFault::Script { line: 4 }); calls);
+        match outcome {
+            Ok(()) => {}
+            Err(fault) => {
+                assert_equal!(rt; fault, VtlFault::Device; calls);
+                unwritten = unwritten.saturating_add(1);
+            }
+        }
+    }
+    // A frame is four calls of the disk.
+    assert_equal!(rt; unwritten, 4);
+    Ok(())
+}
