@@ -7,13 +7,10 @@ mod kept;
 mod libraries;
 mod motions;
 mod noted_files;
-mod plain_sides;
 mod programs;
 mod refusals;
-mod sides;
 mod streams;
 
-use vtl_program::starting::built_in;
 use assertions::assert_equal;
 use library::{Held, run_held};
 use std::alloc::{AllocError, Global};
@@ -21,6 +18,7 @@ use std::process::Abort;
 use std::test::Fail;
 use streams::{BadReader, BadWriter};
 use tape_disk::MemDisk;
+use vtl_program::starting::built_in;
 use vtl_script::ScriptFault;
 
 const ATTENTION: &str = "CHECK 700006000000000a00000000290000000000\n";

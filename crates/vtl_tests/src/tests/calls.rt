@@ -1,14 +1,14 @@
 //! Which calls for files the program makes, in which order, and where it stops.
 use super::noted_files::{Failing, NotedFiles};
 use super::streams::{BadReader, BadWriter};
-use vtl_program::orders::run;
-use vtl_program::programs::Ended;
 use assertions::{assert_equal, assert_holds};
 use file_disk::FileError;
 use std::alloc::Global;
 use std::process::Abort;
 use std::test::Fail;
 use vtl_base::DevFault;
+use vtl_program::orders::run;
+use vtl_program::programs::Ended;
 use vtl_words::{WordsError, read_words};
 
 const DEVICE: &str = "vtl: device fault\n";

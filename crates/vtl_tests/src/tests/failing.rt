@@ -1,9 +1,5 @@
 //! A script over a disk of which one call fails: what is written, and which fault is told.
 use super::streams::{BadReader, BadWriter};
-use vtl_program::orders::run_started;
-use vtl_program::programs::VtlFault;
-use vtl_program::sides::{DriveStore, Sides};
-use vtl_program::starting::start;
 use aptpl_store::AptplStore;
 use assertions::assert_equal;
 use cartridge::Cartridge;
@@ -13,6 +9,10 @@ use std::alloc::Global;
 use std::test::Fail;
 use tape_disk::{MemDisk, OnceDisk};
 use vtl_config::{CartridgeEntry, DriveEntry, read_config};
+use vtl_program::orders::run_started;
+use vtl_program::programs::VtlFault;
+use vtl_program::sides::{DriveStore, Sides};
+use vtl_program::starting::start;
 
 // New sides in memory, whose cartridges fail at the call after this many.
 #[derive(Clone, Copy)]

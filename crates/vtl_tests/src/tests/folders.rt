@@ -1,14 +1,14 @@
 //! Runs of the program over files, in a folder of a test's own.
 use super::streams::{BadReader, BadWriter};
-use vtl_program::files::SystemFiles;
-use vtl_program::orders::run;
-use vtl_program::programs::Ended;
 use assertions::assert_equal;
 use std::collections::hash_map::RandomState;
 use std::hash::BuildHasher;
 use std::process::Abort;
 use std::test::Fail;
 use std::{env, fs};
+use vtl_program::files::SystemFiles;
+use vtl_program::orders::run;
+use vtl_program::programs::Ended;
 
 // One run of the program: its words behind its name, of which `@` begins a file's name in the folder, and its script;
 // the status, the text and the line on standard error that are wanted.

@@ -1,12 +1,12 @@
 //! Libraries in memory.
 use super::{DONE, answered_by, joined};
-use vtl_program::sides::NewSides;
-use vtl_program::starting::start;
 use library::Held;
 use std::alloc::{AllocError, Global};
 use std::test::Fail;
 use tape_disk::MemDisk;
 use vtl_config::read_config;
+use vtl_program::sides::NewSides;
+use vtl_program::starting::start;
 
 /// The library of the configuration that this text says, in memory.
 pub fn in_memory(alloc: Global, text: &[u8]) -> Result<Held<MemDisk>, Fail> {

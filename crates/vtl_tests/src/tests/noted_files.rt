@@ -1,11 +1,11 @@
 //! Files in memory, of a test's own, that note what they are asked for.
-use vtl_program::files::{ChangeFiles, MakeFiles, ReadFiles, TextFiles};
 use file_disk::FileError;
 use std::alloc::{AllocError, Global};
 use std::cell::{Cell, RefCell};
 use std::io::{self, ErrorKind};
 use tape_disk::{MemDisk, OnceDisk};
 use vtl_base::DevFault;
+use vtl_program::files::{ChangeFiles, MakeFiles, ReadFiles, TextFiles};
 
 // A configuration of two cartridges, in slot 1001 and in drive 2, and of two drives.
 const CONFIG: &[u8] = b"cartridge = [\

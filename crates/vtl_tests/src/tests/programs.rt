@@ -1,15 +1,15 @@
 //! The program over streams of a test's own: its status, its line and its text at each fault.
 use super::ATTENTION;
 use super::streams::{BadCall, BadReader, BadWriter, PartWriter};
-use vtl_program::orders::run_started;
-use vtl_program::programs::{Ended, Verdict, VtlFault, end, fault_line};
-use vtl_program::starting::built_in;
-use vtl_program::writing::tell;
 use assertions::{assert_equal, assert_holds};
 use std::alloc::Global;
 use std::io::ErrorKind;
 use std::process::Abort;
 use std::test::Fail;
+use vtl_program::orders::run_started;
+use vtl_program::programs::{Ended, Verdict, VtlFault, end, fault_line};
+use vtl_program::starting::built_in;
+use vtl_program::writing::tell;
 use vtl_script::ScriptFault;
 
 // What a run of the program wrote on both streams, and how it ended.

@@ -1,13 +1,13 @@
 //! The lines of sides, by rows, by cuts, by each byte, and over a disk that fails.
 use super::plain_sides::plain_lines;
-use vtl_program::checking::{Checked, check_side};
-use vtl_program::programs::VtlFault;
 use assertions::{assert_equal, assert_holds};
 use std::alloc::Global;
 use std::process::Abort;
 use std::test::Fail;
 use tape_disk::{FuseDisk, MemDisk, OnceDisk};
 use vtl_base::Bytes;
+use vtl_program::checking::{Checked, check_side};
+use vtl_program::programs::VtlFault;
 
 // A cartridge `T00001L6` of one partition of 4,096 bytes, with two frames, whose gates stand at 35,
 // 55 and 70: a block `hello`, and a filemark behind it.
