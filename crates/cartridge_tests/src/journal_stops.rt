@@ -8,8 +8,8 @@ use gate_journal::stops::{Run, Stop, stop_at_each_call};
 use gate_journal::{Journal, JournalError};
 use std::alloc::Global;
 use std::test::Fail;
-use std::thread::Threads;
 use std::thread;
+use std::thread::Threads;
 use tape_disk::{Disk, FuseDisk, MemDisk, OnceDisk};
 
 // What is done on a disk: the side is opened and the first body added, it is opened, or it is made.

@@ -8,8 +8,8 @@ use crate::steps::{Step, act, fails};
 use assertions::assert_equal;
 use std::alloc::Global;
 use std::test::Fail;
-use std::thread::Threads;
 use std::thread;
+use std::thread::Threads;
 use tape_disk::{Disk, FuseDisk, MemDisk, OnceDisk};
 use vtl_base::DevFault;
 

@@ -2,8 +2,8 @@
 use assertions::{assert_equal, assert_holds};
 use changer::{SlotError, Slots};
 use std::test::Fail;
-use std::thread::Threads;
 use std::thread;
+use std::thread::Threads;
 
 // Something that is no copy.
 #[derive(Drop, Debug, PartialEq, Eq)]
