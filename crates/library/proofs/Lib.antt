@@ -3,6 +3,7 @@ pub mod CartridgeLemmas
 pub mod CoreLemmas
 pub mod FinishLemmas
 pub mod JourneyLemmas
+pub mod LentLemmas
 pub mod MachineLemmas
 pub mod MoveLemmas
 pub mod PlaceLemmas
@@ -14,4 +15,5 @@ pub mod CallLemmas
 pub mod BesideLemmas
 pub mod ServedLemmas
 pub mod OneHostLemmas
+pub mod ReturnLemmas
 pub mod RunnerLemmas
