@@ -1,6 +1,9 @@
 pub mod BayLemmas
+pub mod CarriedLemmas
 pub mod CartridgeLemmas
 pub mod CoreLemmas
+pub mod DrivesLemmas
+pub mod EndLemmas
 pub mod FinishLemmas
 pub mod JourneyLemmas
 pub mod LentLemmas

@@ -1,26 +1,120 @@
 //! Moves of cartridges on slots and drives that are lent.
-ghost use Rattle.std.specs.Prelude.{◌≡◌, ℕ, Option, None, Some};
-ghost use Rattle.scsi_sense.specs.declared.replies.Reply.{Reply as Answer};
-ghost use Rattle.library.specs.Inner.Carried.{MovesLent};
+ghost use Rattle.std.specs.Prelude.{◌≡◌, None, Some, true, false, is_some};
+ghost use Rattle.changer.specs.Slots.{Puts, held_at, is_slot};
+ghost use Rattle.library.specs.Inner.Carried.{MovesLent, drive_end, end_beside, refusal_between, slot_end};
 ghost use Rattle.library.specs.Lent.{InEach, back, lent};
 ghost use Rattle.library.specs.Moves.{KeepsBays, KeepsCartridges, MovesMedium};
 
 use crate::bays::Bay;
+use crate::moves::check;
 use crate::parked::Parked;
 use changer::Slots;
 use scsi_sense::{Reply, Sense};
 use std::alloc::Global;
 use tape_disk::Disk;
-use vtl_base::Bytes;
+use vtl_base::{Bytes, SlotNo};
+
+// What decides whether a cartridge may leave this end of a move, or come to it.
+#[derive(Clone, Copy)]
+pub(crate) struct End {
+    // Whether there is such a slot or drive.
+    pub(crate) known: bool,
+    // Whether a reservation is held there.
+    pub(crate) reserved: bool,
+    // Whether there is a cartridge.
+    pub(crate) full: bool,
+}
+
+// The end of a move at an address that names no drive.
+fn slot_end<D: Disk + Drop>(slots: &Slots<Parked<D>>, address: u32) -> End
+    ensures { result ≡ slot_end slots.now address }
+{
+    End {
+        known: SlotNo::new(address).is_some(),
+        reserved: false,
+        full: slots.held(address).is_some(),
+    }
+}
+
+// The end of a move at the address of this drive.
+fn drive_end<D: Disk + Drop>(bay: &Bay<D>) -> End
+    ensures { result ≡ drive_end bay.now }
+{
+    End {
+        known: true,
+        reserved: bay.held(),
+        full: !bay.is_empty(),
+    }
+}
+
+// The other end of a move out of this drive, where no other drive is named.
+fn end_beside<D: Disk + Drop>(slots: &Slots<Parked<D>>, bay: &Bay<D>, from: u32, to: u32) -> End
+    ensures { result ≡ end_beside slots.now bay.now from to }
+{
+    if from == to {
+        drive_end(bay)
+    } else {
+        slot_end(slots, to)
+    }
+}
+
+// The first cause for which nothing is moved, as it is answered.
+fn refusal_between(alloc: Global, source: End, destination: End) -> Option<Reply>
+    ensures { result ≡ refusal_between source destination }
+{
+    if !(source.known && destination.known) {
+        return Some(check(alloc, Sense::invalid_element_address()));
+    }
+    if source.reserved || destination.reserved {
+        return Some(Reply::conflict(alloc));
+    }
+    if !source.full {
+        return Some(check(alloc, Sense::source_empty()));
+    }
+    if destination.full {
+        return Some(check(alloc, Sense::destination_full()));
+    }
+    None
+}
+
+// Takes what a slot holds.
+fn take_held<D: Disk + Drop>(slots: &mut Slots<Parked<D>>, address: u32) -> Parked<D>
+    requires slot { is_slot address ≡ true }
+    requires full { is_some (held_at slots.old address) ≡ true }
+    ensures out { held_at slots.old address ≡ Some result }
+    ensures left { Puts address None slots.old slots.new }
+{
+    match slots.take(address) {
+        Ok(cartridge) => cartridge,
+        Err(_) => unreachable!(),
+    }
+}
+
+// Puts a cartridge into a slot that holds nothing.
+fn fill<D: Disk + Drop>(slots: &mut Slots<Parked<D>>, address: u32, cartridge: Parked<D>)
+    requires slot { is_slot address ≡ true }
+    requires empty { is_some (held_at slots.old address) ≡ false }
+    ensures { Puts address (Some cartridge) slots.old slots.new }
+{
+    match slots.place(address, cartridge) {
+        Ok(()) => {}
+        Err(_) => unreachable!(),
+    }
+}
 
 // A move between two slots.
 fn between_slots<D: Disk + Drop>(alloc: Global, slots: &mut Slots<Parked<D>>, from: u32, to: u32) -> Reply
     ensures { MovesLent D.state from to slots.old None None result slots.new None None }
 {
-    Reply::conflict(alloc)
+    if let Some(reply) = refusal_between(alloc, slot_end(slots, from), slot_end(slots, to)) {
+        return reply;
+    }
+    let cartridge = take_held(slots, from);
+    fill(slots, to, cartridge);
+    Reply::good(Bytes::new(alloc))
 }
 
-// A move out of a drive into a slot.
+// A move out of a drive, where no other drive is named.
 fn out_of_drive<D: Disk + Drop>(
     alloc: Global,
     slots: &mut Slots<Parked<D>>,
@@ -30,7 +124,15 @@ fn out_of_drive<D: Disk + Drop>(
 ) -> Reply
     ensures { MovesLent D.state from to slots.old (Some source.old) None result slots.new (Some source.new) None }
 {
-    Reply::conflict(alloc)
+    if let Some(reply) = refusal_between(alloc, drive_end(source), end_beside(slots, source, from, to)) {
+        return reply;
+    }
+    let cartridge = match source.unload() {
+        Ok(cartridge) => cartridge,
+        Err(reply) => return reply,
+    };
+    fill(slots, to, cartridge);
+    Reply::good(Bytes::new(alloc))
 }
 
 // A move out of a slot into a drive.
@@ -44,7 +146,17 @@ fn into_drive<D: Disk + Drop>(
     ensures { MovesLent D.state from to slots.old None (Some destination.old) result
         slots.new None (Some destination.new) }
 {
-    Reply::conflict(alloc)
+    if let Some(reply) = refusal_between(alloc, slot_end(slots, from), drive_end(destination)) {
+        return reply;
+    }
+    let cartridge = take_held(slots, from);
+    match destination.load(cartridge) {
+        Ok(()) => Reply::good(Bytes::new(alloc)),
+        Err((cartridge, reply)) => {
+            fill(slots, from, cartridge);
+            reply
+        }
+    }
 }
 
 // A move out of a drive into another.
@@ -59,7 +171,20 @@ fn between_drives<D: Disk + Drop>(
     ensures { MovesLent D.state from to slots.old (Some source.old) (Some destination.old) result
         slots.new (Some source.new) (Some destination.new) }
 {
-    Reply::conflict(alloc)
+    if let Some(reply) = refusal_between(alloc, drive_end(source), drive_end(destination)) {
+        return reply;
+    }
+    let cartridge = match source.unload() {
+        Ok(cartridge) => cartridge,
+        Err(reply) => return reply,
+    };
+    match destination.load(cartridge) {
+        Ok(()) => Reply::good(Bytes::new(alloc)),
+        Err((cartridge, reply)) => {
+            source.insert(cartridge);
+            reply
+        }
+    }
 }
 
 /// Moves a cartridge from one element address to another, as `Held::move_medium` does.
