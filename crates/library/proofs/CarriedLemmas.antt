@@ -143,9 +143,9 @@ module _ {D : Type 0} (state : D → DiskState) where
             out,
             record { slots = slots; bays = set bays (from - 1) (Some left) },
             inr (
-                off_slots bays from bay named.all named.at_source,
-                (bay, left, named.at_source, goes, out_bay left),
-              ),
+              off_slots bays from bay named.all named.at_source,
+              (bay, left, named.at_source, goes, out_bay left),
+            ),
             inl (inl (out_slot e f e_is f_is is, record { slots = puts; bays = refl }), good),
           ))
 
@@ -181,21 +181,21 @@ module _ {D : Type 0} (state : D → DiskState) where
             record { slots = mid; bays = bays },
             inl (on, held, record { slots = takes; bays = refl }),
             inl (
-                inr (
-                    off_slots bays to bay named.all (named.at_destination differs),
-                    (
-                      bay,
-                      left,
-                      named.at_destination differs,
-                      opens,
-                      record {
-                        bays = found_becomes bays to bay left named.all (named.at_destination differs);
-                        slots = refl;
-                      },
-                    ),
-                  ),
-                good,
+              inr (
+                off_slots bays to bay named.all (named.at_destination differs),
+                (
+                  bay,
+                  left,
+                  named.at_destination differs,
+                  opens,
+                  record {
+                    bays = found_becomes bays to bay left named.all (named.at_destination differs);
+                    slots = refl;
+                  },
+                ),
               ),
+              good,
+            ),
           ))
 
       pub into_comes_back : (e f : End) (mid later : List (Option (BufferState D))) (left : BayState D)
@@ -212,21 +212,21 @@ module _ {D : Type 0} (state : D → DiskState) where
             record { slots = mid; bays = bays },
             inl (on, held, record { slots = takes; bays = refl }),
             inr (
-                again,
-                record { slots = mid; bays = set bays (to - 1) (Some left) },
+              again,
+              record { slots = mid; bays = set bays (to - 1) (Some left) },
+              (
+                off_slots bays to bay named.all (named.at_destination differs),
                 (
-                  off_slots bays to bay named.all (named.at_destination differs),
-                  (
-                    bay,
-                    left,
-                    named.at_destination differs,
-                    refuses,
-                    record {
-                      bays = found_becomes bays to bay left named.all (named.at_destination differs);
-                      slots = refl;
-                    },
-                  ),
+                  bay,
+                  left,
+                  named.at_destination differs,
+                  refuses,
+                  record {
+                    bays = found_becomes bays to bay left named.all (named.at_destination differs);
+                    slots = refl;
+                  },
                 ),
-                inl (on, record { slots = puts; bays = refl }),
               ),
+              inl (on, record { slots = puts; bays = refl }),
+            ),
           ))

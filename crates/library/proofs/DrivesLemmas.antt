@@ -105,12 +105,12 @@ module _ {D : Type 0} (state : D → DiskState) (slots : List (Option (BufferSta
         with_row (out_row left),
         drives_out left out goes,
         inl (
-            inr (
-                off_to,
-                (destination, later, at_to left, opens, record { bays = in_becomes left later; slots = refl }),
-              ),
-            good,
+          inr (
+            off_to,
+            (destination, later, at_to left, opens, record { bays = in_becomes left later; slots = refl }),
           ),
+          good,
+        ),
       ))
 
   -- the source, once its cartridge was put back
@@ -144,21 +144,21 @@ module _ {D : Type 0} (state : D → DiskState) (slots : List (Option (BufferSta
         with_row (out_row left),
         drives_out left out goes,
         inr (
-            back,
-            with_row (row_with left later),
-            (
-              off_to,
-              (destination, later, at_to left, refuses, record { bays = in_becomes left later; slots = refl }),
-            ),
-            inr (
-                off_from,
-                (
-                  left,
-                  (in_becomes left later).elsewhere from differs ∙ (out_becomes left).here,
-                  subst (λ (b : BayState D). BayIs from b (with_row (row_with left later))
-                      (with_row (row_with again later))) put
-                      (record { bays = back_becomes left later again; slots = refl }),
-                ),
-              ),
+          back,
+          with_row (row_with left later),
+          (
+            off_to,
+            (destination, later, at_to left, refuses, record { bays = in_becomes left later; slots = refl }),
           ),
+          inr (
+            off_from,
+            (
+              left,
+              (in_becomes left later).elsewhere from differs ∙ (out_becomes left).here,
+              subst (λ (b : BayState D). BayIs from b (with_row (row_with left later))
+                  (with_row (row_with again later))) put
+                  (record { bays = back_becomes left later again; slots = refl }),
+            ),
+          ),
+        ),
       ))

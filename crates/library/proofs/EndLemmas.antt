@@ -102,6 +102,7 @@ module _ {D : Type 0} where
     where
       gone : (number ≡ 0) ⊎ (16 < number) → ⊥
       gone out = let clash : Some bay ≡ None = sym at ∙ at_no_place bays number long out in absurd (cc)
+
       by : (b d : Bool) → nat_le 1 number ≡ b → nat_le number 16 ≡ d → (1 ≤ number) × (number ≤ 16)
       by true true least most = (grind (arith, nat_tests), grind (arith, nat_tests))
       by false d least most = absurd (gone (inl (grind (arith, nat_tests))))

@@ -103,7 +103,12 @@ fn fill<D: Disk + Drop>(slots: &mut Slots<Parked<D>>, address: u32, cartridge: P
 }
 
 // A move between two slots.
-fn between_slots<D: Disk + Drop>(alloc: Global, slots: &mut Slots<Parked<D>>, from: u32, to: u32) -> Reply
+fn between_slots<D: Disk + Drop>(
+    alloc: Global,
+    slots: &mut Slots<Parked<D>>,
+    from: u32,
+    to: u32,
+) -> Reply
     ensures { MovesLent D.state from to slots.old None None result slots.new None None }
 {
     if let Some(reply) = refusal_between(alloc, slot_end(slots, from), slot_end(slots, to)) {
@@ -124,7 +129,11 @@ fn out_of_drive<D: Disk + Drop>(
 ) -> Reply
     ensures { MovesLent D.state from to slots.old (Some source.old) None result slots.new (Some source.new) None }
 {
-    if let Some(reply) = refusal_between(alloc, drive_end(source), end_beside(slots, source, from, to)) {
+    if let Some(reply) = refusal_between(
+        alloc,
+        drive_end(source),
+        end_beside(slots, source, from, to),
+    ) {
         return reply;
     }
     let cartridge = match source.unload() {
@@ -187,7 +196,11 @@ fn between_drives<D: Disk + Drop>(
     }
 }
 
-/// Moves a cartridge from one element address to another, as `Held::move_medium` does.
+/// Moves a cartridge from one element address to another, on slots and drives that are lent, by the rules of
+/// `Held::move_medium` (own): `source` is the drive that `from` names and `destination` that of `to`, and `None` where
+/// the address is no configured drive's; a drive that both name is lent as the source alone. Of any library that has
+/// these slots, and these drives where the addresses name them, the reply and what is left behind are those of that
+/// move, in at most 16 drives. Where other drives are lent than the addresses name, nothing is said.
 pub fn move_lent<D: Disk + Drop>(
     alloc: Global,
     slots: &mut Slots<Parked<D>>,

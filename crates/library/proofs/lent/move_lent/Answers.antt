@@ -19,11 +19,11 @@ returns g c =
     (λ i. (given.alloc, (given.slots, (c.in-Some.is i, (c.in-Some-destination-2.is i, (given.from, (given.to, tt)))))))
     (record {
       answer = each_answer g.D.Disk.state given.from given.to given.slots.now (Some c.in-Some.source.now) (Some c.in-Some-destination-2.destination.now)
-      c.between_drives.result c.between_drives.new.slots (Some c.between_drives.new.source) (Some c.between_drives.new.destination) c.between_drives.ensures;
+          c.between_drives.result c.between_drives.new.slots (Some c.between_drives.new.source) (Some c.between_drives.new.destination) c.between_drives.ensures;
       kept = each_kept g.D.Disk.state given.from given.to given.slots.now (Some c.in-Some.source.now) (Some c.in-Some-destination-2.destination.now)
-      c.between_drives.result c.between_drives.new.slots (Some c.between_drives.new.source) (Some c.between_drives.new.destination) g.met.D.Disk.is_disk c.between_drives.ensures;
+          c.between_drives.result c.between_drives.new.slots (Some c.between_drives.new.source) (Some c.between_drives.new.destination) g.met.D.Disk.is_disk c.between_drives.ensures;
       bays = each_bays g.D.Disk.state given.from given.to given.slots.now (Some c.in-Some.source.now) (Some c.in-Some-destination-2.destination.now)
-      c.between_drives.result c.between_drives.new.slots (Some c.between_drives.new.source) (Some c.between_drives.new.destination) c.between_drives.ensures;
+          c.between_drives.result c.between_drives.new.slots (Some c.between_drives.new.source) (Some c.between_drives.new.destination) c.between_drives.ensures;
     })
 
 pub returns-in_default-destination-2 : goal.returns-in_default-destination-2
@@ -39,11 +39,11 @@ returns-in_default-destination-2 g c =
     (λ i. (given.alloc, (given.slots, (c.in-Some.is i, (c.in_default-destination-2.is i, (given.from, (given.to, tt)))))))
     (record {
       answer = each_answer g.D.Disk.state given.from given.to given.slots.now (Some c.in-Some.source.now) None
-      c.out_of_drive.result c.out_of_drive.new.slots (Some c.out_of_drive.new.source) None c.out_of_drive.ensures;
+          c.out_of_drive.result c.out_of_drive.new.slots (Some c.out_of_drive.new.source) None c.out_of_drive.ensures;
       kept = each_kept g.D.Disk.state given.from given.to given.slots.now (Some c.in-Some.source.now) None
-      c.out_of_drive.result c.out_of_drive.new.slots (Some c.out_of_drive.new.source) None g.met.D.Disk.is_disk c.out_of_drive.ensures;
+          c.out_of_drive.result c.out_of_drive.new.slots (Some c.out_of_drive.new.source) None g.met.D.Disk.is_disk c.out_of_drive.ensures;
       bays = each_bays g.D.Disk.state given.from given.to given.slots.now (Some c.in-Some.source.now) None
-      c.out_of_drive.result c.out_of_drive.new.slots (Some c.out_of_drive.new.source) None c.out_of_drive.ensures;
+          c.out_of_drive.result c.out_of_drive.new.slots (Some c.out_of_drive.new.source) None c.out_of_drive.ensures;
     })
 
 pub returns-in_default : goal.returns-in_default
@@ -59,11 +59,11 @@ returns-in_default g c =
     (λ i. (given.alloc, (given.slots, (c.in_default.is i, (c.in-Some-destination.is i, (given.from, (given.to, tt)))))))
     (record {
       answer = each_answer g.D.Disk.state given.from given.to given.slots.now None (Some c.in-Some-destination.destination.now)
-      c.into_drive.result c.into_drive.new.slots None (Some c.into_drive.new.destination) c.into_drive.ensures;
+          c.into_drive.result c.into_drive.new.slots None (Some c.into_drive.new.destination) c.into_drive.ensures;
       kept = each_kept g.D.Disk.state given.from given.to given.slots.now None (Some c.in-Some-destination.destination.now)
-      c.into_drive.result c.into_drive.new.slots None (Some c.into_drive.new.destination) g.met.D.Disk.is_disk c.into_drive.ensures;
+          c.into_drive.result c.into_drive.new.slots None (Some c.into_drive.new.destination) g.met.D.Disk.is_disk c.into_drive.ensures;
       bays = each_bays g.D.Disk.state given.from given.to given.slots.now None (Some c.in-Some-destination.destination.now)
-      c.into_drive.result c.into_drive.new.slots None (Some c.into_drive.new.destination) c.into_drive.ensures;
+          c.into_drive.result c.into_drive.new.slots None (Some c.into_drive.new.destination) c.into_drive.ensures;
     })
 
 pub returns-in_default-destination : goal.returns-in_default-destination
@@ -79,9 +79,9 @@ returns-in_default-destination g c =
     (λ i. (given.alloc, (given.slots, (c.in_default.is i, (c.in_default-destination.is i, (given.from, (given.to, tt)))))))
     (record {
       answer = each_answer g.D.Disk.state given.from given.to given.slots.now None None
-      c.between_slots.result c.between_slots.new.slots None None c.between_slots.ensures;
+          c.between_slots.result c.between_slots.new.slots None None c.between_slots.ensures;
       kept = each_kept g.D.Disk.state given.from given.to given.slots.now None None
-      c.between_slots.result c.between_slots.new.slots None None g.met.D.Disk.is_disk c.between_slots.ensures;
+          c.between_slots.result c.between_slots.new.slots None None g.met.D.Disk.is_disk c.between_slots.ensures;
       bays = each_bays g.D.Disk.state given.from given.to given.slots.now None None
-      c.between_slots.result c.between_slots.new.slots None None c.between_slots.ensures;
+          c.between_slots.result c.between_slots.new.slots None None c.between_slots.ensures;
     })
