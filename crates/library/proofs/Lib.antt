@@ -1,8 +1,12 @@
 pub mod BayLemmas
+pub mod CarriedLemmas
 pub mod CartridgeLemmas
 pub mod CoreLemmas
+pub mod DrivesLemmas
+pub mod EndLemmas
 pub mod FinishLemmas
 pub mod JourneyLemmas
+pub mod LentLemmas
 pub mod MachineLemmas
 pub mod MoveLemmas
 pub mod PlaceLemmas
@@ -14,4 +18,5 @@ pub mod CallLemmas
 pub mod BesideLemmas
 pub mod ServedLemmas
 pub mod OneHostLemmas
+pub mod ReturnLemmas
 pub mod RunnerLemmas

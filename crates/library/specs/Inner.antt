@@ -1,3 +1,4 @@
+pub mod Carried
 pub mod Finishing
 pub mod Going
 pub mod RunsOn

@@ -5,6 +5,7 @@ pub mod Elements
 pub mod Finish
 pub mod Inner
 pub mod Journeys
+pub mod Lent
 pub mod Moves
 pub mod OneHost
 pub mod Reservations

@@ -26,7 +26,7 @@ fn drive_of(address: u32) -> Option<DriveNo>
 }
 
 // CHECK CONDITION with this sense data, and no bytes.
-fn check(alloc: Global, sense: Sense) -> Reply
+pub(crate) fn check(alloc: Global, sense: Sense) -> Reply
     ensures { result ≡ check_with sense [] }
 {
     Reply::check(sense, Bytes::new(alloc))
