@@ -44,7 +44,8 @@ module _ {D : Type 0} (state : D → DiskState) where
     none_awake : bay_at bays from ≡ None → IsAwakeAt state old from
     none_awake none = subst (λ (b : Option (BayState D)). IsAwakeBay state b) (sym none) tt
 
-    pub some_awake : (bay : BayState D) → bay_at bays from ≡ Some bay → IsAwakeIn state bay.bay → IsAwakeAt state old from
+    pub some_awake : (bay : BayState D) → bay_at bays from ≡ Some bay → IsAwakeIn state bay.bay → IsAwakeAt state
+        old from
     some_awake bay at awake = subst (λ (b : Option (BayState D)). IsAwakeBay state b) (sym at) awake
 
     -- between two slots
@@ -103,7 +104,8 @@ module _ {D : Type 0} (state : D → DiskState) where
           (found_same bays from bay named.all named.at_source))
 
       -- the drive once something went out of it, or did not
-      out_bay : (left : BayState D) → BayIs from left old (record { slots = slots; bays = set bays (from - 1) (Some left) })
+      out_bay : (left : BayState D) → BayIs from left old (record { slots = slots; bays = set bays (from - 1) (Some
+          left) })
       out_bay left = record { bays = found_becomes bays from bay left named.all named.at_source; slots = refl }
 
       pub out_stays : (e f : End) (left : BayState D) (reply : Reply) → e ≡ drive_end bay
