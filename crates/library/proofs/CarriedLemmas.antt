@@ -104,8 +104,11 @@ module _ {D : Type 0} (state : D → DiskState) where
           (found_same bays from bay named.all named.at_source))
 
       -- the drive once something went out of it, or did not
-      out_bay : (left : BayState D) → BayIs from left old (record { slots = slots; bays = set bays (from - 1) (Some
-          left) })
+      out_bay : (left : BayState D) → BayIs from left old (record {
+        slots = slots;
+        bays = set bays (from - 1) (Some
+            left);
+      })
       out_bay left = record { bays = found_becomes bays from bay left named.all named.at_source; slots = refl }
 
       pub out_stays : (e f : End) (left : BayState D) (reply : Reply) → e ≡ drive_end bay

@@ -2,7 +2,7 @@
 ghost use Rattle.std.specs.Prelude.{◌≡◌, [], IfOk, true};
 
 use aptpl_store::AptplStore;
-use assertions::{assert_equal, assert_holds};
+use assertions::assert_equal;
 use cartridge::{Cartridge, Shelved};
 use library::{Bay, Held, Parked};
 use pr_core::Reservations;
@@ -103,6 +103,7 @@ pub fn asks(
 ) {
     let nexus = Nexus::new(place.0).expect(rt, "a nexus");
     let drive = DriveNo::new(place.1).expect(rt, "a drive");
-    assert_holds!(rt; held.configured(drive));
+    // `std`'s, since `command` asks for what it says.
+    assert!(rt; held.configured(drive));
     is_answer(rt, &held.command(nexus, drive, cdb, sent), wanted, 0);
 }

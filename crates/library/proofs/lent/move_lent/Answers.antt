@@ -12,9 +12,22 @@ returns g c =
     at_args (Lts.ps g.row.D g.D.laws g.D.Disk g.D.Disk-dict g.D.Destruct-dict) (Lts.r g.row.D g.D.laws g.D.Disk
     g.D.Disk-dict g.D.Destruct-dict) (Lts.xs g.row.D g.D.laws g.D.Disk g.D.Disk-dict g.D.Destruct-dict) c.lifetimes
     ((Tie.handed_clauses g.row.D g.D.laws g.D.Disk g.D.Disk-dict g.D.Destruct-dict).claim-own-asked)
-    (given.alloc, (given.slots, (given.source, (given.destination, (given.from, (given.to, tt))))))
-    (given.alloc, (given.slots, ((Some c.in-Some.source), ((Some c.in-Some-destination-2.destination), (given.from,
-    (given.to, tt)))))) _
+    (given.alloc, (given.slots, (given.source, (given.destination, (given.from, (given.to, tt)))))) (
+      given.alloc,
+      (
+        given.slots,
+        (
+          (Some c.in-Some.source),
+          (
+            (Some c.in-Some-destination-2.destination),
+            (
+              given.from,
+              (given.to, tt),
+            ),
+          ),
+        ),
+      ),
+    ) _
     ((Lts.m60 g.row.D g.D.laws g.D.Disk g.D.Disk-dict g.D.Destruct-dict (Tie.the-claims g.row.D g.D.laws g.D.Disk
     g.D.Disk-dict g.D.Destruct-dict) (Reads.Pre g.row.D g.D.laws g.D.Disk g.D.Disk-dict g.D.Destruct-dict)
     (Reads.Post g.row.D g.D.laws g.D.Disk g.D.Disk-dict g.D.Destruct-dict)
@@ -55,8 +68,25 @@ returns-in_default-destination-2 g c =
     g.D.laws g.D.Disk g.D.Disk-dict g.D.Destruct-dict) (Reads.Pre g.row.D g.D.laws g.D.Disk g.D.Disk-dict
     g.D.Destruct-dict) (Reads.Post g.row.D g.D.laws g.D.Disk g.D.Disk-dict g.D.Destruct-dict)
     (Tie.handed_clauses g.row.D g.D.laws g.D.Disk g.D.Disk-dict g.D.Destruct-dict) c)).1)
-    (λ i. (given.alloc, (given.slots, (c.in-Some.is i, (c.in_default-destination-2.is i, (given.from, (given.to,
-    tt)))))))
+    (λ i. (
+      given.alloc,
+      (
+        given.slots,
+        (
+          c.in-Some.is i,
+          (
+            c.in_default-destination-2.is i,
+            (
+              given.from,
+              (
+                given.to,
+                tt,
+              ),
+            ),
+          ),
+        ),
+      ),
+    ))
     (record {
       answer = each_answer g.D.Disk.state given.from given.to given.slots.now (Some c.in-Some.source.now) None
           c.out_of_drive.result c.out_of_drive.new.slots (Some c.out_of_drive.new.source) None c.out_of_drive.ensures;
@@ -113,8 +143,25 @@ returns-in_default-destination g c =
     g.D.laws g.D.Disk g.D.Disk-dict g.D.Destruct-dict) (Reads.Pre g.row.D g.D.laws g.D.Disk g.D.Disk-dict
     g.D.Destruct-dict) (Reads.Post g.row.D g.D.laws g.D.Disk g.D.Disk-dict g.D.Destruct-dict)
     (Tie.handed_clauses g.row.D g.D.laws g.D.Disk g.D.Disk-dict g.D.Destruct-dict) c)).1)
-    (λ i. (given.alloc, (given.slots, (c.in_default.is i, (c.in_default-destination.is i, (given.from, (given.to,
-    tt)))))))
+    (λ i. (
+      given.alloc,
+      (
+        given.slots,
+        (
+          c.in_default.is i,
+          (
+            c.in_default-destination.is i,
+            (
+              given.from,
+              (
+                given.to,
+                tt,
+              ),
+            ),
+          ),
+        ),
+      ),
+    ))
     (record {
       answer = each_answer g.D.Disk.state given.from given.to given.slots.now None None
           c.between_slots.result c.between_slots.new.slots None None c.between_slots.ensures;
