@@ -179,7 +179,7 @@ static WAITING: &'static [Row<'static>] = ONE_WAITS;
 // A turn fails, hosts are told of it, and the tape is found to hold this.
 fn turn_fails<D: Disk + Drop>(rt: &impl Abort, drive: &mut Tape<D>, told: &[Row], holds: &[u8]) {
     asks(rt, drive, WAITING);
-    assert_turn(rt, drive, Turn::Faulted);
+    assert_turn(rt, drive, Turn::Device);
     assert_turn(rt, drive, Turn::Idle);
     asks(rt, drive, told);
     asks(rt, drive, FOUND_AGAIN);

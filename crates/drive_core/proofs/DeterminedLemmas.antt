@@ -1,7 +1,7 @@
 -- Where no fault comes, a step has one outcome, and so has a run, wherever flusher's turns stand in it.
 use Rattle.std.proofs.Common.{◌≡◌, Option, Ok, Err, true, not, ◌&&◌, subst, sym, ◌∙◌, ap, refl}
 use Rattle.volume_core.specs.declared.media.Turn.{Turn}
-use Rattle.volume_core.specs.declared.media.Turn.TheVariants.{Idle, Stored, Faulted}
+use Rattle.volume_core.specs.declared.media.Turn.TheVariants.{Idle, Stored, Device}
 use Rattle.volume_core.specs.Medium.{MediumState, volume_of, Turns}
 use Rattle.positioning.specs.Laws.{NoSpaceEndsTwice, NoLocateEndsTwice}
 use Rattle.pr_core.specs.Keepers.{KeeperState}
@@ -32,14 +32,14 @@ turns_unseen medium (Stored n) left awake calm h =
       failed = h.0 i;
       side = side_sight (awake i && not (h.0 i)) medium;
     })
-turns_unseen medium Faulted left awake calm h = absurd calm
+turns_unseen medium Device left awake calm h = absurd calm
 
 -- the drive with its medium as it became in a turn without a fault
 after_calm : (turn : Turn) (left : MediumState) (old : Machine) → IsCalm (Unanswered (turn_outcome turn))
     → after_turn turn left old ≡ record old { bay = Loaded left }
 after_calm Idle left old calm = refl
 after_calm (Stored n) left old calm = refl
-after_calm Faulted left old calm = absurd calm
+after_calm Device left old calm = absurd calm
 
 -- and the drive
 drive_unseen : (bay : Bay MediumState) (old : Machine) (turn : Turn) (new : Machine) → old.bay ≡ bay
@@ -61,7 +61,7 @@ pub record IsUnseen (old : Machine) (output : Output) (made : Made) (new : Machi
 calm_outcome : (turn : Turn) → IsCalm (Unanswered (turn_outcome turn)) → turn_outcome turn ≡ Ok tt
 calm_outcome Idle calm = refl
 calm_outcome (Stored n) calm = refl
-calm_outcome Faulted calm = absurd calm
+calm_outcome Device calm = absurd calm
 
 pub turn_unseen : (old : Machine) (output : Output) (made : Made) (new : Machine) → IsCalm output
     → Step (Unit {0}) old FlushTurn output made new → IsUnseen old output made new

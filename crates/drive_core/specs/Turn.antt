@@ -1,7 +1,7 @@
 -- A flusher's turn.
 use Rattle.std.specs.Prelude.{◌≡◌, true, Result, Ok, Err}
 use Rattle.volume_core.specs.declared.media.Turn.{Turn}
-use Rattle.volume_core.specs.declared.media.Turn.TheVariants.{Idle, Faulted}
+use Rattle.volume_core.specs.declared.media.Turn.TheVariants.{Idle, Device}
 use Rattle.volume_core.specs.Medium.{MediumState, Turns}
 use Rattle.drive_core.specs.declared.bays.Bay.{Bay}
 use Rattle.drive_core.specs.declared.bays.Bay.TheVariants.{Loaded}
@@ -12,7 +12,7 @@ use Rattle.drive_core.specs.Relations.{Made, made_nothing}
 
 -- the drive with what its medium became in a turn: a fault establishes a deferred error (SPC-4, deferred errors)
 abbrev pub after_turn : Turn → MediumState → Machine → Machine
-after_turn Faulted medium machine = record machine { bay = Loaded medium; deferred = true }
+after_turn Device medium machine = record machine { bay = Loaded medium; deferred = true }
 after_turn _ medium machine = record machine { bay = Loaded medium }
 
 -- a loaded medium, which is awake, takes the turn; where none is loaded nothing is done (own)
@@ -23,7 +23,7 @@ TurnsIn _ old turn new = (turn ≡ Idle) × (new ≡ old)
 
 -- what came of a turn: it was done, or the device failed (own)
 abbrev pub turn_outcome : Turn → Result Unit Fault
-turn_outcome Faulted = Err Writing
+turn_outcome Device = Err Writing
 turn_outcome _ = Ok tt
 
 -- a drive takes a flusher's turn, which makes nothing (own)

@@ -173,9 +173,9 @@ impl<M: Medium, K: Keeper> Drive<M, K> {
         match medium.flush_turn() {
             Turn::Idle => Turn::Idle,
             Turn::Stored(count) => Turn::Stored(count),
-            Turn::Faulted => {
+            Turn::Device => {
                 self.deferred = true;
-                Turn::Faulted
+                Turn::Device
             }
         }
     }

@@ -82,7 +82,7 @@ fn a_drive_answers(rt: HostRuntime) -> Result<(), Fail> {
     let reading = (None, Some(1), 1_000);
     assert_course(&rt, alloc, reading, READ_FAILS, Turn::Idle, HAS_FAILED)?;
     let late = tables::AFTER_A_LATE_FAULT;
-    assert_course(&rt, alloc, second, BEFORE_A_TURN, Turn::Faulted, late)
+    assert_course(&rt, alloc, second, BEFORE_A_TURN, Turn::Device, late)
 }
 
 // A medium with a block on it, which was asked to store that and then parked, where this says so.
@@ -216,7 +216,7 @@ fn with_a_late_fault(
     alloc: Global,
 ) -> Result<Drive<StagedMedium, NoKeeper>, Fail> {
     let mut drive = with_a_fault_to_come(rt, alloc)?;
-    assert_eq!(rt; drive.turn(), Turn::Faulted);
+    assert_eq!(rt; drive.turn(), Turn::Device);
     Ok(drive)
 }
 

@@ -213,7 +213,7 @@ module _ {M D : Type 0} (medium : M → MediumState) (below : Below M Change) (d
   turn_leaves (Unloaded m) old turn new turned = ap (λ (m : Machine). m.reservations) turned.1
   turn_leaves (Loaded m) old turns.Idle new turned = ap (λ (m : Machine). m.reservations) turned.3
   turn_leaves (Loaded m) old (turns.Stored count) new turned = ap (λ (m : Machine). m.reservations) turned.3
-  turn_leaves (Loaded m) old turns.Faulted new turned = ap (λ (m : Machine). m.reservations) turned.3
+  turn_leaves (Loaded m) old turns.Device new turned = ap (λ (m : Machine). m.reservations) turned.3
 
   -- a flusher's turn
   turned_goes : (old new : DriveState M (OpenStore D)) (turn : Turn) → IsHolding medium below disk old

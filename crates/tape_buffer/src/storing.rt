@@ -71,7 +71,7 @@ pub(crate) fn turn_over<D: Disk>(cartridge: &mut Cartridge<D>, pending: &mut Pen
     let count = pending.len();
     match settle_over(cartridge, pending) {
         Ok(()) => Turn::Stored(count),
-        Err(_) => Turn::Faulted,
+        Err(_) => Turn::Device,
     }
 }
 

@@ -5,7 +5,7 @@ use Rattle.volume_core.specs.declared.changes.Change.TheVariants.{Put, Marks, Er
 use Rattle.volume_core.specs.declared.media.MediumError.{MediumError}
 use Rattle.volume_core.specs.declared.media.MediumError.TheVariants.{Refused, NoMemory, SideFull, Device, Failed, Unreadable}
 use Rattle.volume_core.specs.declared.media.Turn.{Turn}
-use Rattle.volume_core.specs.declared.media.Turn.TheVariants.{Idle, Stored, Faulted}
+use Rattle.volume_core.specs.declared.media.Turn.TheVariants as turns
 use Rattle.volume_core.specs.Volume.{Part, refusal_of, changed, after}
 
 -- what a medium holds (own)
@@ -116,15 +116,15 @@ Fetches old (Err _) new = ⊥
 -- A flusher's turn is answered so: nothing is pending or the medium has failed; all that was pending was stored; or
 -- the device failed while it was (own).
 abbrev pub Turns : MediumState → Turn → MediumState → Type 0
-Turns old Idle new = ((old.pending ≡ []) ⊎ (old.failed ≡ true)) × (new ≡ old)
-Turns old (Stored n) new =
+Turns old turns.Idle new = ((old.pending ≡ []) ⊎ (old.failed ≡ true)) × (new ≡ old)
+Turns old (turns.Stored n) new =
     (old.failed ≡ false) × (1 ≤ n) × (n ≡ length old.pending) × (new.pending ≡ [])
     × Works (volume_of old) new
-Turns old Faulted new = (old.failed ≡ false) × (1 ≤ length old.pending) × Breaks old new
+Turns old turns.Device new = (old.failed ≡ false) × (1 ≤ length old.pending) × Breaks old new
 
 -- the device failed in the turn (own)
 abbrev pub turn_met_fault : Turn → Bool
-turn_met_fault Faulted = true
+turn_met_fault turns.Device = true
 turn_met_fault _ = false
 
 -- a parked medium; where it is honest, its side gives this volume, with none or all of these changes, and of this room

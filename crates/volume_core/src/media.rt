@@ -45,7 +45,7 @@ pub enum Turn {
     /// So many changes, all that were pending, were stored.
     Stored(usize),
     /// The device failed in this turn. The volume is as it was, and the medium has failed.
-    Faulted,
+    Device,
 }
 
 /// A volume that tells of itself. Each call needs the medium awake.

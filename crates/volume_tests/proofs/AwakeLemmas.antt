@@ -4,7 +4,7 @@ use Rattle.volume_core.specs.declared.changes.Change.{Change}
 use Rattle.volume_core.specs.declared.media.MediumError.{MediumError}
 use Rattle.volume_core.specs.declared.media.MediumError.TheVariants.{Refused, NoMemory, SideFull, Device, Failed, Unreadable}
 use Rattle.volume_core.specs.declared.media.Turn.{Turn}
-use Rattle.volume_core.specs.declared.media.Turn.TheVariants.{Idle, Stored, Faulted}
+use Rattle.volume_core.specs.declared.media.Turn.TheVariants as turns
 use Rattle.volume_core.specs.Medium.{MediumState, Accepts, Fetches, Settles, Turns, Parks, Wakes, WakesFrom}
 
 same_awake : (old new : MediumState) → old.awake ≡ true → new ≡ old → new.awake ≡ true
@@ -42,9 +42,9 @@ fetches_awake old (Err Unreadable) new awake answer = absurd answer
 
 pub turns_awake : (old : MediumState) (turn : Turn) (new : MediumState)
     → old.awake ≡ true → Turns old turn new → new.awake ≡ true
-turns_awake old Idle new awake answer = same_awake old new awake answer.1
-turns_awake old (Stored n) new awake answer = answer.4.awake
-turns_awake old Faulted new awake answer = answer.2.awake
+turns_awake old turns.Idle new awake answer = same_awake old new awake answer.1
+turns_awake old (turns.Stored n) new awake answer = answer.4.awake
+turns_awake old turns.Device new awake answer = answer.2.awake
 
 pub parks_awake : (honest : Type 0) (old : MediumState) (error : MediumError) (new : MediumState)
     → Parks honest old (Err error) new → new.awake ≡ true

@@ -43,7 +43,7 @@ const TURN_FAILS: &'static [Row] = &[
     (Ask::Put(0, 5), Answer::Done, 1, false, 1),
     (Ask::Turn, Answer::Turned(Turn::Stored(1)), 0, false, 1),
     (Ask::Marks(1, 1), Answer::Done, 1, false, 2),
-    (Ask::Turn, Answer::Turned(Turn::Faulted), 1, true, 2),
+    (Ask::Turn, Answer::Turned(Turn::Device), 1, true, 2),
     (Ask::Turn, Answer::Turned(Turn::Idle), 1, true, 2),
 ];
 

@@ -3,7 +3,7 @@ use Rattle.std.specs.Prelude.{◌≡◌, ◌++◌, List, [], ◌∷◌, Result, 
 use Rattle.volume_core.specs.declared.changes.Change.{Change}
 use Rattle.volume_core.specs.declared.media.MediumError.{MediumError}
 use Rattle.volume_core.specs.declared.media.Turn.{Turn}
-use Rattle.volume_core.specs.declared.media.Turn.TheVariants.{Idle, Stored, Faulted}
+use Rattle.volume_core.specs.declared.media.Turn.TheVariants.{Idle, Stored, Device}
 
 -- these frames, and one more with all that was pending; none more where nothing was (own)
 abbrev pub with_pending : List (List Change) → List Change → List (List Change)
@@ -19,4 +19,4 @@ IsOneFrame (Err error) old pending new = new ≡ old
 abbrev pub IsOneFrameIn : Turn → List (List Change) → List Change → List (List Change) → Type 0
 IsOneFrameIn (Stored n) old pending new = new ≡ with_pending old pending
 IsOneFrameIn Idle old pending new = new ≡ old
-IsOneFrameIn Faulted old pending new = new ≡ old
+IsOneFrameIn Device old pending new = new ≡ old

@@ -89,7 +89,7 @@ impl Medium for StagedMedium {
         }
         match self.store() {
             Ok(()) => Turn::Stored(count),
-            Err(_) => Turn::Faulted,
+            Err(_) => Turn::Device,
         }
     }
 
