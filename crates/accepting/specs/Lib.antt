@@ -1,3 +1,4 @@
 pub mod Core
 pub mod Events
+pub mod Kinds
 pub mod Laws
