@@ -19,7 +19,8 @@ use Rattle.record_index.specs.Records.{spell_all}
 use Rattle.cartridge.specs.Contents.{IsContents, changes_in, changes_of, volume_made}
 use Rattle.cartridge.specs.State.{OpenCartridge}
 use Rattle.accepting.specs.Core.{Core, with_item}
-use Rattle.accepting.specs.Events.{CoreMoves, moves_accepting}
+use Rattle.accepting.specs.Events.{CoreMoves}
+use Rattle.accepting.specs.Kinds.{moves_accepting}
 use Rattle.tape_buffer.specs.Limits.{FitsBuffer, block_bytes}
 use Rattle.tape_buffer.specs.Moves.{buffer_below, medium_moves_on}
 use Rattle.tape_buffer.specs.Rules.{applies_behind, is_unrefused, medium_rules}

@@ -11,7 +11,8 @@ use Rattle.volume_core.specs.Stores.{Stores}
 use Rattle.cartridge.specs.Contents.{changes_in, changes_of}
 use Rattle.cartridge.specs.State.{ClosedCartridge, OpenCartridge}
 use Rattle.accepting.specs.Core.{Core, stopped}
-use Rattle.accepting.specs.Events.{CoreMoves, moves_stopping}
+use Rattle.accepting.specs.Events.{CoreMoves}
+use Rattle.accepting.specs.Kinds.{moves_stopping}
 use Rattle.tape_buffer.specs.Moves.{buffer_below, medium_moves_on}
 use Rattle.tape_buffer.specs.Rules.{medium_rules}
 use Rattle.tape_buffer.specs.State.{closed_buffer, closed_state, found_core, open_buffer, open_core, open_state}

@@ -14,7 +14,8 @@ use Rattle.cartridge.specs.Contents.{Contents, GivesContents, IsContents, ShowsC
 use Rattle.cartridge.specs.Extending.{changes_more}
 use Rattle.cartridge.specs.State.{OpenCartridge}
 use Rattle.accepting.specs.Core.{Core, IsCore, broken_in, settled}
-use Rattle.accepting.specs.Events.{CoreMoves, GivesSoMany, ShowsCore, moves_failing, moves_storing}
+use Rattle.accepting.specs.Events.{CoreMoves, ShowsCore}
+use Rattle.accepting.specs.Kinds.{GivesSoMany, moves_failing, moves_storing}
 use Rattle.tape_buffer.specs.Rules.{GivesChanges, medium_rules}
 use Rattle.tape_buffer.specs.Moves.{buffer_below, medium_moves_nowhere}
 use Rattle.tape_buffer.specs.State.{BufferState, open_buffer, open_core}

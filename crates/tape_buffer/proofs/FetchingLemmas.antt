@@ -14,7 +14,7 @@ use Rattle.volume_core.specs.declared.media.MediumError.TheVariants.{Refused, No
 use Rattle.volume_core.specs.Volume.{AllApply, Part, after, block_at, block_in, changed}
 use Rattle.volume_core.specs.Medium.{met_fault}
 use Rattle.cartridge.specs.State.{OpenCartridge}
-use Rattle.accepting.specs.Events.{moves_faulting, moves_resting}
+use Rattle.accepting.specs.Kinds.{moves_faulting, moves_resting}
 use Rattle.tape_buffer.specs.declared.overlay.Seen.TheVariants as Places
 use Rattle.tape_buffer.specs.Inner.Fetching.{IsCopied, IsFetched, IsPut}
 use Rattle.tape_buffer.specs.Moves.{buffer_below}

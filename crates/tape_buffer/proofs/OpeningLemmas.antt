@@ -20,7 +20,8 @@ use Rattle.cartridge.specs.Contents.{Contents, GivesContents, ShowsContents, bod
 use Rattle.cartridge.specs.ContentsOn.{contents_on_is}
 use Rattle.cartridge.specs.State.{ClosedCartridge, OpenCartridge}
 use Rattle.accepting.specs.Core.{Core, IsCore, recovered}
-use Rattle.accepting.specs.Events.{ShowsCore, moves_recovering}
+use Rattle.accepting.specs.Events.{ShowsCore}
+use Rattle.accepting.specs.Kinds.{moves_recovering}
 use Rattle.tape_buffer.specs.Moves.{buffer_below}
 use Rattle.tape_buffer.specs.Rules.{GivesChanges, medium_rules}
 use Rattle.tape_buffer.specs.State.{IsPendingOver, closed_buffer, closed_state, found_core, found_in, open_buffer, open_core, open_state, room_found, room_of, torn_in}

@@ -15,7 +15,8 @@ use Rattle.cartridge.specs.Contents.{Contents, GivesContents, IsBadFrameAt, IsNo
 use Rattle.cartridge.specs.ContentsOn.{contents_on, contents_on_none}
 use Rattle.cartridge.specs.State.{ClosedCartridge}
 use Rattle.accepting.specs.Core.{Core}
-use Rattle.accepting.specs.Events.{CoreMoves, moves_resting}
+use Rattle.accepting.specs.Events.{CoreMoves}
+use Rattle.accepting.specs.Kinds.{moves_resting}
 use Rattle.tape_buffer.specs.Inner.Waking.{wake_error_of}
 use Rattle.tape_buffer.specs.Moves.{buffer_below}
 use Rattle.tape_buffer.specs.Rules.{medium_rules}
