@@ -10,7 +10,8 @@ use Rattle.gate_journal.specs.Crash.{WithOrWithout}
 use Rattle.gate_journal.specs.Side.{Heading, StandsFor}
 use Rattle.gate_journal.specs.State.{OpenSide, room_behind}
 use Rattle.accepting.specs.Core.{Core, IsCore, settled, with_item}
-use Rattle.accepting.specs.Events.{CoreMoves, GivesSoMany, core_moves_nowhere, core_moves_on, moves_accepting, moves_failing, moves_storing}
+use Rattle.accepting.specs.Events.{CoreMoves, core_moves_nowhere, core_moves_on}
+use Rattle.accepting.specs.Kinds.{GivesSoMany, moves_accepting, moves_failing, moves_storing}
 use Rattle.pr_core.specs.declared.states.PrState.{PrState}
 use Rattle.pr_core.specs.States.{power_loss}
 use Rattle.pr_core.specs.Keepers.{Broken, Stored, state_frame_size}
