@@ -16,10 +16,9 @@ append-requires g c =
 
 pub invariant_of-self : goal.invariant_of-self
 invariant_of-self g c =
-    let i = c.self.inside in
-    let old = i.journal in
+    let old = c.self.inside.journal in
     let new = c.append.new.self in
-    let notes = i.noted.notes in
+    let notes = c.self.inside.noted.notes in
     let state = c.args.reservations.now in
     let body = c.deref.result.now in
     let body_is : body ≡ spell_state state =
@@ -38,10 +37,9 @@ invariant_of-self g c =
 
 pub invariant_of-self-in-Err-Device : goal.invariant_of-self-in-Err-Device
 invariant_of-self-in-Err-Device g c =
-    let i = c.self.inside in
-    let old = i.journal in
+    let old = c.self.inside.journal in
     let new = c.append.new.self in
-    let notes = i.noted.notes in
+    let notes = c.self.inside.noted.notes in
     let state = c.args.reservations.now in
     let body = c.deref.result.now in
     let body_is : body ≡ spell_state state =
@@ -62,10 +60,9 @@ invariant_of-self-in-Err-Device g c =
 pub returns-in-Ok-clause-answer : goal.returns-in-Ok-clause-answer
 returns-in-Ok-clause-answer g c =
     rw (← c.self.view_is) (
-    let i = c.self.inside in
-    let old = i.journal in
+    let old = c.self.inside.journal in
     let new = c.append.new.self in
-    let notes = i.noted.notes in
+    let notes = c.self.inside.noted.notes in
     let state = c.args.reservations.now in
     let body = c.deref.result.now in
     let body_is : body ≡ spell_state state =
@@ -82,10 +79,9 @@ returns-in-Ok-clause-answer g c =
 pub returns-in-Ok-clause-advances : goal.returns-in-Ok-clause-advances
 returns-in-Ok-clause-advances g c =
     rw (← c.self.view_is) (
-    let i = c.self.inside in
-    let old = i.journal in
+    let old = c.self.inside.journal in
     let new = c.append.new.self in
-    let notes = i.noted.notes in
+    let notes = c.self.inside.noted.notes in
     let state = c.args.reservations.now in
     let body = c.deref.result.now in
     let body_is : body ≡ spell_state state =
@@ -101,10 +97,9 @@ returns-in-Ok-clause-advances g c =
 pub returns-in-Ok-clause-saves : goal.returns-in-Ok-clause-saves
 returns-in-Ok-clause-saves g c =
     rw (← c.self.view_is) (
-    let i = c.self.inside in
-    let old = i.journal in
+    let old = c.self.inside.journal in
     let new = c.append.new.self in
-    let notes = i.noted.notes in
+    let notes = c.self.inside.noted.notes in
     let state = c.args.reservations.now in
     let body = c.deref.result.now in
     let body_is : body ≡ spell_state state =
@@ -119,10 +114,9 @@ returns-in-Ok-clause-saves g c =
 pub returns-in-Ok-clause-sure : goal.returns-in-Ok-clause-sure
 returns-in-Ok-clause-sure g c =
     rw (← c.self.view_is) (
-    let i = c.self.inside in
-    let old = i.journal in
+    let old = c.self.inside.journal in
     let new = c.append.new.self in
-    let notes = i.noted.notes in
+    let notes = c.self.inside.noted.notes in
     let state = c.args.reservations.now in
     let body = c.deref.result.now in
     let body_is : body ≡ spell_state state =
@@ -137,10 +131,9 @@ returns-in-Ok-clause-sure g c =
 pub returns-in-Ok-clause-any_moment : goal.returns-in-Ok-clause-any_moment
 returns-in-Ok-clause-any_moment g c =
     rw (← c.self.view_is) (
-    let i = c.self.inside in
-    let old = i.journal in
+    let old = c.self.inside.journal in
     let new = c.append.new.self in
-    let notes = i.noted.notes in
+    let notes = c.self.inside.noted.notes in
     let state = c.args.reservations.now in
     let body = c.deref.result.now in
     let body_is : body ≡ spell_state state =
@@ -149,16 +142,14 @@ returns-in-Ok-clause-any_moment g c =
     let said = c.in-Ok.ensures in
     (λ h fine. opened g.D.Disk.state g.met.D.Disk.is_disk old new _ _ notes c.self.invariant.0 c.self.invariant.1
     c.fill_body.ensures.room state savable body body_is said.disk said.heading said.answer.0.was_fine
-    (λ h. said.any_moment h said.answer.0.was_fine)
-    h))
+    (λ h. said.any_moment h said.answer.0.was_fine) h))
 
 pub returns-in-Err-Device-clause-answer : goal.returns-in-Err-Device-clause-answer
 returns-in-Err-Device-clause-answer g c =
     rw (← c.self.view_is) (
-    let i = c.self.inside in
-    let old = i.journal in
+    let old = c.self.inside.journal in
     let new = c.append.new.self in
-    let notes = i.noted.notes in
+    let notes = c.self.inside.noted.notes in
     let state = c.args.reservations.now in
     let body = c.deref.result.now in
     let body_is : body ≡ spell_state state =
@@ -176,10 +167,9 @@ returns-in-Err-Device-clause-answer g c =
 pub returns-in-Err-Device-clause-advances : goal.returns-in-Err-Device-clause-advances
 returns-in-Err-Device-clause-advances g c =
     rw (← c.self.view_is) (
-    let i = c.self.inside in
-    let old = i.journal in
+    let old = c.self.inside.journal in
     let new = c.append.new.self in
-    let notes = i.noted.notes in
+    let notes = c.self.inside.noted.notes in
     let state = c.args.reservations.now in
     let body = c.deref.result.now in
     let body_is : body ≡ spell_state state =
@@ -195,10 +185,9 @@ returns-in-Err-Device-clause-advances g c =
 pub returns-in-Err-Device-clause-any_moment : goal.returns-in-Err-Device-clause-any_moment
 returns-in-Err-Device-clause-any_moment g c =
     rw (← c.self.view_is) (
-    let i = c.self.inside in
-    let old = i.journal in
+    let old = c.self.inside.journal in
     let new = c.append.new.self in
-    let notes = i.noted.notes in
+    let notes = c.self.inside.noted.notes in
     let state = c.args.reservations.now in
     let body = c.deref.result.now in
     let body_is : body ≡ spell_state state =
@@ -208,16 +197,12 @@ returns-in-Err-Device-clause-any_moment g c =
     let broke = rw c.in-Err-Device.field-0-is at said.answer in
     (λ h fine. opened g.D.Disk.state g.met.D.Disk.is_disk old new _ _ notes c.self.invariant.0 c.self.invariant.1
     c.fill_body.ensures.room state savable body body_is said.disk said.heading broke.0.was_fine
-    (λ h. said.any_moment h broke.0.was_fine)
-    h))
+    (λ h. said.any_moment h broke.0.was_fine) h))
 
 pub returns-in-Err-NoMemory-clause-answer : goal.returns-in-Err-NoMemory-clause-answer
 returns-in-Err-NoMemory-clause-answer g c =
     rw (← c.self.view_is) (
-    let i = c.self.inside in
-    let old = i.journal in
-    let new = c.append.new.self in
-    let notes = i.noted.notes in
+    let notes = c.self.inside.noted.notes in
     let state = c.args.reservations.now in
     let body = c.deref.result.now in
     let body_is : body ≡ spell_state state =
@@ -233,15 +218,9 @@ returns-in-Err-NoMemory-clause-answer g c =
 pub returns-in-Err-NoMemory-clause-advances : goal.returns-in-Err-NoMemory-clause-advances
 returns-in-Err-NoMemory-clause-advances g c =
     rw (← c.self.view_is) (
-    let i = c.self.inside in
-    let old = i.journal in
+    let old = c.self.inside.journal in
     let new = c.append.new.self in
-    let notes = i.noted.notes in
-    let state = c.args.reservations.now in
-    let body = c.deref.result.now in
-    let body_is : body ≡ spell_state state =
-    c.deref.ensures.value ∙ c.fill_body.ensures.body ∙ ap spell_state c.state.ensures.state in
-    let savable : IsSavable state = subst IsSavable c.state.ensures.state c.fill_body.ensures.savable in
+    let notes = c.self.inside.noted.notes in
     let said = c.in-Err-NoMemory.ensures in
     let why = rw c.in-Err-NoMemory.field-0-is at said.answer in
     rests g.D.Disk.state g.met.D.Disk.is_disk old new notes why.3)
@@ -249,10 +228,9 @@ returns-in-Err-NoMemory-clause-advances g c =
 pub returns-in-Err-NoMemory-clause-any_moment : goal.returns-in-Err-NoMemory-clause-any_moment
 returns-in-Err-NoMemory-clause-any_moment g c =
     rw (← c.self.view_is) (
-    let i = c.self.inside in
-    let old = i.journal in
+    let old = c.self.inside.journal in
     let new = c.append.new.self in
-    let notes = i.noted.notes in
+    let notes = c.self.inside.noted.notes in
     let state = c.args.reservations.now in
     let body = c.deref.result.now in
     let body_is : body ≡ spell_state state =
@@ -262,16 +240,12 @@ returns-in-Err-NoMemory-clause-any_moment g c =
     let why = rw c.in-Err-NoMemory.field-0-is at said.answer in
     (λ h fine. opened g.D.Disk.state g.met.D.Disk.is_disk old new _ _ notes c.self.invariant.0 c.self.invariant.1
     c.fill_body.ensures.room state savable body body_is said.disk said.heading why.0
-    (λ h. said.any_moment h why.0)
-    h))
+    (λ h. said.any_moment h why.0) h))
 
 pub returns-in-Err-SideFull-clause-answer : goal.returns-in-Err-SideFull-clause-answer
 returns-in-Err-SideFull-clause-answer g c =
     rw (← c.self.view_is) (
-    let i = c.self.inside in
-    let old = i.journal in
-    let new = c.append.new.self in
-    let notes = i.noted.notes in
+    let notes = c.self.inside.noted.notes in
     let state = c.args.reservations.now in
     let body = c.deref.result.now in
     let body_is : body ≡ spell_state state =
@@ -287,15 +261,9 @@ returns-in-Err-SideFull-clause-answer g c =
 pub returns-in-Err-SideFull-clause-advances : goal.returns-in-Err-SideFull-clause-advances
 returns-in-Err-SideFull-clause-advances g c =
     rw (← c.self.view_is) (
-    let i = c.self.inside in
-    let old = i.journal in
+    let old = c.self.inside.journal in
     let new = c.append.new.self in
-    let notes = i.noted.notes in
-    let state = c.args.reservations.now in
-    let body = c.deref.result.now in
-    let body_is : body ≡ spell_state state =
-    c.deref.ensures.value ∙ c.fill_body.ensures.body ∙ ap spell_state c.state.ensures.state in
-    let savable : IsSavable state = subst IsSavable c.state.ensures.state c.fill_body.ensures.savable in
+    let notes = c.self.inside.noted.notes in
     let said = c.in-Err-SideFull.ensures in
     let why = rw c.in-Err-SideFull.field-0-is at said.answer in
     rests g.D.Disk.state g.met.D.Disk.is_disk old new notes why.2)
@@ -303,10 +271,9 @@ returns-in-Err-SideFull-clause-advances g c =
 pub returns-in-Err-SideFull-clause-any_moment : goal.returns-in-Err-SideFull-clause-any_moment
 returns-in-Err-SideFull-clause-any_moment g c =
     rw (← c.self.view_is) (
-    let i = c.self.inside in
-    let old = i.journal in
+    let old = c.self.inside.journal in
     let new = c.append.new.self in
-    let notes = i.noted.notes in
+    let notes = c.self.inside.noted.notes in
     let state = c.args.reservations.now in
     let body = c.deref.result.now in
     let body_is : body ≡ spell_state state =
@@ -316,21 +283,14 @@ returns-in-Err-SideFull-clause-any_moment g c =
     let why = rw c.in-Err-SideFull.field-0-is at said.answer in
     (λ h fine. opened g.D.Disk.state g.met.D.Disk.is_disk old new _ _ notes c.self.invariant.0 c.self.invariant.1
     c.fill_body.ensures.room state savable body body_is said.disk said.heading why.0
-    (λ h. said.any_moment h why.0)
-    h))
+    (λ h. said.any_moment h why.0) h))
 
 pub returns-in-Err-Failed-clause-advances : goal.returns-in-Err-Failed-clause-advances
 returns-in-Err-Failed-clause-advances g c =
     rw (← c.self.view_is) (
-    let i = c.self.inside in
-    let old = i.journal in
+    let old = c.self.inside.journal in
     let new = c.append.new.self in
-    let notes = i.noted.notes in
-    let state = c.args.reservations.now in
-    let body = c.deref.result.now in
-    let body_is : body ≡ spell_state state =
-    c.deref.ensures.value ∙ c.fill_body.ensures.body ∙ ap spell_state c.state.ensures.state in
-    let savable : IsSavable state = subst IsSavable c.state.ensures.state c.fill_body.ensures.savable in
+    let notes = c.self.inside.noted.notes in
     let said = c.in-Err-Failed.ensures in
     let why = rw c.in-Err-Failed.field-0-is at said.answer in
     rests g.D.Disk.state g.met.D.Disk.is_disk old new notes why.1)
