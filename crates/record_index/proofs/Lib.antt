@@ -3,3 +3,4 @@ pub mod TableLemmas
 pub mod Reading
 pub mod Decoding
 pub mod Parts
+pub mod ChangedIndex

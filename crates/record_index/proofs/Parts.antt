@@ -1,31 +1,26 @@
 -- The partitions of an index, as those of a volume.
-use Rattle.std.proofs.Common.{◌≡◌, ℕ, ◌<◌, ◌≤◌, ◌+◌, ◌^◌, List, [], ◌∷◌, ◌++◌, length, take, drop, map, refl, sym, ◌∙◌, ap, subst, arith, length-append, take-append-drop, Some, None, Ok, Err, Result, Bool, true, false}
-use Rattle.std.specs.Prelude.{slice_get, slice_set, Option, nat_lt, nat_le, not, if◌then◌else◌}
+use Rattle.std.proofs.Common.{◌≡◌, ℕ, ◌<◌, ◌≤◌, ◌+◌, ◌^◌, List, [], ◌∷◌, ◌++◌, length, take, drop, map, refl, sym, ◌∙◌, ap, subst, arith, length-append, take-append-drop, Some, None, Bool, true, false}
+use Rattle.std.specs.Prelude.{nat_lt, nat_le, not, if◌then◌else◌}
 use Rattle.std.specs.List.{All}
-use Rattle.std.specs.Option.{option_map}
 use Rattle.std.proofs.lemmas.Bool.{and_parts, and_from, and_left, and_right, cond-true, cond-false, le-leb, le-ltb, leb-true, lt-leb, not_from_true, not_from_false}
-use Rattle.std.proofs.lemmas.List.{length-map, length-replicate, length-set, length-take, map-set, take-map}
-use Rattle.std.proofs.lemmas.List.Elements.{All-append, All-cons, All-nil, All-replicate, All-set, All-take}
+use Rattle.std.proofs.lemmas.List.{length-map, length-replicate, length-take, take-map}
+use Rattle.std.proofs.lemmas.List.Elements.{All-append, All-cons, All-nil, All-replicate, All-take}
 use Rattle.std.proofs.lemmas.List.Sums.{sum_by-append, sum_by-cons}
-use Rattle.std.proofs.lemmas.Option.{slice_get-map, slice_get_within}
 use Rattle.vtl_base.specs.declared.limits.TheConstants.{MAX_BLOCK, MAX_CAPACITY, MAX_OBJECTS, MIN_CAPACITY}
 use Rattle.volume_core.specs.declared.objects.Object.{Object}
 use Rattle.volume_core.specs.declared.objects.Object.TheVariants as Objects
 use Rattle.volume_core.specs.declared.changes.Change.{Change}
 use Rattle.volume_core.specs.declared.changes.Change.TheVariants as Changes
 use Rattle.volume_core.specs.declared.changes.Refusal.TheVariants.{PastEnd, NoRoom, TooLong}
-use Rattle.volume_core.specs.declared.volumes.ApplyError.{ApplyError}
-use Rattle.volume_core.specs.declared.volumes.ApplyError.TheVariants as Errors
-use Rattle.volume_core.specs.Volume.{AppliesUnless, IsObject, IsPart, IsVolume, Part, added_by, cost_of, has_room, is_well_formed, kept_of, objects_after, part_after, refusal_in, refusal_of, used_of}
+use Rattle.volume_core.specs.Volume.{IsObject, IsPart, Part, added_by, cost_of, has_room, is_well_formed, kept_of, objects_after, part_after, refusal_in, used_of}
 use Rattle.record_index.specs.declared.places.Placed.{Placed}
 use Rattle.record_index.specs.declared.places.Placed.TheVariants.{Block, Mark}
 use Rattle.record_index.specs.declared.records.Record.{Record}
 use Rattle.record_index.specs.Places as places
-use Rattle.record_index.specs.Places.{PlacedPart, blank, filled, filled_part, outline, outlined, placed_after, placed_by, placed_objects, placed_objects_in, reserved_in, reserved_of, with_objects, with_objects_in}
+use Rattle.record_index.specs.Places.{PlacedPart, blank, filled, filled_part, outlined, placed_by}
 use Rattle.record_index.specs.Inner.Table.{Table}
 use Rattle.record_index.specs.Inner.Tables.{cost_of_objects, cost_of_placed}
-use Rattle.record_index.specs.Facts.{added_filled, filled_now, kept_filled, target_filled}
-use Rattle.record_index.proofs.Rows.{set_here, slice_get_set}
+use Rattle.record_index.specs.Facts.{added_filled, filled_now, kept_filled}
 
 -- a partition by its capacity and its table
 abbrev pub placed_of : ℕ → Table → PlacedPart
@@ -228,81 +223,3 @@ limits_cut part n reserved limits =
           omega (arith, limits.fits, used_taken part.objects n, used_filled part.objects, taken_within part.objects n);
       well_formed = All-take IsObject n (map (filled blank) part.objects) limits.well_formed;
     })
-
--- a volume of an index, one of its partitions changed
-pub limits_set : (parts : List PlacedPart) (number : ℕ) (new : PlacedPart) → IsVolume (outline parts)
-    → IsPart (filled_part blank new) → IsVolume (outline (slice_set parts number new))
-limits_set parts number new limits here =
-    subst IsVolume (sym (map-set (filled_part blank) parts number new)) (record {
-      some = omega (arith, limits.some, length-set (outline parts) number (filled_part blank new));
-      few = omega (arith, limits.few, length-set (outline parts) number (filled_part blank new));
-      each = All-set IsPart (outline parts) number (filled_part blank new) here limits.each;
-    })
-
-module _ (parts : List PlacedPart) (number : ℕ) (old new : PlacedPart) (here : slice_get parts number ≡ Some old) where
-  pub objects_here : placed_objects parts number ≡ old.objects
-  objects_here = ap placed_objects_in here
-
-  pub reserved_here : reserved_of parts number ≡ old.reserved
-  reserved_here = ap reserved_in here
-
-  pub reserved_set : reserved_of (slice_set parts number new) number ≡ new.reserved
-  reserved_set = ap reserved_in (slice_get_set parts number new (slice_get_within parts number old here))
-
-  -- an index with a partition written there
-  pub set_is : (objects : List Placed)
-      → new ≡ record { capacity = old.capacity; objects = objects; reserved = new.reserved }
-      → slice_set parts number new
-      ≡ with_objects parts number objects (reserved_of (slice_set parts number new) number)
-  set_is objects same =
-      ap (slice_set parts number) same
-      ∙ (λ i. slice_set parts number
-      (record { capacity = old.capacity; objects = objects; reserved = sym reserved_set i }))
-      ∙ ap (λ (o : Option PlacedPart). with_objects_in o parts number objects
-      (reserved_of (slice_set parts number new) number)) (sym here)
-
-  -- of the objects that stood there
-  pub set_by : (f : List Placed → List Placed)
-      → new ≡ record { capacity = old.capacity; objects = f old.objects; reserved = new.reserved }
-      → slice_set parts number new
-      ≡ with_objects parts number (f (placed_objects parts number)) (reserved_of (slice_set parts number new) number)
-  set_by f same =
-      set_is (f old.objects) same
-      ∙ ap (λ (l : List Placed). with_objects parts number (f l) (reserved_of (slice_set parts number new) number))
-      (sym objects_here)
-
-  pub set_same : new ≡ old → slice_set parts number new ≡ parts
-  set_same same = ap (slice_set parts number) same ∙ set_here parts number old here
-
--- a partition's answer is the index's
-module _ (parts : List PlacedPart) (item : Record) (place : ℕ) (old new : PlacedPart)
-    (here : slice_get parts (places.record_part item) ≡ Some old) where
-  refusal_here : refusal_of (outline parts) (outlined item) ≡ refusal_in (Some (filled_part blank old)) (outlined item)
-  refusal_here =
-      (λ i. refusal_in (slice_get (outline parts) (target_filled blank item 0 i)) (outlined item))
-      ∙ ap (λ (p : Option Part). refusal_in p (outlined item))
-      (slice_get-map (filled_part blank) parts (places.record_part item) ∙ ap (option_map (filled_part blank)) here)
-
-  pub applies_here : (result : Result Unit ApplyError)
-      → AppliesUnless (refusal_in (Some (filled_part blank old)) (outlined item)) old (record {
-        capacity = old.capacity;
-        objects = take (places.record_kept item) old.objects ++ placed_by item place;
-        reserved = new.reserved;
-      }) result new
-      → AppliesUnless (refusal_of (outline parts) (outlined item)) parts
-      (placed_after parts item place
-      (reserved_of (slice_set parts (places.record_part item) new) (places.record_part item))) result
-      (slice_set parts (places.record_part item) new)
-  applies_here (Ok done) answer = (
-    refusal_here ∙ answer.0,
-    set_is parts (places.record_part item) old new here
-        (take (places.record_kept item) old.objects ++ placed_by item place) answer.1
-        ∙ ap (λ (l : List Placed). with_objects parts (places.record_part item)
-        (take (places.record_kept item) l ++ placed_by item place)
-        (reserved_of (slice_set parts (places.record_part item) new) (places.record_part item)))
-        (sym (objects_here parts (places.record_part item) old new here)),
-  )
-  applies_here (Err (Errors.Refused cause)) answer =
-      (refusal_here ∙ answer.0, set_same parts (places.record_part item) old new here answer.1)
-  applies_here (Err Errors.NoMemory) answer =
-      (refusal_here ∙ answer.0, set_same parts (places.record_part item) old new here answer.1)

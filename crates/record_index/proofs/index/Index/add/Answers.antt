@@ -3,7 +3,7 @@ use Rattle.std.specs.Prelude.{slice_get}
 use Rattle.std.proofs.lemmas.Option.{slice_get_read}
 use Rattle.record_index.specs.declared.places.Placed.{Placed}
 use Rattle.record_index.specs.Places.{objects_of_run}
-use Rattle.record_index.proofs.Parts.{limits_set, reserved_here, reserved_set, set_by}
+use Rattle.record_index.proofs.ChangedIndex.{limits_set, reserved_here, reserved_set, set_by}
 use Rattle.record_index.proofs.index.Index.add.Goals as goal
 
 pub invariant_of-self-2 : goal.invariant_of-self-2

@@ -2,7 +2,7 @@ use Rattle.std.proofs.Common.{◌≡◌, ◌<◌, length, arith, rules, Some, ve
 use Rattle.std.specs.Prelude.{slice_get}
 use Rattle.std.proofs.lemmas.Option.{slice_get_read}
 use Rattle.record_index.specs.Places as places
-use Rattle.record_index.proofs.Parts.{applies_here, limits_set, reserved_here, reserved_set}
+use Rattle.record_index.proofs.ChangedIndex.{applies_here, limits_set, reserved_here, reserved_set}
 use Rattle.record_index.proofs.index.Index.apply.Goals as goal
 
 pub invariant_of-self : goal.invariant_of-self

@@ -2,7 +2,7 @@ use Rattle.std.proofs.Common.{◌≡◌, List, length, take, arith, rules, Some,
 use Rattle.std.specs.Prelude.{slice_get}
 use Rattle.std.proofs.lemmas.Option.{slice_get_read}
 use Rattle.record_index.specs.declared.places.Placed.{Placed}
-use Rattle.record_index.proofs.Parts.{limits_set, reserved_here, reserved_set, set_by}
+use Rattle.record_index.proofs.ChangedIndex.{limits_set, reserved_here, reserved_set, set_by}
 use Rattle.record_index.proofs.index.Index.cut_at.Goals as goal
 
 pub invariant_of-self : goal.invariant_of-self
