@@ -14,7 +14,7 @@ use Rattle.drive_core.specs.Work.{Request}
 use Rattle.drive_core.specs.Turn.{TurnsIn, after_turn, turn_outcome}
 use Rattle.drive_core.specs.Step.{Execute, FlushTurn, Insert, Load, Unload, PowerOn, Output, Answered, Unanswered, Step}
 use Rattle.drive_core.specs.Determined.{IsSureDrive, Sight, sight_of, side_sight, seen_of, without_room, IsCalm, AreSureAlike, AreAllSureAlike, AreAlike, StepsAreDetermined}
-use Rattle.drive_core.proofs.CommandLemmas.{works_sight}
+use Rattle.drive_core.proofs.AlikeLemmas.{works_sight}
 use Rattle.drive_core.specs.LoadUnload.{emptied}
 use Rattle.drive_core.proofs.DeterminedLoads.{loads, powers_on}
 use Rattle.drive_core.proofs.DeterminedParks.{unloads_alike}

@@ -15,7 +15,7 @@ use Rattle.drive_core.specs.Relations.{Made}
 use Rattle.drive_core.specs.Load.{LoadsAs, LoadsInto, PowersOn, bay_when_on, power_on_outcome}
 use Rattle.drive_core.specs.Step.{Answered, Unanswered}
 use Rattle.drive_core.specs.Determined.{IsSure, IsSureDrive, IsSureSight, Sight, SideSight, torn_seen, sight_of, side_sight, seen_of, without_room, AreSureAlike, AreAllSureAlike, IsCalm, AreAlike}
-use Rattle.drive_core.proofs.CommandLemmas.{working_sight}
+use Rattle.drive_core.proofs.AlikeLemmas.{working_sight}
 
 -- neither memory ran out nor the device failed
 abbrev pub IsQuiet : Result Unit MediumError → Type 0

@@ -31,7 +31,7 @@ use Rattle.scsi_lists.specs.ModeLists.{mode_data, mode_decoded}
 use Rattle.drive_core.specs.OnMedium.{OnMediumIn}
 use Rattle.drive_core.specs.Step.{Answered}
 use Rattle.drive_core.specs.Determined.{IsSureDrive, IsSureSight, Sight, sight_of, seen_of, AreAlike}
-use Rattle.drive_core.proofs.CommandLemmas.{IsDetermined, goes_to, stored_first}
+use Rattle.drive_core.proofs.AlikeLemmas.{IsDetermined, goes_to, stored_first}
 use Rattle.drive_core.proofs.DeterminedParks.{reloads_alike, unloads_alike}
 use Rattle.drive_core.proofs.DeterminedOrders.{Seen, ends, lists_alike}
 use Rattle.drive_core.proofs.DeterminedVerdicts.{due_same, reported_same, reported_sure}

@@ -1,6 +1,7 @@
 pub mod FaultLemmas
 pub mod TakesLemmas
 pub mod OrderLemmas
+pub mod AlikeLemmas
 pub mod CommandLemmas
 pub mod DeterminedLoads
 pub mod DeterminedParks
