@@ -79,110 +79,13 @@ module _ {D : Type 0} where
       subst (λ (h : HeldState D). BayIs number bay h (record { slots = slots; bays = set bays place (Some bay) })) is
       (record { bays = changed_at bays number place (Some bay) least most long at; slots = refl })
 
--- nothing is in an empty drive alone
-pub empty_bay : {M : Type 0} (bay : Bay M) → medium_in bay ≡ None → bay ≡ Empty
-empty_bay Empty none = refl
-empty_bay (Unloaded medium) none = absurd (cc)
-empty_bay (Loaded medium) none = absurd (cc)
-
--- what the slots refuse
-slot_by : {X : Type 0} (slot full : Bool) (bad empty : X)
-    → cond (not slot) (Some bad) (cond full None (Some empty)) ≡ None → slot ≡ true
-slot_by true full bad empty is = refl
-slot_by false full bad empty is = absurd (cc)
-
-free_by : {X : Type 0} (slot full : Bool) (bad taken : X)
-    → cond (not slot) (Some bad) (cond full (Some taken) None) ≡ None → slot ≡ true
-free_by true full bad taken is = refl
-free_by false full bad taken is = absurd (cc)
-
 module _ {D : Type 0} where
-  pub taken_slot : (slots : List (Option (BufferState D))) (address : ℕ) → refusal_of_taking slots address ≡ None
-      → is_slot address ≡ true
-  taken_slot slots address is =
-      slot_by (is_slot address) (is_some (held_at slots address)) Errors.BadAddress Errors.Empty is
-
-  pub placed_slot : (slots : List (Option (BufferState D))) (address : ℕ) → refusal_of_placing slots address ≡ None
-      → is_slot address ≡ true
-  placed_slot slots address is =
-      free_by (is_slot address) (is_some (held_at slots address)) Errors.BadAddress Errors.Full is
-
-  -- where a slot does not give what is there, no slot has the address
-  pub not_taken : (held : HeldState D) (address : ℕ) (error : SlotError)
-      → refusal_of_taking held.slots address ≡ Some error → is_some (cartridge_at held address) ≡ true
-      → is_slot address ≡ false
-  not_taken held address error refused full = by (is_slot address) refl
-    where
-      by : (b : Bool) → is_slot address ≡ b → is_slot address ≡ false
-      by false is = is
-      by true is =
-          let there : is_some (held_at held.slots address) ≡ true =
-          sym (ap (λ (b : Bool). is_some (cond b (held_at held.slots address)
-          (cartridge_in (bay_at held.bays address)))) is) ∙ full in
-          let none : refusal_of_taking held.slots address ≡ None =
-          ap (λ (b : Bool). cond (not b) (Some Errors.BadAddress)
-          (cond (is_some (held_at held.slots address)) None (Some Errors.Empty))) is
-          ∙ ap (λ (b : Bool). cond b None (Some Errors.Empty)) there in
-          let clash : None ≡ Some error = sym none ∙ refused in absurd (cc)
-
-  -- where a slot does not take what is given, though nothing is there, no slot has the address
-  pub not_placed : (held : HeldState D) (address : ℕ) (error : SlotError)
-      → refusal_of_placing held.slots address ≡ Some error → cartridge_at held address ≡ None
-      → is_slot address ≡ false
-  not_placed held address error refused empty = by (is_slot address) refl
-    where
-      by : (b : Bool) → is_slot address ≡ b → is_slot address ≡ false
-      by false is = is
-      by true is =
-          let there : is_some (held_at held.slots address) ≡ false =
-          sym (ap (λ (b : Bool). is_some (cond b (held_at held.slots address)
-          (cartridge_in (bay_at held.bays address)))) is)
-          ∙ ap (λ (found : Option (BufferState D)). is_some found) empty in
-          let none : refusal_of_placing held.slots address ≡ None =
-          ap (λ (b : Bool). cond (not b) (Some Errors.BadAddress)
-          (cond (is_some (held_at held.slots address)) (Some Errors.Full) None)) is
-          ∙ ap (λ (b : Bool). cond b (Some Errors.Full) None) there in
-          let clash : None ≡ Some error = sym none ∙ refused in absurd (cc)
-
-  -- what is at an address that is no slot's is in a drive
-  pub in_drive : (held : HeldState D) (address : ℕ) → is_slot address ≡ false
-      → cartridge_at held address ≡ cartridge_in (bay_at held.bays address)
-  in_drive held address off =
-      ap (λ (b : Bool). cond b (held_at held.slots address) (cartridge_in (bay_at held.bays address))) off
-
-  drive_with : (found : Option (BayState D)) → is_some (cartridge_in found) ≡ true → is_some found ≡ true
-  drive_with (Some bay) full = refl
-  drive_with None full = absurd (cc)
-
-  pub drive_there : (held : HeldState D) (address : ℕ) → is_slot address ≡ false
-      → is_some (cartridge_at held address) ≡ true → is_some (bay_at held.bays address) ≡ true
-  drive_there held address off full =
-      drive_with (bay_at held.bays address)
-      (sym (ap (λ (found : Option (BufferState D)). is_some found) (in_drive held address off)) ∙ full)
-
-  pub drive_named : (held : HeldState D) (address : ℕ) → is_slot address ≡ false → is_element held address ≡ true
-      → is_some (bay_at held.bays address) ≡ true
-  drive_named held address off element =
-      sym (ap (λ (b : Bool). b || is_some (bay_at held.bays address)) off) ∙ element
-
   -- no drive has the address of a slot
   pub no_drive : (bays : List (Option (BayState D))) (address : ℕ) → length bays ≡ 16 → is_slot address ≡ true
       → bay_at bays address ≡ None
   no_drive bays address long slot =
       let from : 1001 ≤ address = grind (arith, nat_tests) in
       at_no_place bays address long (inr (omega (arith, from)))
-
-  module _ (state : D → DiskState) where
-    pub out_of_drive : (old new : HeldState D) (address : ℕ) (result : Result (BufferState D) Reply)
-        → is_slot address ≡ false → UnloadsAt state old address result new → GoesOutAt state old address result new
-    out_of_drive old new address (Ok out) off goes = inr (off, goes)
-    out_of_drive old new address (Err reply) off goes = (off, goes)
-
-    pub into_drive : (old new : HeldState D) (address : ℕ) (given : BufferState D)
-        (result : Result Unit (BufferState D × Reply)) → is_slot address ≡ false
-        → LoadsAt state old address given result new → GoesInAt state old address given result new
-    into_drive old new address given (Ok done) off goes = inr (off, goes)
-    into_drive old new address given (Err back) off goes = (off, goes)
 
 -- what a call answers says, in other words
 pub on_ok : {T E : Type 0} {A B : Type 0} (result : Result T E) → (A → B) → OnOk result A → OnOk result B

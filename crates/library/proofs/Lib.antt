@@ -7,6 +7,7 @@ pub mod EndLemmas
 pub mod FinishLemmas
 pub mod JourneyLemmas
 pub mod LentLemmas
+pub mod LiftedLemmas
 pub mod MachineLemmas
 pub mod MoveLemmas
 pub mod PlaceLemmas

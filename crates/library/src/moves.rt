@@ -1,20 +1,18 @@
-//! Moves of cartridges.
-ghost use Rattle.std.specs.Prelude.{◌≡◌, ◌≤◌, ◌⊎◌, ◌<◌, None, Some, true, false, is_some, option_map, IfSome, IfNone, []};
+//! Moves of cartridges in a library: its slots, and the drives that are named, are lent to `move_lent`.
+ghost use Rattle.std.specs.Prelude.{◌≡◌, ◌≢◌, ◌≤◌, ◌⊎◌, ◌<◌, None, Some, IfSome, IfNone, []};
 ghost use Rattle.vtl_base.specs.declared.limits.TheConstants.{DRIVES};
 ghost use Rattle.scsi_sense.specs.Replies.{check_with};
-ghost use Rattle.drive_core.specs.declared.bays.Bay.TheVariants as Bays;
-ghost use Rattle.library.specs.Elements.{bay_at, cartridge_at, cartridge_in, is_element, is_reserved_at};
-ghost use Rattle.library.specs.Inner.Going.{IsAwakeAt};
-ghost use Rattle.library.specs.Moves.{GoesBackTo, GoesInAt, GoesOutAt, InsertsAt, KeepsBays, KeepsCartridges, LoadsAt, MovesMedium, UnloadsAt, refusal_of_move};
+ghost use Rattle.library.specs.Elements.{Becomes, bay_at};
+ghost use Rattle.library.specs.Inner.Lifted.{IsCarried, IsDrive, with_bay};
+ghost use Rattle.library.specs.Moves.{KeepsBays, KeepsCartridges, MovesMedium};
 
 use crate::bays::Bay;
 use crate::held::Held;
-use crate::parked::Parked;
-use changer::NotPlaced;
+use crate::lent::move_lent;
 use scsi_sense::{Reply, Sense};
 use std::alloc::Global;
 use tape_disk::Disk;
-use vtl_base::{Bytes, DriveNo, SlotNo};
+use vtl_base::{Bytes, DriveNo};
 
 // The drive of this number, if it is one.
 fn drive_of(address: u32) -> Option<DriveNo>
@@ -44,178 +42,133 @@ impl<D: Disk + Drop> Held<D> {
         ensures kept { KeepsCartridges D.state self.old from to result self.new }
         ensures bays { KeepsBays self.old self.new }
     {
-        self.carry(from, to)
-    }
-
-    // Moves a cartridge, or refuses to. What is loaded in the drive that it comes from is awake.
-    fn carry(&mut self, from: u32, to: u32) -> Reply
-        ensures answer { MovesMedium D.state self.old from to result self.new }
-        ensures awake { refusal_of_move self.old from to ≡ None → IsAwakeAt D.state self.old from }
-    {
-        if let Some(refusal) = self.refusal_of_move(from, to) {
-            return refusal;
-        }
-        let cartridge = match self.take_out(from) {
-            Ok(cartridge) => cartridge,
-            Err(reply) => return reply,
-        };
-        match self.put_in(to, cartridge) {
-            Ok(()) => Reply::good(Bytes::new(self.alloc)),
-            Err((cartridge, reply)) => {
-                self.put_back(from, cartridge);
-                reply
+        // A drive that both addresses name is taken out as the source, and nothing is left for the destination.
+        let source = self.take_drive(from);
+        let destination = self.take_drive(to);
+        match (source, destination) {
+            (Some(source), Some(destination)) => {
+                self.move_between_drives(source, destination, from, to)
             }
+            (Some(source), None) => self.move_out_of_drive(source, from, to),
+            (None, Some(destination)) => self.move_into_drive(destination, from, to),
+            (None, None) => self.move_between_slots(from, to),
         }
     }
 
-    // The first cause for which nothing is moved, as it is answered.
-    fn refusal_of_move(&self, from: u32, to: u32) -> Option<Reply>
-        ensures { result ≡ refusal_of_move self.now from to }
-    {
-        if !(self.is_element(from) && self.is_element(to)) {
-            return Some(check(self.alloc, Sense::invalid_element_address()));
-        }
-        if self.is_reserved(from) || self.is_reserved(to) {
-            return Some(Reply::conflict(self.alloc));
-        }
-        if !self.is_full(from) {
-            return Some(check(self.alloc, Sense::source_empty()));
-        }
-        if self.is_full(to) {
-            return Some(check(self.alloc, Sense::destination_full()));
-        }
-        None
-    }
-
-    // The drive at this address, if there is one.
-    fn bay_of(&self, address: u32) -> Option<&Bay<D>>
-        ensures { option_map (λ bay. bay.now) result ≡ bay_at self.now.bays address }
+    // Takes the drive of this address out of its place, if there is one.
+    fn take_drive(&mut self, address: u32) -> Option<Bay<D>>
+        ensures out { result ≡ bay_at self.old.bays address }
+        ensures left { Becomes address None self.old.bays self.new.bays }
+        ensures some { IfSome result (λ bay. IsDrive address × (with_bay address bay self.new ≡ self.old)) }
+        ensures none { IfNone result (self.new ≡ self.old) }
     {
         // Looked at for the proof's sake: there are places for all drives.
         let _ = &self.bays;
         match drive_of(address) {
-            Some(drive) => self.bay(drive),
+            Some(drive) => self.bays[drive.place()].take(),
             None => None,
         }
     }
 
-    // Whether the address is a slot's, or a configured drive's.
-    fn is_element(&self, address: u32) -> bool
-        ensures { result ≡ is_element self.now address }
+    // Puts a drive into its place, where none is.
+    fn return_drive(&mut self, address: u32, bay: Bay<D>)
+        requires { IsDrive address }
+        ensures { self.new ≡ with_bay address bay self.old }
     {
-        SlotNo::new(address).is_some() || self.bay_of(address).is_some()
-    }
-
-    // Whether there is a drive at this address at which a reservation is held.
-    fn is_reserved(&self, address: u32) -> bool
-        ensures { result ≡ is_reserved_at (bay_at self.now.bays address) }
-    {
-        match self.bay_of(address) {
-            Some(bay) => bay.held(),
-            None => false,
+        if let Some(drive) = drive_of(address) {
+            self.bays[drive.place()].insert(bay);
         }
     }
 
-    // Whether there is a cartridge at this address.
-    fn is_full(&self, address: u32) -> bool
-        ensures { result ≡ is_some (cartridge_at self.now address) }
+    // Moves a cartridge between two drives, which were taken out of their places.
+    fn move_between_drives(
+        &mut self,
+        source: Bay<D>,
+        destination: Bay<D>,
+        from: u32,
+        to: u32,
+    ) -> Reply
+        requires source { IsDrive from }
+        requires destination { IsDrive to }
+        requires apart { from ≢ to }
+        ensures { IsCarried D.state from to result (with_bay from source (with_bay to destination self.old)) self.new }
     {
-        match SlotNo::new(address) {
-            Some(_) => self.slots.held(address).is_some(),
-            None => match self.bay_of(address) {
-                Some(bay) => !bay.is_empty(),
-                None => false,
-            },
-        }
+        let mut source = source;
+        let mut destination = destination;
+        let reply = move_lent(
+            self.alloc,
+            &mut self.slots,
+            Some(&mut source),
+            Some(&mut destination),
+            from,
+            to,
+        );
+        self.return_drive(from, source);
+        self.return_drive(to, destination);
+        reply
     }
 
-    // Takes the cartridge at this address out.
-    fn take_out(&mut self, address: u32) -> Result<Parked<D>, Reply>
-        requires { is_some (cartridge_at self.old address) ≡ true }
-        ensures out { GoesOutAt D.state self.old address result self.new }
-        ensures awake { IsAwakeAt D.state self.old address }
+    // Moves a cartridge out of this drive, which was taken out of its place; `to` names no other.
+    fn move_out_of_drive(&mut self, source: Bay<D>, from: u32, to: u32) -> Reply
+        requires source { IsDrive from }
+        requires alone { bay_at self.old.bays to ≡ None }
+        ensures { IsCarried D.state from to result (with_bay from source self.old) self.new }
     {
-        match self.slots.take(address) {
-            Ok(cartridge) => Ok(cartridge),
-            Err(_) => self.unload_at(address),
-        }
+        let mut source = source;
+        let mut none = None;
+        let reply = move_lent(
+            self.alloc,
+            &mut self.slots,
+            Some(&mut source),
+            none.as_mut(),
+            from,
+            to,
+        );
+        drop(none);
+        self.return_drive(from, source);
+        reply
     }
 
-    // Puts a cartridge where nothing is, or gives it back.
-    fn put_in(&mut self, address: u32, cartridge: Parked<D>) -> Result<(), (Parked<D>, Reply)>
-        requires element { is_element self.old address ≡ true }
-        requires empty { cartridge_at self.old address ≡ None }
-        ensures { GoesInAt D.state self.old address cartridge result self.new }
+    // Moves a cartridge into this drive, which was taken out of its place; `from` names none.
+    fn move_into_drive(&mut self, destination: Bay<D>, from: u32, to: u32) -> Reply
+        requires destination { IsDrive to }
+        requires apart { from ≢ to }
+        requires alone { bay_at self.old.bays from ≡ None }
+        ensures { IsCarried D.state from to result (with_bay to destination self.old) self.new }
     {
-        match self.slots.place(address, cartridge) {
-            Ok(()) => Ok(()),
-            Err(refused) => {
-                let NotPlaced { value, .. } = refused;
-                self.load_at(address, value)
-            }
-        }
+        let mut destination = destination;
+        let mut none = None;
+        let reply = move_lent(
+            self.alloc,
+            &mut self.slots,
+            none.as_mut(),
+            Some(&mut destination),
+            from,
+            to,
+        );
+        drop(none);
+        self.return_drive(to, destination);
+        reply
     }
 
-    // Puts a cartridge back, unloaded, where nothing is.
-    fn put_back(&mut self, address: u32, cartridge: Parked<D>)
-        requires element { is_element self.old address ≡ true }
-        requires empty { cartridge_at self.old address ≡ None }
-        ensures { GoesBackTo self.old address cartridge self.new }
+    // Moves a cartridge where neither address names a drive.
+    fn move_between_slots(&mut self, from: u32, to: u32) -> Reply
+        requires source { bay_at self.old.bays from ≡ None }
+        requires destination { bay_at self.old.bays to ≡ None }
+        ensures { IsCarried D.state from to result self.old self.new }
     {
-        if let Err(refused) = self.slots.place(address, cartridge) {
-            let NotPlaced { value, .. } = refused;
-            self.insert_at(address, value);
-        }
-    }
-
-    // Unloads what is in the drive at this address.
-    fn unload_at(&mut self, address: u32) -> Result<Parked<D>, Reply>
-        requires { is_some (bay_at self.old.bays address) ≡ true }
-        ensures out { UnloadsAt D.state self.old address result self.new }
-        ensures awake { IsAwakeAt D.state self.old address }
-    {
-        // Looked at for the proof's sake: there are places for all drives.
-        let _ = &self.bays;
-        let Some(drive) = drive_of(address) else {
-            unreachable!()
-        };
-        match &mut self.bays[drive.place()] {
-            Some(bay) => bay.unload(),
-            None => unreachable!(),
-        }
-    }
-
-    // Loads a cartridge into the empty drive at this address.
-    fn load_at(&mut self, address: u32, cartridge: Parked<D>) -> Result<(), (Parked<D>, Reply)>
-        requires drive { is_some (bay_at self.old.bays address) ≡ true }
-        requires empty { cartridge_in (bay_at self.old.bays address) ≡ None }
-        ensures { LoadsAt D.state self.old address cartridge result self.new }
-    {
-        // Looked at for the proof's sake: there are places for all drives.
-        let _ = &self.bays;
-        let Some(drive) = drive_of(address) else {
-            unreachable!()
-        };
-        match &mut self.bays[drive.place()] {
-            Some(bay) => bay.load(cartridge),
-            None => unreachable!(),
-        }
-    }
-
-    // Puts a cartridge into the empty drive at this address, not loaded.
-    fn insert_at(&mut self, address: u32, cartridge: Parked<D>)
-        requires drive { is_some (bay_at self.old.bays address) ≡ true }
-        requires empty { cartridge_in (bay_at self.old.bays address) ≡ None }
-        ensures { InsertsAt self.old address cartridge self.new }
-    {
-        // Looked at for the proof's sake: there are places for all drives.
-        let _ = &self.bays;
-        let Some(drive) = drive_of(address) else {
-            unreachable!()
-        };
-        match &mut self.bays[drive.place()] {
-            Some(bay) => bay.insert(cartridge),
-            None => unreachable!(),
-        }
+        let mut none = None;
+        let mut nor = None;
+        let reply = move_lent(
+            self.alloc,
+            &mut self.slots,
+            none.as_mut(),
+            nor.as_mut(),
+            from,
+            to,
+        );
+        drop(none);
+        drop(nor);
+        reply
     }
 }

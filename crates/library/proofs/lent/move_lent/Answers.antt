@@ -1,4 +1,4 @@
-use Rattle.std.proofs.Common.{◌≡◌, Some, None}
+use Rattle.std.proofs.Common.{Some, None}
 use Rattle.library.proofs.LentLemmas.{each_answer, each_bays, each_kept}
 use Rattle.library.proofs.ReturnLemmas.{at_args}
 use Rattle.library.proofs.lent.move_lent.Goals as goal

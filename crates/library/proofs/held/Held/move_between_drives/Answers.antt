@@ -1,0 +1,29 @@
+use Rattle.library.specs.Moves.{KeepsBays, KeepsCartridges, MovesMedium}
+use Rattle.library.proofs.LiftedLemmas.{both_lent}
+use Rattle.library.proofs.held.Held.move_between_drives.Goals as goal
+
+pub returns : goal.returns
+returns g c =
+    record {
+      answer =
+          both_lent (λ old new. MovesMedium g.D.Disk.state old c.args.from c.args.to c.move_lent-reply.result new)
+          c.self.inside.slots c.move_lent-reply.new.slots c.args.from c.args.to c.self.inside.bays.items
+          c.self.invariant c.args.source c.move_lent-reply.new.source.0 c.args.destination
+          c.move_lent-reply.new.destination.0 c.args.self.now c.return_drive.new.self c.return_drive-2.new.self
+          c.self.view_is c.return_drive.ensures c.return_drive-2.ensures c.requires.source c.requires.destination
+          c.requires.apart c.move_lent-reply.ensures.answer;
+      kept =
+          both_lent (λ old new. KeepsCartridges g.D.Disk.state old c.args.from c.args.to c.move_lent-reply.result new)
+          c.self.inside.slots c.move_lent-reply.new.slots c.args.from c.args.to c.self.inside.bays.items
+          c.self.invariant c.args.source c.move_lent-reply.new.source.0 c.args.destination
+          c.move_lent-reply.new.destination.0 c.args.self.now c.return_drive.new.self c.return_drive-2.new.self
+          c.self.view_is c.return_drive.ensures c.return_drive-2.ensures c.requires.source c.requires.destination
+          c.requires.apart c.move_lent-reply.ensures.kept;
+      bays =
+          both_lent (λ old new. KeepsBays old new)
+          c.self.inside.slots c.move_lent-reply.new.slots c.args.from c.args.to c.self.inside.bays.items
+          c.self.invariant c.args.source c.move_lent-reply.new.source.0 c.args.destination
+          c.move_lent-reply.new.destination.0 c.args.self.now c.return_drive.new.self c.return_drive-2.new.self
+          c.self.view_is c.return_drive.ensures c.return_drive-2.ensures c.requires.source c.requires.destination
+          c.requires.apart c.move_lent-reply.ensures.bays;
+    }
