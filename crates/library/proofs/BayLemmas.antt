@@ -1,19 +1,12 @@
 -- The drives of a library, in a row.
-use Rattle.std.proofs.Common.{◌≡◌, ◌≢◌, ◌⊎◌, inl, inr, ℕ, ◌-◌, ◌≤◌, ◌<◌, nat_le, ◌||◌, not, Bool, true, false, Result, Ok, Err, List, length, set, get_or, Option, None, Some, is_some, is_ok, is_err, [], ◌∷◌, ◌++◌, OnOk, IfErr, replicate, nat_lt, refl, sym, ap, ◌∙◌, arith, cond, subst}
+use Rattle.std.proofs.Common.{◌≡◌, ◌≢◌, ◌⊎◌, inl, inr, ℕ, ◌-◌, ◌≤◌, ◌<◌, nat_le, Bool, true, false, Result, Ok, Err, List, length, set, get_or, Option, None, Some, is_some, is_ok, is_err, [], ◌∷◌, ◌++◌, OnOk, IfErr, replicate, nat_lt, refl, sym, ap, ◌∙◌, arith, cond, subst}
 use Rattle.std.proofs.lemmas.Bool.Decides.{nat_tests}
 use Rattle.std.proofs.lemmas.List.{get_or-replicate, get_or_default, get_or-set_same, get_or-set_other, length-replicate}
 use Rattle.std.proofs.Math.ListN.{get_or-eq_default}
-use Rattle.drive_core.specs.declared.bays.Bay.{Bay}
-use Rattle.drive_core.specs.declared.bays.Bay.TheVariants.{Empty, Unloaded, Loaded}
-use Rattle.drive_core.specs.State.{medium_in}
 use Rattle.tape_buffer.specs.State.{BufferState}
-use Rattle.tape_disk.specs.Disk.{DiskState}
-use Rattle.scsi_sense.specs.declared.replies.Reply.{Reply}
-use Rattle.changer.specs.declared.error.SlotError.{SlotError}
-use Rattle.changer.specs.declared.error.SlotError.TheVariants as Errors
-use Rattle.changer.specs.Slots.{held_at, is_slot, refusal_of_placing, refusal_of_taking}
-use Rattle.library.specs.Elements.{BayState, Becomes, HeldState, bay_at, cartridge_at, cartridge_in, is_element}
-use Rattle.library.specs.Moves.{BayIs, GoesInAt, GoesOutAt, LoadsAt, UnloadsAt}
+use Rattle.changer.specs.Slots.{is_slot}
+use Rattle.library.specs.Elements.{BayState, Becomes, HeldState, bay_at}
+use Rattle.library.specs.Moves.{BayIs}
 
 module _ {D : Type 0} where
   -- where a drive stands

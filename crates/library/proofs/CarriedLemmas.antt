@@ -1,21 +1,19 @@
 -- What each move on what is lent does in a library that has what is lent.
-use Rattle.std.proofs.Common.{◌≡◌, ◌≢◌, ◌⊎◌, inl, inr, ℕ, ◌-◌, ◌==◌, Bool, true, false, List, [], length, set, Option, None, Some, is_some, Ok, Err, refl, sym, ap, ◌∙◌, cond, subst}
+use Rattle.std.proofs.Common.{◌≡◌, ◌≢◌, inl, inr, ℕ, ◌-◌, ◌==◌, Bool, true, false, List, [], set, Option, None, Some, Ok, Err, refl, sym, ap, ◌∙◌, cond, subst}
 use Rattle.tape_disk.specs.Disk.{DiskState}
 use Rattle.scsi_sense.specs.declared.replies.Reply.{Reply}
 use Rattle.scsi_sense.specs.Replies.{good_with}
-use Rattle.drive_core.specs.declared.bays.Bay.TheVariants.{Unloaded}
 use Rattle.drive_core.specs.Media.{GoesOut, TakesIn}
 use Rattle.tape_buffer.specs.Moves.{buffer_below}
 use Rattle.tape_buffer.specs.State.{BufferState, state_of}
 use Rattle.changer.specs.Slots.{Puts, held_at, is_slot}
 use Rattle.library.specs.declared.lent.End.{End}
-use Rattle.library.specs.Elements.{BayState, Becomes, HeldState, bay_at}
+use Rattle.library.specs.Elements.{BayState, HeldState, bay_at}
 use Rattle.library.specs.Inner.Carried.{IsMoved, drive_end, end_beside, refusal_between, slot_end}
 use Rattle.library.specs.Inner.Going.{IsAwakeAt, IsAwakeBay, IsAwakeIn}
 use Rattle.library.specs.Lent.{AreNamed}
 use Rattle.library.specs.Moves.{AnswersMove, BayIs, Carries, refusal_of_move}
-use Rattle.library.proofs.EndLemmas.{apart, drive_is, end_at, found_becomes, found_same, none_at, none_refuses, off_slots, refuses_as, slot_is, still_long}
-use Rattle.library.proofs.PlaceLemmas.{same_or_not}
+use Rattle.library.proofs.EndLemmas.{apart, drive_is, end_at, found_becomes, found_same, none_at, none_refuses, off_slots, refuses_as, slot_is}
 use Rattle.std.proofs.lemmas.Bool.{eqb-true, eq-eqb}
 
 module _ {D : Type 0} (state : D → DiskState) where

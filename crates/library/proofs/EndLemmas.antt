@@ -1,14 +1,13 @@
 -- The ends of a move on what is lent, and the row of drives once those that are lent came back.
-use Rattle.std.proofs.Common.{◌≡◌, ◌≢◌, ◌⊎◌, inl, inr, ℕ, ◌-◌, ◌≤◌, ◌<◌, nat_le, ◌==◌, ◌&&◌, ◌||◌, not, Bool, true, false, List, length, set, get_or, Option, None, Some, is_some, refl, sym, ap, ◌∙◌, arith, cond, subst}
+use Rattle.std.proofs.Common.{◌≡◌, ◌≢◌, ◌⊎◌, inl, inr, ℕ, ◌-◌, ◌≤◌, ◌<◌, nat_le, ◌&&◌, ◌||◌, not, Bool, true, false, List, length, set, get_or, Option, None, Some, is_some, refl, sym, ap, ◌∙◌, arith, cond, subst}
 use Rattle.std.proofs.lemmas.Bool.Decides.{nat_tests}
 use Rattle.std.proofs.lemmas.List.{length-set, set-get_or}
-use Rattle.drive_core.specs.State.{medium_in}
 use Rattle.tape_buffer.specs.State.{BufferState}
 use Rattle.scsi_sense.specs.declared.replies.Reply.{Reply}
 use Rattle.changer.specs.Slots.{held_at, is_slot}
 use Rattle.library.specs.declared.lent.End.{End}
 use Rattle.library.specs.Elements.{BayState, Becomes, HeldState, bay_at, cartridge_at, cartridge_in, is_element, is_reserved_at}
-use Rattle.library.specs.Inner.Carried.{drive_end, end_beside, refusal_between, slot_end}
+use Rattle.library.specs.Inner.Carried.{drive_end, refusal_between, slot_end}
 use Rattle.library.specs.Lent.{AreNamed}
 use Rattle.library.specs.Moves.{refusal_of_move}
 use Rattle.library.proofs.BayLemmas.{at_no_place, at_place, no_drive, set_becomes}

@@ -10,7 +10,7 @@ use Rattle.accepting.specs.Core.{CanAcknowledge}
 use Rattle.accepting.specs.Laws.{CrashesKeepAcknowledged, StepsKeepCores}
 use Rattle.tape_buffer.specs.Rules.{medium_rules}
 use Rattle.tape_buffer.specs.Moves.{buffer_below, medium_core}
-use Rattle.tape_buffer.specs.State.{BufferState, state_of}
+use Rattle.tape_buffer.specs.State.{BufferState}
 use Rattle.aptpl_store.specs.Kept.{store_below, store_kept}
 use Rattle.drive_core.specs.Relations.{made_nothing}
 use Rattle.drive_core.specs.State.{medium_in}

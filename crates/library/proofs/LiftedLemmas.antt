@@ -1,12 +1,12 @@
 -- Drives that are taken out of their places, lent to a move, and put back.
 use Rattle.std.specs.Borrow.{MutBor}
 use Rattle.std.specs.Option.{option_copied_mut}
-use Rattle.std.proofs.Common.{◌≡◌, ◌≢◌, ◌⊎◌, inl, inr, ℕ, ◌-◌, List, length, set, get_or, Option, None, Some, IfNone, IfSome, refl, sym, ap, ◌∙◌, arith, subst}
+use Rattle.std.proofs.Common.{◌≡◌, ◌≢◌, ◌⊎◌, ℕ, ◌-◌, List, length, set, get_or, Option, None, Some, IfNone, IfSome, refl, sym, ap, ◌∙◌, arith, subst}
 use Rattle.std.proofs.lemmas.List.{length-set, set-set, set_comm, set-get_or}
 use Rattle.tape_buffer.specs.State.{BufferState}
 use Rattle.library.specs.Elements.{BayState, Becomes, HeldState, bay_at}
 use Rattle.library.specs.Inner.Lifted.{IsDrive, with_bay}
-use Rattle.library.specs.Lent.{AreNamed, InEach, back, lent, with_drive}
+use Rattle.library.specs.Lent.{InEach, back, lent}
 use Rattle.library.proofs.BayLemmas.{at_place, changed_at, set_becomes}
 
 module _ {X : Type 0} where

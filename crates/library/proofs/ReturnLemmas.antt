@@ -4,7 +4,7 @@ use mathlib.Core.List.{List}
 use mathlib.Core.Path.{◌≡◌, subst, sym}
 use mir.Syntax.{Ty}
 use contract.Lifetimes.{Lfts}
-use denote.Triple.Clauses.{AtExit, at_exit}
+use denote.Triple.Clauses.{at_exit}
 use borrow.Table.Row.{St}
 use borrow.Fn.Kind.{ParamKind, ResultKind}
 use borrow.Fn.Kinds.{Dens, Out, ended_of, res_t}

@@ -1,9 +1,8 @@
 -- An order that was answered GOOD is there.
-use Rattle.std.proofs.Common.{◌≡◌, ◌⊎◌, inl, inr, ℕ, [], Bool, true, false, Result, Ok, Err, refl, sym, ◌∙◌, ap, subst}
+use Rattle.std.proofs.Common.{◌≡◌, ◌⊎◌, inl, inr, ℕ, Bool, true, false, Result, Ok, Err, refl, sym, ◌∙◌, ap, subst}
 use Rattle.scsi_attention.specs.AttentionSets.{AttentionSet}
 use Rattle.std.specs.Prelude.{List}
 use Rattle.scsi_sense.specs.declared.replies.Reply.{Reply}
-use Rattle.scsi_sense.specs.declared.replies.Status.{Status}
 use Rattle.scsi_sense.specs.declared.replies.Status.TheVariants.{Good, Check}
 use Rattle.scsi_sense.specs.declared.sense_data.Sense.{Sense}
 use Rattle.scsi_lists.specs.declared.actions.PrAction.{PrAction}
@@ -15,7 +14,6 @@ use Rattle.pr_core.specs.declared.keepers.KeeperError.{KeeperError}
 use Rattle.pr_core.specs.declared.states.PrAnswer.{PrAnswer}
 use Rattle.pr_core.specs.declared.states.PrState.{PrState}
 use Rattle.pr_core.specs.Keepers.{KeeperState}
-use Rattle.pr_core.specs.Orders.{Orders}
 use Rattle.pr_core.specs.Saves.{needs_save}
 use Rattle.drive_core.specs.declared.conditions.Denial.{Denial}
 use Rattle.drive_core.specs.declared.faults.Fault.{Fault}
@@ -26,7 +24,7 @@ use Rattle.drive_core.specs.ReserveOut.{OrderOf, OrderUnlessFailed, StandsBy, St
 use Rattle.drive_core.specs.State.{Machine}
 use Rattle.drive_core.specs.Work.{Request}
 use Rattle.library.specs.Reservations.{IsOrdered}
-use Rattle.library.proofs.MachineLemmas.{Goes, step_goes}
+use Rattle.library.proofs.MachineLemmas.{Goes}
 
 -- a refusal is not GOOD
 not_good : {A : Type 0} (answer told : Result Reply Fault) → answer ≡ told → (reply_of told).status ≡ Check

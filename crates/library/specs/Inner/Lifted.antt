@@ -1,5 +1,5 @@
 -- Drives that are taken out of their places while they are lent to a move.
-use Rattle.std.specs.Prelude.{◌≡◌, ◌≤◌, ◌-◌, ℕ, Some, slice_set}
+use Rattle.std.specs.Prelude.{◌≤◌, ◌-◌, ℕ, Some, slice_set}
 use Rattle.vtl_base.specs.declared.limits.TheConstants.{DRIVES}
 use Rattle.tape_disk.specs.Disk.{DiskState}
 use Rattle.scsi_sense.specs.declared.replies.Reply.{Reply}
