@@ -125,7 +125,7 @@ fn report<E: Write>(line: FaultLine, errors: &mut E) -> bool
     ensures { Reports line.fault (E.contents errors.old) (E.contents errors.new) result }
 {
     match whole_line(line) {
-        Ok(text) => match write_text(errors, text.as_bytes()) {
+        Ok(text) => match write_text(errors, text.as_str().as_bytes()) {
             Ok(()) => true,
             Err(_) => false,
         },
