@@ -1,10 +1,8 @@
 -- What was acknowledged of a cartridge is kept wherever it is moved.
-use Rattle.std.specs.Prelude.{◌≡◌, ◌≢◌, ◌⊎◌, ◌++◌, ◌&&◌, ◌||◌, ℕ, List, [], ◌∷◌, Bool, true, false, Option, None, Some, is_some, refl, if◌then◌else◌}
+use Rattle.std.specs.Prelude.{◌≡◌, ◌≢◌, ◌⊎◌, ◌++◌, ℕ, List, [], ◌∷◌, Bool, true, false, Option, None, Some, refl, if◌then◌else◌}
 use Rattle.std.proofs.Common.{inl, inr, sym, ◌∙◌, ap, subst}
 use Rattle.tape_disk.specs.Disk.{DiskState, IsDisk}
 use Rattle.scsi_sense.specs.declared.replies.Reply.{Reply}
-use Rattle.scsi_sense.specs.Replies.{check_with, conflict, good_with}
-use Rattle.scsi_sense.specs.Senses.{destination_full, invalid_element_address, source_empty}
 use Rattle.volume_core.specs.declared.changes.Change.{Change}
 use Rattle.accepting.specs.Core.{CanAcknowledge}
 use Rattle.accepting.specs.Laws.{CrashesKeepAcknowledged, StepsKeepCores}
@@ -17,12 +15,12 @@ use Rattle.drive_core.specs.State.{medium_in}
 use Rattle.drive_core.specs.Execute.{HonestIn, is_device_fault}
 use Rattle.changer.specs.Slots.{held_at, is_slot}
 use Rattle.library.specs.Doings.{Turned}
-use Rattle.library.specs.Elements.{BayState, HeldState, bay_at, cartridge_at, cartridge_in, is_element, is_reserved_at}
+use Rattle.library.specs.Elements.{BayState, HeldState, bay_at, cartridge_at, cartridge_in}
 use Rattle.library.specs.Finish.{TurnsAt}
 use Rattle.library.specs.Journeys.{Deed, Finishing, GoesWith, GoesWithAll, InDrive, IsThen, KeepsWhatIsSafe, Moving, StopsKeepWhatIsMoved}
-use Rattle.library.specs.Moves.{AnswersMove, IsSameAt, KeepsCartridges, MovesMedium, refusal_of_move}
+use Rattle.library.specs.Moves.{IsSameAt, KeepsCartridges}
 use Rattle.library.proofs.CartridgeLemmas.{Moved, honest_in, keep_media, moved_as, moved_by, moved_doing, moved_nowhere, moved_on, safe_in}
-use Rattle.library.proofs.PlaceLemmas.{all_passed, bay_elsewhere, bay_here, check_is_not_good, conflict_is_not_good, in_bay, none_of, one_failed, same_or_not}
+use Rattle.library.proofs.PlaceLemmas.{bay_elsewhere, bay_here, in_bay, same_or_not}
 
 module _ {D : Type 0} (state : D → DiskState) (is_disk : (disk : D) → (state disk).honest → IsDisk (state disk)) where
   -- a cartridge that moved on is there
@@ -49,55 +47,39 @@ module _ {D : Type 0} (state : D → DiskState) (is_disk : (disk : D) → (state
       subst (λ (x : Option (BufferState D)). Moved state is_disk x b' changes) (sym from)
       (subst (λ (x : Option (BufferState D)). Moved state is_disk a x changes) (sym to) moved)
 
-  -- a move that is GOOD found nothing at its destination
-  had_room : (old new : HeldState D) (from to : ℕ) (reply : Reply) → reply ≡ good_with []
-      → MovesMedium state old from to reply new → cartridge_at old to ≡ None
-  had_room old new from to reply good moves = by (refusal_of_move old from to) refl moves
-    where
-      by : (refusal : Option Reply) → refusal_of_move old from to ≡ refusal
-          → AnswersMove state refusal old from to reply new → cartridge_at old to ≡ None
-      by (Some r) is answers =
-          absurd (one_failed (is_element old from && is_element old to)
-          (is_reserved_at (bay_at old.bays from) || is_reserved_at (bay_at old.bays to))
-          (is_some (cartridge_at old from)) (is_some (cartridge_at old to)) (check_with invalid_element_address [])
-          conflict (check_with source_empty []) (check_with destination_full []) (good_with []) r
-          (check_is_not_good invalid_element_address []) conflict_is_not_good (check_is_not_good source_empty [])
-          (check_is_not_good destination_full []) is (sym answers.0 ∙ good))
-      by None is answers =
-          none_of (cartridge_at old to)
-          (all_passed (is_element old from && is_element old to)
-          (is_reserved_at (bay_at old.bays from) || is_reserved_at (bay_at old.bays to))
-          (is_some (cartridge_at old from)) (is_some (cartridge_at old to)) (check_with invalid_element_address [])
-          conflict (check_with source_empty []) (check_with destination_full []) is).1
-
   -- a cartridge through a move
   moved_along : (old new : HeldState D) (from to place after : ℕ) (reply : Reply) (medium : BufferState D)
-      → cartridge_at old place ≡ Some medium → MovesMedium state old from to reply new
-      → KeepsCartridges state old from to reply new → IsThen from to reply place after
-      → Moved state is_disk (cartridge_at old place) (cartridge_at new after) []
-  moved_along old new from to place after reply medium there moves (inl kept) (inl (good, here, is)) =
+      → cartridge_at old place ≡ Some medium → KeepsCartridges state old from to reply new
+      → IsThen from to reply place after → Moved state is_disk (cartridge_at old place) (cartridge_at new after) []
+  moved_along old new from to place after reply medium there (inl (good, moves)) (inl (is_good, here, is)) =
       between (cartridge_at old from) (cartridge_at old place) (cartridge_at new to) (cartridge_at new after) []
       (ap (λ (n : ℕ). cartridge_at old n) here) (ap (λ (n : ℕ). cartridge_at new n) is)
-      (same_moved (cartridge_at old from) (cartridge_at new to) kept.3)
-  moved_along old new from to place after reply medium there moves (inl kept) (inr (inl not_good, is)) =
-      absurd (not_good kept.0)
-  moved_along old new from to place after reply medium there moves (inl kept) (inr (inr apart, is)) =
+      (same_moved (cartridge_at old from) (cartridge_at new to) moves.there)
+  moved_along old new from to place after reply medium there (inl (good, moves)) (inr (inl not_good, is)) =
+      absurd (not_good good)
+  moved_along old new from to place after reply medium there (inl (good, moves)) (inr (inr apart, is)) =
       by (same_or_not place to)
     where
       by : (place ≡ to) ⊎ (place ≢ to) → Moved state is_disk (cartridge_at old place) (cartridge_at new after) []
       by (inl here) =
-          let clash : Some medium ≡ None =
-          sym there ∙ ap (λ (n : ℕ). cartridge_at old n) here ∙ had_room old new from to reply kept.0 moves in
+          let clash : Some medium ≡ None = sym there ∙ ap (λ (n : ℕ). cartridge_at old n) here ∙ moves.room in
           absurd (cc)
       by (inr off) =
           unmoved (cartridge_at old place) (cartridge_at new after)
-          (ap (λ (n : ℕ). cartridge_at new n) is ∙ kept.4 place apart off)
-  moved_along old new from to place after reply medium there moves (inr kept) (inl (good, here, is)) =
-      absurd (kept.0 good)
-  moved_along old new from to place after reply medium there moves (inr kept) (inr (why, is)) =
-      between (cartridge_at old place) (cartridge_at old place) (cartridge_at new place) (cartridge_at new after) []
-      refl (ap (λ (n : ℕ). cartridge_at new n) is)
-      (same_moved (cartridge_at old place) (cartridge_at new place) (kept.1 place))
+          (ap (λ (n : ℕ). cartridge_at new n) is ∙ moves.others place apart off)
+  moved_along old new from to place after reply medium there (inr (not_good, stays)) (inl (good, here, is)) =
+      absurd (not_good good)
+  moved_along old new from to place after reply medium there (inr (not_good, stays)) (inr (why, is)) =
+      by (same_or_not place from)
+    where
+      by : (place ≡ from) ⊎ (place ≢ from) → Moved state is_disk (cartridge_at old place) (cartridge_at new after) []
+      by (inl here) =
+          between (cartridge_at old from) (cartridge_at old place) (cartridge_at new from) (cartridge_at new after) []
+          (ap (λ (n : ℕ). cartridge_at old n) here) (ap (λ (n : ℕ). cartridge_at new n) (is ∙ here))
+          (same_moved (cartridge_at old from) (cartridge_at new from) stays.there)
+      by (inr off) =
+          unmoved (cartridge_at old place) (cartridge_at new after)
+          (ap (λ (n : ℕ). cartridge_at new n) is ∙ stays.others place off)
 
   -- what is in a drive through a turn
   turned : (old new : Option (BayState D)) → TurnsAt state old new
@@ -146,7 +128,7 @@ module _ {D : Type 0} (state : D → DiskState) (is_disk : (disk : D) → (state
       ∙ bay_elsewhere number did.left old new did.now place (λ same. apart (sym same))))
   moved_with old new place after (Moving from to reply) changes medium there (moves, kept, is, none) =
       moved_as state is_disk (cartridge_at old place) (cartridge_at new after) [] changes none
-      (moved_along old new from to place after reply medium there moves kept is)
+      (moved_along old new from to place after reply medium there kept is)
   moved_with old new place after (Finishing result) changes medium there (writes, is, none) =
       moved_as state is_disk (cartridge_at old place) (cartridge_at new after) [] changes none
       (between (cartridge_at old place) (cartridge_at old place) (cartridge_at new place) (cartridge_at new after) []

@@ -6,8 +6,8 @@ use Rattle.tape_buffer.specs.State.{BufferState}
 use Rattle.library.specs.Elements.{BayState, HeldState}
 use Rattle.library.specs.Inner.Carried.{MovesLent}
 use Rattle.library.specs.Lent.{InEach}
-use Rattle.library.specs.Moves.{KeepsBays, KeepsCartridges, MovesMedium}
-use Rattle.library.proofs.MoveLemmas.{moves_keep, moves_stay}
+use Rattle.library.specs.Moves.{KeepsCartridges, MovesMedium}
+use Rattle.library.proofs.MoveLemmas.{moves_keep}
 
 module _ {D : Type 0} (state : D → DiskState) (from to : ℕ) (slots : List (Option (BufferState D)))
     (source destination : Option (BayState D)) (reply : Reply) (slots' : List (Option (BufferState D)))
@@ -24,7 +24,3 @@ module _ {D : Type 0} (state : D → DiskState) (from to : ℕ) (slots : List (O
       → Each (λ old new. KeepsCartridges state old from to reply new)
   each_kept is_disk moved bays named =
       let so = moved bays named in moves_keep state is_disk _ _ from to reply so.awake so.answer
-
-  pub each_bays : MovesLent state from to slots source destination reply slots' source' destination'
-      → Each (λ old new. KeepsBays old new)
-  each_bays moved bays named = moves_stay state _ _ from to reply (moved bays named).answer

@@ -5,8 +5,8 @@ use Rattle.std.proofs.Common.{◌≡◌, ◌≢◌, ◌⊎◌, ℕ, ◌-◌, Lis
 use Rattle.std.proofs.lemmas.List.{length-set, set-set, set_comm, set-get_or}
 use Rattle.tape_buffer.specs.State.{BufferState}
 use Rattle.library.specs.Elements.{BayState, Becomes, HeldState, bay_at}
-use Rattle.library.specs.Inner.Lifted.{IsDrive, with_bay}
-use Rattle.library.specs.Lent.{InEach, back, lent}
+use Rattle.library.specs.Inner.Lifted.{with_bay}
+use Rattle.library.specs.Lent.{InEach, IsDriveAddress, back, lent}
 use Rattle.library.proofs.BayLemmas.{at_place, changed_at, set_becomes}
 
 module _ {X : Type 0} where
@@ -30,11 +30,11 @@ module _ {X : Type 0} where
   some_is found x Q is so = subst (λ (f : Option X). IfSome f Q) is so
 
 module _ {D : Type 0} where
-  here : (bays : List (Option (BayState D))) (number : ℕ) (bay : BayState D) → IsDrive number → length bays ≡ 16
+  here : (bays : List (Option (BayState D))) (number : ℕ) (bay : BayState D) → IsDriveAddress number → length bays ≡ 16
       → bay_at (set bays (number - 1) (Some bay)) number ≡ Some bay
   here bays number bay drive long = (set_becomes bays number (Some bay) drive.least drive.most long).here
 
-  elsewhere : (bays : List (Option (BayState D))) (number other : ℕ) (bay : BayState D) → IsDrive number
+  elsewhere : (bays : List (Option (BayState D))) (number other : ℕ) (bay : BayState D) → IsDriveAddress number
       → length bays ≡ 16 → other ≢ number → bay_at (set bays (number - 1) (Some bay)) other ≡ bay_at bays other
   elsewhere bays number other bay drive long apart =
       (set_becomes bays number (Some bay) drive.least drive.most long).elsewhere other apart
@@ -52,7 +52,7 @@ module _ {D : Type 0} where
     -- a drive is lent as the source
     pub source_lent : (source source' : BayState D) (held new : HeldState D)
         → record { slots = slots; bays = bays } ≡ held
-        → new ≡ with_bay from source' (record { slots = slots'; bays = bays }) → IsDrive from
+        → new ≡ with_bay from source' (record { slots = slots'; bays = bays }) → IsDriveAddress from
         → bay_at held.bays to ≡ None → InEach from to slots (Some source) None slots' (Some source') None P
         → P (with_bay from source held) new
     source_lent source source' held new was is drive free each =
@@ -72,7 +72,7 @@ module _ {D : Type 0} where
     -- a drive is lent as the destination
     pub destination_lent : (destination destination' : BayState D) (held new : HeldState D)
         → record { slots = slots; bays = bays } ≡ held
-        → new ≡ with_bay to destination' (record { slots = slots'; bays = bays }) → IsDrive to → from ≢ to
+        → new ≡ with_bay to destination' (record { slots = slots'; bays = bays }) → IsDriveAddress to → from ≢ to
         → bay_at held.bays from ≡ None → InEach from to slots None (Some destination) slots' None (Some destination') P
         → P (with_bay to destination held) new
     destination_lent destination destination' held new was is drive apart free each =
@@ -92,7 +92,7 @@ module _ {D : Type 0} where
     pub both_lent : (source source' destination destination' : BayState D) (held mid new : HeldState D)
         → record { slots = slots; bays = bays } ≡ held
         → mid ≡ with_bay from source' (record { slots = slots'; bays = bays }) → new ≡ with_bay to destination' mid
-        → IsDrive from → IsDrive to → from ≢ to
+        → IsDriveAddress from → IsDriveAddress to → from ≢ to
         → InEach from to slots (Some source) (Some destination) slots' (Some source') (Some destination') P
         → P (with_bay from source (with_bay to destination held)) new
     both_lent source source' destination destination' held mid new was first_is is drive other apart each =
@@ -144,44 +144,44 @@ module _ {D : Type 0} where
   -- a drive that was taken out, or none was there
   module _ (slots : List (Option (BufferState D))) (bays : List (Option (BayState D))) (number place : ℕ)
       (found left : Option (BayState D)) (held : HeldState D) (is : record { slots = slots; bays = bays } ≡ held)
-      (drive : IsDrive number) (at : place ≡ number - 1) (there : bay_at bays number ≡ found) (gone : left ≡ None)
-    where
-      abbrev without : HeldState D
-      without = record { slots = slots; bays = set bays place left }
+      (drive : IsDriveAddress number) (at : place ≡ number - 1) (there : bay_at bays number ≡ found)
+      (gone : left ≡ None) where
+    abbrev without : HeldState D
+    without = record { slots = slots; bays = set bays place left }
 
-      in_place : get_or bays place None ≡ found
-      in_place = ap (λ (i : ℕ). get_or bays i None) at ∙ sym (at_place bays number drive.least) ∙ there
+    in_place : get_or bays place None ≡ found
+    in_place = ap (λ (i : ℕ). get_or bays i None) at ∙ sym (at_place bays number drive.least) ∙ there
 
-      -- what stood there is put back
-      same_again : set (set bays place left) (number - 1) found ≡ bays
-      same_again =
-          ap (λ (i : ℕ). set (set bays place left) i found) (sym at)
-          ∙ set-set bays place left found
-          ∙ ap (λ (b : Option (BayState D)). set bays place b) (sym in_place)
-          ∙ set-get_or bays place None
+    -- what stood there is put back
+    same_again : set (set bays place left) (number - 1) found ≡ bays
+    same_again =
+        ap (λ (i : ℕ). set (set bays place left) i found) (sym at)
+        ∙ set-set bays place left found
+        ∙ ap (λ (b : Option (BayState D)). set bays place b) (sym in_place)
+        ∙ set-get_or bays place None
 
-      pub taken_some : IfSome found (λ bay. IsDrive number × (with_bay number bay without ≡ held))
-      taken_some = by found same_again
-        where
-          by : (b : Option (BayState D)) → set (set bays place left) (number - 1) b ≡ bays
-              → IfSome b (λ bay. IsDrive number × (with_bay number bay without ≡ held))
-          by None again = tt
-          by (Some bay) again =
-              (drive, ap (λ (row : List (Option (BayState D))). record { slots = slots; bays = row }) again ∙ is)
+    pub taken_some : IfSome found (λ bay. IsDriveAddress number × (with_bay number bay without ≡ held))
+    taken_some = by found same_again
+      where
+        by : (b : Option (BayState D)) → set (set bays place left) (number - 1) b ≡ bays
+            → IfSome b (λ bay. IsDriveAddress number × (with_bay number bay without ≡ held))
+        by None again = tt
+        by (Some bay) again =
+            (drive, ap (λ (row : List (Option (BayState D))). record { slots = slots; bays = row }) again ∙ is)
 
-      pub taken_none : IfNone found (without ≡ held)
-      taken_none = by found in_place
-        where
-          by : (b : Option (BayState D)) → get_or bays place None ≡ b → IfNone b (without ≡ held)
-          by (Some bay) there = tt
-          by None there =
-              ap (λ (row : List (Option (BayState D))). record { slots = slots; bays = row })
-              (ap (λ (b : Option (BayState D)). set bays place b) (gone ∙ sym there) ∙ set-get_or bays place None)
-              ∙ is
+    pub taken_none : IfNone found (without ≡ held)
+    taken_none = by found in_place
+      where
+        by : (b : Option (BayState D)) → get_or bays place None ≡ b → IfNone b (without ≡ held)
+        by (Some bay) there = tt
+        by None there =
+            ap (λ (row : List (Option (BayState D))). record { slots = slots; bays = row })
+            (ap (λ (b : Option (BayState D)). set bays place b) (gone ∙ sym there) ∙ set-get_or bays place None)
+            ∙ is
 
-      pub taken_becomes : length bays ≡ 16 → Becomes number None held.bays (set bays place left)
-      taken_becomes long =
-          subst (λ (row : List (Option (BayState D))). Becomes number None row (set bays place left))
-          (ap (λ (h : HeldState D). h.bays) is)
-          (subst (λ (b : Option (BayState D)). Becomes number None bays (set bays place b)) (sym gone)
-          (changed_at bays number place None drive.least drive.most long at))
+    pub taken_becomes : length bays ≡ 16 → Becomes number None held.bays (set bays place left)
+    taken_becomes long =
+        subst (λ (row : List (Option (BayState D))). Becomes number None row (set bays place left))
+        (ap (λ (h : HeldState D). h.bays) is)
+        (subst (λ (b : Option (BayState D)). Becomes number None bays (set bays place b)) (sym gone)
+        (changed_at bays number place None drive.least drive.most long at))

@@ -41,19 +41,6 @@ module _ {D : Type 0} (state : D → DiskState) where
         subst (λ (found : Option (BufferState D)). IsSameAt state found new) (sym old_is)
         (subst (λ (found : Option (BufferState D)). IsSameAt state (Some given) found) (sym new_is) same)
 
-    -- one cartridge is the same later, and the others are what they were
-    at_each : (old new : HeldState D) (from : ℕ) (given later : BufferState D) → cartridge_at old from ≡ Some given
-        → cartridge_at new from ≡ Some later → IsSameCartridge state given later
-        → ((other : ℕ) → other ≢ from → cartridge_at new other ≡ cartridge_at old other)
-        → (address : ℕ) → IsSameAt state (cartridge_at old address) (cartridge_at new address)
-    at_each old new from given later was is same others address = by (same_or_not address from)
-      where
-        by : (address ≡ from) ⊎ (address ≢ from) → IsSameAt state (cartridge_at old address) (cartridge_at new address)
-        by (inl here) =
-            same_there (cartridge_at old address) (cartridge_at new address) given later
-            (ap (λ (a : ℕ). cartridge_at old a) here ∙ was) (ap (λ (a : ℕ). cartridge_at new a) here ∙ is) same
-        by (inr apart) = same_when (cartridge_at old address) (cartridge_at new address) (others address apart)
-
     -- what goes out of a drive
     goes_out : (b : Bay (BufferState D)) (bay left : BayState D) (given out : BufferState D)
         → medium_in b ≡ Some given → IsAwakeIn state b
@@ -186,21 +173,30 @@ module _ {D : Type 0} (state : D → DiskState) where
         let so = stays_in bay.bay bay left given reply found awake_in goes in
         inr (
           so.0,
-          at_each old new from given so.1.0 is (bay_here from left old new slot now ∙ so.1.1) so.1.2
-              (bay_elsewhere from left old new now),
+          record {
+            there =
+                same_there (cartridge_at old from) (cartridge_at new from) given so.1.0 is
+                (bay_here from left old new slot now ∙ so.1.1) so.1.2;
+            others = bay_elsewhere from left old new now;
+          },
         )
     carries_keep old new from to reply given is none awake (inr (out, mid, goes, inl (into, good))) =
         let taken = takes_out old mid from given out is awake goes in
         let put = puts_into mid new to out into in
-        let apart : from ≢ to = λ same.
+        let differs : from ≢ to = λ same.
         let clash : Some given ≡ None = sym is ∙ ap (λ (a : ℕ). cartridge_at old a) same ∙ none in absurd (cc) in
         inl (
           good,
-          apart,
-          put.others from apart ∙ taken.none,
-          same_there (cartridge_at old from) (cartridge_at new to) given put.later is put.there
-              (then_same state given out put.later taken.keeps put.same),
-          (λ other off on. put.others other on ∙ taken.others other off),
+          record {
+            apart = differs;
+            had = ap is_some is;
+            room = none;
+            gone = put.others from differs ∙ taken.none;
+            there =
+                same_there (cartridge_at old from) (cartridge_at new to) given put.later is put.there
+                (then_same state given out put.later taken.keeps put.same);
+            others = λ other off on. put.others other on ∙ taken.others other off;
+          },
         )
     carries_keep old new from to reply given is none awake (inr (out, mid, goes, inr (back, left, into, puts))) =
         let taken = takes_out old mid from given out is awake goes in
@@ -208,9 +204,12 @@ module _ {D : Type 0} (state : D → DiskState) where
         let put = puts_back left new from back puts in
         inr (
           came.reply_is,
-          at_each old new from given back is put.0
-              (then_same state given out back taken.keeps came.same)
-              (λ other off. put.1 other off ∙ came.all other ∙ taken.others other off),
+          record {
+            there =
+                same_there (cartridge_at old from) (cartridge_at new from) given back is put.0
+                (then_same state given out back taken.keeps came.same);
+            others = λ other off. put.1 other off ∙ came.all other ∙ taken.others other off;
+          },
         )
 
     pub moves_keep : (old new : HeldState D) (from to : ℕ) (reply : Reply)
@@ -228,8 +227,12 @@ module _ {D : Type 0} (state : D → DiskState) where
               conflict (check_with source_empty []) (check_with destination_full []) (good_with []) r
               (check_is_not_good invalid_element_address []) conflict_is_not_good (check_is_not_good source_empty [])
               (check_is_not_good destination_full []) is (sym answers.0 ∙ good)),
-          (λ address. same_when (cartridge_at old address) (cartridge_at new address)
-              (ap (λ (h : HeldState D). cartridge_at h address) answers.1)),
+          record {
+            there =
+                same_when (cartridge_at old from) (cartridge_at new from)
+                (ap (λ (h : HeldState D). cartridge_at h from) answers.1);
+            others = λ other off. ap (λ (h : HeldState D). cartridge_at h other) answers.1;
+          },
         )
         by None is answers =
             let passed = all_passed (is_element old from && is_element old to)

@@ -1,10 +1,15 @@
 -- Moves of cartridges on the slots of a library and the drives that the two addresses name.
-use Rattle.std.specs.Prelude.{◌≡◌, ◌≢◌, ℕ, ◌-◌, List, length, slice_set, Option, None, Some}
+use Rattle.std.specs.Prelude.{◌≡◌, ◌≢◌, ◌≤◌, ℕ, ◌-◌, List, length, slice_set, Option, None, Some}
 use Rattle.std.specs.Borrow.{MutBor}
 use Rattle.std.proofs.Common.{◌⊎◌, inl, inr}
 use Rattle.vtl_base.specs.declared.limits.TheConstants.{DRIVES}
 use Rattle.tape_buffer.specs.State.{BufferState}
 use Rattle.library.specs.Elements.{BayState, HeldState, bay_at}
+
+-- this is the element address of a drive's place, a drive's number (SMC-3, element addresses; which they are, own)
+pub record IsDriveAddress (address : ℕ) : Type 0 where
+  pub least : 1 ≤ address
+  pub most : address ≤ DRIVES
 
 module _ {X : Type 0} where
   -- what is lent, where something is (own)

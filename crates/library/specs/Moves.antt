@@ -119,11 +119,25 @@ module _ {D : Type 0} where
     IsSameAt (Some old) (Some new) = IsSameCartridge old new
     IsSameAt _ _ = ⊥
 
-    -- At GOOD each element address has the cartridge that it had, but for the source, where none is now, and the
-    -- destination, where that of the source is; at any other answer each has what it had (SMC-3, MOVE MEDIUM).
+    -- A cartridge is at another address now: the source had it and has none, the destination had none and has it, and
+    -- each other address has what it had (SMC-3, MOVE MEDIUM).
+    pub record MovesCartridge (from to : ℕ) (old new : HeldState D) : Type 0 where
+      pub apart : from ≢ to
+      pub had : is_some (cartridge_at old from) ≡ true
+      pub room : cartridge_at old to ≡ None
+      pub gone : cartridge_at new from ≡ None
+      pub there : IsSameAt (cartridge_at old from) (cartridge_at new to)
+      pub others : (other : ℕ) → other ≢ from → other ≢ to → cartridge_at new other ≡ cartridge_at old other
+
+    -- no cartridge is at another address: the source has the one that it had, or none, and each other address has what
+    -- it had (SMC-3, MOVE MEDIUM)
+    pub record MovesNothing (from : ℕ) (old new : HeldState D) : Type 0 where
+      pub there : IsSameAt (cartridge_at old from) (cartridge_at new from)
+      pub others : (other : ℕ) → other ≢ from → cartridge_at new other ≡ cartridge_at old other
+
+    -- no cartridge is ever lost: at GOOD that of the source is at the destination, at any other answer none has moved
+    -- (SMC-3, MOVE MEDIUM)
     abbrev pub KeepsCartridges : HeldState D → ℕ → ℕ → Reply → HeldState D → Type 0
     KeepsCartridges old from to reply new =
-        ((reply ≡ good_with []) × (from ≢ to) × (cartridge_at new from ≡ None)
-        × IsSameAt (cartridge_at old from) (cartridge_at new to)
-        × ((other : ℕ) → other ≢ from → other ≢ to → cartridge_at new other ≡ cartridge_at old other))
-        ⊎ ((reply ≢ good_with []) × ((address : ℕ) → IsSameAt (cartridge_at old address) (cartridge_at new address)))
+        ((reply ≡ good_with []) × MovesCartridge from to old new)
+        ⊎ ((reply ≢ good_with []) × MovesNothing from old new)

@@ -1,9 +1,9 @@
 //! Moves of cartridges on slots and drives that are lent.
-ghost use Rattle.std.specs.Prelude.{◌≡◌, None, Some, true, false, is_some};
+ghost use Rattle.std.specs.Prelude.{◌≡◌, ◌≢◌, IfSome, None, Some, true, false, is_some};
 ghost use Rattle.changer.specs.Slots.{Puts, held_at, is_slot};
 ghost use Rattle.library.specs.Inner.Carried.{MovesLent, drive_end, end_beside, refusal_between, slot_end};
-ghost use Rattle.library.specs.Lent.{InEach, back, lent};
-ghost use Rattle.library.specs.Moves.{KeepsBays, KeepsCartridges, MovesMedium};
+ghost use Rattle.library.specs.Lent.{InEach, IsDriveAddress, back, lent};
+ghost use Rattle.library.specs.Moves.{KeepsCartridges, MovesMedium};
 
 use crate::bays::Bay;
 use crate::moves::check;
@@ -127,6 +127,7 @@ fn out_of_drive<D: Disk + Drop>(
     from: u32,
     to: u32,
 ) -> Reply
+    requires { IsDriveAddress from }
     ensures { MovesLent D.state from to slots.old (Some source.old) None result slots.new (Some source.new) None }
 {
     if let Some(reply) = refusal_between(
@@ -152,6 +153,8 @@ fn into_drive<D: Disk + Drop>(
     from: u32,
     to: u32,
 ) -> Reply
+    requires destination { IsDriveAddress to }
+    requires apart { from ≢ to }
     ensures { MovesLent D.state from to slots.old None (Some destination.old) result
         slots.new None (Some destination.new) }
 {
@@ -177,6 +180,9 @@ fn between_drives<D: Disk + Drop>(
     from: u32,
     to: u32,
 ) -> Reply
+    requires source { IsDriveAddress from }
+    requires destination { IsDriveAddress to }
+    requires apart { from ≢ to }
     ensures { MovesLent D.state from to slots.old (Some source.old) (Some destination.old) result
         slots.new (Some source.new) (Some destination.new) }
 {
@@ -199,8 +205,8 @@ fn between_drives<D: Disk + Drop>(
 /// Moves a cartridge from one element address to another, on slots and drives that are lent, by the rules of
 /// `Held::move_medium` (own): `source` is the drive that `from` names and `destination` that of `to`, and `None` where
 /// the address is no configured drive's; a drive that both name is lent as the source alone. Of any library that has
-/// these slots, and these drives where the addresses name them, the reply and what is left behind are those of that
-/// move, in at most 16 drives. Where other drives are lent than the addresses name, nothing is said.
+/// these slots and these drives, the reply and what is left behind are those of that move, in at most 16 drives. A
+/// drive's address is 1 to 16.
 pub fn move_lent<D: Disk + Drop>(
     alloc: Global,
     slots: &mut Slots<Parked<D>>,
@@ -209,15 +215,14 @@ pub fn move_lent<D: Disk + Drop>(
     from: u32,
     to: u32,
 ) -> Reply
+    requires source { IfSome source (λ bay. IsDriveAddress from) }
+    requires destination { IfSome destination (λ bay. IsDriveAddress to × (from ≢ to)) }
     ensures answer { InEach from to slots.old (lent source.entry) (lent destination.entry)
         slots.new (back source.entry source.exit) (back destination.entry destination.exit)
         (λ old new. MovesMedium D.state old from to result new) }
     ensures kept { InEach from to slots.old (lent source.entry) (lent destination.entry)
         slots.new (back source.entry source.exit) (back destination.entry destination.exit)
         (λ old new. KeepsCartridges D.state old from to result new) }
-    ensures bays { InEach from to slots.old (lent source.entry) (lent destination.entry)
-        slots.new (back source.entry source.exit) (back destination.entry destination.exit)
-        (λ old new. KeepsBays old new) }
 {
     let Some(source) = source else {
         let Some(destination) = destination else {

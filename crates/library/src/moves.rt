@@ -3,7 +3,8 @@ ghost use Rattle.std.specs.Prelude.{◌≡◌, ◌≢◌, ◌≤◌, ◌⊎◌, 
 ghost use Rattle.vtl_base.specs.declared.limits.TheConstants.{DRIVES};
 ghost use Rattle.scsi_sense.specs.Replies.{check_with};
 ghost use Rattle.library.specs.Elements.{Becomes, bay_at};
-ghost use Rattle.library.specs.Inner.Lifted.{IsCarried, IsDrive, with_bay};
+ghost use Rattle.library.specs.Inner.Lifted.{IsCarried, with_bay};
+ghost use Rattle.library.specs.Lent.{IsDriveAddress};
 ghost use Rattle.library.specs.Moves.{KeepsBays, KeepsCartridges, MovesMedium};
 
 use crate::bays::Bay;
@@ -59,7 +60,7 @@ impl<D: Disk + Drop> Held<D> {
     fn take_drive(&mut self, address: u32) -> Option<Bay<D>>
         ensures out { result ≡ bay_at self.old.bays address }
         ensures left { Becomes address None self.old.bays self.new.bays }
-        ensures some { IfSome result (λ bay. IsDrive address × (with_bay address bay self.new ≡ self.old)) }
+        ensures some { IfSome result (λ bay. IsDriveAddress address × (with_bay address bay self.new ≡ self.old)) }
         ensures none { IfNone result (self.new ≡ self.old) }
     {
         // Looked at for the proof's sake: there are places for all drives.
@@ -72,7 +73,7 @@ impl<D: Disk + Drop> Held<D> {
 
     // Puts a drive into its place, where none is.
     fn return_drive(&mut self, address: u32, bay: Bay<D>)
-        requires { IsDrive address }
+        requires { IsDriveAddress address }
         ensures { self.new ≡ with_bay address bay self.old }
     {
         if let Some(drive) = drive_of(address) {
@@ -88,8 +89,8 @@ impl<D: Disk + Drop> Held<D> {
         from: u32,
         to: u32,
     ) -> Reply
-        requires source { IsDrive from }
-        requires destination { IsDrive to }
+        requires source { IsDriveAddress from }
+        requires destination { IsDriveAddress to }
         requires apart { from ≢ to }
         ensures { IsCarried D.state from to result (with_bay from source (with_bay to destination self.old)) self.new }
     {
@@ -110,7 +111,7 @@ impl<D: Disk + Drop> Held<D> {
 
     // Moves a cartridge out of this drive, which was taken out of its place; `to` names no other.
     fn move_out_of_drive(&mut self, source: Bay<D>, from: u32, to: u32) -> Reply
-        requires source { IsDrive from }
+        requires source { IsDriveAddress from }
         requires alone { bay_at self.old.bays to ≡ None }
         ensures { IsCarried D.state from to result (with_bay from source self.old) self.new }
     {
@@ -131,7 +132,7 @@ impl<D: Disk + Drop> Held<D> {
 
     // Moves a cartridge into this drive, which was taken out of its place; `from` names none.
     fn move_into_drive(&mut self, destination: Bay<D>, from: u32, to: u32) -> Reply
-        requires destination { IsDrive to }
+        requires destination { IsDriveAddress to }
         requires apart { from ≢ to }
         requires alone { bay_at self.old.bays from ≡ None }
         ensures { IsCarried D.state from to result (with_bay to destination self.old) self.new }

@@ -2,6 +2,7 @@
 use crate::samples::{
     Answer, Disk, GOOD, NEVER, add_drive, asks, cartridge, is_answer, library, store,
 };
+use assertions::{assert_equal, assert_holds};
 use library::{Bay, Held, Parked};
 use pr_core::Reservations;
 use scsi_sense::Status;
@@ -70,7 +71,7 @@ fn a_library_of_sixteen_drives(rt: HostRuntime) -> Result<(), Fail> {
     asks(&rt, &mut held, (1, 16), READY, b"", POWERED_ON);
     asks(&rt, &mut held, (1, 16), READY, b"", GOOD);
     is_answer(&rt, &held.move_medium(16, 1016), GOOD, 2);
-    assert!(rt; held.slot(1016).is_some());
+    assert_holds!(rt; held.slot(1016).is_some());
     is_answer(&rt, &held.move_medium(1001, 16), GOOD, 3);
     asks(&rt, &mut held, (1, 16), READY, b"", MEDIUM_CHANGED);
     asks(&rt, &mut held, (1, 16), READY, b"", GOOD);
@@ -87,8 +88,8 @@ fn is_told(rt: &impl Abort, bay: &mut Bay<Disk>, wanted: Answer, at: usize) {
 fn gives(rt: &impl Abort, bay: &mut Bay<Disk>, cdb: &[u8], sent: &[u8], wanted: &[u8]) {
     let host = Nexus::new(1).expect(rt, "a nexus");
     let reply = bay.execute(host, cdb, sent);
-    assert_eq!(rt; reply.status, Status::Good);
-    assert_eq!(rt; reply.bytes.as_slice(), wanted);
+    assert_equal!(rt; reply.status, Status::Good);
+    assert_equal!(rt; reply.bytes.as_slice(), wanted);
 }
 
 // The cartridge goes out of the drive, is closed, and is loaded again.
@@ -106,7 +107,7 @@ fn a_cartridge_is_closed_and_taken_back(rt: HostRuntime) -> Result<(), Fail> {
     let mut bay = loaded(rt.alloc(), 1, b"T00001L6")?;
     is_told(&rt, &mut bay, POWERED_ON, 0);
     gives(&rt, &mut bay, &[0x0a, 0, 0, 0, 5, 0], b"hello", b"");
-    assert!(rt; is_taken_back(rt.alloc(), &mut bay));
+    assert_holds!(rt; is_taken_back(rt.alloc(), &mut bay));
     is_told(&rt, &mut bay, MEDIUM_CHANGED, 1);
     gives(&rt, &mut bay, &[0x08, 0, 0, 0, 5, 0], b"", b"hello");
     Ok(())
@@ -141,11 +142,11 @@ fn a_library_in_another_thread(rt: HostRuntime) -> Result<(), Fail> {
     let drive = DriveNo::new(1).expect(&rt, "a drive");
     let (held, first) = asked_elsewhere(&rt, held, host, drive);
     let (held, second) = asked_elsewhere(&rt, held, host, drive);
-    assert_eq!(rt; (first, second), (Some(Status::Check), Some(Status::Check)));
+    assert_equal!(rt; (first, second), (Some(Status::Check), Some(Status::Check)));
     let mut held = held;
     is_answer(&rt, &held.move_medium(1001, 1), GOOD, 0);
     let (held, told) = asked_elsewhere(&rt, held, host, drive);
     let (_, ready) = asked_elsewhere(&rt, held, host, drive);
-    assert_eq!(rt; (told, ready), (Some(Status::Check), Some(Status::Good)));
+    assert_equal!(rt; (told, ready), (Some(Status::Check), Some(Status::Good)));
     Ok(())
 }

@@ -1,4 +1,7 @@
 //! Moves on slots and drives that are lent.
+ghost use Rattle.std.specs.Prelude.{◌≢◌, IfSome};
+ghost use Rattle.library.specs.Lent.{IsDriveAddress};
+
 use crate::samples::{Answer, Disk, GOOD, NEVER, cartridge, is_answer, store};
 use assertions::assert_holds;
 use changer::Slots;
@@ -27,6 +30,9 @@ fn bay(alloc: Global, number: u8) -> Result<Bay<Disk>, Fail> {
     }
 }
 
+// A move from one address to another, and how it is answered.
+type Row = (u32, u32, Answer);
+
 // A move on what is lent has this answer.
 fn is_moved(
     rt: &impl Abort,
@@ -34,8 +40,12 @@ fn is_moved(
     slots: &mut Slots<Parked<Disk>>,
     source: Option<&mut Bay<Disk>>,
     destination: Option<&mut Bay<Disk>>,
-    (from, to, wanted): (u32, u32, Answer),
-) {
+    row: Row,
+)
+    requires source { IfSome source (λ bay. IsDriveAddress row.0) }
+    requires destination { IfSome destination (λ bay. IsDriveAddress row.1 × (row.0 ≢ row.1)) }
+{
+    let (from, to, wanted) = row;
     let reply = move_lent(alloc, slots, source, destination, from, to);
     is_answer(rt, &reply, wanted, from as usize);
 }

@@ -1,5 +1,6 @@
 //! Buffers are written out.
 use crate::samples::{Answer, Disk, GOOD, NEVER, asks, is_answer, library};
+use assertions::{assert_equal, assert_holds};
 use drive_core::Drive;
 use library::{Held, Unwritten};
 use scsi_sense::Status;
@@ -47,10 +48,10 @@ fn all_is_written_out(rt: HostRuntime) -> Result<(), Fail> {
     };
     let mut held = held;
     let before = syncs(&rt, &held);
-    assert_eq!(rt; held.finish(), Ok(()));
-    assert_eq!(rt; syncs(&rt, &held).checked_sub(before), Some(2));
-    assert_eq!(rt; held.finish(), Ok(()));
-    assert_eq!(rt; syncs(&rt, &held).checked_sub(before), Some(2));
+    assert_equal!(rt; held.finish(), Ok(()));
+    assert_equal!(rt; syncs(&rt, &held).checked_sub(before), Some(2));
+    assert_equal!(rt; held.finish(), Ok(()));
+    assert_equal!(rt; syncs(&rt, &held).checked_sub(before), Some(2));
     Ok(())
 }
 
@@ -65,9 +66,47 @@ fn what_is_not_written_is_told(rt: HostRuntime) -> Result<(), Fail> {
         let mut held = held;
         if held.finish() == Err(Unwritten) {
             unwritten = unwritten.saturating_add(1);
-            assert_eq!(rt; held.finish(), Err(Unwritten));
+            assert_equal!(rt; held.finish(), Err(Unwritten));
         }
     }
-    assert_eq!(rt; unwritten, 4);
+    assert_equal!(rt; unwritten, 4);
+    Ok(())
+}
+
+// Whether this call of the cartridge's disk is one of its writing out, where it is to go from drive 1 into a slot: it
+// fails, and the cartridge stays until it is asked to go again, which gives up what is pending.
+fn is_kept(rt: &impl Abort, alloc: Global, fails: u64) -> Result<bool, Fail> {
+    let Some(held) = with_a_block(rt, alloc, fails)? else {
+        return Ok(false);
+    };
+    let mut held = held;
+    let reply = held.move_medium(1, 1002);
+    if reply.sense.is_none() {
+        return Ok(false);
+    }
+    is_answer(rt, &reply, (Status::Check, 3, 0x0c, 0), fails as usize);
+    assert_holds!(rt; held.slot(1002).is_none());
+    asks(
+        rt,
+        &mut held,
+        (1, 1),
+        READY,
+        b"",
+        (Status::Check, 4, 0x44, 0),
+    );
+    is_answer(rt, &held.move_medium(1, 1002), GOOD, fails as usize);
+    assert_holds!(rt; held.slot(1002).is_some());
+    Ok(true)
+}
+
+#[test]
+fn what_is_not_written_stays_in_its_drive(rt: HostRuntime) -> Result<(), Fail> {
+    let mut kept = 0u32;
+    for fails in 5..30 {
+        if is_kept(&rt, rt.alloc(), fails)? {
+            kept = kept.saturating_add(1);
+        }
+    }
+    assert_equal!(rt; kept, 4);
     Ok(())
 }

@@ -1,15 +1,9 @@
 -- Drives that are taken out of their places while they are lent to a move.
-use Rattle.std.specs.Prelude.{◌≤◌, ◌-◌, ℕ, Some, slice_set}
-use Rattle.vtl_base.specs.declared.limits.TheConstants.{DRIVES}
+use Rattle.std.specs.Prelude.{◌-◌, ℕ, Some, slice_set}
 use Rattle.tape_disk.specs.Disk.{DiskState}
 use Rattle.scsi_sense.specs.declared.replies.Reply.{Reply}
 use Rattle.library.specs.Elements.{BayState, HeldState}
 use Rattle.library.specs.Moves.{KeepsBays, KeepsCartridges, MovesMedium}
-
--- this is the number of a drive
-pub record IsDrive (number : ℕ) : Type 0 where
-  pub least : 1 ≤ number
-  pub most : number ≤ DRIVES
 
 module _ {D : Type 0} where
   -- a library in which this drive stands in the place of this number

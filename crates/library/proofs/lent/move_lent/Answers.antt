@@ -1,5 +1,5 @@
 use Rattle.std.proofs.Common.{Some, None}
-use Rattle.library.proofs.LentLemmas.{each_answer, each_bays, each_kept}
+use Rattle.library.proofs.LentLemmas.{each_answer, each_kept}
 use Rattle.library.proofs.ReturnLemmas.{at_args}
 use Rattle.library.proofs.lent.move_lent.Goals as goal
 use Rattle.library.proofs.lent.move_lent.Lts
@@ -46,10 +46,6 @@ returns g c =
           c.in-Some-destination-2.destination.now)
           c.between_drives.result c.between_drives.new.slots (Some c.between_drives.new.source) (Some
           c.between_drives.new.destination) g.met.D.Disk.is_disk c.between_drives.ensures;
-      bays = each_bays g.D.Disk.state given.from given.to given.slots.now (Some c.in-Some.source.now) (Some
-          c.in-Some-destination-2.destination.now)
-          c.between_drives.result c.between_drives.new.slots (Some c.between_drives.new.source) (Some
-          c.between_drives.new.destination) c.between_drives.ensures;
     })
 
 pub returns-in_default-destination-2 : goal.returns-in_default-destination-2
@@ -93,8 +89,6 @@ returns-in_default-destination-2 g c =
       kept = each_kept g.D.Disk.state given.from given.to given.slots.now (Some c.in-Some.source.now) None
           c.out_of_drive.result c.out_of_drive.new.slots (Some c.out_of_drive.new.source) None g.met.D.Disk.is_disk
           c.out_of_drive.ensures;
-      bays = each_bays g.D.Disk.state given.from given.to given.slots.now (Some c.in-Some.source.now) None
-          c.out_of_drive.result c.out_of_drive.new.slots (Some c.out_of_drive.new.source) None c.out_of_drive.ensures;
     })
 
 pub returns-in_default : goal.returns-in_default
@@ -122,9 +116,6 @@ returns-in_default g c =
           c.in-Some-destination.destination.now)
           c.into_drive.result c.into_drive.new.slots None (Some c.into_drive.new.destination) g.met.D.Disk.is_disk
           c.into_drive.ensures;
-      bays = each_bays g.D.Disk.state given.from given.to given.slots.now None (Some
-          c.in-Some-destination.destination.now)
-          c.into_drive.result c.into_drive.new.slots None (Some c.into_drive.new.destination) c.into_drive.ensures;
     })
 
 pub returns-in_default-destination : goal.returns-in_default-destination
@@ -167,6 +158,4 @@ returns-in_default-destination g c =
           c.between_slots.result c.between_slots.new.slots None None c.between_slots.ensures;
       kept = each_kept g.D.Disk.state given.from given.to given.slots.now None None
           c.between_slots.result c.between_slots.new.slots None None g.met.D.Disk.is_disk c.between_slots.ensures;
-      bays = each_bays g.D.Disk.state given.from given.to given.slots.now None None
-          c.between_slots.result c.between_slots.new.slots None None c.between_slots.ensures;
     })

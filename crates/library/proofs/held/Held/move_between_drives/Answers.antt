@@ -1,17 +1,19 @@
-use Rattle.library.specs.Moves.{KeepsBays, KeepsCartridges, MovesMedium}
+use Rattle.library.specs.Moves.{KeepsCartridges, MovesMedium}
 use Rattle.library.proofs.LiftedLemmas.{both_lent}
+use Rattle.library.proofs.MoveLemmas.{moves_stay}
 use Rattle.library.proofs.held.Held.move_between_drives.Goals as goal
 
 pub returns : goal.returns
 returns g c =
+    let answer =
+    both_lent (λ old new. MovesMedium g.D.Disk.state old c.args.from c.args.to c.move_lent-reply.result new)
+    c.self.inside.slots c.move_lent-reply.new.slots c.args.from c.args.to c.self.inside.bays.items
+    c.self.invariant c.args.source c.move_lent-reply.new.source.0 c.args.destination
+    c.move_lent-reply.new.destination.0 c.args.self.now c.return_drive.new.self c.return_drive-2.new.self
+    c.self.view_is c.return_drive.ensures c.return_drive-2.ensures c.requires.source c.requires.destination
+    c.requires.apart c.move_lent-reply.ensures.answer in
     record {
-      answer =
-          both_lent (λ old new. MovesMedium g.D.Disk.state old c.args.from c.args.to c.move_lent-reply.result new)
-          c.self.inside.slots c.move_lent-reply.new.slots c.args.from c.args.to c.self.inside.bays.items
-          c.self.invariant c.args.source c.move_lent-reply.new.source.0 c.args.destination
-          c.move_lent-reply.new.destination.0 c.args.self.now c.return_drive.new.self c.return_drive-2.new.self
-          c.self.view_is c.return_drive.ensures c.return_drive-2.ensures c.requires.source c.requires.destination
-          c.requires.apart c.move_lent-reply.ensures.answer;
+      answer = answer;
       kept =
           both_lent (λ old new. KeepsCartridges g.D.Disk.state old c.args.from c.args.to c.move_lent-reply.result new)
           c.self.inside.slots c.move_lent-reply.new.slots c.args.from c.args.to c.self.inside.bays.items
@@ -19,11 +21,5 @@ returns g c =
           c.move_lent-reply.new.destination.0 c.args.self.now c.return_drive.new.self c.return_drive-2.new.self
           c.self.view_is c.return_drive.ensures c.return_drive-2.ensures c.requires.source c.requires.destination
           c.requires.apart c.move_lent-reply.ensures.kept;
-      bays =
-          both_lent (λ old new. KeepsBays old new)
-          c.self.inside.slots c.move_lent-reply.new.slots c.args.from c.args.to c.self.inside.bays.items
-          c.self.invariant c.args.source c.move_lent-reply.new.source.0 c.args.destination
-          c.move_lent-reply.new.destination.0 c.args.self.now c.return_drive.new.self c.return_drive-2.new.self
-          c.self.view_is c.return_drive.ensures c.return_drive-2.ensures c.requires.source c.requires.destination
-          c.requires.apart c.move_lent-reply.ensures.bays;
+      bays = moves_stay g.D.Disk.state _ _ c.args.from c.args.to c.move_lent-reply.result answer;
     }

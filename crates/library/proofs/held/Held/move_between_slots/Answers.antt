@@ -1,20 +1,22 @@
 use Rattle.library.specs.Lent.{InEach}
-use Rattle.library.specs.Moves.{KeepsBays, KeepsCartridges, MovesMedium}
+use Rattle.library.specs.Moves.{KeepsCartridges, MovesMedium}
 use Rattle.library.proofs.LiftedLemmas.{neither_lent, none_named}
+use Rattle.library.proofs.MoveLemmas.{moves_stay}
 use Rattle.library.proofs.held.Held.move_between_slots.Goals as goal
 
 pub returns : goal.returns
 returns g c =
+    let answer =
+    none_named (λ old new. MovesMedium g.D.Disk.state old c.args.from c.args.to c.move_lent-reply.result new)
+    c.self.inside.slots c.move_lent-reply.new.slots c.args.from c.args.to c.self.inside.bays.items
+    c.self.invariant c.args.self.now c.self.view_is c.requires.source c.requires.destination
+    (neither_lent c.as_mut.result c.as_mut-2.result _ _ c.as_mut.ensures.value c.as_mut-2.ensures.value
+    (λ source destination left still.
+    InEach c.args.from c.args.to c.self.inside.slots source destination c.move_lent-reply.new.slots left still
+    (λ old new. MovesMedium g.D.Disk.state old c.args.from c.args.to c.move_lent-reply.result new))
+    c.move_lent-reply.ensures.answer) in
     record {
-      answer =
-          none_named (λ old new. MovesMedium g.D.Disk.state old c.args.from c.args.to c.move_lent-reply.result new)
-          c.self.inside.slots c.move_lent-reply.new.slots c.args.from c.args.to c.self.inside.bays.items
-          c.self.invariant c.args.self.now c.self.view_is c.requires.source c.requires.destination
-          (neither_lent c.as_mut.result c.as_mut-2.result _ _ c.as_mut.ensures.value c.as_mut-2.ensures.value
-          (λ source destination left still.
-          InEach c.args.from c.args.to c.self.inside.slots source destination c.move_lent-reply.new.slots left still
-          (λ old new. MovesMedium g.D.Disk.state old c.args.from c.args.to c.move_lent-reply.result new))
-          c.move_lent-reply.ensures.answer);
+      answer = answer;
       kept =
           none_named (λ old new. KeepsCartridges g.D.Disk.state old c.args.from c.args.to c.move_lent-reply.result new)
           c.self.inside.slots c.move_lent-reply.new.slots c.args.from c.args.to c.self.inside.bays.items
@@ -24,13 +26,5 @@ returns g c =
           InEach c.args.from c.args.to c.self.inside.slots source destination c.move_lent-reply.new.slots left still
           (λ old new. KeepsCartridges g.D.Disk.state old c.args.from c.args.to c.move_lent-reply.result new))
           c.move_lent-reply.ensures.kept);
-      bays =
-          none_named (λ old new. KeepsBays old new)
-          c.self.inside.slots c.move_lent-reply.new.slots c.args.from c.args.to c.self.inside.bays.items
-          c.self.invariant c.args.self.now c.self.view_is c.requires.source c.requires.destination
-          (neither_lent c.as_mut.result c.as_mut-2.result _ _ c.as_mut.ensures.value c.as_mut-2.ensures.value
-          (λ source destination left still.
-          InEach c.args.from c.args.to c.self.inside.slots source destination c.move_lent-reply.new.slots left still
-          (λ old new. KeepsBays old new))
-          c.move_lent-reply.ensures.bays);
+      bays = moves_stay g.D.Disk.state _ _ c.args.from c.args.to c.move_lent-reply.result answer;
     }

@@ -1,6 +1,7 @@
 use Rattle.std.proofs.Common.{◌≡◌, ◌∙◌, ap, subst, Option, IfNone}
 use Rattle.library.specs.Elements.{BayState, HeldState}
-use Rattle.library.specs.Inner.Lifted.{IsDrive, with_bay}
+use Rattle.library.specs.Inner.Lifted.{with_bay}
+use Rattle.library.specs.Lent.{IsDriveAddress}
 use Rattle.library.specs.Moves.{KeepsCartridges}
 use Rattle.library.proofs.LiftedLemmas.{some_is}
 use Rattle.library.proofs.held.Held.move_medium.Goals as goal
@@ -8,11 +9,11 @@ use Rattle.library.proofs.held.Held.move_medium.Goals as goal
 pub returns-in-Some-Some-clause-kept : goal.returns-in-Some-Some-clause-kept
 returns-in-Some-Some-clause-kept g c =
     let second = some_is c.take_drive-destination.result c.in-Some-Some.destination
-    (λ (bay : BayState g.row.D.Denot). IsDrive c.args.to
+    (λ (bay : BayState g.row.D.Denot). IsDriveAddress c.args.to
     × (with_bay c.args.to bay c.take_drive-destination.new.self ≡ c.take_drive-source.new.self))
     c.in-Some-Some.is-1 c.take_drive-destination.ensures.some in
     let first = some_is c.take_drive-source.result c.in-Some-Some.source
-    (λ (bay : BayState g.row.D.Denot). IsDrive c.args.from
+    (λ (bay : BayState g.row.D.Denot). IsDriveAddress c.args.from
     × (with_bay c.args.from bay c.take_drive-source.new.self ≡ c.args.self.now))
     c.in-Some-Some.is-0 c.take_drive-source.ensures.some in
     subst (λ (h : HeldState g.row.D.Denot). KeepsCartridges g.D.Disk.state h c.args.from c.args.to
@@ -26,7 +27,7 @@ returns-in-Some-None-clause-kept g c =
     (c.take_drive-destination.new.self ≡ c.take_drive-source.new.self)) c.in-Some-None.is-1
     c.take_drive-destination.ensures.none in
     let first = some_is c.take_drive-source.result c.in-Some-None.source
-    (λ (bay : BayState g.row.D.Denot). IsDrive c.args.from
+    (λ (bay : BayState g.row.D.Denot). IsDriveAddress c.args.from
     × (with_bay c.args.from bay c.take_drive-source.new.self ≡ c.args.self.now))
     c.in-Some-None.is-0 c.take_drive-source.ensures.some in
     subst (λ (h : HeldState g.row.D.Denot). KeepsCartridges g.D.Disk.state h c.args.from c.args.to
