@@ -6,5 +6,6 @@ pub mod OpenedLemmas
 pub mod OpeningLemmas
 pub mod PlacingLemmas
 pub mod RecordLemmas
+pub mod StoreLemmas
 pub mod StoringLemmas
 pub mod WalkingLemmas
