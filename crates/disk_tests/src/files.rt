@@ -1,6 +1,7 @@
 //! Disks over real files: what is written is read back, after another opening too.
 use crate::memory::written_elsewhere;
 use crate::steps::{Step, act, forget_time, get, holds, is_written, new_folder, taken_away};
+use assertions::{assert_equal, assert_holds};
 use file_disk::{create, open, open_to_read};
 use std::fs;
 use std::process::Abort;
@@ -33,7 +34,7 @@ static READ_BACK: &'static [(Step, &'static [u8; 8])] = &[
 fn read_back(abort: &impl Abort, rt: &HostRuntime, path: &str) -> Result<(), Fail> {
     drop(create(rt, path)?);
     for &(step, seen) in READ_BACK {
-        assert_eq!(abort; seen_after(rt, path, step)?, *seen);
+        assert_equal!(abort; seen_after(rt, path, step)?, *seen);
     }
     holds(abort, rt, path, b"z")
 }
@@ -47,7 +48,7 @@ fn a_file_is_read_back(rt: HostRuntime) -> Result<(), Fail> {
 
 fn elsewhere<A: Abort + Threads>(abort: &A, rt: &HostRuntime, path: &str) -> Result<(), Fail> {
     let disk = create(rt, path)?;
-    assert_eq!(abort; written_elsewhere(abort, disk).len(), 3);
+    assert_equal!(abort; written_elsewhere(abort, disk).len(), 3);
     holds(abort, rt, path, b"abc")
 }
 
@@ -71,9 +72,9 @@ fn written_again(abort: &impl Abort, rt: &HostRuntime, path: &str) -> Result<(),
     fs::write(rt, path, bytes.as_slice())?;
     forget_time(rt, path)?;
     drop(open_to_read(rt, path)?);
-    assert!(abort; !is_written(rt, path)?);
+    assert_holds!(abort; !is_written(rt, path)?);
     drop(open(rt, path)?);
-    assert!(abort; is_written(rt, path)?);
+    assert_holds!(abort; is_written(rt, path)?);
     holds(abort, rt, path, &bytes)
 }
 

@@ -12,6 +12,10 @@ mod memory;
 #[cfg(test)]
 mod refusals;
 #[cfg(test)]
+mod settling;
+#[cfg(test)]
 mod staged;
 #[cfg(test)]
 mod steps;
+#[cfg(test)]
+mod system;

@@ -8,8 +8,8 @@ use std::collections::VecDeque;
 use std::test::Fail;
 use tape_disk::{Disk, MemDisk};
 
-// A file in memory that holds these bytes.
-fn staged(alloc: Global, bytes: &[u8], turns: &[Turn]) -> Result<StagedFile, Fail> {
+/// A file in memory that holds these bytes.
+pub fn staged(alloc: Global, bytes: &[u8], turns: &[Turn]) -> Result<StagedFile, Fail> {
     let mut plan = VecDeque::new(alloc);
     for turn in turns {
         plan.push_back(*turn)?;

@@ -1,4 +1,5 @@
 //! Calls of a disk at places that are its end at most, and folders for real files.
+use assertions::assert_equal;
 use std::fs::File;
 use std::hash::{BuildHasher, RandomState};
 use std::os::unix::fs::MetadataExt;
@@ -60,7 +61,7 @@ pub fn failures(answer: Result<(), DevFault>) -> u64 {
 /// Each call tells so many failures.
 pub fn fails<D: Disk>(rt: &impl Abort, disk: &mut D, rows: &[(Step, u64)]) {
     for &(step, failed) in rows {
-        assert_eq!(rt; failures(act(disk, step)), failed);
+        assert_equal!(rt; failures(act(disk, step)), failed);
     }
 }
 
@@ -94,7 +95,7 @@ pub fn taken_away(rt: &HostRuntime, folder: &Folder) -> Result<(), Fail> {
 /// The file holds these bytes.
 pub fn holds(abort: &impl Abort, rt: &HostRuntime, path: &str, bytes: &[u8]) -> Result<(), Fail> {
     let found = fs::read(rt, path)?;
-    assert_eq!(abort; found.as_slice(), bytes);
+    assert_equal!(abort; found.as_slice(), bytes);
     Ok(())
 }
 

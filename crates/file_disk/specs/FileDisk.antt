@@ -1,8 +1,13 @@
--- The state of a disk over a file of the system.
+-- A file of the system, and the state of a disk over it.
+use Rattle.std.specs.declared.fs.File.{File}
 use Rattle.tape_disk.specs.Disk.{DiskState}
 use Rattle.file_disk.specs.Inner.SystemFile.{system_state}
 use Rattle.file_disk.specs.OpenFile.{OpenFile, file_disk_state}
 use Rattle.file_disk.specs.declared.system.SystemFile.{SystemFile}
+
+-- the open file that the system has (own)
+abbrev pub system_file : SystemFile → File
+system_file file = file.file
 
 -- the state of a disk over a file of the system, of which no proof knows whether it is honest (own)
 abbrev pub file_state : OpenFile SystemFile → DiskState

@@ -1,8 +1,6 @@
 //! A disk over a file of the operating system.
 #![tactic(auto)]
 
-#[cfg(test)]
-mod asserted;
 pub mod disk;
 pub mod error;
 pub mod forgetful;
@@ -12,8 +10,6 @@ pub mod raw;
 pub mod settling;
 pub mod staged;
 pub mod system;
-#[cfg(test)]
-mod tests;
 mod transfers;
 
 pub use disk::DiskOver;
@@ -21,6 +17,7 @@ pub use error::FileError;
 pub use forgetful::ForgetfulFile;
 pub use opening::{create, open, open_to_read};
 pub use raw::{CallFailed, RawFile, Stop};
+pub use settling::settle;
 pub use staged::{StagedFile, Turn};
 pub use system::SystemFile;
 

@@ -1,5 +1,6 @@
 //! A file of the operating system, by its calls.
 ghost use Rattle.std.specs.Prelude.{◌≡◌, ◌≢◌};
+ghost use Rattle.file_disk.specs.FileDisk.{system_file};
 
 use crate::raw::{CallFailed, RawFile, Stop};
 use std::fs::File;
@@ -25,9 +26,11 @@ fn stop_of(kind: ErrorKind) -> Stop
 }
 
 impl SystemFile {
-    /// A file that is open.
-    pub(crate) fn over(file: File) -> SystemFile
-        ensures { result.file ≡ file }
+    /// A file that is open, as it stands. It takes no lock and looks at nothing, so it has no error: that
+    /// the file is a regular one, open for what is asked of it and open in no other process, is the
+    /// caller's. `create`, `open` and `open_to_read` look at theirs, and lock them.
+    pub fn over(file: File) -> SystemFile
+        ensures { system_file result ≡ file }
     {
         SystemFile { file }
     }
