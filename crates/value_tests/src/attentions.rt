@@ -1,4 +1,5 @@
 //! Conditions in their order, for the first nexus and the last.
+use assertions::{assert_equal, assert_holds};
 use scsi_attention::{Attention, Attentions, AttnSet};
 use vtl_base::Nexus;
 
@@ -15,16 +16,16 @@ static ORDER: &'static [Attention] = &[
 fn a_set_has_its_conditions(rt: HostRuntime) {
     let mut set = AttnSet::empty();
     for attention in ORDER.iter().rev() {
-        assert!(rt; !set.contains(*attention));
+        assert_holds!(rt; !set.contains(*attention));
         set.insert(*attention);
-        assert_eq!(rt; set.first(), Some(*attention));
+        assert_equal!(rt; set.first(), Some(*attention));
     }
     for attention in ORDER.iter() {
-        assert!(rt; set.contains(*attention));
+        assert_holds!(rt; set.contains(*attention));
         set.remove(*attention);
-        assert!(rt; !set.contains(*attention));
+        assert_holds!(rt; !set.contains(*attention));
     }
-    assert_eq!(rt; set.first(), None);
+    assert_equal!(rt; set.first(), None);
 }
 
 // Whether a nexus is reported just these conditions, in this order, and then none.
@@ -50,15 +51,15 @@ fn set_of(conditions: &[Attention]) -> AttnSet {
 #[test]
 fn each_nexus_is_reported_its_own(rt: HostRuntime) {
     let (Some(first), Some(last)) = (Nexus::new(1), Nexus::new(64)) else {
-        assert!(rt; false, "a nexus");
+        assert_holds!(rt; false, "a nexus");
         return;
     };
     let mut attentions = Attentions::all(set_of(ORDER));
-    assert!(rt; reports(&mut attentions, last, ORDER));
+    assert_holds!(rt; reports(&mut attentions, last, ORDER));
     attentions.establish_for_all(Attention::ModeChanged);
-    assert!(rt; reports(&mut attentions, last, &[Attention::ModeChanged]));
-    assert!(rt; reports(&mut attentions, first, ORDER));
-    assert!(rt; reports(&mut attentions, first, &[]));
+    assert_holds!(rt; reports(&mut attentions, last, &[Attention::ModeChanged]));
+    assert_holds!(rt; reports(&mut attentions, first, ORDER));
+    assert_holds!(rt; reports(&mut attentions, first, &[]));
 }
 
 const MEDIUM: Attention = Attention::MediumChanged;
@@ -71,17 +72,17 @@ const PREEMPTED: Attention = Attention::RegistrationsPreempted;
 fn every_nexus_but_one_is_told(rt: HostRuntime) {
     let (Some(first), Some(other), Some(last)) = (Nexus::new(1), Nexus::new(2), Nexus::new(64))
     else {
-        assert!(rt; false, "a nexus");
+        assert_holds!(rt; false, "a nexus");
         return;
     };
     let mut attentions = Attentions::all(set_of(&[RELEASED]));
     attentions.establish_for_others(first, MEDIUM);
-    assert!(rt; reports(&mut attentions, first, &[RELEASED]));
-    assert!(rt; reports(&mut attentions, other, &[MEDIUM, RELEASED]));
+    assert_holds!(rt; reports(&mut attentions, first, &[RELEASED]));
+    assert_holds!(rt; reports(&mut attentions, other, &[MEDIUM, RELEASED]));
     attentions.establish_for_others(last, PREEMPTED);
-    assert!(rt; reports(&mut attentions, first, &[PREEMPTED]));
-    assert!(rt; reports(&mut attentions, other, &[PREEMPTED]));
-    assert!(rt; reports(&mut attentions, last, &[MEDIUM, RELEASED]));
+    assert_holds!(rt; reports(&mut attentions, first, &[PREEMPTED]));
+    assert_holds!(rt; reports(&mut attentions, other, &[PREEMPTED]));
+    assert_holds!(rt; reports(&mut attentions, last, &[MEDIUM, RELEASED]));
 }
 
 #[test]
@@ -89,10 +90,10 @@ fn two_sets_are_joined(rt: HostRuntime) {
     for one in ORDER.iter() {
         for other in ORDER.iter() {
             let joined = set_of(&[*one, MEDIUM]).join(set_of(&[*other]));
-            assert_eq!(rt; joined, set_of(&[*other, MEDIUM, *one]));
+            assert_equal!(rt; joined, set_of(&[*other, MEDIUM, *one]));
         }
-        assert_eq!(rt; set_of(&[*one]).join(AttnSet::empty()), set_of(&[*one]));
-        assert_eq!(rt; AttnSet::empty().join(set_of(&[*one])), set_of(&[*one]));
+        assert_equal!(rt; set_of(&[*one]).join(AttnSet::empty()), set_of(&[*one]));
+        assert_equal!(rt; AttnSet::empty().join(set_of(&[*one])), set_of(&[*one]));
     }
 }
 
@@ -100,7 +101,7 @@ fn two_sets_are_joined(rt: HostRuntime) {
 fn each_nexus_is_told_its_own(rt: HostRuntime) {
     let (Some(first), Some(second), Some(last)) = (Nexus::new(1), Nexus::new(2), Nexus::new(64))
     else {
-        assert!(rt; false, "a nexus");
+        assert_holds!(rt; false, "a nexus");
         return;
     };
     let mut told = [AttnSet::empty(); 64];
@@ -108,10 +109,10 @@ fn each_nexus_is_told_its_own(rt: HostRuntime) {
     told[63] = set_of(&[MEDIUM, RELEASED]);
     let mut attentions = Attentions::all(set_of(&[MEDIUM]));
     attentions.establish_each(&told);
-    assert!(rt; reports(&mut attentions, first, &[MEDIUM, PREEMPTED]));
-    assert!(rt; reports(&mut attentions, second, &[MEDIUM]));
-    assert!(rt; reports(&mut attentions, last, &[MEDIUM, RELEASED]));
+    assert_holds!(rt; reports(&mut attentions, first, &[MEDIUM, PREEMPTED]));
+    assert_holds!(rt; reports(&mut attentions, second, &[MEDIUM]));
+    assert_holds!(rt; reports(&mut attentions, last, &[MEDIUM, RELEASED]));
     attentions.establish_each(&told[..1]);
-    assert!(rt; reports(&mut attentions, first, &[PREEMPTED]));
-    assert!(rt; reports(&mut attentions, last, &[]));
+    assert_holds!(rt; reports(&mut attentions, first, &[PREEMPTED]));
+    assert_holds!(rt; reports(&mut attentions, last, &[]));
 }

@@ -1,5 +1,6 @@
 //! Values at the borders; each public call of vtl_base once.
 use assertions::{assert_equal, assert_holds};
+use std::process::Abort;
 use std::test::Fail;
 use vtl_base::{BadBarcode, Barcode, Bytes, DevFault, DriveNo, Nexus, NoMemory, SlotNo};
 
@@ -23,18 +24,26 @@ static ADDRESSES: &'static [(u32, Option<usize>)] = &[
     (66_537, None),
 ];
 
+fn has_number(rt: &impl Abort, number: u8, host: Option<usize>, drive: Option<usize>) {
+    assert_equal!(rt; Nexus::new(number).map(|n| n.place()), host; number);
+    assert_equal!(rt; DriveNo::new(number).map(|n| n.place()), drive; number);
+}
+
+fn are_seven(rt: &impl Abort) {
+    assert_equal!(rt; Nexus::new(7).map(|n| n.number()), Some(7));
+    assert_equal!(rt; DriveNo::new(7).map(|n| n.number()), Some(7));
+    assert_equal!(rt; SlotNo::new(1007).map(|n| n.address()), Some(1007));
+}
+
 #[test]
 fn numbers_stay_in_their_ranges(rt: HostRuntime) {
     for &(number, host, drive) in NUMBERS {
-        assert_equal!(rt; Nexus::new(number).map(|n| n.place()), host; number);
-        assert_equal!(rt; DriveNo::new(number).map(|n| n.place()), drive; number);
+        has_number(&rt, number, host, drive);
     }
     for &(address, place) in ADDRESSES {
         assert_equal!(rt; SlotNo::new(address).map(|n| n.place()), place; address);
     }
-    assert_equal!(rt; Nexus::new(7).map(|n| n.number()), Some(7));
-    assert_equal!(rt; DriveNo::new(7).map(|n| n.number()), Some(7));
-    assert_equal!(rt; SlotNo::new(1007).map(|n| n.address()), Some(1007));
+    are_seven(&rt);
 }
 
 static BARCODES: &'static [&'static str] = &["A", "T00001L6", "Z9Z9Z9Z9Z9Z9Z9Z9"];
@@ -61,18 +70,22 @@ fn barcodes_are_short_and_plain(rt: HostRuntime) {
     }
 }
 
-#[test]
-fn bytes_come_back_as_they_went_in(rt: HostRuntime) {
-    let alloc = rt.alloc();
-    let none = Bytes::new(alloc);
-    assert_holds!(rt; none.is_empty());
-    let Ok(some) = Bytes::from_slice(alloc, b"tape") else {
-        assert_holds!(rt; false, "memory is there");
-        return;
-    };
+fn are_tape(rt: &impl Abort, some: &Bytes) {
     assert_equal!(rt; (some.len(), some.is_empty(), some.as_slice()), (4, false, b"tape".as_slice()));
+}
+
+#[test]
+fn bytes_come_back_as_they_went_in(rt: HostRuntime) -> Result<(), Fail> {
+    assert_holds!(rt; Bytes::new(rt.alloc()).is_empty());
+    let some = Bytes::from_slice(rt.alloc(), b"tape")?;
+    are_tape(&rt, &some);
     let again = Bytes::from_vec(some.into_vec());
     assert_equal!(rt; again.as_slice(), b"tape".as_slice());
+    Ok(())
+}
+
+#[test]
+fn errors_are_equal_to_themselves(rt: HostRuntime) {
     assert_equal!(rt; NoMemory, NoMemory);
     assert_equal!(rt; DevFault { failures: 2 }.failures, 2);
 }

@@ -1,19 +1,23 @@
 //! The bytes of all sense data, written by hand, the replies and the status codes.
+use assertions::assert_equal;
 use scsi_attention::Attention;
 use scsi_sense::{Reply, Sense};
+use std::alloc::Global;
 use std::process::Abort;
+use std::test::Fail;
 use vtl_base::Bytes;
 
 // The bytes 0 to 15, and the two behind them.
 fn spelled(sense: &Sense) -> (u128, u8, u8) {
-    let [a, b, c, d, e, f, g, h, i, j, k, l, m, n, o, p, q, r] = sense.bytes();
-    let head = [a, b, c, d, e, f, g, h, i, j, k, l, m, n, o, p];
-    (u128::from_be_bytes(head), q, r)
+    let bytes = sense.bytes();
+    let mut head = [0; 16];
+    head.copy_from_slice(&bytes[..16]);
+    (u128::from_be_bytes(head), bytes[16], bytes[17])
 }
 
 // Sense data has these bytes 0 to 15; bytes 16 and 17 are 0 in all.
 fn has(rt: &impl Abort, sense: Sense, bytes: u128) {
-    assert_eq!(rt; spelled(&sense), (bytes, 0, 0));
+    assert_equal!(rt; spelled(&sense), (bytes, 0, 0));
 }
 
 // Each row is sense data and its bytes.
@@ -110,22 +114,31 @@ static REPLIES: &'static [(u8, u8, Option<u32>, &'static [u8])] = &[
     (2, 0x18, None, b""),
 ];
 
-#[test]
-fn replies(rt: HostRuntime) {
-    let alloc = rt.alloc();
-    for &(make, code, residue, bytes) in REPLIES {
-        let sense = residue.map(|residue| Sense::incorrect_length(residue));
-        let Ok(given) = Bytes::from_slice(alloc, bytes) else {
-            assert!(rt; false, "memory is there");
-            return;
-        };
-        let reply = match make {
-            0 => Reply::good(given),
-            1 => Reply::check(Sense::incorrect_length(1), given),
-            _ => Reply::conflict(alloc),
-        };
-        assert_eq!(rt; reply.status.code(), code);
-        assert_eq!(rt; reply.sense, sense);
-        assert_eq!(rt; reply.bytes.as_slice(), bytes);
+// A reply with these bytes, made as the first number of a row says.
+fn made(alloc: Global, make: u8, given: Bytes) -> Reply {
+    match make {
+        0 => Reply::good(given),
+        1 => Reply::check(Sense::incorrect_length(1), given),
+        _ => Reply::conflict(alloc),
     }
+}
+
+// The residue of the sense data, or that there is none.
+fn has_sense(rt: &impl Abort, reply: &Reply, residue: Option<u32>) {
+    let sense = match residue {
+        Some(residue) => Some(Sense::incorrect_length(residue)),
+        None => None,
+    };
+    assert_equal!(rt; reply.sense, sense);
+}
+
+#[test]
+fn replies(rt: HostRuntime) -> Result<(), Fail> {
+    for &(make, code, residue, bytes) in REPLIES {
+        let reply = made(rt.alloc(), make, Bytes::from_slice(rt.alloc(), bytes)?);
+        assert_equal!(rt; reply.status.code(), code);
+        has_sense(&rt, &reply, residue);
+        assert_equal!(rt; reply.bytes.as_slice(), bytes);
+    }
+    Ok(())
 }

@@ -1,6 +1,7 @@
 //! What is placed, taken and refused, over all addresses; slots in another thread.
 use assertions::{assert_equal, assert_holds};
 use changer::{SlotError, Slots};
+use std::process::Abort;
 use std::test::Fail;
 use std::thread;
 use std::thread::Threads;
@@ -9,54 +10,91 @@ use std::thread::Threads;
 #[derive(Drop, Debug, PartialEq, Eq)]
 struct Tape(u32);
 
+// The number of what a slot holds, by its address.
+fn held(slots: &Slots<Tape>, address: u32) -> Option<u32> {
+    match slots.held(address) {
+        Some(tape) => Some(tape.0),
+        None => None,
+    }
+}
+
+// The number of what stands at a place of the inventory.
+fn listed(slots: &Slots<Tape>, at: usize) -> Option<u32> {
+    match slots.inventory().get(at) {
+        Some(Some(tape)) => Some(tape.0),
+        _ => None,
+    }
+}
+
+// Why a tape of this number is not placed, and what comes back; nothing where it is placed.
+fn refusal(slots: &mut Slots<Tape>, address: u32, number: u32) -> Option<(SlotError, Tape)> {
+    match slots.place(address, Tape(number)) {
+        Ok(()) => None,
+        Err(refused) => Some((refused.error, refused.value)),
+    }
+}
+
+// Each slot is empty, and takes a tape that has its address for a number.
+fn filled(rt: &impl Abort, slots: &mut Slots<Tape>) {
+    for address in 1001..1257 {
+        assert_holds!(rt; slots.held(address).is_none());
+        assert_equal!(rt; refusal(slots, address, address), None; address);
+    }
+}
+
+// Places of the inventory, and the addresses of their slots.
+static PLACES: &'static [(usize, u32)] = &[(0, 1001), (1, 1002), (255, 1256)];
+
+fn are_held(rt: &impl Abort, slots: &Slots<Tape>) {
+    for address in 1001..1257 {
+        assert_equal!(rt; held(slots, address), Some(address));
+    }
+    for &(at, address) in PLACES {
+        assert_equal!(rt; listed(slots, at), Some(address));
+    }
+}
+
+fn both_ends_are_taken(rt: &impl Abort, slots: &mut Slots<Tape>) {
+    assert_equal!(rt; slots.take(1256), Ok(Tape(1256)));
+    assert_equal!(rt; slots.take(1001), Ok(Tape(1001)));
+    assert_holds!(rt; slots.held(1001).is_none() && slots.held(1256).is_none());
+    assert_equal!(rt; held(slots, 1255), Some(1255));
+}
+
 #[test]
 fn each_slot_holds_its_own(rt: HostRuntime) -> Result<(), Fail> {
     let mut slots = Slots::new(rt.alloc())?;
     assert_equal!(rt; slots.inventory().len(), 256);
-    for address in 1001..1257 {
-        assert_holds!(rt; slots.held(address).is_none());
-        assert_holds!(rt; slots.place(address, Tape(address)).is_ok(); address);
-    }
-    for address in 1001..1257 {
-        assert_equal!(rt; slots.held(address).map(|tape| tape.0), Some(address));
-    }
-    for (at, address) in [(0, 1001), (1, 1002), (255, 1256)] {
-        let held = slots.inventory().get(at).and_then(|place| place.as_ref());
-        assert_equal!(rt; held.map(|tape| tape.0), Some(address));
-    }
-    assert_equal!(rt; slots.take(1256), Ok(Tape(1256)));
-    assert_equal!(rt; slots.take(1001), Ok(Tape(1001)));
-    assert_holds!(rt; slots.held(1001).is_none() && slots.held(1256).is_none());
-    assert_equal!(rt; slots.held(1255).map(|tape| tape.0), Some(1255));
+    filled(&rt, &mut slots);
+    are_held(&rt, &slots);
+    both_ends_are_taken(&rt, &mut slots);
     Ok(())
 }
 
 // Addresses of no slot.
 static NO_SLOTS: &'static [u32] = &[0, 1, 16, 1000, 1257, 66_537, u32::MAX];
 
+fn is_no_slot(rt: &impl Abort, slots: &mut Slots<Tape>, address: u32) {
+    assert_equal!(rt; refusal(slots, address, 7), Some((SlotError::BadAddress, Tape(7))); address);
+    assert_equal!(rt; slots.take(address), Err(SlotError::BadAddress));
+    assert_holds!(rt; slots.held(address).is_none());
+}
+
+fn is_filled_once(rt: &impl Abort, slots: &mut Slots<Tape>) {
+    assert_equal!(rt; slots.take(1100), Err(SlotError::Empty));
+    assert_equal!(rt; refusal(slots, 1100, 1), None);
+    assert_equal!(rt; refusal(slots, 1100, 2), Some((SlotError::Full, Tape(2))), "placed twice");
+    assert_equal!(rt; slots.take(1100), Ok(Tape(1)));
+    assert_equal!(rt; slots.take(1100), Err(SlotError::Empty));
+}
+
 #[test]
 fn what_is_refused(rt: HostRuntime) -> Result<(), Fail> {
     let mut slots = Slots::new(rt.alloc())?;
     for &address in NO_SLOTS {
-        match slots.place(address, Tape(7)) {
-            Ok(()) => assert_holds!(rt; false; address),
-            Err(refused) => {
-                assert_equal!(rt; (refused.error, refused.value), (SlotError::BadAddress, Tape(7)));
-            }
-        }
-        assert_equal!(rt; slots.take(address), Err(SlotError::BadAddress));
-        assert_holds!(rt; slots.held(address).is_none());
+        is_no_slot(&rt, &mut slots, address);
     }
-    assert_equal!(rt; slots.take(1100), Err(SlotError::Empty));
-    assert_holds!(rt; slots.place(1100, Tape(1)).is_ok());
-    match slots.place(1100, Tape(2)) {
-        Ok(()) => assert_holds!(rt; false, "placed twice"),
-        Err(refused) => {
-            assert_equal!(rt; (refused.error, refused.value), (SlotError::Full, Tape(2)));
-        }
-    }
-    assert_equal!(rt; slots.take(1100), Ok(Tape(1)));
-    assert_equal!(rt; slots.take(1100), Err(SlotError::Empty));
+    is_filled_once(&rt, &mut slots);
     Ok(())
 }
 

@@ -1,9 +1,10 @@
 //! READ POSITION: its bytes, and both edges of the early zone.
-ghost use Rattle.std.specs.Prelude.{◌≡◌, true};
+ghost use Rattle.std.specs.Prelude.{◌≡◌, true, IfOk};
 
 use assertions::assert_equal;
 use positioning::{Pos, report};
 use std::alloc::Global;
+use std::process::Abort;
 use std::test::Fail;
 use volume_core::{Catalog, Medium, PlainMedium, are_capacities};
 use vtl_base::Bytes;
@@ -25,15 +26,30 @@ static REPORTS: &'static [(u8, u32, [u8; 12])] = &[
     (1, 66_051, [0, 1, 0, 0, 0, 1, 2, 3, 0, 1, 2, 3]),
 ];
 
-#[test]
-fn reports_by_rows(rt: HostRuntime) -> Result<(), Fail> {
-    let mut medium = PlainMedium::new(rt.alloc(), &[4_096, 4_294_967_296])?;
+// The report at this position begins with these bytes.
+fn begins(rt: &impl Abort, medium: &PlainMedium, pos: Pos, bytes: &[u8; 12])
+    requires { medium.now.awake ≡ true }
+{
+    let mut wanted = [0u8; 20];
+    wanted[..12].copy_from_slice(bytes);
+    assert_equal!(rt; reported(medium, pos), Some(wanted); (pos.obj, pos.part));
+}
+
+// Four filemarks, and 66,051 in the second partition.
+fn marked(alloc: Global) -> Result<PlainMedium, Fail>
+    ensures { IfOk result (λ medium. medium.awake ≡ true) }
+{
+    let mut medium = PlainMedium::new(alloc, &[4_096, 4_294_967_296])?;
     medium.marks(0, 0, 4)?;
     medium.marks(1, 0, 66_051)?;
+    Ok(medium)
+}
+
+#[test]
+fn reports_by_rows(rt: HostRuntime) -> Result<(), Fail> {
+    let medium = marked(rt.alloc())?;
     for &(part, obj, bytes) in REPORTS {
-        let mut wanted = [0u8; 20];
-        wanted[..12].copy_from_slice(&bytes);
-        assert_equal!(rt; reported(&medium, Pos { part, obj }), Some(wanted); (obj, part));
+        begins(&rt, &medium, Pos { part, obj }, &bytes);
     }
     Ok(())
 }

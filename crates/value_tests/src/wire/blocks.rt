@@ -46,28 +46,35 @@ const REGISTER_NOTHING: Command = Command::PersistentReserveOut {
     length: 0,
 };
 
-// What a block is that has this code and is 0 behind it, and how many bytes it has.
+// A code, and what a block is that has it and is 0 behind it, and how many bytes that block has.
+static KNOWN: &'static [(u8, Opcode, Command, usize)] = &[
+    (0x00, Opcode::TestUnitReady, Command::TestUnitReady, 6),
+    (0x01, Opcode::Rewind, Command::Rewind, 6),
+    (0x03, Opcode::RequestSense, REQUEST_NOTHING, 6),
+    (0x05, Opcode::ReadBlockLimits, Command::ReadBlockLimits, 6),
+    (0x08, Opcode::Read, READ_NOTHING, 6),
+    (0x0a, Opcode::Write, Command::Write { length: 0 }, 6),
+    (0x10, Opcode::WriteFilemarks, NO_FILEMARK, 6),
+    (0x11, Opcode::Space, NO_BLOCK, 6),
+    (0x12, Opcode::Inquiry, Command::Inquiry { length: 0 }, 6),
+    (0x15, Opcode::ModeSelect, SELECT_NOTHING, 6),
+    (0x19, Opcode::Erase, Command::Erase, 6),
+    (0x1a, Opcode::ModeSense, SENSE_NO_MODE, 6),
+    (0x1b, Opcode::LoadUnload, UNLOAD, 6),
+    (0x2b, Opcode::Locate, TO_OBJECT_0, 10),
+    (0x34, Opcode::ReadPosition, Command::ReadPosition, 10),
+    (0x5e, Opcode::PersistentReserveIn, READ_NO_KEYS, 10),
+    (0x5f, Opcode::PersistentReserveOut, REGISTER_NOTHING, 10),
+];
+
+// What the table has for a code.
 fn known(code: u8) -> Option<(Opcode, Command, usize)> {
-    match code {
-        0x00 => Some((Opcode::TestUnitReady, Command::TestUnitReady, 6)),
-        0x01 => Some((Opcode::Rewind, Command::Rewind, 6)),
-        0x03 => Some((Opcode::RequestSense, REQUEST_NOTHING, 6)),
-        0x05 => Some((Opcode::ReadBlockLimits, Command::ReadBlockLimits, 6)),
-        0x08 => Some((Opcode::Read, READ_NOTHING, 6)),
-        0x0a => Some((Opcode::Write, Command::Write { length: 0 }, 6)),
-        0x10 => Some((Opcode::WriteFilemarks, NO_FILEMARK, 6)),
-        0x11 => Some((Opcode::Space, NO_BLOCK, 6)),
-        0x12 => Some((Opcode::Inquiry, Command::Inquiry { length: 0 }, 6)),
-        0x15 => Some((Opcode::ModeSelect, SELECT_NOTHING, 6)),
-        0x19 => Some((Opcode::Erase, Command::Erase, 6)),
-        0x1a => Some((Opcode::ModeSense, SENSE_NO_MODE, 6)),
-        0x1b => Some((Opcode::LoadUnload, UNLOAD, 6)),
-        0x2b => Some((Opcode::Locate, TO_OBJECT_0, 10)),
-        0x34 => Some((Opcode::ReadPosition, Command::ReadPosition, 10)),
-        0x5e => Some((Opcode::PersistentReserveIn, READ_NO_KEYS, 10)),
-        0x5f => Some((Opcode::PersistentReserveOut, REGISTER_NOTHING, 10)),
-        _ => None,
+    for &(named, opcode, command, bytes) in KNOWN {
+        if named == code {
+            return Some((opcode, command, bytes));
+        }
     }
+    None
 }
 
 #[test]
