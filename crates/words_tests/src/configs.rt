@@ -1,8 +1,11 @@
 //! Configurations that are taken, and each refusal once. What is expected was worked out by hand.
 use assertions::{assert_equal, assert_holds};
 use std::alloc::Global;
+use std::process::Abort;
 use std::test::Fail;
-use vtl_config::{Address, Config, ConfigError, Key, Place, Rule, read_config};
+use vtl_config::{
+    Address, CartridgeEntry, Config, ConfigError, DriveEntry, Key, Place, Rule, read_config,
+};
 
 const TWO_DRIVES: &str = r#"
 # two drives, four cartridges
@@ -72,7 +75,7 @@ fn the_empty_configuration_has_nothing(rt: HostRuntime) -> Result<(), Fail> {
 }
 
 // The drives of TWO_DRIVES: the number and the file.
-static DRIVES: &'static [(u8, &'static str)] = &[(1, "d1.pr"), (2, "d2.pr")];
+static DRIVES: &'static [(u16, &'static str)] = &[(1, "d1.pr"), (2, "d2.pr")];
 
 // Its cartridges: the barcode, the file, the home and the capacities.
 static CARTRIDGES: &'static [(&'static str, &'static str, u16, &'static [u64])] = &[
@@ -87,26 +90,51 @@ static CARTRIDGES: &'static [(&'static str, &'static str, u16, &'static [u64])] 
     ("ZZZZZZZZ99999999", "./t1.tape", 1002, &[4096]),
 ];
 
+/// The drive has this number and this file.
+pub fn is_drive(rt: &impl Abort, drive: &DriveEntry, number: u16, file: &str) {
+    assert_equal!(rt; drive.number.number() as u16, number);
+    assert_equal!(rt; drive.reservations.as_str(), file);
+}
+
+/// The cartridge has this barcode, this file and this home.
+pub fn is_cartridge(
+    rt: &impl Abort,
+    cartridge: &CartridgeEntry,
+    barcode: &str,
+    file: &str,
+    home: u16,
+) {
+    assert_equal!(rt; cartridge.barcode.as_bytes(), barcode.as_bytes());
+    assert_equal!(rt; cartridge.file.as_str(), file);
+    assert_equal!(rt; cartridge.home.number(), home);
+}
+
+fn are_two_drives(rt: &impl Abort, drives: &[DriveEntry]) {
+    assert_equal!(rt; drives.len(), 2);
+    for (drive, &(number, file)) in drives.iter().zip(DRIVES) {
+        is_drive(rt, drive, number, file);
+    }
+}
+
+fn are_four_cartridges(rt: &impl Abort, cartridges: &[CartridgeEntry]) {
+    assert_equal!(rt; cartridges.len(), 4);
+    for (cartridge, &(barcode, file, home, capacities)) in cartridges.iter().zip(CARTRIDGES) {
+        is_cartridge(rt, cartridge, barcode, file, home);
+        assert_equal!(rt; cartridge.capacities.as_slice(), capacities);
+    }
+}
+
 #[test]
 fn two_drives_and_four_cartridges(rt: HostRuntime) -> Result<(), Fail> {
     let config = read(rt.alloc(), TWO_DRIVES)?;
-    assert_equal!(rt; config.drives.len(), 2);
-    for (drive, &(number, file)) in config.drives.iter().zip(DRIVES) {
-        assert_equal!(rt; drive.number.number(), number);
-        assert_equal!(rt; drive.reservations.as_str(), file);
-    }
-    assert_equal!(rt; config.cartridges.len(), 4);
-    for (cartridge, &(barcode, file, home, capacities)) in config
-        .cartridges
-        .iter()
-        .zip(CARTRIDGES)
-    {
-        assert_equal!(rt; cartridge.barcode.as_bytes(), barcode.as_bytes());
-        assert_equal!(rt; cartridge.file.as_str(), file);
-        assert_equal!(rt; cartridge.home.number(), home);
-        assert_equal!(rt; cartridge.capacities.as_slice(), capacities);
-    }
+    are_two_drives(&rt, config.drives.as_slice());
+    are_four_cartridges(&rt, config.cartridges.as_slice());
     Ok(())
+}
+
+fn is_in_drive_16(rt: &impl Abort, cartridge: &CartridgeEntry) {
+    assert_holds!(rt; matches!(cartridge.home, Address::Drive(_)));
+    assert_equal!(rt; cartridge.home.number(), 16);
 }
 
 #[test]
@@ -118,8 +146,7 @@ drive = [{ number = 16, reservations = "r" }, { reservations = "s", number = 3 }
     let config = read(rt.alloc(), text)?;
     assert_equal!(rt; (config.cartridges.len(), config.drives.len()), (1, 2));
     for cartridge in &config.cartridges {
-        assert_holds!(rt; matches!(cartridge.home, Address::Drive(_)));
-        assert_equal!(rt; cartridge.home.number(), 16);
+        is_in_drive_16(&rt, cartridge);
     }
     Ok(())
 }
@@ -134,12 +161,17 @@ static NO_DOCUMENTS: &'static [&'static str] = &[
 
 #[test]
 fn what_is_no_document_is_refused(rt: HostRuntime) {
-    let alloc = rt.alloc();
-    let latin = [b'a', 0xe9, b'='];
-    assert_equal!(rt; read_config(alloc, latin.as_slice()).err(), broken(Place::Top, Rule::NotUtf8));
     for &text in NO_DOCUMENTS {
-        assert_equal!(rt; refusal(alloc, text), broken(Place::Top, Rule::NotToml); text);
+        assert_equal!(rt; refusal(rt.alloc(), text), broken(Place::Top, Rule::NotToml); text);
     }
+}
+
+static LATIN: &'static [u8] = &[b'a', 0xe9, b'='];
+
+#[test]
+fn what_is_no_utf_8_is_refused(rt: HostRuntime) {
+    let refused = read_config(rt.alloc(), LATIN).err();
+    assert_equal!(rt; refused, broken(Place::Top, Rule::NotUtf8));
 }
 
 // Texts with another key at the top.
@@ -150,25 +182,22 @@ static OTHER_KEYS: &'static [&'static str] = &[
     "drive = []\nslots = 4\n",
 ];
 
-// Texts whose drives are no list.
-static NO_LISTS: &'static [&'static str] = &[
-    "drive = 1",
-    "[drive]\nnumber = 1\nreservations = \"r\"\n",
-    "drive = \"d\"",
+// Texts of which one of the two is no list, and which one.
+static NO_LISTS: &'static [(&'static str, Key)] = &[
+    ("drive = 1", Key::Drive),
+    ("[drive]\nnumber = 1\nreservations = \"r\"\n", Key::Drive),
+    ("drive = \"d\"", Key::Drive),
+    ("cartridge = {}", Key::Cartridge),
 ];
 
 #[test]
 fn the_top_has_two_lists(rt: HostRuntime) {
-    let alloc = rt.alloc();
     for &text in OTHER_KEYS {
-        assert_equal!(rt; refusal(alloc, text), broken(Place::Top, Rule::OtherKey); text);
+        assert_equal!(rt; refusal(rt.alloc(), text), broken(Place::Top, Rule::OtherKey); text);
     }
-    let kind = Rule::OtherKind(Key::Drive);
-    for &text in NO_LISTS {
-        assert_equal!(rt; refusal(alloc, text), broken(Place::Top, kind); text);
+    for &(text, key) in NO_LISTS {
+        assert_equal!(rt; refusal(rt.alloc(), text), broken(Place::Top, Rule::OtherKind(key)); text);
     }
-    let kind = Rule::OtherKind(Key::Cartridge);
-    assert_equal!(rt; refusal(alloc, "cartridge = {}"), broken(Place::Top, kind));
 }
 
 // Lists of drives that break a rule.
@@ -220,25 +249,36 @@ static BROKEN_DRIVES: &'static [(&'static str, Rule)] = &[
     ),
 ];
 
-#[test]
-fn a_drive_has_a_number_and_a_file(rt: HostRuntime) {
-    let alloc = rt.alloc();
-    for &(text, rule) in BROKEN_DRIVES {
-        let Ok(document) = format!(in alloc; "drive = {text}") else {
-            assert_holds!(rt; false, "memory is there");
-            return;
-        };
-        assert_equal!(rt; refusal(alloc, document.as_str()), broken(Place::Drive(1), rule); text);
+// These drives, and no cartridge.
+fn drives(alloc: Global, list: &str) -> Option<ConfigError> {
+    match format!(in alloc; "drive = {list}") {
+        Ok(document) => refusal(alloc, document.as_str()),
+        Err(_) => Some(ConfigError::NoMemory),
     }
 }
 
 #[test]
+fn a_drive_has_a_number_and_a_file(rt: HostRuntime) {
+    for &(list, rule) in BROKEN_DRIVES {
+        assert_equal!(rt; drives(rt.alloc(), list), broken(Place::Drive(1), rule); list);
+    }
+}
+
+// Two drives with the same value at a key, and the key.
+static DOUBLE: &'static [(&'static str, Key)] = &[
+    (
+        r#"[{ number = 1, reservations = "r" }, { number = 1, reservations = "s" }]"#,
+        Key::Number,
+    ),
+    (
+        r#"[{ number = 1, reservations = "r" }, { number = 2, reservations = "r" }]"#,
+        Key::Reservations,
+    ),
+];
+
+#[test]
 fn no_number_and_no_file_is_double(rt: HostRuntime) {
-    let alloc = rt.alloc();
-    let numbers =
-        r#"drive = [{ number = 1, reservations = "r" }, { number = 1, reservations = "s" }]"#;
-    assert_equal!(rt; refusal(alloc, numbers), broken(Place::Drive(2), Rule::Double(Key::Number)));
-    let files =
-        r#"drive = [{ number = 1, reservations = "r" }, { number = 2, reservations = "r" }]"#;
-    assert_equal!(rt; refusal(alloc, files), broken(Place::Drive(2), Rule::Double(Key::Reservations)));
+    for &(list, key) in DOUBLE {
+        assert_equal!(rt; drives(rt.alloc(), list), broken(Place::Drive(2), Rule::Double(key)));
+    }
 }

@@ -1,8 +1,7 @@
 //! The text of each help, whole.
 use crate::words::asked;
 use assertions::{assert_equal, assert_holds};
-use std::test::Fail;
-use vtl_words::WordsError;
+use vtl_words::{Order, WordsError};
 
 const OF_VTL: &str = "\
 A virtual tape library: runs scripts of drive commands over cartridges in files
@@ -75,16 +74,20 @@ static HELPS: &'static [(&'static str, &'static str)] = &[
     ("vtl check --help", OF_CHECK),
 ];
 
-#[test]
-fn help_is_told_whole(rt: HostRuntime) -> Result<(), Fail> {
-    for &(line, wanted) in HELPS {
-        let Err(WordsError::Help(text)) = asked(rt.alloc(), line) else {
-            assert_holds!(rt; false; line);
-            return Ok(());
-        };
-        assert_equal!(rt; text.as_str(), wanted; line);
+// The text of a help.
+fn help_of(answer: &Result<Order, WordsError>) -> Option<&str> {
+    match answer {
+        Err(WordsError::Help(text)) => Some(text.as_str()),
+        _ => None,
     }
-    Ok(())
+}
+
+#[test]
+fn help_is_told_whole(rt: HostRuntime) {
+    for &(line, wanted) in HELPS {
+        let answer = asked(rt.alloc(), line);
+        assert_equal!(rt; help_of(&answer), Some(wanted); line);
+    }
 }
 
 // The lines of the example.

@@ -1,7 +1,7 @@
 //! Which rule is told where several are broken. What is expected was worked out by hand.
 use crate::cartridges::second_cartridge;
 use crate::configs::{broken, refusal};
-use assertions::{assert_equal, assert_holds};
+use assertions::assert_equal;
 use std::alloc::Global;
 use vtl_config::{ConfigError, Key, Place, Rule};
 
@@ -122,17 +122,17 @@ static OF_A_CARTRIDGE: &'static [(&'static str, Rule)] = &[
     ),
 ];
 
+// A cartridge of these values, behind drive 1 and a cartridge at slot 1001.
+fn cartridge(alloc: Global, values: &str) -> Option<ConfigError> {
+    match format!(in alloc; "{{ {values} }}") {
+        Ok(entry) => second_cartridge(alloc, entry.as_str()),
+        Err(_) => Some(ConfigError::NoMemory),
+    }
+}
+
 #[test]
 fn keys_of_a_cartridge_come_before_what_is_double(rt: HostRuntime) {
     for &(values, rule) in OF_A_CARTRIDGE {
-        let Ok(entry) = format!(in rt.alloc(); "{{ {values} }}") else {
-            assert_holds!(rt; false, "memory is there");
-            return;
-        };
-        assert_equal!(rt;
-            second_cartridge(rt.alloc(), entry.as_str()),
-            broken(Place::Cartridge(2), rule);
-            values
-        );
+        assert_equal!(rt; cartridge(rt.alloc(), values), broken(Place::Cartridge(2), rule); values);
     }
 }

@@ -1,6 +1,7 @@
 //! Words that are taken, refused, or ask for help. What is expected was worked out by hand.
 use assertions::{assert_equal, assert_holds};
-use std::alloc::Global;
+use std::alloc::{AllocError, Global};
+use std::process::Abort;
 use std::test::Fail;
 use vtl_words::{Order, WordsError, read_words};
 
@@ -11,6 +12,25 @@ pub fn asked(alloc: Global, line: &str) -> Result<Order, WordsError> {
         words.push(String::from_str(alloc, word)?)?;
     }
     read_words(alloc, words.as_slice())
+}
+
+// Whether an order runs in memory, and with which configuration. An order of another kind is none.
+fn run_of(answer: &Result<Order, WordsError>) -> Option<(bool, Option<&str>)> {
+    match answer {
+        Ok(
+            Order::Run {
+                memory,
+                config: Some(file),
+            },
+        ) => Some((*memory, Some(file.as_str()))),
+        Ok(
+            Order::Run {
+                memory,
+                config: None,
+            },
+        ) => Some((*memory, None)),
+        _ => None,
+    }
 }
 
 // Lines that run: whether in memory, and the configuration.
@@ -27,15 +47,25 @@ static RUNS: &'static [(&'static str, bool, Option<&'static str>)] = &[
 
 #[test]
 fn run_has_a_flag_and_an_option(rt: HostRuntime) {
-    let alloc = rt.alloc();
     for &(line, in_memory, file) in RUNS {
-        let answer = asked(alloc, line);
-        let Ok(Order::Run { memory, config }) = answer else {
-            assert_holds!(rt; false; line);
-            return;
-        };
-        assert_equal!(rt; memory, in_memory; line);
-        assert_equal!(rt; config.as_ref().map(|file| file.as_str()), file; line);
+        let answer = asked(rt.alloc(), line);
+        assert_equal!(rt; run_of(&answer), Some((in_memory, file)); line);
+    }
+}
+
+// The configuration of an order that creates.
+fn created(answer: &Result<Order, WordsError>) -> Option<&str> {
+    match answer {
+        Ok(Order::Create { config }) => Some(config.as_str()),
+        _ => None,
+    }
+}
+
+// The file of an order that checks.
+fn checked(answer: &Result<Order, WordsError>) -> Option<&str> {
+    match answer {
+        Ok(Order::Check { file }) => Some(file.as_str()),
+        _ => None,
     }
 }
 
@@ -54,20 +84,13 @@ static CHECKS: &'static [(&'static str, &'static str)] = &[
 
 #[test]
 fn create_and_check_have_a_file(rt: HostRuntime) {
-    let alloc = rt.alloc();
     for &line in CREATES {
-        let Ok(Order::Create { config }) = asked(alloc, line) else {
-            assert_holds!(rt; false; line);
-            return;
-        };
-        assert_equal!(rt; config.as_str(), "lib.toml");
+        let answer = asked(rt.alloc(), line);
+        assert_equal!(rt; created(&answer), Some("lib.toml"); line);
     }
     for &(line, name) in CHECKS {
-        let Ok(Order::Check { file }) = asked(alloc, line) else {
-            assert_holds!(rt; false; line);
-            return;
-        };
-        assert_equal!(rt; file.as_str(), name);
+        let answer = asked(rt.alloc(), line);
+        assert_equal!(rt; checked(&answer), Some(name); line);
     }
 }
 
@@ -95,44 +118,51 @@ static REFUSED: &'static [&'static str] = &[
     "vtl run run",
 ];
 
-#[test]
-fn other_words_are_refused(rt: HostRuntime) {
-    let alloc = rt.alloc();
-    for &line in REFUSED {
-        assert_holds!(rt; matches!(asked(alloc, line), Err(WordsError::Refused)); line);
-    }
-    let none: Vec<String> = Vec::new(alloc);
-    assert_holds!(rt; matches!(read_words(alloc, none.as_slice()), Err(WordsError::Refused)));
+fn is_refused(answer: &Result<Order, WordsError>) -> bool {
+    matches!(answer, Err(WordsError::Refused))
 }
 
 #[test]
-fn long_names_are_names(rt: HostRuntime) -> Result<(), Fail> {
-    let alloc = rt.alloc();
+fn other_words_are_refused(rt: HostRuntime) {
+    for &line in REFUSED {
+        let answer = asked(rt.alloc(), line);
+        assert_holds!(rt; is_refused(&answer); line);
+    }
+}
+
+#[test]
+fn no_words_are_refused(rt: HostRuntime) {
+    let none: Vec<String> = Vec::new(rt.alloc());
+    let answer = read_words(rt.alloc(), none.as_slice());
+    assert_holds!(rt; is_refused(&answer));
+}
+
+// A name of 10,000 bytes.
+fn long_name(alloc: Global) -> Result<String, AllocError> {
     let mut name = String::new(alloc);
     for _ in 0..1_000 {
         name.push_str("0123456789")?;
     }
-    let file = name.as_str();
-    let answer = asked(
-        alloc,
-        format!(in alloc; "vtl run --config {file}")?.as_str(),
-    );
-    let Ok(
-        Order::Run {
-            config: Some(config),
-            ..
-        },
-    ) = answer
-    else {
-        assert_holds!(rt; false, "run");
-        return Ok(());
-    };
-    assert_equal!(rt; config.as_str(), file);
-    let answer = asked(alloc, format!(in alloc; "vtl check {file}")?.as_str());
-    let Ok(Order::Check { file: checked }) = answer else {
-        assert_holds!(rt; false, "check");
-        return Ok(());
-    };
-    assert_equal!(rt; checked.as_str(), file);
+    Ok(name)
+}
+
+fn is_run_with(rt: &impl Abort, alloc: Global, file: &str) -> Result<(), Fail> {
+    let line = format!(in alloc; "vtl run --config {file}")?;
+    let answer = asked(alloc, line.as_str());
+    assert_equal!(rt; run_of(&answer), Some((false, Some(file))), "run");
     Ok(())
+}
+
+fn is_checked(rt: &impl Abort, alloc: Global, file: &str) -> Result<(), Fail> {
+    let line = format!(in alloc; "vtl check {file}")?;
+    let answer = asked(alloc, line.as_str());
+    assert_equal!(rt; checked(&answer), Some(file), "check");
+    Ok(())
+}
+
+#[test]
+fn long_names_are_names(rt: HostRuntime) -> Result<(), Fail> {
+    let name = long_name(rt.alloc())?;
+    is_run_with(&rt, rt.alloc(), name.as_str())?;
+    is_checked(&rt, rt.alloc(), name.as_str())
 }
