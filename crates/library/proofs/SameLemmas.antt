@@ -27,14 +27,18 @@ given_by : (b : Bool) (medium : MediumState) → medium.awake ≡ b
 given_by b medium is = ap (λ (awake : Bool). cond awake (Some (volume_of medium)) medium.stored) is
 
 module _ {D : Type 0} (state : D → DiskState) where
+  -- no frame is under way, if it is parked
+  abbrev pub IsSure : MediumState → Type 0
+  IsSure medium = medium.awake ≡ false → medium.torn ≡ []
+
   -- a cartridge and a later one: nothing was accepted, honesty stayed, and where it is sure what the first gives, it is
   -- of the second too, which gives that
   pub record Keeps (old new : BufferState D) : Type 0 where
     pub moves : (buffer_below state).moves old [] new
     pub honest : (buffer_below state).honest old → (buffer_below state).honest new
     pub gives :
-        (buffer_below state).honest old → (state_of state old).failed ≡ false → (state_of state old).torn ≡ []
-        → ((state_of state new).failed ≡ false) × ((state_of state new).torn ≡ [])
+        (buffer_below state).honest old → (state_of state old).failed ≡ false → IsSure (state_of state old)
+        → ((state_of state new).failed ≡ false) × IsSure (state_of state new)
         × (volume_given (state_of state new) ≡ volume_given (state_of state old))
 
   pub then_same : (a b c : BufferState D) → Keeps a b → IsSameCartridge state b c → IsSameCartridge state a c
@@ -58,7 +62,7 @@ module _ {D : Type 0} (state : D → DiskState) where
             subst (λ (b : Bool). IsParkedFrom ((buffer_below state).honest given) b (state_of state given)
             (state_of state out)) works parks.0 in (
               parked.works,
-              (parked.gives honest).1,
+              (λ off. (parked.gives honest).1),
               given_by false (state_of state out) parked.parked ∙ (parked.gives honest).0
                   ∙ sym (given_by true (state_of state given) awake),
             );
@@ -78,13 +82,13 @@ module _ {D : Type 0} (state : D → DiskState) where
 
   -- a cartridge that is opened, or not
   woken : (honest : Type 0) (b : Bool) (old new : MediumState) → old.awake ≡ b → WakesFrom honest b old (Ok tt) new
-      → honest → old.torn ≡ [] → volume_given new ≡ volume_given old
+      → honest → IsSure old → volume_given new ≡ volume_given old
   woken honest true old new is wakes known sure = ap (λ (m : MediumState). volume_given m) wakes.1
   woken honest false old new is wakes known sure =
       let opens = wakes.1 known in
       given_by true new wakes.0.awake
       ∙ ap (λ (cs : List Change). Some (after (volume_or_empty new.stored) cs)) wakes.0.nothing_pending
-      ∙ opened_gives old.stored new.stored old.torn opens.readable opens.volume sure
+      ∙ opened_gives old.stored new.stored old.torn opens.readable opens.volume (sure is)
       ∙ sym (given_by false old is)
 
   stays_parked : (honest : Type 0) (old new : MediumState) (room : Option ℕ) → old.awake ≡ false

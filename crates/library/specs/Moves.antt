@@ -106,12 +106,13 @@ module _ {D : Type 0} where
     abbrev pub MovesMedium : HeldState D → ℕ → ℕ → Reply → HeldState D → Type 0
     MovesMedium old from to reply new = AnswersMove (refusal_of_move old from to) old from to reply new
 
-    -- the same cartridge, later: nothing was accepted by it, and where it is honest, and neither failed nor has a frame
-    -- under way, it gives the volume that it gave (own)
+    -- the same cartridge, later: nothing was accepted by it, and where it is honest and has not failed, and, if it is
+    -- parked, has no frame under way, it gives the volume that it gave (own)
     pub record IsSameCartridge (old new : BufferState D) : Type 0 where
       pub moves : (buffer_below state).moves old [] new
       pub gives : (buffer_below state).honest old → (state_of state old).failed ≡ false
-          → (state_of state old).torn ≡ [] → volume_given (state_of state new) ≡ volume_given (state_of state old)
+          → ((state_of state old).awake ≡ false → (state_of state old).torn ≡ [])
+          → volume_given (state_of state new) ≡ volume_given (state_of state old)
 
     -- the same cartridge is at an address, or none (own)
     abbrev pub IsSameAt : Option (BufferState D) → Option (BufferState D) → Type 0

@@ -32,8 +32,8 @@ impl<D: Disk> Bay<D> {
 }
 
 impl<D: Disk + Drop> Held<D> {
-    /// Writes every buffer out, by a turn of each drive, from drive 1 on, of all of them also where one fails. It takes
-    /// no memory. At Ok all that was accepted is stored; else what is loaded in some drive has failed.
+    /// Writes every buffer out, by a turn of each drive, of all of them also where one fails. It takes no memory. At Ok
+    /// all that was accepted is stored; else what is loaded in some drive has failed.
     pub fn finish(&mut self) -> Result<(), Unwritten>
         ensures { WritesOut D.state self.old result self.new }
     {

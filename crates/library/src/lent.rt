@@ -204,9 +204,9 @@ fn between_drives<D: Disk + Drop>(
 
 /// Moves a cartridge from one element address to another, on slots and drives that are lent, by the rules of
 /// `Held::move_medium` (own): `source` is the drive that `from` names and `destination` that of `to`, and `None` where
-/// the address is no configured drive's; a drive that both name is lent as the source alone. Of any library that has
-/// these slots and these drives, the reply and what is left behind are those of that move, in at most 16 drives. A
-/// drive's address is 1 to 16.
+/// the address is no configured drive's; a drive that both name is lent as the source alone. So a drive is lent only
+/// under an address of 1 to 16, and a destination only where the addresses differ. In every library of 16 places that
+/// has these slots, and these drives at these addresses, reply and outcome are those of `Held::move_medium`.
 pub fn move_lent<D: Disk + Drop>(
     alloc: Global,
     slots: &mut Slots<Parked<D>>,

@@ -44,10 +44,10 @@ fn with_all_drives(alloc: Global) -> Result<Held<Disk>, Fail> {
     let Some(last) = DriveNo::new(16) else {
         return Err(Fail::from("no drive"));
     };
-    match held.install(last, loaded(alloc, 16, b"T00016L6")?) {
-        Ok(()) => Ok(held),
-        Err(_) => Err(Fail::from("not installed")),
+    if held.install(last, loaded(alloc, 16, b"T00016L6")?).is_err() {
+        return Err(Fail::from("not installed"));
     }
+    Ok(held)
 }
 
 // The cartridge of slot 1001 goes into the drive and out of it again, and the host is told so.

@@ -52,12 +52,12 @@ fn is_moved(
 
 // Slots of which the first holds a cartridge.
 fn slots(alloc: Global) -> Result<Slots<Parked<Disk>>, Fail> {
+    let parked = Parked::of(alloc, cartridge(alloc, b"T00001L6", NEVER)?);
     let mut slots = Slots::new(alloc)?;
-    let shelved = cartridge(alloc, b"T00001L6", NEVER)?;
-    match slots.place(1001, Parked::of(alloc, shelved)) {
-        Ok(()) => Ok(slots),
-        Err(_) => Err(Fail::from("not placed")),
+    if slots.place(1001, parked).is_err() {
+        return Err(Fail::from("not placed"));
     }
+    Ok(slots)
 }
 
 #[test]
