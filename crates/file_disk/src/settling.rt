@@ -62,13 +62,14 @@ fn rewrite<F: RawFile>(file: &mut F, from: u64, end: u64) -> Result<(), CallFail
     Ok(())
 }
 
-/// Writes the last bytes of a file again where they are, and makes all of it sure. After a sync that
-/// failed a system may take bytes for written that never reached the device, and a later sync then
-/// passes over them; those that are written again it has to write. They are the last 8,388,672, from
-/// the start of their first page of 4,096 on, or all where the file has fewer, a page at a time. It
-/// fails at the first call that does, or that moves none of what is left, with no sync after it; and,
-/// with nothing read or written, where the system does not tell the length or tells more than
-/// `MAX_FILE`. A call that is interrupted is made again.
+/// Writes the last bytes of a file again where they are, and syncs it: all of it is sure then, where
+/// the places that a sync would pass over lie in these bytes. After a sync that failed a system may
+/// take bytes for written that never reached the device, and a later sync then passes over them; those
+/// that are written again it has to write. They are the last 8,388,672, from the start of their first
+/// page of 4,096 on, or all where the file has fewer, a page at a time. It fails at the first call that
+/// does, or that moves none of what is left, with no sync after it; and, with nothing read or written,
+/// where the system does not tell the length or tells more than `MAX_FILE`. A read or a write that is
+/// interrupted is made again.
 pub fn settle<F: RawFile>(file: &mut F) -> Result<(), CallFailed>
     ensures honesty { IsAsHonest (F.state file.old) (F.state file.new) }
     ensures same { (F.state file.old).honest →

@@ -26,9 +26,10 @@ fn stop_of(kind: ErrorKind) -> Stop
 }
 
 impl SystemFile {
-    /// A file that is open, as it stands. It takes no lock and looks at nothing, so it has no error: that
-    /// the file is a regular one, open for what is asked of it and open in no other process, is the
-    /// caller's. `create`, `open` and `open_to_read` look at theirs, and lock them.
+    /// A file that is open, as it stands. It takes no lock and looks at nothing, so it has no error. That
+    /// the file is a regular one, open for what is asked of it and not for appending, and opened
+    /// nowhere else, in this process or another, is the caller's; and that `settle` is called before a
+    /// disk over it is written. `create`, `open` and `open_to_read` see to all of this for theirs.
     pub fn over(file: File) -> SystemFile
         ensures { system_file result ≡ file }
     {
