@@ -140,11 +140,12 @@ EDITS = [
      "        Some(text) => match String::from_str(alloc, text) {",
      "        Some(text) if text.len() > 255 => Err(NoMemory),\n"
      "        Some(text) => match String::from_str(alloc, text) {", ["long_names_are_names"]),
-    ("a cartridge that is moved into a drive behind the second is want of memory", "library", "src/moves.rt",
-     "        ensures { LoadsAt D.state self.old address cartridge result self.new }\n    {\n",
-     "        ensures { LoadsAt D.state self.old address cartridge result self.new }\n    {\n"
-     "        if address > 2 {\n"
-     "            return Err((cartridge, check(self.alloc, Sense::insufficient_resources())));\n        }\n",
+    ("a cartridge that is moved into a drive behind the second is want of memory", "library", "src/lent.rt",
+     "    let cartridge = take_held(slots, from);\n    match destination.load(cartridge) {\n",
+     "    let cartridge = take_held(slots, from);\n    if to > 2 {\n"
+     "        fill(slots, from, cartridge);\n"
+     "        return check(alloc, Sense::insufficient_resources());\n    }\n"
+     "    match destination.load(cartridge) {\n",
      ["a_library_of_sixteen_drives"]),
     ("help of another text is written", "vtl_program", "src/orders.rt",
      "        Err(error) => answer_words(error, writer),",
