@@ -4,12 +4,14 @@ use Rattle.std.specs.Io.KnownBytes.{Keeps}
 use Rattle.std.specs.declared.alloc.Global.{Global}
 use Rattle.std.specs.declared.io.Error.{Error}
 use Rattle.tape_disk.specs.Disk.{DiskState}
-use Rattle.file_disk.specs.declared.error.FileError.{FileError}
+use Rattle.library.specs.Elements.{HeldState}
 use Rattle.vtl_config.specs.Configs.{Says}
 use Rattle.vtl_config.specs.declared.entries.Config.{Config}
 use Rattle.vtl_program.specs.Configured.{IsNoConfig}
 use Rattle.vtl_program.specs.Files.{ReadsConfig}
 use Rattle.vtl_program.specs.Orders.{RunsOrder}
+use Rattle.vtl_program.specs.Sides.{SidesGiven}
+use Rattle.vtl_program.specs.Unfinished.{StartingState}
 use Rattle.vtl_program.specs.declared.programs.VtlFault.{VtlFault}
 
 pub keeps_same : (known : Option (List ℕ)) → Keeps known known
@@ -25,10 +27,11 @@ configured reads name text (Err fault) read says why = inr (text, read, why)
 
 -- there was none
 pub not_configured : {D : Type 0} (state : D → DiskState) (reads : List ℕ → Result (Vec ℕ Global) Error → Type 0)
-    (opens : List ℕ → Result D FileError → Type 0) (hands_back : List ℕ → D → Type 0) (memory : Bool)
-    (name : List ℕ) (fault : VtlFault) (left before : Option (List ℕ)) → ReadsConfig reads name (Err fault)
-    → RunsOrder state reads opens hands_back memory (Some name) left left before before (Err fault)
-not_configured state reads opens hands_back true name fault left before why =
+    (sides : SidesGiven D) (closes_all : HeldState D → Type 0) (gives_up : StartingState D → Type 0) (memory : Bool)
+    (name : List ℕ) (fault : VtlFault) (left before : Option (List ℕ))
+    → ReadsConfig reads name (Err fault)
+    → RunsOrder state reads sides closes_all gives_up memory (Some name) left left before before (Err fault)
+not_configured state reads sides closes_all gives_up true name fault left before why =
     (Err fault, why, (refl, (keeps_same left, keeps_same before)))
-not_configured state reads opens hands_back false name fault left before why =
+not_configured state reads sides closes_all gives_up false name fault left before why =
     (Err fault, why, (refl, (keeps_same left, keeps_same before)))

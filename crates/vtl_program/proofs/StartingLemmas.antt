@@ -1,5 +1,5 @@
 -- A library that is switched on, entry by entry.
-use Rattle.std.proofs.Common.{◌≡◌, ◌≢◌, ◌⊎◌, inl, inr, ℕ, ◌-◌, ◌<◌, Bool, true, List, [], ◌∷◌, ◌++◌, length, get_or, Option, None, Some, is_some, sym, ap, ◌∙◌, arith, subst, take, drop, append_assoc, take-append-drop, ◌+◌}
+use Rattle.std.proofs.Common.{◌≡◌, ◌≢◌, ◌⊎◌, inl, inr, ℕ, ◌<◌, Bool, true, List, [], ◌∷◌, ◌++◌, length, get_or, Option, None, Some, is_some, refl, sym, ap, ◌∙◌, arith, subst, take, drop, append_assoc, take-append-drop, ◌+◌}
 use Rattle.std.proofs.lemmas.List.{map-append, take_more}
 use Rattle.std.proofs.lemmas.List.Elements.{All-nil, All-push, Contains-append_left, Contains-push, Contains-push_cases}
 use Rattle.std.specs.List.{Contains}
@@ -14,9 +14,10 @@ use Rattle.vtl_config.specs.declared.entries.DriveEntry.{DriveEntry}
 use Rattle.vtl_program.specs.declared.programs.VtlFault.{VtlFault}
 use Rattle.vtl_program.specs.declared.programs.VtlFault.TheVariants.{Words, Config, Script, Device, NoMemory}
 use Rattle.vtl_program.specs.Faults.{IsFailure}
-use Rattle.vtl_program.specs.Inner.Waiting.{AreHome, AreOn, IsBare, IsNotHome, PutsHome, StartingState, SwitchesOnAt, home_at, waits_at}
+use Rattle.vtl_program.specs.Inner.Waiting.{AreHome, IsBare, IsNotHome, PutsHome, SwitchesOnAt, home_at}
 use Rattle.vtl_program.specs.Sides.{SidesGiven}
-use Rattle.vtl_program.specs.Starting.{AreGiven, IsDriveOf, IsNotStarted, IsRefusedIn, IsStarted, StandsAt}
+use Rattle.vtl_program.specs.Starting.{AreGiven, AreOn, IsDriveOf, IsGivenUp, IsNotStarted, IsRefusedIn, IsStarted, StandsAt}
+use Rattle.vtl_program.specs.Unfinished.{StartingState, waits_at}
 use Rattle.vtl_program.proofs.DistinctLemmas.{contains_map, same_or_not, twice}
 use Rattle.vtl_program.proofs.WaitingLemmas.{home_in_slot, home_waits}
 
@@ -222,31 +223,42 @@ parted {A = A} entries at entry below is =
     ∙ take-append-drop (at + 1) entries
 
 -- an entry was refused, and those before it were given something
-pub refused_at : {E G : Type 0} (gives : E → G → Type 0) (refuses : E → Type 0) (entries : List E) (at : ℕ) (entry : E)
+refused_at : {E G : Type 0} (gives : E → G → Type 0) (refuses : E → Type 0) (entries : List E) (at : ℕ) (entry : E)
     → at < length entries → entry ≡ get_or entries at entry → AreGiven gives (take at entries) → refuses entry
-    → IsRefusedIn gives refuses entries
-refused_at gives refuses entries at entry below is given refused = record {
-  before = take at entries;
-  entry = entry;
-  behind = drop (at + 1) entries;
-  are = sym (parted entries at entry below is);
-  given = given;
-  refused = refused;
-}
+    → (refused : IsRefusedIn gives refuses entries) × (refused.before ≡ take at entries)
+refused_at gives refuses entries at entry below is given refused = (
+  record {
+    before = take at entries;
+    entry = entry;
+    behind = drop (at + 1) entries;
+    are = sym (parted entries at entry below is);
+    given = given;
+    refused = refused;
+  },
+  refl,
+)
 
-module _ {D : Type 0} (sides : SidesGiven D) (entries : List CartridgeEntry) where
-  -- why not all cartridges are at their homes
-  pub refused_home : (fault : VtlFault) → IsFailure fault
-      → IsRefusedIn sides.gives_cartridge (λ entry. sides.refuses_cartridge entry fault) entries
-      → IsNotHome sides entries fault
-  refused_home Device failure refused = refused
-  refused_home NoMemory failure refused = tt
-  refused_home Config failure refused = absurd failure
-  refused_home Words failure refused = absurd failure
-  refused_home (Script line) failure refused = absurd failure
+module _ {D : Type 0} (state : D → DiskState) (sides : SidesGiven D) (gives_up : StartingState D → Type 0)
+    (entries : List CartridgeEntry) where
+  -- why not all cartridges are at their homes: the one at a place was refused, and those before it were given up
+  pub refused_home : (fault : VtlFault) (at : ℕ) (entry : CartridgeEntry) (starting : StartingState D)
+      → at < length entries → entry ≡ get_or entries at entry → IsFailure fault
+      → AreHome sides.gives_cartridge (take at entries) starting → sides.refuses_cartridge entry fault
+      → gives_up starting → IsNotHome state sides gives_up entries fault
+  refused_home Device at entry starting below is failure home refused up =
+      let found = refused_at sides.gives_cartridge (λ (e : CartridgeEntry). sides.refuses_cartridge e Device) entries at
+      entry below is home.given refused in (
+        found.0,
+        subst (λ (before : List CartridgeEntry). IsGivenUp state sides gives_up before []) (sym found.1)
+            (starting, up, on_yet sides.gives_cartridge state sides.gives_store (take at entries) starting home),
+      )
+  refused_home NoMemory at entry starting below is failure home refused up = tt
+  refused_home Config at entry starting below is failure home refused up = absurd failure
+  refused_home Words at entry starting below is failure home refused up = absurd failure
+  refused_home (Script line) at entry starting below is failure home refused up = absurd failure
 
   pub not_home : (fault : VtlFault) (taken : Bool) → (fault ≡ Config) × (taken ≡ true)
-      → (taken ≡ true → ¬ AreDistinct (homes_of entries)) → IsNotHome sides entries fault
+      → (taken ≡ true → ¬ AreDistinct (homes_of entries)) → IsNotHome state sides gives_up entries fault
   not_home Config taken is double = double is.1
   not_home Words taken is double = absurd (cc)
   not_home (Script line) taken is double = absurd (cc)
@@ -255,24 +267,34 @@ module _ {D : Type 0} (sides : SidesGiven D) (entries : List CartridgeEntry) whe
 
   module _ (drives : List DriveEntry) where
     -- why a library is not switched on
-    pub off_of : (fault : VtlFault) → IsNotHome sides entries fault → IsNotStarted sides entries drives fault
+    pub off_of : (fault : VtlFault) → IsNotHome state sides gives_up entries fault
+        → IsNotStarted state sides gives_up entries drives fault
     off_of Device why = inl why
     off_of NoMemory why = tt
     off_of Config why = λ distinct. why distinct.0
     off_of Words why = why
     off_of (Script line) why = why
 
-    pub refused_on : (fault : VtlFault) → IsFailure fault → AreGiven sides.gives_cartridge entries
-        → IsRefusedIn sides.gives_store (λ entry. sides.refuses_store entry fault) drives
-        → IsNotStarted sides entries drives fault
-    refused_on Device failure given refused = inr (given, refused)
-    refused_on NoMemory failure given refused = tt
-    refused_on Config failure given refused = absurd failure
-    refused_on Words failure given refused = absurd failure
-    refused_on (Script line) failure given refused = absurd failure
+    -- the store of the drive at a place was refused, and all before it was given up
+    pub refused_on : (fault : VtlFault) (at : ℕ) (entry : DriveEntry) (starting : StartingState D)
+        → at < length drives → entry ≡ get_or drives at entry → IsFailure fault
+        → AreOn sides.gives_cartridge state sides.gives_store entries (take at drives) starting
+        → sides.refuses_store entry fault → gives_up starting
+        → IsNotStarted state sides gives_up entries drives fault
+    refused_on Device at entry starting below is failure on refused up =
+        let found = refused_at sides.gives_store (λ (e : DriveEntry). sides.refuses_store e Device) drives at entry
+        below is on.stores refused in
+        inr (
+          found.0,
+          subst (λ (before : List DriveEntry). IsGivenUp state sides gives_up entries before) (sym found.1) (starting, up, on),
+        )
+    refused_on NoMemory at entry starting below is failure on refused up = tt
+    refused_on Config at entry starting below is failure on refused up = absurd failure
+    refused_on Words at entry starting below is failure on refused up = absurd failure
+    refused_on (Script line) at entry starting below is failure on refused up = absurd failure
 
     pub not_on : (fault : VtlFault) (taken : Bool) → (fault ≡ NoMemory) ⊎ (fault ≡ Config) × (taken ≡ true)
-        → (taken ≡ true → ¬ AreDistinct (numbers_of drives)) → IsNotStarted sides entries drives fault
+        → (taken ≡ true → ¬ AreDistinct (numbers_of drives)) → IsNotStarted state sides gives_up entries drives fault
     not_on NoMemory taken is double = tt
     not_on Config taken (inl is) double = absurd (cc)
     not_on Config taken (inr is) double = λ distinct. double is.1 distinct.1

@@ -14,7 +14,8 @@ use Rattle.pr_core.specs.declared.states.PrState.{PrState}
 use Rattle.drive_core.specs.Media.{SwitchesOn}
 use Rattle.drive_core.specs.State.{left_of}
 use Rattle.library.specs.Elements.{BayState, Becomes, HeldState, bay_at}
-use Rattle.vtl_program.specs.Inner.Waiting.{IsBare, PutsHome, StartingState, SwitchesOnAt, home_at, waits_at}
+use Rattle.vtl_program.specs.Inner.Waiting.{IsBare, PutsHome, SwitchesOnAt, home_at}
+use Rattle.vtl_program.specs.Unfinished.{StartingState, waits_at}
 
 -- the number of a drive is no slot's address
 pub no_slot : (number : ℕ) → number ≤ 16 → is_slot number ≡ false

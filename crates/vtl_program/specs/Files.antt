@@ -4,24 +4,29 @@ use Rattle.std.specs.declared.alloc.Global.{Global}
 use Rattle.std.specs.IoError.{error_kind}
 use Rattle.std.specs.declared.io.Error.{Error}
 use Rattle.file_disk.specs.declared.error.FileError.{FileError}
+use Rattle.library.specs.Elements.{HeldState}
 use Rattle.vtl_config.specs.Configs.{Says}
 use Rattle.vtl_config.specs.declared.entries.Config.{Config}
 use Rattle.vtl_program.specs.declared.programs.VtlFault.{VtlFault}
 use Rattle.vtl_program.specs.Configured.{IsNoConfig}
 use Rattle.vtl_program.specs.Faults.{fault_of_error}
+use Rattle.vtl_program.specs.Unfinished.{StartingState}
 
--- The answers that a call for the file of a name may have, and the disks that may be handed back for one. Nothing else
--- is known of a file: whatever the program says that it read, opened or made, it has of a call that answered so, and
--- the disk that it hands back is the last that it had (own).
+-- The answers that a call for the file of a name may have, and the disks that may be handed back for one, or in a
+-- library. Nothing else is known of a file: whatever the program says that it read, opened or made, it has of a call
+-- that answered so, and the disk that it hands back is the last that it had (own).
 pub record FileAnswers (D : Type 0) : Type 1 where
   -- the bytes of a file are read
   pub reads : List ℕ → Result (Vec ℕ Global) Error → Type 0
   -- a file is opened to be read, and its disk is handed back
   pub opens_to_read : List ℕ → Result D FileError → Type 0
   pub closes : List ℕ → D → Type 0
-  -- a file is opened to be changed, and its disk is handed back, where no side is found on it
+  -- a file is opened to be changed, and its disk is handed back: alone, where no side is found on it, in a library, or in
+  -- one whose drives were not all switched on
   pub opens : List ℕ → Result D FileError → Type 0
   pub hands_back : List ℕ → D → Type 0
+  pub closes_all : HeldState D → Type 0
+  pub gives_up : StartingState D → Type 0
   -- a missing file is made, and its disk is handed back, with the file or to have it taken away
   pub makes : List ℕ → Result D FileError → Type 0
   pub leaves : List ℕ → D → Type 0
@@ -31,14 +36,17 @@ pub record FileAnswers (D : Type 0) : Type 1 where
 abbrev pub answers_of : {D : Type 0} → (List ℕ → Result (Vec ℕ Global) Error → Type 0)
     → (opens_to_read : List ℕ → Result D FileError → Type 0) → (closes : List ℕ → D → Type 0)
     → (opens : List ℕ → Result D FileError → Type 0) → (hands_back : List ℕ → D → Type 0)
+    → (closes_all : HeldState D → Type 0) → (gives_up : StartingState D → Type 0)
     → (makes : List ℕ → Result D FileError → Type 0) → (leaves takes_away : List ℕ → D → Type 0)
     → FileAnswers D
-answers_of reads opens_to_read closes opens hands_back makes leaves takes_away = record {
+answers_of reads opens_to_read closes opens hands_back closes_all gives_up makes leaves takes_away = record {
   reads = reads;
   opens_to_read = opens_to_read;
   closes = closes;
   opens = opens;
   hands_back = hands_back;
+  closes_all = closes_all;
+  gives_up = gives_up;
   makes = makes;
   leaves = leaves;
   takes_away = takes_away;

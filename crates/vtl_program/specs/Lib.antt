@@ -9,3 +9,4 @@ pub mod Program
 pub mod SideText
 pub mod Sides
 pub mod Starting
+pub mod Unfinished

@@ -21,8 +21,9 @@ use Rattle.vtl_program.specs.Creating.{TellsFiles, files_of}
 use Rattle.vtl_program.specs.Faults.{IsFailure}
 use Rattle.vtl_program.specs.Files.{FileAnswers, ReadsConfig}
 use Rattle.vtl_program.specs.Program.{EndsProgram, IsIdle, RunsFrom}
-use Rattle.vtl_program.specs.Sides.{SidesGiven, file_sides, memory_state, new_sides}
+use Rattle.vtl_program.specs.Sides.{SidesGiven, file_sides, memory_state, new_sides, takes_any}
 use Rattle.vtl_program.specs.Starting.{IsBuiltIn, IsNotStarted, IsStarted}
+use Rattle.vtl_program.specs.Unfinished.{StartingState}
 
 -- a library is like this, or it was not switched on for such a fault (own)
 abbrev pub IsStart : {D : Type 0} → (HeldState D → Type 0) → (VtlFault → Type 0)
@@ -30,21 +31,22 @@ abbrev pub IsStart : {D : Type 0} → (HeldState D → Type 0) → (VtlFault →
 IsStart Is IsNot (Ok held) = Is held
 IsStart Is IsNot (Err fault) = IsNot fault
 
--- a library is switched on, a script is run over it, and every buffer is written out (own)
-abbrev pub RunsOver : {D : Type 0} → (D → DiskState) → (HeldState D → Type 0) → (VtlFault → Type 0)
+-- a library is switched on, a script is run over it, every buffer is written out, and the library is handed back (own)
+abbrev pub RunsOver : {D : Type 0} → (D → DiskState) → (closes_all Is : HeldState D → Type 0) → (VtlFault → Type 0)
     → (left left' before now : Option (List ℕ)) → Result (Unit {0}) VtlFault → Type 0
-RunsOver {D} state Is IsNot left left' before now outcome =
+RunsOver {D} state closes_all Is IsNot left left' before now outcome =
     (start : Result (HeldState D) VtlFault) × IsStart Is IsNot start
-    × RunsFrom state start left left' before now outcome
+    × RunsFrom state closes_all start left left' before now outcome
 
 -- a script is run over the library of a configuration, over such sides; that homes or numbers are double is no reason
 -- (own)
-abbrev pub RunsConfig : {D : Type 0} → (D → DiskState) → SidesGiven D → Config
+abbrev pub RunsConfig : {D : Type 0} → (D → DiskState) → SidesGiven D → (closes_all : HeldState D → Type 0)
+    → (gives_up : StartingState D → Type 0) → Config
     → (left left' before now : Option (List ℕ)) → Result (Unit {0}) VtlFault → Type 0
-RunsConfig state sides config left left' before now outcome =
-    RunsOver state
+RunsConfig state sides closes_all gives_up config left left' before now outcome =
+    RunsOver state closes_all
     (IsStarted sides.gives_cartridge state sides.gives_store config.cartridges.items config.drives.items)
-    (λ fault. IsFailure fault × IsNotStarted sides config.cartridges.items config.drives.items fault)
+    (λ fault. IsFailure fault × IsNotStarted state sides gives_up config.cartridges.items config.drives.items fault)
     left left' before now outcome
 
 -- the barcode of the built-in configuration's cartridge (own)
@@ -57,28 +59,30 @@ built_in_capacities = 16777216 ∷ []
 
 -- a script is run over the library of the configuration that a file says, over such sides; where there is no
 -- configuration, nothing is read or written (own)
-abbrev pub RunsNamed : {D : Type 0} → (D → DiskState) → SidesGiven D → Result Config VtlFault
+abbrev pub RunsNamed : {D : Type 0} → (D → DiskState) → SidesGiven D → (closes_all : HeldState D → Type 0)
+    → (gives_up : StartingState D → Type 0) → Result Config VtlFault
     → (left left' before now : Option (List ℕ)) → Result (Unit {0}) VtlFault → Type 0
-RunsNamed state sides (Ok config) left left' before now outcome =
-    RunsConfig state sides config left left' before now outcome
-RunsNamed state sides (Err fault) left left' before now outcome =
+RunsNamed state sides closes_all gives_up (Ok config) left left' before now outcome =
+    RunsConfig state sides closes_all gives_up config left left' before now outcome
+RunsNamed state sides closes_all gives_up (Err fault) left left' before now outcome =
     (outcome ≡ Err fault) × IsIdle left left' before now
 
 module _ {D : Type 0} (state : D → DiskState) where
   module _ (reads : List ℕ → Result (Vec ℕ Global) Error → Type 0) where
     -- what `vtl run` does: over the built-in configuration in memory; over that of a file, in memory where that is
-    -- asked for, and else over its files (own)
-    abbrev pub RunsOrder : (List ℕ → Result D FileError → Type 0) → (List ℕ → D → Type 0) → Bool → Option (List ℕ)
+    -- asked for, and else over the sides of its files (own)
+    abbrev pub RunsOrder : SidesGiven D → (closes_all : HeldState D → Type 0)
+        → (gives_up : StartingState D → Type 0) → Bool → Option (List ℕ)
         → (left left' before now : Option (List ℕ)) → Result (Unit {0}) VtlFault → Type 0
-    RunsOrder opens hands_back memory None left left' before now outcome =
-        RunsOver memory_state (IsBuiltIn memory_state built_in_barcode built_in_capacities)
+    RunsOrder sides closes_all gives_up memory None left left' before now outcome =
+        RunsOver memory_state takes_any (IsBuiltIn memory_state built_in_barcode built_in_capacities)
         (λ fault. fault ≡ Faults.NoMemory) left left' before now outcome
-    RunsOrder opens hands_back true (Some name) left left' before now outcome =
+    RunsOrder sides closes_all gives_up true (Some name) left left' before now outcome =
         (config : Result Config VtlFault) × ReadsConfig reads name config
-        × RunsNamed memory_state new_sides config left left' before now outcome
-    RunsOrder opens hands_back false (Some name) left left' before now outcome =
+        × RunsNamed memory_state new_sides takes_any takes_any config left left' before now outcome
+    RunsOrder sides closes_all gives_up false (Some name) left left' before now outcome =
         (config : Result Config VtlFault) × ReadsConfig reads name config
-        × RunsNamed state (file_sides state opens hands_back) config left left' before now outcome
+        × RunsNamed state sides closes_all gives_up config left left' before now outcome
 
   module _ (makes : List ℕ → Result D FileError → Type 0) (leaves takes_away : List ℕ → D → Type 0) where
     -- the missing files of a configuration are made, and each is told of; where there is no configuration, nothing is
@@ -118,7 +122,8 @@ module _ {D : Type 0} (state : D → DiskState) (files : FileAnswers D) where
   abbrev pub DoesOrder : Asked → (left left' before now : Option (List ℕ)) → Result Verdict VtlFault → Type 0
   DoesOrder (run memory config) left left' before now result =
       (outcome : Result (Unit {0}) VtlFault)
-      × RunsOrder state files.reads files.opens files.hands_back memory config left left' before now outcome
+      × RunsOrder state files.reads (file_sides state files.opens files.hands_back) files.closes_all files.gives_up
+      memory config left left' before now outcome
       × (result ≡ verdict_from outcome)
   DoesOrder (create config) left left' before now result =
       (outcome : Result (Unit {0}) VtlFault)

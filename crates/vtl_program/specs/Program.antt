@@ -25,8 +25,8 @@ outcome_of (Ok done) (Err unwritten) = Err Device
 outcome_of (Err fault) written = Err (fault_of fault)
 
 -- a script was run over this library, one of one host with no move in the order of its lines, and then every buffer
--- was written out; no more was read than a script may have (own)
-pub record RunsStarted {D : Type 0} (state : D → DiskState) (old : HeldState D)
+-- was written out, and the library was handed back as it was then; no more was read than a script may have (own)
+pub record RunsStarted {D : Type 0} (state : D → DiskState) (closes_all : HeldState D → Type 0) (old : HeldState D)
     (left left' before now : Option (List ℕ)) (outcome : Result (Unit {0}) VtlFault) : Type 0 where
   pub mid : HeldState D
   pub new : HeldState D
@@ -36,6 +36,7 @@ pub record RunsStarted {D : Type 0} (state : D → DiskState) (old : HeldState D
   pub one_host : OnOk ended (LibraryAnswersHost state old left before mid now)
   pub takes : ended ≢ Err ReadFault → TakesWithin left 0 left'
   pub finishes : WritesOut state mid written new
+  pub closed : closes_all new
   pub outcome_is : outcome ≡ outcome_of ended written
 
 -- nothing was read, and nothing was written (own)
@@ -43,10 +44,11 @@ abbrev pub IsIdle : (left left' before now : Option (List ℕ)) → Type 0
 IsIdle left left' before now = Keeps left left' × Keeps before now
 
 -- a script was run over the library that was started; where none was, nothing was read or written (own)
-abbrev pub RunsFrom : {D : Type 0} → (D → DiskState) → Result (HeldState D) VtlFault
+abbrev pub RunsFrom : {D : Type 0} → (D → DiskState) → (HeldState D → Type 0) → Result (HeldState D) VtlFault
     → (left left' before now : Option (List ℕ)) → Result (Unit {0}) VtlFault → Type 0
-RunsFrom state (Ok old) left left' before now outcome = RunsStarted state old left left' before now outcome
-RunsFrom state (Err fault) left left' before now outcome = (outcome ≡ Err fault) × IsIdle left left' before now
+RunsFrom state closes_all (Ok old) left left' before now outcome =
+    RunsStarted state closes_all old left left' before now outcome
+RunsFrom state closes_all (Err fault) left left' before now outcome = (outcome ≡ Err fault) × IsIdle left left' before now
 
 -- the status where nothing failed: 0, or 1 where the file that was checked is refused (own)
 abbrev pub verdict_status : Verdict → ℕ

@@ -118,6 +118,10 @@ new_sides = record {
   refuses_store = λ entry fault. fault ≡ NoMemory;
 }
 
+-- of a library in memory nothing is known once it was taken back: it is gone (own)
+abbrev pub takes_any : {L : Type 0} → L → Type 0
+takes_any library = Unit {0}
+
 -- the state of a disk in memory (own)
 abbrev pub memory_state : MemDisk → DiskState
 memory_state disk = log_state (mem_log disk) (mem_failures disk)

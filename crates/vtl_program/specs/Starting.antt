@@ -1,5 +1,5 @@
--- What a library holds when it was just switched on.
-use Rattle.std.specs.Prelude.{◌≡◌, ◌⊎◌, ℕ, ◌∷◌, ◌++◌, true, List, Option, None, Some, Ok}
+-- What a library holds when it was just switched on, and what was given where it was not.
+use Rattle.std.specs.Prelude.{◌≡◌, ◌⊎◌, ℕ, [], ◌∷◌, ◌++◌, true, false, List, Option, None, Some, Ok}
 use Rattle.std.specs.List.{All, Contains}
 use Rattle.tape_disk.specs.Disk.{DiskState}
 use Rattle.tape_buffer.specs.Moves.{buffer_below}
@@ -14,8 +14,23 @@ use Rattle.vtl_config.specs.Entries.{AreDistinct, address_of, homes_of, numbers_
 use Rattle.vtl_config.specs.declared.entries.CartridgeEntry.{CartridgeEntry}
 use Rattle.vtl_config.specs.declared.entries.DriveEntry.{DriveEntry}
 use Rattle.vtl_program.specs.Sides.{IsNewCartridge, IsNewStore, SidesGiven}
+use Rattle.vtl_program.specs.Unfinished.{StartingState, waits_at}
 use Rattle.vtl_program.specs.declared.programs.VtlFault.{VtlFault}
 use Rattle.vtl_program.specs.declared.programs.VtlFault.TheVariants.{Words, Config, Script, Device, NoMemory}
+
+-- each of these entries was given something (own)
+abbrev pub AreGiven : {E G : Type 0} → (E → G → Type 0) → List E → Type 0
+AreGiven {E} {G} gives entries = All (λ entry. (given : G) × gives entry given) entries
+
+-- each of these entries before one was given something, and that one was refused so (own)
+pub record IsRefusedIn {E G : Type 0} (gives : E → G → Type 0) (refuses : E → Type 0) (entries : List E) :
+    Type 0 where
+  pub before : List E
+  pub entry : E
+  pub behind : List E
+  pub are : entries ≡ before ++ entry ∷ behind
+  pub given : AreGiven gives before
+  pub refused : refuses entry
 
 module _ {D : Type 0} where
   module _ (state : D → DiskState) where
@@ -68,29 +83,37 @@ module _ {D : Type 0} where
         pub slots : (address : ℕ) → is_slot address ≡ true → StandsAt entries address (held_at held.slots address)
         pub bays : (number : ℕ) → IsDriveOf entries drives number (bay_at held.bays number)
 
--- each of these entries was given something (own)
-abbrev pub AreGiven : {E G : Type 0} → (E → G → Type 0) → List E → Type 0
-AreGiven {E} {G} gives entries = All (λ entry. (given : G) × gives entry given) entries
+      -- the cartridges of these entries are at their homes, or wait for a drive that is not on yet, and these drives are
+      -- switched on (own)
+      pub record AreOn (entries : List CartridgeEntry) (drives : List DriveEntry) (starting : StartingState D) :
+          Type 0 where
+        pub given : AreGiven gives_cartridge entries
+        pub stores : AreGiven gives_store drives
+        pub slots : (address : ℕ) → is_slot address ≡ true
+            → StandsAt entries address (held_at starting.held.slots address)
+        pub bays : (number : ℕ) → IsDriveOf entries drives number (bay_at starting.held.bays number)
+        pub waiting : (number : ℕ) → is_slot number ≡ false → bay_at starting.held.bays number ≡ None
+            → StandsAt entries number (waits_at starting.waiting number)
 
--- each of these entries before one was given something, and that one was refused so (own)
-pub record IsRefusedIn {E G : Type 0} (gives : E → G → Type 0) (refuses : E → Type 0) (entries : List E) :
-    Type 0 where
-  pub before : List E
-  pub entry : E
-  pub behind : List E
-  pub are : entries ≡ before ++ entry ∷ behind
-  pub given : AreGiven gives before
-  pub refused : refuses entry
+module _ {D : Type 0} (state : D → DiskState) (sides : SidesGiven D) (gives_up : StartingState D → Type 0) where
+  -- what was given for these entries was given up as it is: each cartridge at its home, or waiting for a drive that is
+  -- not on, and each drive switched on (own)
+  abbrev pub IsGivenUp : List CartridgeEntry → List DriveEntry → Type 0
+  IsGivenUp entries drives =
+      (starting : StartingState D) × gives_up starting
+      × AreOn sides.gives_cartridge state sides.gives_store entries drives starting
 
-module _ {D : Type 0} (sides : SidesGiven D) (entries : List CartridgeEntry) (drives : List DriveEntry) where
-  -- why a library is not switched on over such sides: one is refused, the first in the order of cartridges and then of
-  -- drives; memory runs out; or homes or numbers are double, which they are not in a configuration (own)
-  abbrev pub IsNotStarted : VtlFault → Type 0
-  IsNotStarted Device =
-      IsRefusedIn sides.gives_cartridge (λ entry. sides.refuses_cartridge entry Device) entries
-      ⊎ (AreGiven sides.gives_cartridge entries
-      × IsRefusedIn sides.gives_store (λ entry. sides.refuses_store entry Device) drives)
-  IsNotStarted NoMemory = Unit {0}
-  IsNotStarted Config = ¬ (AreDistinct (homes_of entries) × AreDistinct (numbers_of drives))
-  IsNotStarted Words = ⊥
-  IsNotStarted (Script line) = ⊥
+  module _ (entries : List CartridgeEntry) (drives : List DriveEntry) where
+    -- why a library is not switched on over such sides: one is refused, the first in the order of cartridges and then of
+    -- drives, and all that was given before it is given up; memory runs out; or homes or numbers are double, which they
+    -- are not in a configuration (own)
+    abbrev pub IsNotStarted : VtlFault → Type 0
+    IsNotStarted Device =
+        ((refused : IsRefusedIn sides.gives_cartridge (λ entry. sides.refuses_cartridge entry Device) entries)
+        × IsGivenUp refused.before [])
+        ⊎ ((refused : IsRefusedIn sides.gives_store (λ entry. sides.refuses_store entry Device) drives)
+        × IsGivenUp entries refused.before)
+    IsNotStarted NoMemory = Unit {0}
+    IsNotStarted Config = ¬ (AreDistinct (homes_of entries) × AreDistinct (numbers_of drives))
+    IsNotStarted Words = ⊥
+    IsNotStarted (Script line) = ⊥

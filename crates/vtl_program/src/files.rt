@@ -5,7 +5,9 @@ ghost use Rattle.std.specs.declared.alloc.Global.{Global};
 ghost use Rattle.std.specs.declared.io.Error.{Error};
 ghost use Rattle.file_disk.specs.declared.error.FileError.{FileError};
 
+use crate::starting::Starting;
 use file_disk::{FileDisk, FileError};
+use library::Held;
 use std::{fs, io};
 
 /// Files whose bytes are read.
@@ -50,6 +52,23 @@ pub trait ChangeFiles<D> {
     /// Takes back a disk on which no side was found, as it is.
     fn hand_back(&self, name: &str, disk: D)
         ensures { hands_back name.now disk };
+}
+
+/// What takes back the disks of a library that is no longer used: of an `L` that was run, or of an `S` that was not
+/// switched on.
+pub trait TakesBack<L, S> {
+    // The library that was taken back.
+    ghost closes_all: { L → Type 0 };
+
+    ghost gives_up: { S → Type 0 };
+
+    /// Takes the disks of a library back, as they are.
+    fn close_all(&self, library: L)
+        ensures { closes_all library };
+
+    /// Takes the disks of a library back that was not switched on, as they are.
+    fn give_up(&self, starting: S)
+        ensures { gives_up starting };
 }
 
 /// Files that are made.
@@ -116,6 +135,20 @@ impl<'a> ChangeFiles<FileDisk> for SystemFiles<'a> {
 
     fn hand_back(&self, _: &str, disk: FileDisk) {
         drop(disk);
+    }
+}
+
+impl<'a> TakesBack<Held<FileDisk>, Starting<FileDisk>> for SystemFiles<'a> {
+    ghost closes_all = { λ library. Unit {0} };
+
+    ghost gives_up = { λ starting. Unit {0} };
+
+    fn close_all(&self, library: Held<FileDisk>) {
+        drop(library);
+    }
+
+    fn give_up(&self, starting: Starting<FileDisk>) {
+        drop(starting);
     }
 }
 

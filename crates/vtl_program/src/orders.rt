@@ -1,21 +1,20 @@
 //! What the program does for the words of its command line.
 ghost use Rattle.std.specs.Prelude.{◌≡◌, ℕ, List, option_map, string_bytes};
-ghost use Rattle.library.specs.Elements.{HeldState};
-ghost use Rattle.library.specs.Finish.{WritesOut};
 ghost use Rattle.vtl_config.specs.Configs.{Says};
 ghost use Rattle.vtl_words.specs.Orders.{asked_of, texts_of};
 ghost use Rattle.vtl_program.specs.Files.{answers_of};
 ghost use Rattle.vtl_program.specs.Orders.{AnswersWords, ChecksOrder, CreatesOrder, DoesOrder, Obeys, RunsConfig, RunsOrder, RunsProgram, given_words};
 ghost use Rattle.vtl_program.specs.Program.{RunsFrom, outcome_of};
+ghost use Rattle.vtl_program.specs.Sides.{file_sides};
 
 use crate::checking::{Checked, check_side};
 use crate::configs::config_in;
 use crate::creating::create_missing;
-use crate::files::{ChangeFiles, MakeFiles, ReadFiles, TextFiles};
+use crate::files::{ChangeFiles, MakeFiles, ReadFiles, TakesBack, TextFiles};
 use crate::programs::{Ended, Verdict, VtlFault, end};
 use crate::side_checks::tell_lines;
 use crate::sides::{FileSides, NewSides, Sides};
-use crate::starting::{built_in, start};
+use crate::starting::{Starting, built_in, start};
 use crate::writing::tell;
 use library::{Held, Unwritten, run_held};
 use std::alloc::Global;
@@ -36,31 +35,27 @@ fn outcome_of(ran: Result<(), ScriptFault>, finished: Result<(), Unwritten>) -> 
     }
 }
 
-// Writes every buffer out. The library is gone then.
-fn wrote_out<D: Disk + Drop>(mut held: Held<D>) -> Result<(), Unwritten>
-    ensures { (new : HeldState D) × WritesOut D.state held result new }
-{
-    held.finish()
-}
-
-/// Runs a script over a library, where there is one, and then writes every buffer out, whatever the script's end was.
-/// The first fault is answered: one of the script before one of the buffers.
-pub fn run_started<D: Disk + Drop, R: Read, W: Write>(
+/// Runs a script over a library, where there is one, then writes every buffer out, whatever the script's end was, and
+/// hands the library back. The first fault is answered: one of the script before one of the buffers.
+pub fn run_started<D: Disk + Drop, S: TakesBack<Held<D>, Starting<D>>, R: Read, W: Write>(
     alloc: Global,
+    sides: &S,
     start: Result<Held<D>, VtlFault>,
     reader: &mut R,
     writer: &mut W,
 ) -> Result<(), VtlFault>
-    ensures { RunsFrom D.state start (R.remaining reader.old) (R.remaining reader.new)
+    ensures { RunsFrom D.state S.closes_all start (R.remaining reader.old) (R.remaining reader.new)
         (W.contents writer.old) (W.contents writer.new) result }
 {
     let mut held = start?;
     let ran = run_held(alloc, &mut held, reader, writer);
-    outcome_of(ran, wrote_out(held))
+    let finished = held.finish();
+    sides.close_all(held);
+    outcome_of(ran, finished)
 }
 
 // Runs a script over the library of a configuration, over these sides.
-fn run_config<D: Disk + Drop, S: Sides<D>, R: Read, W: Write>(
+fn run_config<D: Disk + Drop, S: Sides<D> + TakesBack<Held<D>, Starting<D>>, R: Read, W: Write>(
     alloc: Global,
     sides: &S,
     config: &Config,
@@ -68,16 +63,21 @@ fn run_config<D: Disk + Drop, S: Sides<D>, R: Read, W: Write>(
     writer: &mut W,
 ) -> Result<(), VtlFault>
     requires { (text : List ℕ) × Says text config.now }
-    ensures { RunsConfig D.state S.given config.now (R.remaining reader.old) (R.remaining reader.new)
+    ensures { RunsConfig D.state S.given S.closes_all S.gives_up config.now (R.remaining reader.old) (R.remaining reader.new)
         (W.contents writer.old) (W.contents writer.new) result }
 {
     let (cartridges, drives) = (config.cartridges.as_slice(), config.drives.as_slice());
     let held = start(alloc, sides, cartridges, drives);
-    run_started(alloc, held, reader, writer)
+    run_started(alloc, sides, held, reader, writer)
 }
 
 // Runs a script over the library of the words.
-fn run_order<D: Disk + Drop, F: TextFiles + ChangeFiles<D>, R: Read, W: Write>(
+fn run_order<
+    D: Disk + Drop,
+    F: TextFiles + ChangeFiles<D> + TakesBack<Held<D>, Starting<D>>,
+    R: Read,
+    W: Write,
+>(
     alloc: Global,
     files: &F,
     memory: bool,
@@ -85,12 +85,13 @@ fn run_order<D: Disk + Drop, F: TextFiles + ChangeFiles<D>, R: Read, W: Write>(
     reader: &mut R,
     writer: &mut W,
 ) -> Result<(), VtlFault>
-    ensures { RunsOrder D.state F.reads F.opens F.hands_back memory (option_map string_bytes config)
+    ensures { RunsOrder D.state F.reads (file_sides D.state F.opens F.hands_back) F.closes_all F.gives_up
+        memory (option_map string_bytes config)
         (R.remaining reader.old) (R.remaining reader.new)
         (W.contents writer.old) (W.contents writer.new) result }
 {
     let Some(name) = config else {
-        return run_started(alloc, built_in(alloc), reader, writer);
+        return run_started(alloc, &NewSides, built_in(alloc), reader, writer);
     };
     let config = config_in(alloc, files, name.as_str())?;
     if memory {
@@ -137,7 +138,7 @@ fn check_order<D: Disk + Drop, F: ReadFiles<D>, W: Write>(
 // Does what an order asks for.
 fn do_order<
     D: Disk + Drop,
-    F: TextFiles + ReadFiles<D> + ChangeFiles<D> + MakeFiles<D>,
+    F: TextFiles + ReadFiles<D> + ChangeFiles<D> + TakesBack<Held<D>, Starting<D>> + MakeFiles<D>,
     R: Read,
     W: Write,
 >(
@@ -148,7 +149,8 @@ fn do_order<
     writer: &mut W,
 ) -> Result<Verdict, VtlFault>
     ensures { DoesOrder D.state
-        (answers_of F.reads F.opens_to_read F.closes F.opens F.hands_back F.makes F.leaves F.takes_away)
+        (answers_of F.reads F.opens_to_read F.closes F.opens F.hands_back F.closes_all F.gives_up
+        F.makes F.leaves F.takes_away)
         (asked_of order)
         (R.remaining reader.old) (R.remaining reader.new)
         (W.contents writer.old) (W.contents writer.new) result }
@@ -184,7 +186,7 @@ fn answer_words<W: Write>(error: WordsError, writer: &mut W) -> Result<Verdict, 
 /// Does what the words of a command line ask for, over these files. The first word is the program's name.
 pub fn obey<
     D: Disk + Drop,
-    F: TextFiles + ReadFiles<D> + ChangeFiles<D> + MakeFiles<D>,
+    F: TextFiles + ReadFiles<D> + ChangeFiles<D> + TakesBack<Held<D>, Starting<D>> + MakeFiles<D>,
     R: Read,
     W: Write,
 >(
@@ -195,7 +197,8 @@ pub fn obey<
     writer: &mut W,
 ) -> Result<Verdict, VtlFault>
     ensures { Obeys D.state
-        (answers_of F.reads F.opens_to_read F.closes F.opens F.hands_back F.makes F.leaves F.takes_away)
+        (answers_of F.reads F.opens_to_read F.closes F.opens F.hands_back F.closes_all F.gives_up
+        F.makes F.leaves F.takes_away)
         (texts_of words.now)
         (R.remaining reader.old) (R.remaining reader.new)
         (W.contents writer.old) (W.contents writer.new) result }
@@ -210,7 +213,7 @@ pub fn obey<
 /// the third stream and by its status. Where the system gave no words, their fault is reported.
 pub fn run<
     D: Disk + Drop,
-    F: TextFiles + ReadFiles<D> + ChangeFiles<D> + MakeFiles<D>,
+    F: TextFiles + ReadFiles<D> + ChangeFiles<D> + TakesBack<Held<D>, Starting<D>> + MakeFiles<D>,
     R: Read,
     W: Write,
     E: Write,
@@ -223,7 +226,8 @@ pub fn run<
     errors: &mut E,
 ) -> Ended
     ensures { RunsProgram D.state
-        (answers_of F.reads F.opens_to_read F.closes F.opens F.hands_back F.makes F.leaves F.takes_away)
+        (answers_of F.reads F.opens_to_read F.closes F.opens F.hands_back F.closes_all F.gives_up
+        F.makes F.leaves F.takes_away)
         (given_words words)
         (R.remaining reader.old) (R.remaining reader.new)
         (W.contents writer.old) (W.contents writer.new)

@@ -5,11 +5,12 @@ ghost use Rattle.drive_core.specs.State.{left_of};
 ghost use Rattle.vtl_program.specs.Faults.{IsFailure, fault_of_store};
 ghost use Rattle.vtl_program.specs.Sides.{IsFoundOn, IsNoCartridgeOn, IsNoStoreOn, IsStoreOn, SidesGiven};
 
-use crate::files::ChangeFiles;
+use crate::files::{ChangeFiles, TakesBack};
 use crate::programs::VtlFault;
+use crate::starting::Starting;
 use aptpl_store::{AptplStore, StoreError, StoreRefused};
 use cartridge::{Cartridge, CartridgeError, NotCreated, Shelved};
-use library::Parked;
+use library::{Held, Parked};
 use pr_core::Reservations;
 use std::alloc::Global;
 use tape_disk::{Disk, MemDisk};
@@ -100,7 +101,7 @@ fn opened<D: Disk>(alloc: Global, disk: D) -> Result<DriveStore<D>, NoStore<D>>
     }
 }
 
-// No disk can be dropped here: each that was opened is in a side, or handed back.
+// No disk can be dropped here, and in the next block: each that was opened is in a side, or handed back.
 impl<'a, D: Disk, F: ChangeFiles<D>> Sides<D> for FileSides<'a, F> {
     ghost use Rattle.vtl_program.specs.Sides.{file_sides};
 
@@ -136,6 +137,21 @@ impl<'a, D: Disk, F: ChangeFiles<D>> Sides<D> for FileSides<'a, F> {
     }
 }
 
+impl<'a, D: Disk, F: TakesBack<Held<D>, Starting<D>>> TakesBack<Held<D>, Starting<D>>
+    for FileSides<'a, F> {
+    ghost closes_all = { F.closes_all };
+
+    ghost gives_up = { F.gives_up };
+
+    fn close_all(&self, library: Held<D>) {
+        self.files.close_all(library);
+    }
+
+    fn give_up(&self, starting: Starting<D>) {
+        self.files.give_up(starting);
+    }
+}
+
 impl Sides<MemDisk> for NewSides {
     ghost use Rattle.vtl_program.specs.Sides.{new_sides};
 
@@ -162,5 +178,21 @@ impl Sides<MemDisk> for NewSides {
             }),
             Err(_) => Err(VtlFault::NoMemory),
         }
+    }
+}
+
+impl TakesBack<Held<MemDisk>, Starting<MemDisk>> for NewSides {
+    ghost use Rattle.vtl_program.specs.Sides.{takes_any};
+
+    ghost closes_all = { takes_any };
+
+    ghost gives_up = { takes_any };
+
+    fn close_all(&self, library: Held<MemDisk>) {
+        drop(library);
+    }
+
+    fn give_up(&self, starting: Starting<MemDisk>) {
+        drop(starting);
     }
 }

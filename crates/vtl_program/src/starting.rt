@@ -10,6 +10,7 @@ ghost use Rattle.vtl_program.specs.Sides.{memory_state};
 ghost use Rattle.vtl_program.specs.Starting.{IsBuiltIn, IsNotStarted, IsStarted};
 ghost use Rattle.vtl_program.specs.declared.programs.VtlFault.TheVariants as Faults;
 
+use crate::files::TakesBack;
 use crate::programs::VtlFault;
 use crate::sides::{DriveStore, Sides};
 use aptpl_store::AptplStore;
@@ -31,18 +32,18 @@ const BARCODE: &[u8] = b"T00001L6";
 
 const CAPACITY: u64 = 16_777_216;
 
-// A library whose slots are filled, and the cartridges for drives that are not switched on yet, from
-// drive 1 on.
+/// A library that is being switched on: its slots are filled, and the cartridges for drives that are not on yet wait.
 #[derive(Drop)]
-struct Starting<D: Disk> {
+pub struct Starting<D: Disk> {
     held: Held<D>,
+    // from drive 1 on
     waiting: Vec<Option<Parked<D>>>,
 }
 
 impl<D: Disk> Model for Starting<D> {
     ghost use Rattle.std.specs.Prelude.{◌≡◌, length};
     ghost use Rattle.vtl_base.specs.declared.limits.TheConstants.{DRIVES};
-    ghost use Rattle.vtl_program.specs.Inner.Waiting.{StartingState};
+    ghost use Rattle.vtl_program.specs.Unfinished.{StartingState};
 
     ghost Value = { StartingState D };
 
@@ -132,26 +133,36 @@ impl<D: Disk + Drop> Starting<D> {
     }
 }
 
-// Gets the cartridges, in the order of the configuration, each into its home.
-fn place_all<D: Disk + Drop, S: Sides<D>>(
+// Gets the cartridges, in the order of the configuration, each into its home. At a fault those before are given up.
+fn place_all<D: Disk + Drop, S: Sides<D> + TakesBack<Held<D>, Starting<D>>>(
     alloc: Global,
     sides: &S,
     cartridges: &[CartridgeEntry],
 ) -> Result<Starting<D>, VtlFault>
     ensures ok { IfOk result (AreHome S.given.gives_cartridge cartridges.now) }
-    ensures err { IfErr result (IsNotHome S.given cartridges.now) }
+    ensures err { IfErr result (IsNotHome D.state S.given S.gives_up cartridges.now) }
 {
     let mut starting = Starting::new(alloc)?;
     for entry in cartridges {
-        let cartridge = sides.cartridge(alloc, entry)?;
-        starting.put(entry.home, cartridge)?;
+        let cartridge = match sides.cartridge(alloc, entry) {
+            Ok(cartridge) => cartridge,
+            Err(fault) => {
+                sides.give_up(starting);
+                return Err(fault);
+            }
+        };
+        if let Err(fault) = starting.put(entry.home, cartridge) {
+            sides.give_up(starting);
+            return Err(fault);
+        }
     }
     Ok(starting)
 }
 
 /// The library of a configuration, over these sides: first its cartridges, then its drives, in the
-/// order of the configuration. What is refused first decides the fault.
-pub fn start<D: Disk + Drop, S: Sides<D>>(
+/// order of the configuration. What is refused first decides the fault: `Device`, `NoMemory`; and what
+/// was given before is given up.
+pub fn start<D: Disk + Drop, S: Sides<D> + TakesBack<Held<D>, Starting<D>>>(
     alloc: Global,
     sides: &S,
     cartridges: &[CartridgeEntry],
@@ -159,12 +170,21 @@ pub fn start<D: Disk + Drop, S: Sides<D>>(
 ) -> Result<Held<D>, VtlFault>
     ensures ok { IfOk result
         (IsStarted S.given.gives_cartridge D.state S.given.gives_store cartridges.now drives.now) }
-    ensures err { IfErr result (IsNotStarted S.given cartridges.now drives.now) }
+    ensures err { IfErr result (IsNotStarted D.state S.given S.gives_up cartridges.now drives.now) }
 {
     let mut starting = place_all(alloc, sides, cartridges)?;
     for entry in drives {
-        let opened = sides.store(alloc, entry)?;
-        starting.switch_on(alloc, entry.number, opened)?;
+        let opened = match sides.store(alloc, entry) {
+            Ok(opened) => opened,
+            Err(fault) => {
+                sides.give_up(starting);
+                return Err(fault);
+            }
+        };
+        if let Err(fault) = starting.switch_on(alloc, entry.number, opened) {
+            sides.give_up(starting);
+            return Err(fault);
+        }
     }
     Ok(starting.held)
 }

@@ -1,5 +1,5 @@
 -- A library whose drives are not all switched on yet.
-use Rattle.std.specs.Prelude.{◌≡◌, ◌≢◌, ℕ, ◌-◌, nat_le, true, false, List, slice_index_or, Option, None, Some, Ok, if◌then◌else◌}
+use Rattle.std.specs.Prelude.{◌≡◌, ◌≢◌, ℕ, false, List, [], Option, None, Some, Ok, if◌then◌else◌}
 use Rattle.tape_disk.specs.Disk.{DiskState}
 use Rattle.tape_buffer.specs.Moves.{buffer_below}
 use Rattle.tape_buffer.specs.State.{BufferState, state_of}
@@ -8,23 +8,14 @@ use Rattle.aptpl_store.specs.State.{OpenStore}
 use Rattle.changer.specs.Slots.{held_at, is_slot}
 use Rattle.drive_core.specs.Media.{SwitchesOn}
 use Rattle.drive_core.specs.State.{left_of}
-use Rattle.library.specs.Elements.{BayState, Becomes, HeldState, bay_at}
+use Rattle.library.specs.Elements.{BayState, Becomes, bay_at}
 use Rattle.vtl_config.specs.declared.entries.CartridgeEntry.{CartridgeEntry}
-use Rattle.vtl_config.specs.declared.entries.DriveEntry.{DriveEntry}
 use Rattle.vtl_config.specs.Entries.{AreDistinct, homes_of}
 use Rattle.vtl_program.specs.Sides.{SidesGiven}
-use Rattle.vtl_program.specs.Starting.{AreGiven, IsDriveOf, IsRefusedIn, StandsAt}
+use Rattle.vtl_program.specs.Starting.{AreGiven, IsGivenUp, IsRefusedIn, StandsAt}
+use Rattle.vtl_program.specs.Unfinished.{StartingState, waits_at}
 use Rattle.vtl_program.specs.declared.programs.VtlFault.{VtlFault}
 use Rattle.vtl_program.specs.declared.programs.VtlFault.TheVariants.{Words, Config, Script, Device, NoMemory}
-
--- a library, and the cartridges for drives that are not switched on yet, from drive 1 on
-pub record StartingState (D : Type 0) : Type 0 where
-  pub held : HeldState D
-  pub waiting : List (Option (BufferState D))
-
--- what waits for the drive of this number
-abbrev pub waits_at : {C : Type 0} → List (Option C) → ℕ → Option C
-waits_at waiting number = if nat_le 1 number then slice_index_or waiting (number - 1) None else None
 
 module _ {D : Type 0} where
   -- the cartridge at its home: in a slot, or waiting for a drive
@@ -65,24 +56,14 @@ module _ {D : Type 0} where
       pub homes : (address : ℕ) → StandsAt gives_cartridge entries address (home_at starting address)
       pub bays : (number : ℕ) → bay_at starting.held.bays number ≡ None
 
-    module _ (state : D → DiskState) (gives_store : DriveEntry → OpenStore D → Type 0) where
-      -- these drives are on, and the cartridges for the others wait
-      pub record AreOn (entries : List CartridgeEntry) (drives : List DriveEntry) (starting : StartingState D) :
-          Type 0 where
-        pub given : AreGiven gives_cartridge entries
-        pub stores : AreGiven gives_store drives
-        pub slots : (address : ℕ) → is_slot address ≡ true
-            → StandsAt gives_cartridge entries address (held_at starting.held.slots address)
-        pub bays : (number : ℕ)
-            → IsDriveOf gives_cartridge state gives_store entries drives number (bay_at starting.held.bays number)
-        pub waiting : (number : ℕ) → is_slot number ≡ false → bay_at starting.held.bays number ≡ None
-            → StandsAt gives_cartridge entries number (waits_at starting.waiting number)
-
-module _ {D : Type 0} (sides : SidesGiven D) (entries : List CartridgeEntry) where
-  -- why not all of these cartridges are at their homes, over such sides: the first that is refused; memory runs out; or
-  -- homes are double
+module _ {D : Type 0} (state : D → DiskState) (sides : SidesGiven D) (gives_up : StartingState D → Type 0)
+    (entries : List CartridgeEntry) where
+  -- why not all of these cartridges are at their homes, over such sides: the first that is refused, and those before it
+  -- were given up; memory runs out; or homes are double
   abbrev pub IsNotHome : VtlFault → Type 0
-  IsNotHome Device = IsRefusedIn sides.gives_cartridge (λ entry. sides.refuses_cartridge entry Device) entries
+  IsNotHome Device =
+      (refused : IsRefusedIn sides.gives_cartridge (λ entry. sides.refuses_cartridge entry Device) entries)
+      × IsGivenUp state sides gives_up refused.before []
   IsNotHome NoMemory = Unit {0}
   IsNotHome Config = ¬ AreDistinct (homes_of entries)
   IsNotHome Words = ⊥

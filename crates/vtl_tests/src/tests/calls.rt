@@ -70,12 +70,14 @@ pub fn assert_rows(abort: &impl Abort, alloc: Global, rows: &[Row]) -> Result<()
 
 const RUN: &str = "vtl run --config c";
 
-const THREE: &str = "read c;open t;open u;open 1;";
+const THREE: &str = "read c;open t;open u;open 1;give up;";
 
-const FOUR: &str = "read c;open t;open u;open 1;open 2;";
+const FOUR: &str = "read c;open t;open u;open 1;open 2;give up;";
+
+const ALL: &str = "read c;open t;open u;open 1;open 2;close all;";
 
 static RUNS: &'static [Row<'static>] = &[
-    (Failing::Nothing, RUN, FOUR, "", DONE),
+    (Failing::Nothing, RUN, ALL, "", DONE),
     (
         Failing::Nothing,
         "vtl run --memory --config c",
@@ -95,14 +97,14 @@ static RUNS: &'static [Row<'static>] = &[
     (
         Failing::Call(2, FileError::Missing),
         RUN,
-        "read c;open t;",
+        "read c;open t;give up;",
         "",
         FAILED,
     ),
     (
         Failing::Call(3, FileError::Missing),
         RUN,
-        "read c;open t;open u;",
+        "read c;open t;open u;give up;",
         "",
         FAILED,
     ),

@@ -3,16 +3,17 @@ use super::streams::{BadReader, BadWriter};
 use aptpl_store::AptplStore;
 use assertions::assert_equal;
 use cartridge::Cartridge;
-use library::Parked;
+use library::{Held, Parked};
 use pr_core::Reservations;
 use std::alloc::Global;
 use std::test::Fail;
 use tape_disk::{MemDisk, OnceDisk};
 use vtl_config::{CartridgeEntry, DriveEntry, read_config};
+use vtl_program::files::TakesBack;
 use vtl_program::orders::run_started;
 use vtl_program::programs::VtlFault;
 use vtl_program::sides::{DriveStore, Sides};
-use vtl_program::starting::start;
+use vtl_program::starting::{Starting, start};
 
 // New sides in memory, whose cartridges fail at the call after this many.
 #[derive(Clone, Copy)]
@@ -56,6 +57,20 @@ impl Sides<OnceDisk<MemDisk>> for FailingSides {
     }
 }
 
+impl TakesBack<Held<OnceDisk<MemDisk>>, Starting<OnceDisk<MemDisk>>> for FailingSides {
+    ghost closes_all = { λ library. Unit {0} };
+
+    ghost gives_up = { λ starting. Unit {0} };
+
+    fn close_all(&self, library: Held<OnceDisk<MemDisk>>) {
+        drop(library);
+    }
+
+    fn give_up(&self, starting: Starting<OnceDisk<MemDisk>>) {
+        drop(starting);
+    }
+}
+
 const CONFIG: &[u8] =
     b"cartridge = [{ barcode = \"T00001L6\", file = \"t\", capacities = [4096], home = 1 }]\n\
     drive = [{ number = 1, reservations = \"1\" }]\n";
@@ -67,10 +82,11 @@ fn ran(alloc: Global, script: &[u8], calls: u64) -> Result<(Vec<u8>, Result<(), 
         Err(_) => return Err(Fail::from("no configuration")),
     };
     let (cartridges, drives) = (config.cartridges.as_slice(), config.drives.as_slice());
-    let held = start(alloc, &FailingSides { calls }, cartridges, drives);
+    let sides = FailingSides { calls };
+    let held = start(alloc, &sides, cartridges, drives);
     let mut reader = BadReader::new(script, None);
     let mut writer = BadWriter::new(alloc, None);
-    let outcome = run_started(alloc, held, &mut reader, &mut writer);
+    let outcome = run_started(alloc, &sides, held, &mut reader, &mut writer);
     Ok((writer.into_text(), outcome))
 }
 

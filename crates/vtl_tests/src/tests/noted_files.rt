@@ -1,11 +1,13 @@
 //! Files in memory, of a test's own, that note what they are asked for.
 use file_disk::FileError;
+use library::Held;
 use std::alloc::{AllocError, Global};
 use std::cell::{Cell, RefCell};
 use std::io::{self, ErrorKind};
 use tape_disk::{MemDisk, OnceDisk};
 use vtl_base::DevFault;
-use vtl_program::files::{ChangeFiles, MakeFiles, ReadFiles, TextFiles};
+use vtl_program::files::{ChangeFiles, MakeFiles, ReadFiles, TakesBack, TextFiles};
+use vtl_program::starting::Starting;
 
 // A configuration of two cartridges, in slot 1001 and in drive 2, and of two drives.
 const CONFIG: &[u8] = b"cartridge = [\
@@ -152,6 +154,22 @@ impl ChangeFiles<OnceDisk<MemDisk>> for NotedFiles {
     fn hand_back(&self, name: &str, disk: OnceDisk<MemDisk>) {
         let _ = self.noted(self.word_of(&disk, name), name);
         drop(disk);
+    }
+}
+
+impl TakesBack<Held<OnceDisk<MemDisk>>, Starting<OnceDisk<MemDisk>>> for NotedFiles {
+    ghost closes_all = { λ library. Unit {0} };
+
+    ghost gives_up = { λ starting. Unit {0} };
+
+    fn close_all(&self, library: Held<OnceDisk<MemDisk>>) {
+        let _ = self.noted("close", "all");
+        drop(library);
+    }
+
+    fn give_up(&self, starting: Starting<OnceDisk<MemDisk>>) {
+        let _ = self.noted("give", "up");
+        drop(starting);
     }
 }
 

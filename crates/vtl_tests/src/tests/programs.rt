@@ -8,6 +8,7 @@ use std::process::Abort;
 use std::test::Fail;
 use vtl_program::orders::run_started;
 use vtl_program::programs::{Ended, Verdict, VtlFault, end, fault_line};
+use vtl_program::sides::NewSides;
 use vtl_program::starting::built_in;
 use vtl_program::writing::tell;
 use vtl_script::ScriptFault;
@@ -44,7 +45,7 @@ fn ran(alloc: Global, script: &[u8], plan: Plan, has_drive: bool) -> ProgramRun 
     } else {
         Err(VtlFault::NoMemory)
     };
-    let outcome = match run_started(alloc, start, &mut reader, &mut writer) {
+    let outcome = match run_started(alloc, &NewSides, start, &mut reader, &mut writer) {
         Ok(()) => Ok(Verdict::Done),
         Err(fault) => Err(fault),
     };

@@ -14,23 +14,23 @@ const BAD_STATE: &[u8] = b"\xa5VTLRESV1\0\0DRIVE1          \xa5\0\0\0\x01\x02\0"
 
 const NOTED: &str = "vtl run --config c";
 
-const THREE: &str = "read c;open t;open u;open 1;back 1;";
+const THREE: &str = "read c;open t;open u;open 1;back 1;give up;";
 
-const FOUR: &str = "read c;open t;open u;open 1;open 2;back 2;";
+const FOUR: &str = "read c;open t;open u;open 1;open 2;back 2;give up;";
 
 // A cartridge whose sync fails, stores whose first and second call fails, and stores that are refused.
 static HANDED_BACK: &'static [Row<'static>] = &[
     (
         Failing::Disk("t", 0),
         NOTED,
-        "read c;open t;back t;",
+        "read c;open t;back t;give up;",
         "",
         FAILED,
     ),
     (
         Failing::Disk("u", 0),
         NOTED,
-        "read c;open t;open u;back u;",
+        "read c;open t;open u;back u;give up;",
         "",
         FAILED,
     ),

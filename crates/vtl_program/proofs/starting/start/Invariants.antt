@@ -1,5 +1,5 @@
 use Rattle.std.proofs.Common.{take}
-use Rattle.vtl_program.specs.Inner.Waiting.{AreOn}
+use Rattle.vtl_program.specs.Starting.{AreOn}
 use Rattle.vtl_program.proofs.starting.start.Given as goal
 
 -- the drives so far are on
