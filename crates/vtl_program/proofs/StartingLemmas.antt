@@ -286,7 +286,8 @@ module _ {D : Type 0} (state : D → DiskState) (sides : SidesGiven D) (gives_up
         below is on.stores refused in
         inr (
           found.0,
-          subst (λ (before : List DriveEntry). IsGivenUp state sides gives_up entries before) (sym found.1) (starting, up, on),
+          subst (λ (before : List DriveEntry). IsGivenUp state sides gives_up entries before) (sym found.1)
+              (starting, up, on),
         )
     refused_on NoMemory at entry starting below is failure on refused up = tt
     refused_on Config at entry starting below is failure on refused up = absurd failure

@@ -21,8 +21,8 @@ pub record FileAnswers (D : Type 0) : Type 1 where
   -- a file is opened to be read, and its disk is handed back
   pub opens_to_read : List ℕ → Result D FileError → Type 0
   pub closes : List ℕ → D → Type 0
-  -- a file is opened to be changed, and its disk is handed back: alone, where no side is found on it, in a library, or in
-  -- one whose drives were not all switched on
+  -- a file is opened to be changed, and its disk is handed back: alone, where no side is found on it; in a library; or
+  -- in one whose drives were not all switched on
   pub opens : List ℕ → Result D FileError → Type 0
   pub hands_back : List ℕ → D → Type 0
   pub closes_all : HeldState D → Type 0

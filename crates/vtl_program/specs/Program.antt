@@ -48,7 +48,8 @@ abbrev pub RunsFrom : {D : Type 0} → (D → DiskState) → (HeldState D → Ty
     → (left left' before now : Option (List ℕ)) → Result (Unit {0}) VtlFault → Type 0
 RunsFrom state closes_all (Ok old) left left' before now outcome =
     RunsStarted state closes_all old left left' before now outcome
-RunsFrom state closes_all (Err fault) left left' before now outcome = (outcome ≡ Err fault) × IsIdle left left' before now
+RunsFrom state closes_all (Err fault) left left' before now outcome =
+    (outcome ≡ Err fault) × IsIdle left left' before now
 
 -- the status where nothing failed: 0, or 1 where the file that was checked is refused (own)
 abbrev pub verdict_status : Verdict → ℕ

@@ -83,8 +83,8 @@ module _ {D : Type 0} where
         pub slots : (address : ℕ) → is_slot address ≡ true → StandsAt entries address (held_at held.slots address)
         pub bays : (number : ℕ) → IsDriveOf entries drives number (bay_at held.bays number)
 
-      -- the cartridges of these entries are at their homes, or wait for a drive that is not on yet, and these drives are
-      -- switched on (own)
+      -- the cartridges of these entries are at their homes, or wait for a drive that is not on yet, and these drives
+      -- are switched on (own)
       pub record AreOn (entries : List CartridgeEntry) (drives : List DriveEntry) (starting : StartingState D) :
           Type 0 where
         pub given : AreGiven gives_cartridge entries
@@ -104,9 +104,9 @@ module _ {D : Type 0} (state : D → DiskState) (sides : SidesGiven D) (gives_up
       × AreOn sides.gives_cartridge state sides.gives_store entries drives starting
 
   module _ (entries : List CartridgeEntry) (drives : List DriveEntry) where
-    -- why a library is not switched on over such sides: one is refused, the first in the order of cartridges and then of
-    -- drives, and all that was given before it is given up; memory runs out; or homes or numbers are double, which they
-    -- are not in a configuration (own)
+    -- why a library is not switched on over such sides: one is refused, the first in the order of cartridges and then
+    -- of drives, and all that was given before it is given up; memory runs out; or homes or numbers are double, which
+    -- they are not in a configuration (own)
     abbrev pub IsNotStarted : VtlFault → Type 0
     IsNotStarted Device =
         ((refused : IsRefusedIn sides.gives_cartridge (λ entry. sides.refuses_cartridge entry Device) entries)

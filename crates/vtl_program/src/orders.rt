@@ -63,7 +63,8 @@ fn run_config<D: Disk + Drop, S: Sides<D> + TakesBack<Held<D>, Starting<D>>, R: 
     writer: &mut W,
 ) -> Result<(), VtlFault>
     requires { (text : List ℕ) × Says text config.now }
-    ensures { RunsConfig D.state S.given S.closes_all S.gives_up config.now (R.remaining reader.old) (R.remaining reader.new)
+    ensures { RunsConfig D.state S.given S.closes_all S.gives_up config.now
+        (R.remaining reader.old) (R.remaining reader.new)
         (W.contents writer.old) (W.contents writer.new) result }
 {
     let (cartridges, drives) = (config.cartridges.as_slice(), config.drives.as_slice());

@@ -11,9 +11,11 @@ loop-entry-init g c = home_yet g.S.Sides.given.gives_cartridge c.in_ok-starting.
 
 pub returns-in-Err-clause-err : goal.returns-in-Err-clause-err
 returns-in-Err-clause-err g c =
-    refused_home g.D.Disk.state g.S.Sides.given g.S.TakesBack.gives_up c.args.cartridges.now c.in-Err.fault c.loop-entry.entry-index
-    c.entry-item.result c.loop-entry.starting c.loop-entry-test.true c.entry-item.is c.in-Err.ensures.failure
-    c.loop-entry.invariant c.in-Err.ensures.err c.give_up.ensures
+    let at = c.loop-entry.entry-index in
+    let entry = c.entry-item.result in
+    refused_home g.D.Disk.state g.S.Sides.given g.S.TakesBack.gives_up c.args.cartridges.now c.in-Err.fault at entry
+    c.loop-entry.starting c.loop-entry-test.true c.entry-item.is c.in-Err.ensures.failure c.loop-entry.invariant
+    c.in-Err.ensures.err c.give_up.ensures
 
 pub returns-in-Err-put-clause-err : goal.returns-in-Err-put-clause-err
 returns-in-Err-put-clause-err g c =

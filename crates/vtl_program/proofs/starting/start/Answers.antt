@@ -15,7 +15,9 @@ loop-entry-init g c =
 
 pub returns-in-Err-clause-err : goal.returns-in-Err-clause-err
 returns-in-Err-clause-err g c =
-    refused_on g.D.Disk.state g.S.Sides.given g.S.TakesBack.gives_up c.args.cartridges.now c.args.drives.now c.in-Err.fault
+    let entries = c.args.cartridges.now in
+    let fault = c.in-Err.fault in
+    refused_on g.D.Disk.state g.S.Sides.given g.S.TakesBack.gives_up entries c.args.drives.now fault
     c.loop-entry.entry-index c.entry-item.result c.loop-entry.starting c.loop-entry-test.true c.entry-item.is
     c.in-Err.ensures.failure c.loop-entry.invariant c.in-Err.ensures.err c.give_up.ensures
 
