@@ -1,5 +1,5 @@
 -- A library that is switched on, entry by entry.
-use Rattle.std.proofs.Common.{◌≡◌, ◌≢◌, ◌⊎◌, inl, inr, ℕ, ◌<◌, Bool, true, List, [], ◌∷◌, ◌++◌, length, get_or, Option, None, Some, is_some, refl, sym, ap, ◌∙◌, arith, subst, take, drop, append_assoc, take-append-drop, ◌+◌}
+use Rattle.std.proofs.Common.{◌≡◌, ◌≢◌, ◌⊎◌, inl, inr, ℕ, ◌<◌, Bool, true, false, List, [], ◌∷◌, ◌++◌, length, get_or, Option, None, Some, is_some, refl, sym, ap, ◌∙◌, arith, subst, take, drop, append_assoc, take-append-drop, ◌+◌}
 use Rattle.std.proofs.lemmas.List.{map-append, take_more}
 use Rattle.std.proofs.lemmas.List.Elements.{All-nil, All-push, Contains-append_left, Contains-push, Contains-push_cases}
 use Rattle.std.specs.List.{Contains}
@@ -117,6 +117,9 @@ module _ {D : Type 0} (gives : CartridgeEntry → BufferState D → Type 0) wher
       waiting = λ number off none.
           subst (λ (found : Option (BufferState D)). StandsAt gives entries number found)
           (home_waits starting number off) (home.homes number);
+      taken = λ number on.
+          let clash : is_some (bay_at starting.held.bays number) ≡ false =
+          ap (λ (found : Option (BayState D)). is_some found) (home.bays number) in absurd (cc);
     }
       where
         by : (number : ℕ) (found : Option (BayState D)) → found ≡ None
@@ -161,10 +164,20 @@ module _ {D : Type 0} (gives : CartridgeEntry → BufferState D → Type 0) wher
           subst (λ (found : Option (BufferState D)). StandsAt gives entries number found)
           (sym (switched.elsewhere number differs))
           (on.waiting number off (sym (switched.here.elsewhere number differs) ∙ none));
+      taken = λ number there. emptied number there (same_or_not number entry.number);
     }
       where
         one : (x : OpenStore D) × gives_store entry x
         one = (store, given)
+
+        emptied : (number : ℕ) → is_some (bay_at new.held.bays number) ≡ true
+            → (number ≡ entry.number) ⊎ (number ≢ entry.number) → waits_at new.waiting number ≡ None
+        emptied number there (inl same) =
+            ap (λ (n : ℕ). waits_at new.waiting n) same ∙ switched.taken
+        emptied number there (inr differs) =
+            switched.elsewhere number differs
+            ∙ on.taken number
+            (sym (ap (λ (found : Option (BayState D)). is_some found) (switched.here.elsewhere number differs)) ∙ there)
 
         by : (number : ℕ) → (number ≡ entry.number) ⊎ (number ≢ entry.number)
             → IsDriveOf gives state gives_store entries (before ++ entry ∷ []) number (bay_at new.held.bays number)

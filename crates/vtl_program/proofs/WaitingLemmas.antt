@@ -222,5 +222,6 @@ module _ {D : Type 0} where
             subst (λ (found : Option (BufferState D)). Switches found (left_of (store_kept store).saved)) waited
             (subst (λ (kept : PrState). Switches taken kept) leave switched);
         slots = installed.2;
+        taken = waits_here waiting number place new least most long at ∙ leaves;
         elsewhere = waits_elsewhere waiting number place new least at;
       })

@@ -31,7 +31,8 @@ abbrev pub IsStart : {D : Type 0} → (HeldState D → Type 0) → (VtlFault →
 IsStart Is IsNot (Ok held) = Is held
 IsStart Is IsNot (Err fault) = IsNot fault
 
--- a library is switched on, a script is run over it, every buffer is written out, and the library is handed back (own)
+-- a library is switched on, a script is run over it, every buffer is written out, and the library is handed back; or it
+-- is not switched on, and nothing is read or written (own)
 abbrev pub RunsOver : {D : Type 0} → (D → DiskState) → (closes_all Is : HeldState D → Type 0) → (VtlFault → Type 0)
     → (left left' before now : Option (List ℕ)) → Result (Unit {0}) VtlFault → Type 0
 RunsOver {D} state closes_all Is IsNot left left' before now outcome =

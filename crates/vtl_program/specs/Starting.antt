@@ -1,5 +1,5 @@
 -- What a library holds when it was just switched on, and what was given where it was not.
-use Rattle.std.specs.Prelude.{◌≡◌, ◌⊎◌, ℕ, [], ◌∷◌, ◌++◌, true, false, List, Option, None, Some, Ok}
+use Rattle.std.specs.Prelude.{◌≡◌, ◌⊎◌, ℕ, [], ◌∷◌, ◌++◌, true, false, List, Option, None, Some, Ok, is_some}
 use Rattle.std.specs.List.{All, Contains}
 use Rattle.tape_disk.specs.Disk.{DiskState}
 use Rattle.tape_buffer.specs.Moves.{buffer_below}
@@ -84,7 +84,7 @@ module _ {D : Type 0} where
         pub bays : (number : ℕ) → IsDriveOf entries drives number (bay_at held.bays number)
 
       -- the cartridges of these entries are at their homes, or wait for a drive that is not on yet, and these drives
-      -- are switched on (own)
+      -- are switched on; nothing waits for a drive that is on (own)
       pub record AreOn (entries : List CartridgeEntry) (drives : List DriveEntry) (starting : StartingState D) :
           Type 0 where
         pub given : AreGiven gives_cartridge entries
@@ -94,6 +94,8 @@ module _ {D : Type 0} where
         pub bays : (number : ℕ) → IsDriveOf entries drives number (bay_at starting.held.bays number)
         pub waiting : (number : ℕ) → is_slot number ≡ false → bay_at starting.held.bays number ≡ None
             → StandsAt entries number (waits_at starting.waiting number)
+        pub taken : (number : ℕ) → is_some (bay_at starting.held.bays number) ≡ true
+            → waits_at starting.waiting number ≡ None
 
 module _ {D : Type 0} (state : D → DiskState) (sides : SidesGiven D) (gives_up : StartingState D → Type 0) where
   -- what was given for these entries was given up as it is: each cartridge at its home, or waiting for a drive that is
@@ -105,8 +107,8 @@ module _ {D : Type 0} (state : D → DiskState) (sides : SidesGiven D) (gives_up
 
   module _ (entries : List CartridgeEntry) (drives : List DriveEntry) where
     -- why a library is not switched on over such sides: one is refused, the first in the order of cartridges and then
-    -- of drives, and all that was given before it is given up; memory runs out; or homes or numbers are double, which
-    -- they are not in a configuration (own)
+    -- of drives, and all that was given before it is given up; memory runs out, and then nothing is said of what was
+    -- given; or homes or numbers are double, which they are not in a configuration (own)
     abbrev pub IsNotStarted : VtlFault → Type 0
     IsNotStarted Device =
         ((refused : IsRefusedIn sides.gives_cartridge (λ entry. sides.refuses_cartridge entry Device) entries)

@@ -133,7 +133,8 @@ impl<D: Disk + Drop> Starting<D> {
     }
 }
 
-// Gets the cartridges, in the order of the configuration, each into its home. At a fault those before are given up.
+// Gets the cartridges, in the order of the configuration, each into its home. Where one is refused, those before it are
+// given up.
 fn place_all<D: Disk + Drop, S: Sides<D> + TakesBack<Held<D>, Starting<D>>>(
     alloc: Global,
     sides: &S,
@@ -160,8 +161,8 @@ fn place_all<D: Disk + Drop, S: Sides<D> + TakesBack<Held<D>, Starting<D>>>(
 }
 
 /// The library of a configuration, over these sides: first its cartridges, then its drives, in the
-/// order of the configuration. What is refused first decides the fault: `Device`, `NoMemory`; and what
-/// was given before is given up.
+/// order of the configuration. What is refused first decides the fault: `Device`, and then all that
+/// was given before it is given up; or `NoMemory`, of which the contract says no more.
 pub fn start<D: Disk + Drop, S: Sides<D> + TakesBack<Held<D>, Starting<D>>>(
     alloc: Global,
     sides: &S,

@@ -47,6 +47,7 @@ module _ {D : Type 0} where
           SwitchesOn (state_of state) (buffer_below state) (waits_at old.waiting number)
           (left_of (store_kept store).saved) store (Ok bay)
       pub slots : new.held.slots ≡ old.held.slots
+      pub taken : waits_at new.waiting number ≡ None
       pub elsewhere : (other : ℕ) → other ≢ number → waits_at new.waiting other ≡ waits_at old.waiting other
 
   module _ (gives_cartridge : CartridgeEntry → BufferState D → Type 0) where
