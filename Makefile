@@ -5,7 +5,7 @@
 # examples: the scripts of examples/        kills: the built program is killed 1,000 times (COUNT=, SEED=)
 # stops: the power is lost behind each call of the built program, over files
 # bench: measures speed and memory          gate: what each crate costs the gate
-# definitions: writes docs/DEFINITIONS.md
+# definitions: writes the indexes docs/DEFINITIONS.md and docs/EDITS.md
 RT := $(shell command -v rt)
 
 .PHONY: demo vtl check wrong rows faults endings examples stops kills bench gate definitions need-rt
@@ -64,3 +64,4 @@ gate: need-rt
 
 definitions:
 	python3 docs/definitions.py
+	python3 docs/edits.py

@@ -1,0 +1,111 @@
+#!/usr/bin/env python3
+"""Writes EDITS.md: each edit of crates/*/must-fail and crates/*/wrong, under the function that it changes.
+
+edits.py           writes the file
+edits.py --check   says where the file differs; ends with 1 where it does
+"""
+import os
+import re
+import sys
+
+from definitions import crates, read
+
+HERE = os.path.dirname(os.path.abspath(__file__))
+TOP = os.path.dirname(HERE)
+HEAD = """# Edits
+
+An index, made by `docs/edits.py` from `crates/*/must-fail` and `crates/*/wrong`. Each edit makes a function wrong, and
+the prover has to refuse the crate with it. Its text is the file `NAME.edit`. The gate tries the edits of `must-fail/`,
+which stand here in bold. `make wrong` tries those of `wrong/`; `make wrong CRATE=name EDIT=name` tries one. An edit
+that changes several functions stands under each. [CLAIMS.md](CLAIMS.md) names one edit for each claim.
+"""
+
+
+def edits_in(crate, folder):
+    """The edits of the crate in the folder: the name and the text of each."""
+    place = os.path.join(TOP, "crates", crate, folder)
+    files = sorted(os.listdir(place)) if os.path.isdir(place) else []
+    return [(file.removesuffix(".edit"), read(place, file)) for file in files if file.endswith(".edit")]
+
+
+def places_of(crate, edit):
+    """Each place that an edit changes: the file and the function."""
+    path, old, texts = None, None, {}
+    for line in edit.splitlines():
+        word, _, rest = line.partition(": ")
+        if word == "file":
+            path = rest
+        elif word == "old":
+            old = rest
+            text = texts.setdefault(path, read(TOP, "crates", crate, path))
+            yield path, item_at(text, old)
+        else:
+            # a later old text may stand in what an earlier change put there
+            texts[path] = texts[path].replace(old, rest)
+
+
+def bare(header):
+    """The type that an `impl` is of, without its parameters."""
+    words, shorter = header, re.sub(r"<[^<>]*>", "", header)
+    while shorter != words:
+        words, shorter = shorter, re.sub(r"<[^<>]*>", "", shorter)
+    return re.split(r"\bfor\b", words.removeprefix("impl"))[-1].split("{")[0].split(" where ")[0].strip()
+
+
+def item_at(text, old):
+    """The function, or another item, in which the old text stands; nothing for a line that only names others."""
+    if old.lstrip().startswith(("use ", "pub use ", "ghost use ")):
+        return ""
+    owner, name = "", ""
+    for line in (text[: text.index(old)] + old).splitlines():
+        named = re.match(r"(\s*)(?:pub(?:\(\w+\))? )?(?:const )?(?:fn|const|static|struct|enum|trait) (\w+)", line)
+        if line.startswith("impl"):
+            owner, name = bare(line), ""
+        elif line.startswith("}"):
+            owner, name = "", ""
+        elif named:
+            name = f"{owner}::{named[2]}" if owner and named[1] else named[2]
+    return name or owner
+
+
+def rows(crate):
+    """The functions of the crate that edits change, by file, each with the names of its edits."""
+    found = {}
+    for folder, form in (("must-fail", "**`{}`**"), ("wrong", "`{}`")):
+        for name, text in edits_in(crate, folder):
+            places = list(places_of(crate, text))
+            # a line `use` alone is no function, unless nothing else is changed
+            for place in {it for it in places if it[1]} or set(places):
+                found.setdefault(place, []).append(form.format(name))
+    return sorted(found.items())
+
+
+def whole():
+    text, every = [], 0
+    for crate in crates():
+        gated, others = len(edits_in(crate, "must-fail")), len(edits_in(crate, "wrong"))
+        every += gated + others
+        if gated + others:
+            text.append(f"\n## {crate}\n\n{gated} in `must-fail/`, {others} in `wrong/`.\n\n")
+            text.append("| File | Function | Edits |\n|---|---|---|\n")
+            text += [f"| {path.removeprefix('src/')} | `{item}` | {', '.join(names)} |\n".replace("``", "")
+                     for (path, item), names in rows(crate)]
+    return "".join([HEAD, f"\nThere are {every} edits.\n", *text])
+
+
+def main(words):
+    path = os.path.join(HERE, "EDITS.md")
+    if words == ["--check"]:
+        is_same = os.path.isfile(path) and read(path) == whole()
+        print("edits: docs/EDITS.md is as it is made" if is_same else
+              "docs/EDITS.md is not what docs/edits.py makes: run it")
+        return 0 if is_same else 1
+    if words:
+        sys.exit(__doc__)
+    with open(path, "w", encoding="utf-8") as file:
+        file.write(whole())
+    return 0
+
+
+if __name__ == "__main__":
+    sys.exit(main(sys.argv[1:]))
