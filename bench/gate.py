@@ -2,14 +2,15 @@
 """Runs rt ci on a copy of the repository, from nothing, and prints what each crate cost it, as the table of
 docs/GATE.md.
 
-gate.py [--log FILE] [CRATE..]         with names: these crates and those below them alone; what rt ci says goes to the
-                                       file
-gate.py [--log FILE] [--write] --here  runs the gate itself, .ci/run, where it stands; with --write, where it passes,
-                                       the table and the sentence over it go into docs/GATE.md
+gate.py [--log FILE] [CRATE..]         with names: these crates and those below them alone; what rt ci prints goes to
+                                       the file
+gate.py [--log FILE] [--write] --here  runs the gate itself, .ci/run, where it stands; with --write, if it passes, the
+                                       table and the line over it replace those of docs/GATE.md
 
-A processor minute is user and system time. The gate's processes are looked at ten times a second, and each belongs to
-the crate that it is told to prove: with the tests, on a copy for an edit, or neither. What is left of the whole time
-(rt itself, linking, the runs of programs and tests, what a process did after the last look) is the row of the rest."""
+A processor minute is user and system time. The gate's processes are looked at ten times a second. Each counts for the
+crate that its command line names: as proofs, as tests, or, on a copy, as edits. The rest of the whole time is the row
+of the rest: rt itself, linking, the runs of programs and tests, and what a process did after the last look."""
+import datetime
 import os
 import re
 import resource
@@ -56,7 +57,7 @@ def descendants(pid):
 
 
 def label_of(pid):
-    """The crate that a process was told to prove, and for what, or None."""
+    """The crate that a process proves, and for what, or None."""
     with open(f"/proc/{pid}/cmdline", "rb") as file:
         words = file.read().decode(errors="replace").split("\0")
     if "--crate-name" not in words[:-1]:
@@ -82,7 +83,7 @@ def look(pid, labels, ticks):
 
 
 def measured(command, room, log):
-    """Processor seconds by crate and kind, all of them, seconds by the clock, what was said and the status."""
+    """Processor seconds by crate and kind, all of them, seconds by the clock, what was printed and the status."""
     labels, ticks = {}, {}
     started = time.monotonic()
     before = resource.getrusage(resource.RUSAGE_CHILDREN)
@@ -114,12 +115,19 @@ def table(names, spent, whole):
     return "\n".join([*rows, f"| all | {' | '.join(map(minutes, sums))} | | {minutes(whole)} |"])
 
 
-def write(made, sentence):
-    """Puts the table and the sentence in the place of those that stand in docs/GATE.md."""
+def measurement(whole, seconds, ended):
+    """The line over the table: when and on what the gate was measured, and how it ended."""
+    cores = len(os.sched_getaffinity(0))
+    return (f"Measured on {datetime.date.today()} on {cores} processors: {whole / 60:.0f} processor minutes, "
+            f"{seconds / 60:.0f} minutes by the clock; {ended}.")
+
+
+def write(made, line):
+    """Replaces the table of docs/GATE.md and the line over it."""
     path = os.path.join(TOP, "docs", "GATE.md")
     with open(path, encoding="utf-8") as file:
         text = file.read()
-    text = re.sub(r"(?m)^The gate takes .*$", lambda _: sentence, text, count=1)
+    text = re.sub(r"(?m)^Measured on .*$", lambda _: line, text, count=1)
     text = re.sub(r"(?m)^\| Crate \|.*\n(\|.*\n)*", lambda _: made + "\n", text, count=1)
     with open(path, "w", encoding="utf-8") as file:
         file.write(text)
@@ -156,12 +164,10 @@ def main(words):
         if re.search(r"NOT PROVED|NOT REFUSED|BAD EDIT|FAILED", line):
             print(line)
     made = table(names, spent, whole)
-    cores = len(os.sched_getaffinity(0))
-    sentence = (f"The gate takes {whole / 60:.0f} processor minutes, {seconds / 60:.0f} minutes by the clock on "
-                f"{cores} processors.")
-    print(f"{made}\n\n{sentence}\n{said[-1] if said else ''}")
+    line = measurement(whole, seconds, said[-1] if said else "nothing was printed")
+    print(f"{line}\n\n{made}")
     if writes and not status:
-        write(made, sentence)
+        write(made, line)
     return status
 
 
