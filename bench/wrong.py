@@ -95,7 +95,7 @@ def claims():
     """The rows of the table in docs/CLAIMS.md: the columns of contract, edits and tests."""
     lines = read(TOP, "docs", "CLAIMS.md").splitlines()
     rows = [re.split(r"(?<!\\)\|", line) for line in lines if line.startswith("| ")]
-    return [row[2:5] for row in rows if len(row) == 6 and row[1].strip() != "Claim, in plain words"]
+    return [row[2:5] for row in rows if len(row) == 6 and row[1].strip() != "Claim"]
 
 
 def names_in(cell):
@@ -112,37 +112,40 @@ def text_of(crate):
     return "\n".join(found)
 
 
-def false_claims(rows, guarded, others):
-    """What docs/CLAIMS.md names that is not there: a contract, an edit of must-fail/ or, in brackets, of wrong/, a
-    test."""
+def edits_of(row):
+    """The edits that a row of docs/CLAIMS.md names, each with the crates whose contracts it names."""
+    contract, edits, _ = row
+    return [({*re.findall(r"`(\w+)`", contract)}, name) for name in names_in(edits)]
+
+
+def false_claims(rows, edits):
+    """What docs/CLAIMS.md names that is not there: a contract, an edit of a crate of its row, a test."""
     texts = {crate: text_of(crate) for crate in crates()}
     every = "\n".join(texts.values())
-    for contract, edits, tests in rows:
+    for row in rows:
+        contract, _, tests = row
         crate = None
         for name in re.findall(r"`([\w:]+)`", contract):
             if name in texts:
                 crate = name
             elif crate is None or not re.search(rf"\b{name.split('::')[-1]}\b", texts[crate]):
                 yield f"docs/CLAIMS.md names a contract {name}, which does not stand in {crate}"
-        for name in names_in(edits):
-            if name not in guarded:
-                yield f"docs/CLAIMS.md names {name}, which is no edit of a must-fail/"
-        remarks = " ".join(it for it in re.findall(r"\(([^)]*)\)", edits) if "wrong/" in it)
-        for name in re.findall(r"`(\w+)`", remarks):
-            if name not in others:
-                yield f"docs/CLAIMS.md names {name}, which is no edit of a wrong/"
+        for named, name in edits_of(row):
+            if not any((crate, name) in edits for crate in named):
+                yield f"docs/CLAIMS.md names {name}, which is no edit of a crate of its row"
+        if len(edits_of(row)) > 1:
+            yield f"docs/CLAIMS.md names {edits_of(row)[1][1]} beside another edit: docs/EDITS.md has them all"
         for name in names_in(tests):
             if name not in texts and not re.search(rf"\bfn {name}\b", every):
                 yield f"docs/CLAIMS.md names {name}, which is no test"
 
 
 def lint():
-    said, every, guarded, others = [], 0, set(), set()
+    said, every, guarded = [], set(), set()
     for crate in crates():
         first, second = edits_in(crate, "must-fail"), edits_in(crate, "wrong")
-        every += len(first) + len(second)
-        guarded |= {*first}
-        others |= {*second}
+        every |= {(crate, name) for name in [*first, *second]}
+        guarded |= {(crate, name) for name in first}
         if len(first) > MOST:
             said.append(f"crates/{crate}/must-fail has {len(first)} edits, and the gate has time for {MOST} of a "
                         "crate: move others to wrong/")
@@ -154,10 +157,10 @@ def lint():
                 why = fault_in(crate, edit)
                 said += [f"crates/{crate}/{folder}/{name}.edit: {why}"] if why else []
     rows = claims()
-    claimed = {name for _, edits, _ in rows for name in names_in(edits)}
-    said += [f"docs/CLAIMS.md names no claim for the edit {name}" for name in sorted(guarded - claimed)]
-    said += false_claims(rows, guarded, others)
-    print("\n".join([*said, f"edits: {every} looked at, {len(said)} faults"]))
+    claimed = {(crate, name) for row in rows for named, name in edits_of(row) for crate in named}
+    said += [f"docs/CLAIMS.md names no claim for the edit {crate}/{name}" for crate, name in sorted(guarded - claimed)]
+    said += false_claims(rows, every)
+    print("\n".join([*said, f"edits: {len(every)} looked at, {len(said)} faults"]))
     return 1 if said else 0
 
 
