@@ -1,11 +1,4 @@
-# demo: a library over files, unproved      vtl: proves and builds the program    check: the gate
-# wrong: the edits of wrong/, which the prover must refuse too (CRATE=name, EDIT=name: of one crate, that one)
-# rows: bodies that the contracts allow, which a test must refuse
-# faults: each call that fails, in turn     endings: the built program at each of its endings
-# examples: the scripts of examples/        kills: the built program is killed 1,000 times (COUNT=, SEED=)
-# stops: the power is lost behind each call of the built program, over files
-# bench: measures speed and memory          gate: what each crate costs the gate
-# definitions: writes the indexes docs/DEFINITIONS.md and docs/EDITS.md
+# docs/GATE.md says what each target does.
 RT := $(shell command -v rt)
 
 .PHONY: demo vtl check wrong rows faults endings examples stops kills bench gate definitions need-rt
