@@ -1,0 +1,221 @@
+#!/usr/bin/env python3
+"""Tries bodies that the contracts allow, and that a test has to refuse: on a copy of the repository, by the toolchain's
+unproved run."""
+import os
+import re
+import shutil
+import subprocess
+import sys
+import tempfile
+
+TOP = os.path.dirname(os.path.dirname(os.path.abspath(__file__)))
+# what the edit makes of a crate, the crate and its file, the old text and the new one (or several of each), the tests
+# that must fail, behind their crate where two have one of that name
+EDITS = [
+    ("what waits is stored before each write", "tape_buffer", "src/adding.rt", "    if !pending.is_full_for(change) {",
+     "    if pending.is_empty() {",
+     ["writes_wait_for_one_frame", "a_turn_tells_how_many_waited", "what_waits_is_counted"]),
+    ("each write is stored at once", "tape_buffer", "src/adding.rt",
+     "        Ok(()) => Ok(()),\n        Err(NoMemory) => Err(MediumError::NoMemory),",
+     "        Ok(()) => settle_over(cartridge, pending),\n        Err(NoMemory) => Err(MediumError::NoMemory),",
+     ["writes_wait_for_one_frame", "a_turn_tells_how_many_waited", "what_waits_is_counted"]),
+    ("a change is stored one change early", "tape_buffer", "src/adding.rt", "    if !pending.is_full_for(change) {",
+     "    if pending.len() < 63 && !pending.is_full_for(change) {",
+     ["a_turn_tells_how_many_waited", "what_waits_is_counted"]),
+    ("a side that is refused at power on is told as memory that ran out", "drive_core", "src/opening.rt",
+     "        Err(MediumError::Unreadable) => Ok(Bay::Unloaded(medium)),",
+     "        Err(MediumError::Unreadable) => Err(medium),",
+     ["a_side_that_is_refused"]),
+    ("a side that LOAD finds refused is told as memory that ran out", "drive_core", "src/drives/loading.rt",
+     "        Err(error) => Err((medium, error)),",
+     "        Err(MediumError::Unreadable) => Err((medium, MediumError::NoMemory)),\n"
+     "        Err(error) => Err((medium, error)),",
+     ["a_side_that_is_refused"]),
+    ("a refused side that is moved into a drive is told as memory that ran out", "drive_core", "src/drives.rt",
+     "            return Err((medium, wake_reply(self.alloc, error)));",
+     "            let told = match error {\n"
+     "                volume_core::MediumError::Unreadable => volume_core::MediumError::NoMemory,\n"
+     "                other => other,\n            };\n            return Err((medium, wake_reply(self.alloc, told)));",
+     ["a_refused_cartridge_is_there_unloaded"]),
+    ("an opening of a file writes nothing again", "file_disk", "src/opening.rt", "    match access {\n",
+     "    match Access::Read {\n",
+     ["a_file_is_written_again"]),
+    ("a read of a file that failed is tried again", "file_disk", "src/disk.rt",
+     "        match read_all(&mut self.file, at, buffer) {",
+     "        let mut said = read_all(&mut self.file, at, buffer);\n        if said.is_err() {\n"
+     "            said = read_all(&mut self.file, at, buffer);\n        }\n        match said {",
+     ["each_error_is_counted"]),
+    ("create opens a file that is there, and empties it", "file_disk", "src/opening.rt",
+     "    options.read(true).write(true).create_new(true);",
+     "    options.read(true).write(true).create(true).truncate(true);",
+     ["disk_tests::what_is_refused", "a_file_is_opened_once"]),
+    ("create opens a file that is there", "file_disk", "src/opening.rt",
+     "    options.read(true).write(true).create_new(true);",
+     "    options.read(true).write(true).create(true);",
+     ["a_file_that_exists_is_not_touched", "files_are_made_kept_and_told"]),
+    ("a file is opened twice", "file_disk", "src/opening.rt", "    match lock(&file) {\n",
+     "    match Ok::<(), FileError>(()) {\n", ["a_file_is_opened_once", "a_refused_opening_writes_nothing"]),
+    ("a file is written before its lock is asked for", "file_disk", "src/opening.rt", "    match lock(&file) {\n",
+     "    let _ = file.set_len(3);\n    match lock(&file) {\n", ["a_refused_opening_writes_nothing"]),
+    ("a read that would block is made again", "vtl_script", "src/line_readers.rt",
+     "        Err(e) if is_interrupted(e.kind()) => Ok(None),",
+     "        Err(e) if is_interrupted(e.kind()) || e.kind() == std::io::ErrorKind::WouldBlock => Ok(None),",
+     ["reads_that_would_block_or_time_out"]),
+    ("any read that failed is made again", "vtl_script", "src/line_readers.rt",
+     "        Err(_) => Err(ScriptFault::ReadFault),",
+     "        Err(_) => Ok(None),", ["reads_that_fail", "reads_that_would_block_or_time_out"]),
+    ("a write that timed out is made again", "vtl_script", "src/texts.rt",
+     "            Err(e) if is_interrupted(e.kind()) => {}",
+     "            Err(e) if is_interrupted(e.kind()) || e.kind() == std::io::ErrorKind::TimedOut => {}",
+     ["writes_that_would_block_or_time_out"]),
+    ("answers are not flushed", "vtl_script", "src/texts.rt",
+     "    put(writer, &mut text)?;\n    if writer.flush().is_err() {\n        return Err(ScriptFault::WriteFault);\n"
+     "    }\n",
+     "    put(writer, &mut text)?;\n", ["reads_that_fail", "writes_that_fail"]),
+    ("a line that is far too long is a read that failed", "vtl_script", "src/phases.rt",
+     "        Found::TooLong => Err(ScriptFault::BadLine { line: number }),",
+     "        Found::TooLong => Err(ScriptFault::ReadFault),",
+     ["the_longest_line"]),
+    ("a read that is interrupted a third time in a row has failed", "vtl_script", "src/line_readers.rt",
+     ("        let mut searched = 0;\n", "                None => searched = unread.len(),\n",
+     "            if !self.fill(reader)? {\n"),
+     ("        let mut searched = 0;\n        let mut idle = 0u8;\n",
+      "                None => {\n"
+      "                    idle = if unread.len() == searched { idle.saturating_add(1) } else { 0 };\n"
+      "                    searched = unread.len();\n                }\n",
+      "            if idle > 2 {\n                return Err(ScriptFault::ReadFault);\n            }\n"
+      "            if !self.fill(reader)? {\n"),
+     ["reads_that_are_interrupted_many_times"]),
+    ("a text is written by no more calls than it has bytes, and one", "vtl_script", "src/texts.rt",
+     "    for _ in 0..u64::MAX {",
+     "    for _ in 0..text.len().saturating_add(1) {", ["writes_that_are_interrupted_many_times"]),
+    ("an interrupted flush is taken for done", "vtl_script", "src/texts.rt", "    if writer.flush().is_err() {",
+     "    let flushed = match writer.flush() {\n        Err(e) if is_interrupted(e.kind()) => Ok(()),\n"
+     "        flushed => flushed,\n    };\n"
+     "    if flushed.is_err() {", ["writes_that_are_interrupted_many_times"]),
+    ("the line behind a move is read before the move is run", "vtl_script", "src/phases.rt",
+     "        let is_end = gather(&mut lines, parsed)?;\n",
+     "        let is_end = gather(&mut lines, parsed)?;\n        if moved.is_some() && !is_last {\n"
+     "            let _ = line_reader.find(reader)?;\n        }\n", ["nothing_behind_is_read_first"]),
+    ("a bad line is told once the next one was read", "vtl_script", "src/phases.rt",
+     "            line_reader.take_up(count);\n",
+     "            line_reader.take_up(count);\n            if matches!(&parsed, ParsedLine::Refused) {\n"
+     "                let _ = line_reader.find(reader)?;\n            }\n", ["nothing_behind_is_read_first"]),
+    ("long data of a line is want of memory", "vtl_script", "src/lines.rt", "    match hex::decode(alloc, field) {",
+     "    if field.len() > 2_097_154 {\n        return Err(NoMemory);\n    }\n    match hex::decode(alloc, field) {",
+     ["the_longest_command"]),
+    ("the third drive is want of memory", "vtl_config", "src/drive_entries.rt",
+     "        let reservations = String::from_str(alloc, found.file)?;",
+     "        if place >= 2 {\n            return Err(ConfigError::NoMemory);\n        }\n"
+     "        let reservations = String::from_str(alloc, found.file)?;", ["a_cartridge_at_each_element"]),
+    ("the fifth cartridge is want of memory", "vtl_config", "src/cartridge_entries.rt",
+     "        let file = String::from_str(alloc, found.file)?;",
+     "        if place >= 4 {\n            return Err(ConfigError::NoMemory);\n        }\n"
+     "        let file = String::from_str(alloc, found.file)?;", ["a_cartridge_at_each_element"]),
+    ("another key of a cartridge is told last", "vtl_config", "src/cartridge_entries.rt",
+     ("    if !has_only(entry, &KEYS) {\n        return Err(Rule::OtherKey);\n    }\n", "    Ok(FoundCartridge {\n"),
+     ("", "    if !has_only(entry, &KEYS) {\n        return Err(Rule::OtherKey);\n    }\n    Ok(FoundCartridge {\n"),
+     ["keys_of_a_cartridge_come_before_what_is_double"]),
+    ("a home that is not listed is told before a double barcode", "vtl_config", "src/cartridge_entries.rt",
+     "    if has_barcode(before, &found.barcode) {",
+     "    if !is_at_home(drives, found.home) {\n        return Err(Rule::NoSuchDrive);\n    }\n"
+     "    if has_barcode(before, &found.barcode) {",
+     ["keys_of_a_cartridge_come_before_what_is_double"]),
+    ("the list of cartridges is looked at first", "vtl_config", "src/reading.rt", "    if !has_only(table, &KEYS) {",
+     "    if let Err(error) = entries_at(table, Key::Cartridge) {\n        return Err(error);\n    }\n"
+     "    if !has_only(table, &KEYS) {",
+     ["the_top_comes_first_and_drives_before_cartridges"]),
+    ("help has two statuses exchanged", "vtl_words", "src/commands.rt",
+     ("  1  refused: the command line, a configuration, a script line or a checked file\n", "  3  out of memory\n"),
+     ("  1  out of memory\n", "  3  refused: the command line, a configuration, a script line or a checked file\n"),
+     ["help_is_told_whole"]),
+    ("the example of help has a line that is refused", "vtl_words", "src/commands.rt", "  vtl check daily1.tape\n",
+     "  vtl check --config daily1.tape\n", ["help_is_told_whole"]),
+    ("the helps of two words are exchanged", "vtl_words", "src/commands.rt", ("flag.help(MEMORY_HELP)",
+     'value_name("FILE").help(RUN_CONFIG_HELP)'),
+     ("flag.help(RUN_CONFIG_HELP)", 'value_name("FILE").help(MEMORY_HELP)'), ["help_is_told_whole"]),
+    ("the words are left out of help", "vtl_words", "src/commands.rt", "    Command::new(alloc, name).about(about)\n",
+     "    Command::new(alloc, name).about(about).hide(true)\n", ["help_is_told_whole"]),
+    ("a long name is want of memory", "vtl_words", "src/reading.rt",
+     "        Some(text) => match String::from_str(alloc, text) {",
+     "        Some(text) if text.len() > 255 => Err(NoMemory),\n"
+     "        Some(text) => match String::from_str(alloc, text) {", ["long_names_are_names"]),
+    ("a cartridge that is moved into a drive behind the second is want of memory", "library", "src/lent.rt",
+     "    let cartridge = take_held(slots, from);\n    match destination.load(cartridge) {\n",
+     "    let cartridge = take_held(slots, from);\n    if to > 2 {\n"
+     "        fill(slots, from, cartridge);\n"
+     "        return check(alloc, Sense::insufficient_resources());\n    }\n"
+     "    match destination.load(cartridge) {\n",
+     ["a_library_of_sixteen_drives"]),
+    ("help of another text is written", "vtl_program", "src/orders.rt",
+     "        Err(error) => answer_words(error, writer),",
+     "        Err(WordsError::Help(_)) => answer_words(WordsError::Help(String::new(alloc)), writer),\n"
+     "        Err(error) => answer_words(error, writer),", ["help_is_written_as_it_was_given"]),
+    ("the line of a fault that is out is said not to be out", "vtl_program", "src/programs.rt",
+     "                is_reported: report(line, errors),",
+     "                is_reported: report(line, errors) && false,", ["status_and_line_of_each_end"]),
+]
+
+
+def crate_of(room, name):
+    """The crate in which the test of this name stands."""
+    crate, _, name = name.rpartition("::")
+    found = set()
+    for folder, _, files in os.walk(os.path.join(room, "crates", crate)):
+        for file in files:
+            if file.endswith(".rt"):
+                with open(os.path.join(folder, file), encoding="utf-8") as lines:
+                    if re.search(rf"#\[test\]\nfn {name}\(", lines.read()):
+                        found.add(os.path.relpath(folder, os.path.join(room, "crates")).split(os.sep)[0])
+    if len(found) != 1:
+        sys.exit(f"the test {name} stands in {len(found)} crates")
+    return found.pop()
+
+
+def failed_in(room, edit):
+    """The tests that fail with the edit, of the crates in which those stand that must."""
+    what, crate, file, old, new, names = edit
+    path = os.path.join(room, "crates", crate, file)
+    with open(path, encoding="utf-8") as lines:
+        text = lines.read()
+    turned = text
+    for one, other in [(old, new)] if isinstance(old, str) else zip(old, new):
+        if turned.count(one) != 1:
+            sys.exit(f"{what}: its old text stands in {crate}/{file} {turned.count(one)} times")
+        turned = turned.replace(one, other)
+    with open(path, "w", encoding="utf-8") as lines:
+        lines.write(turned)
+    failed = set()
+    for tests in sorted({crate_of(room, name) for name in names}):
+        done = subprocess.run(["rt", "try", "--test"], cwd=os.path.join(room, "crates", tests), capture_output=True,
+                              text=True)
+        said = re.findall(r"^test (?:\w+::)*(\w+) \.\.\. (\w+)", done.stdout, re.MULTILINE)
+        if not said:
+            sys.exit(f"{what}: no test ran\n{done.stdout}{done.stderr}")
+        failed |= {name for name, end in said if end != "ok"}
+    with open(path, "w", encoding="utf-8") as lines:
+        lines.write(text)
+    return failed
+
+
+def main():
+    crates = set(sys.argv[1:])
+    edits = [edit for edit in EDITS if not crates or edit[1] in crates]
+    wrong = 0
+    with tempfile.TemporaryDirectory() as room:
+        shutil.copy(os.path.join(TOP, "crates.txt"), room)
+        shutil.copy(os.path.join(TOP, "HANDLES"), room)
+        shutil.copytree(os.path.join(TOP, "crates"), os.path.join(room, "crates"),
+                        ignore=shutil.ignore_patterns("out", "must-fail", "wrong"))
+        subprocess.run(["git", "init", "-q", room], check=True)
+        for edit in edits:
+            failed = failed_in(room, edit)
+            missed = [name for name in edit[-1] if name.rpartition("::")[2] not in failed]
+            wrong += len(missed)
+            said = f"; NOT {', '.join(missed)}" if missed else ""
+            print(f"{edit[0]}: {', '.join(sorted(failed)) or 'no test'} failed{said}", flush=True)
+    print(f"rows: {len(edits)} bodies tried, {wrong} tests passed that must fail")
+    return 1 if wrong else 0
+
+
+sys.exit(main())
