@@ -1,0 +1,5 @@
+"""The cells of limits, reservations, moves, scripts, words, configurations and files."""
+
+
+def cells():
+    return []

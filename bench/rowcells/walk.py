@@ -1,0 +1,301 @@
+"""Goes through a row as the model has it: the cells that it shows, and where its answers are not those of the model."""
+import os
+import re
+import sys
+
+sys.path.insert(0, os.path.dirname(os.path.dirname(os.path.abspath(__file__))))
+import rowfile  # noqa: E402
+
+from . import sides, words  # noqa: E402
+from .library import Library  # noqa: E402
+from .work import Cartridge  # noqa: E402
+
+BUILT_IN = {"drive": [{"number": 1, "reservations": "drive1.pr"}],
+            "cartridge": [{"barcode": "BUILTIN", "file": "builtin.tape", "capacities": [16_777_216], "home": 1}]}
+DEVICE = "vtl: device fault"
+FOLDER = "a folder"
+
+
+class Differs(Exception):
+    """A row is not as the model has it."""
+
+    def __init__(self, number, said):
+        super().__init__(said)
+        self.number = number
+
+
+class Walk:
+    """One row: `cells` are what it shows, each with the line that shows it first."""
+
+    def __init__(self, row):
+        self.row, self.folder, self.cells, self.number, self.said = row, {}, {}, 1, []
+
+    def see(self, cell):
+        self.cells.setdefault(cell, self.number)
+
+    def all(self):
+        try:
+            for step in self.row.steps:
+                self.number = step.number
+                if isinstance(step, rowfile.Run):
+                    self.run(step)
+                else:
+                    self.step(step)
+        except Differs as differs:
+            self.said.append(f"{self.row.path}:{differs.number}: {differs}")
+        return self
+
+    def step(self, step):
+        name = os.path.normpath(step.name)
+        if step.kind in ("config", "file"):
+            self.folder[name] = step.content
+        elif step.kind == "folder":
+            self.folder[name] = FOLDER
+        elif step.kind == "remove":
+            self.folder.pop(name, None)
+        elif step.kind == "gone" and name in self.folder:
+            raise Differs(step.number, "the name is there")
+        elif step.kind == "bytes":
+            self.bytes(step, name)
+
+    def bytes(self, step, name):
+        entry = self.folder.get(name)
+        if isinstance(entry, bytes):
+            if entry != step.content:
+                raise Differs(step.number, "the file has its old bytes")
+            self.see("files | a file that stays as it was")
+        elif isinstance(entry, sides.Side):
+            found, _ = sides.read(step.content)
+            if found.lines(0) != entry.lines(0):
+                raise Differs(step.number, f"{found.lines(0)} in the place of {entry.lines(0)}")
+            self.see(f"files | a {found.kind} with {'no frame' if not found.frames else 'frames'}, by its bytes")
+        else:
+            raise Differs(step.number, "there is no such file")
+
+    def find(self, name):
+        """What has this name of a configuration; the empty name is nobody's."""
+        return self.folder.get(os.path.normpath(os.fsencode(name))) if name else None
+
+    # runs
+
+    def run(self, run):
+        asked = words.read(run.words)
+        for cell in asked.cells:
+            self.see(cell)
+        if asked.kind == "refused":
+            named = [self.folder.get(os.path.normpath(it.rpartition(b"=")[2] or b".")) for it in run.words]
+            for it in named:
+                if isinstance(it, bytes) and words.config_faults(it)[1]:
+                    self.see("faults | 1 before 2")
+            self.ends(run, 1, "vtl: command line refused", "the words ask for nothing", [])
+        elif asked.kind == "help":
+            self.ends(run, 0, None, "done")
+        elif asked.kind == "check":
+            self.check(run, asked.file)
+        else:
+            self.configured(run, asked)
+
+    def ends(self, run, status, error, cause, output=None):
+        found = run.error.decode(errors="replace") if run.error is not None else None
+        if (run.status, found) != (status, error):
+            raise Differs(run.number, f"ends with {status} {error or ''} as the model has it: {cause}")
+        if output is not None and [text.decode(errors="replace") for _, text in run.output] != output:
+            raise Differs(run.number, f"the output is {output}, as the model has it")
+        self.see(f"exit | {cause}")
+
+    def check(self, run, name):
+        entry = self.find(os.fsdecode(name))
+        if entry is None or entry is FOLDER:
+            self.see(f"check | {'a folder' if entry else 'no file'}")
+            self.ends(run, 2, DEVICE, "a file is missing", [])
+            return
+        if isinstance(entry, sides.Side):
+            said = [text.decode() for _, text in run.output]
+            frames = re.search(r" frames (\d+)", said[0]) if said else None
+            self.see(f"check | a {entry.kind} that a run left")
+            self.ends(run, 0, None, "done", entry.lines(int(frames[1]) if frames else 0))
+            return
+        try:
+            side, notes = sides.read(entry)
+        except sides.Refused as why:
+            self.see(f"file | {why.line.partition(' at ')[0]}: {why.why}")
+            self.see(f"damaged | check | {why.line.partition(' at ')[0]}")
+            self.ends(run, 1, None, "check: the file is neither", [why.line])
+            return
+        for note in [*notes, f"a {side.kind} of {'no' if not side.frames else 'some'} frames"]:
+            self.see(f"file | {note}")
+        self.ends(run, 0, None, "done", side.lines(side.frames))
+
+    def configured(self, run, asked):
+        if asked.config is None:
+            config, raw = BUILT_IN, None
+        else:
+            raw = self.find(os.fsdecode(asked.config))
+            if not isinstance(raw, bytes):
+                self.see(f"configuration | {'a folder' if raw is FOLDER else 'no file'}")
+                self.ends(run, 2, DEVICE, "a file is missing", [])
+                return
+            config, faults = words.config_faults(raw)
+            if config is None:
+                if len(set(faults)) == 1:
+                    self.see(f"configuration | refused: {faults[0]}")
+                if run.lines:
+                    self.see("faults | 2 before 5")
+                self.ends(run, 1, "vtl: configuration refused", "the configuration's file is no UTF-8", [])
+                return
+        if asked.kind == "create":
+            self.create(run, config, raw)
+        else:
+            self.opened(run, config, raw, asked.memory or raw is None)
+
+    def create(self, run, config, raw):
+        lines, failed = [], False
+        for what in ("cartridge", "drive"):
+            for entry in config[what]:
+                name = entry["file" if what == "cartridge" else "reservations"]
+                shown = entry["barcode"] if what == "cartridge" else f"DRIVE{entry['number']}"
+                at = os.path.normpath(os.fsencode(name))
+                if name and at in self.folder:
+                    kind = self.folder[at]
+                    self.see(f"create | kept: {'a folder' if kind is FOLDER else 'a side' if isinstance(kind, sides.Side) else 'another file'}")
+                    lines.append(f"kept {shown}")
+                    continue
+                folder = os.path.dirname(at)
+                if not name or folder and self.folder.get(folder) is not FOLDER:
+                    failed = True
+                    break
+                content = Cartridge(entry["capacities"]) if what == "cartridge" else sides.Reservations()
+                self.folder[at] = sides.Side("cartridge" if what == "cartridge" else "store", shown, content)
+                self.see(f"create | created: a {self.folder[at].kind}")
+                lines.append(f"created {shown}")
+            if failed:
+                break
+        if failed:
+            self.see("create | a file that cannot be made: the lines before it stand")
+            self.ends(run, 2, DEVICE, "a file is missing", lines)
+            return
+        for cell in words.config_shows(raw, config):
+            self.see(cell)
+        self.ends(run, 0, None, "done", lines)
+
+    def opened(self, run, config, raw, in_memory):
+        """The files are opened, and the drives switched on; then the script."""
+        found, names = {}, {}
+        entries = [("cartridge", it, it["file"]) for it in config["cartridge"]]
+        entries += [("drive", it, it["reservations"]) for it in config["drive"]]
+        for what, entry, name in [] if in_memory else entries:
+            content, why = self.open(what, name, names)
+            if why:
+                self.see(f"run | a {'cartridge' if what == 'cartridge' else 'store'}: {why}")
+                bad = any(Library(config, {}, lambda _: None).bad(it, stripped(it)) for it in run.lines)
+                if bad:
+                    self.see(f"faults | {3 if what == 'cartridge' else 4} before 5")
+                is_store = what == "drive" and why in ("not a side", "damaged", "bad record")
+                self.ends(run, 2, DEVICE, "run: the file of a drive's reservations is refused" if is_store else
+                          "a file is missing", [])
+                if is_store:
+                    self.see("damaged | run | a damaged store of reservations")
+                return
+            found[name] = content
+        library = Library(config, found, self.see)
+        if raw is not None:
+            for cell in words.config_shows(raw, config):
+                self.see(cell)
+        self.script(run, library)
+        for what, entry, name in [] if in_memory else entries:
+            shown = entry["barcode"] if what == "cartridge" else f"DRIVE{entry['number']}"
+            content = found[name]
+            if what == "drive" or not content.damaged:
+                self.folder[os.path.normpath(os.fsencode(name))] = sides.Side(
+                    "cartridge" if what == "cartridge" else "store", shown, content)
+
+    def open(self, what, name, names):
+        """The contents of a file, or why it ends the run."""
+        entry, at = self.find(name), os.path.normpath(os.fsencode(name))
+        if entry is None or entry is FOLDER:
+            return None, "a folder" if entry is FOLDER else "missing"
+        if at in names:
+            return None, "a second name of one file"
+        names[at] = True
+        if isinstance(entry, bytes):
+            try:
+                entry, _ = sides.read(entry)
+            except sides.Refused as why:
+                if what == "drive":
+                    return None, why.line.partition(" at ")[0]
+                self.see(f"damaged | run | {why.line.partition(' at ')[0]}")
+                return Cartridge([4_096], damaged=True), None
+        kind = "cartridge" if what == "cartridge" else "store"
+        if entry.kind != kind:
+            if what == "drive":
+                return None, "not a side"
+            self.see("damaged | run | a store's header")
+            return Cartridge([4_096], damaged=True), None
+        if kind == "store":
+            entry.content.see = self.see
+            entry.content.lose_power()
+        return entry.content, None
+
+    # scripts
+
+    def script(self, run, library):
+        lines, start = run.lines, 0
+        if not lines:
+            self.see("script | no line")
+        while start < len(lines):
+            stop = next((at + 1 for at in range(start, len(lines)) if lines[at].kind in ("end", "move") and
+                         not library.bad(lines[at], stripped(lines[at]))), len(lines))
+            phase = lines[start:stop]
+            bad = [(at, why) for at, line in enumerate(phase, start + 1)
+                   if (why := library.bad(line, stripped(line))) is not None]
+            if bad:
+                self.refused(run, phase, bad, start)
+                return
+            self.phase(phase, library)
+            start = stop
+        self.ends(run, 0, None, "done")
+
+    def refused(self, run, phase, bad, start):
+        number, cells = bad[0]
+        self.number = run.lines[number - 1].number
+        for cell in cells:
+            self.see(cell)
+        for shown, what in ((start, "the answers of the phases before it stand"),
+                            (start and run.lines[start - 1].kind == "move", "behind a move, whose answer stands"),
+                            (number > start + 1, "no line of its phase is run"),
+                            (len(bad) > 1, "the first of two is returned"),
+                            (any(it.kind == "skipped" for it in run.lines[:number - 1]), "skipped lines count"),
+                            (any(it.kind == "end" for it in run.lines[:number - 1]), "a line -- counts"),
+                            (number == len(run.lines) and not run.lines[-1].has_end, "the last, without its LF")):
+            if shown:
+                self.see(f"bad line | {what}")
+        self.ends(run, 1, f"vtl: script line {number} refused", "a bad line")
+
+    def phase(self, phase, library):
+        commands = [line for line in phase if line.kind == "command"]
+        order = sorted(commands, key=lambda line: line.host)
+        self.number = phase[0].number
+        if order != commands:
+            self.see("script | hosts run by rising number")
+        if not commands:
+            self.see("script | a phase without a command has no answer")
+        self.see({"end": "script | -- ends a phase", "move": "script | a move ends a phase"}.get(
+            phase[-1].kind, "script | the end of the script ends a phase"))
+        for line in phase:
+            self.number = line.number
+            library.shows(line, stripped(line))
+        for line in order + [line for line in phase if line.kind == "move"]:
+            self.number = line.number
+            answer = library.answer(line)
+            if line.answer is not None and line.answer != answer.encode():
+                raise Differs(line.answered_at, f"{short(line.answer.decode())} in the place of {short(answer)}, "
+                              "as the model has it")
+
+
+def stripped(line):
+    raw = line.text
+    return (raw[:-1] if line.has_end and raw.endswith(b"\r") else raw).strip(b" ")
+
+
+def short(text):
+    return text if len(text) <= 120 else f"{text[:80]}.. ({len(text):,} characters)"
