@@ -53,7 +53,7 @@ class Drive(Work):
             if other in self.told[host] and other != code:
                 self.see(f"attentions | {coded(code)} is reported before {coded(other)}")
         cause = self.told[host].pop(code)
-        self.see(f"attentions | {coded(code)} of {cause} is reported {how}")
+        self.see(f"attentions | {coded(code)} of {cause}")
         self.see(f"sense | {coded(code)} | {how}")
         self.quiet.pop(host, None)
         return code

@@ -3,7 +3,7 @@ from . import elsewhere, listing_limits
 from .fields import ACTIONS, IGNORED
 from .tables import ALWAYS, FENCED, NAMES, NEEDS_MEDIUM, TYPES
 
-OF_TABLE = ("does | ", "action | ", "preempt | ", "when 2A/04 | ", "move | ", "out | ", "in | ", "back | ", "damaged | ")
+OF_TABLE = ("does | ", "action | ", "preempt | ", "when 2A/04 | ", "move | ", "out | ", "in | ", "back | ")
 LEVELS = ["29/00", "28/00", "2A/03", "2A/05", "2A/04", "2A/01"]
 CAUSES = ["done", "check: the file is neither", "the words ask for nothing", "the configuration's file is no UTF-8",
           "a bad line", "a file is missing", "run: the file of a drive's reservations is refused",

@@ -3,7 +3,7 @@ import re
 
 from .fields import TYPED
 from .reservations import Reservations
-from .work import MARK, MOST_OBJECTS, Cartridge, taken
+from .work import MARK, MOST_OBJECTS, Cartridge
 
 LEAST, MOST = 4_096, 1_099_511_627_776
 BODY = 8_388_608
@@ -33,7 +33,7 @@ class Side:
             return [f"reservations {self.name} frames {frames} registrations {len(left.keys)}"]
         parts = self.content.parts
         return [f"cartridge {self.name} partitions {len(parts)} frames {frames}"] + [
-            f"partition {at} objects {len(objects)} used {taken(objects)}" for at, objects in enumerate(parts)]
+            f"partition {at} objects {len(objects)} used {objects.taken(len(objects))}" for at, objects in enumerate(parts)]
 
 
 def header(raw):
@@ -114,13 +114,13 @@ def changes(body, cartridge):
             return f"{number:,} filemarks"
         if kind == 1 and len(body) < at + number:
             return "the bytes of a block are cut short"
-        added = [body[at:at + number]] if kind == 1 else [MARK] * number if kind == 2 else []
+        count, block = (0, MARK) if kind == 3 else (1, body[at:at + number]) if kind == 1 else (number, MARK)
         at += number if kind == 1 else 0
-        if taken(objects[:stay]) + taken(added) > cartridge.capacities[partition]:
+        if objects.taken(stay) + count * (16 + len(block or b"")) > cartridge.capacities[partition]:
             return "more than the capacity"
-        if stay + len(added) > MOST_OBJECTS:
+        if stay + count > MOST_OBJECTS:
             return "more than 16,000,000 objects"
-        objects[stay:] = added
+        objects.write(stay, block, count)
     return None
 
 

@@ -74,7 +74,7 @@ class Walk:
 
     def find(self, name):
         """What has this name of a configuration; the empty name is nobody's."""
-        return self.folder.get(os.path.normpath(os.fsencode(name))) if name else None
+        return self.folder.get(os.path.normpath(os.fsencode(name))) if is_possible(name) else None
 
     # runs
 
@@ -155,13 +155,13 @@ class Walk:
                 name = entry["file" if what == "cartridge" else "reservations"]
                 shown = entry["barcode"] if what == "cartridge" else f"DRIVE{entry['number']}"
                 at = os.path.normpath(os.fsencode(name))
-                if name and at in self.folder:
+                if is_possible(name) and at in self.folder:
                     kind = self.folder[at]
                     self.see(f"create | kept: {'a folder' if kind is FOLDER else 'a side' if isinstance(kind, sides.Side) else 'another file'}")
                     lines.append(f"kept {shown}")
                     continue
                 folder = os.path.dirname(at)
-                if not name or folder and self.folder.get(folder) is not FOLDER:
+                if not is_possible(name) or folder and self.folder.get(folder) is not FOLDER:
                     failed = True
                     break
                 content = Cartridge(entry["capacities"]) if what == "cartridge" else sides.Reservations()
@@ -184,7 +184,7 @@ class Walk:
         entries = [("cartridge", it, it["file"]) for it in config["cartridge"]]
         entries += [("drive", it, it["reservations"]) for it in config["drive"]]
         for what, entry, name in [] if in_memory else entries:
-            content, why = self.open(what, name, names)
+            side, why = self.open(what, name, names)
             if why:
                 self.see(f"run | a {'cartridge' if what == 'cartridge' else 'store'}: {why}")
                 bad = any(Library(config, {}, lambda _: None).bad(it, stripped(it)) for it in run.lines)
@@ -196,21 +196,18 @@ class Walk:
                 if is_store:
                     self.see("damaged | run | a damaged store of reservations")
                 return
-            found[name] = content
-        library = Library(config, found, self.see)
+            found[name] = side
+        library = Library(config, {name: side.content for name, side in found.items()}, self.see)
         if raw is not None:
             for cell in words.config_shows(raw, config):
                 self.see(cell)
         self.script(run, library)
-        for what, entry, name in [] if in_memory else entries:
-            shown = entry["barcode"] if what == "cartridge" else f"DRIVE{entry['number']}"
-            content = found[name]
-            if what == "drive" or not content.damaged:
-                self.folder[os.path.normpath(os.fsencode(name))] = sides.Side(
-                    "cartridge" if what == "cartridge" else "store", shown, content)
+        for name, side in found.items():
+            if side.name:
+                self.folder[os.path.normpath(os.fsencode(name))] = side
 
     def open(self, what, name, names):
-        """The contents of a file, or why it ends the run."""
+        """The side in a file, without a name where it is damaged; or why it ends the run."""
         entry, at = self.find(name), os.path.normpath(os.fsencode(name))
         if entry is None or entry is FOLDER:
             return None, "a folder" if entry is FOLDER else "missing"
@@ -224,17 +221,17 @@ class Walk:
                 if what == "drive":
                     return None, why.line.partition(" at ")[0]
                 self.see(f"damaged | run | {why.line.partition(' at ')[0]}")
-                return Cartridge([4_096], damaged=True), None
+                return sides.Side("cartridge", None, Cartridge([4_096], damaged=True)), None
         kind = "cartridge" if what == "cartridge" else "store"
         if entry.kind != kind:
             if what == "drive":
                 return None, "not a side"
             self.see("damaged | run | a store's header")
-            return Cartridge([4_096], damaged=True), None
+            return sides.Side("cartridge", None, Cartridge([4_096], damaged=True)), None
         if kind == "store":
             entry.content.see = self.see
             entry.content.lose_power()
-        return entry.content, None
+        return entry, None
 
     # scripts
 
@@ -290,6 +287,11 @@ class Walk:
             if line.answer is not None and line.answer != answer.encode():
                 raise Differs(line.answered_at, f"{short(line.answer.decode())} in the place of {short(answer)}, "
                               "as the model has it")
+
+
+def is_possible(name):
+    """Whether a file may have this name: it is not empty, and no part of it is too long for a file system."""
+    return bool(name) and all(len(os.fsencode(part)) <= 255 for part in name.split("/"))
 
 
 def stripped(line):

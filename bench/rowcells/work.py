@@ -1,4 +1,6 @@
 """What a drive's commands do to its cartridge, as docs/FORMATS.md says it, and the cells that this shows."""
+import bisect
+
 MARK = None
 MOST_OBJECTS = 16_000_000
 
@@ -8,15 +10,47 @@ def check(*words, **named):
     return checked(*words, **named)
 
 
+class Tape:
+    """The objects of a partition, filemarks behind one another as one run."""
+
+    def __init__(self):
+        self.starts, self.blocks, self.sizes, self.length = [], [], [], 0
+
+    def __len__(self):
+        return self.length
+
+    def __getitem__(self, at):
+        return self.blocks[bisect.bisect_right(self.starts, at) - 1]
+
+    def run(self, at):
+        """Where the run of this object begins, and where it ends."""
+        place = bisect.bisect_right(self.starts, at)
+        return self.starts[place - 1], self.starts[place] if place < len(self.starts) else self.length
+
+    def taken(self, at):
+        """What the objects before this one take of the capacity."""
+        place = bisect.bisect_left(self.starts, at) - 1
+        if place < 0:
+            return 0
+        return self.sizes[place] + (at - self.starts[place]) * (16 + len(self.blocks[place] or b""))
+
+    def write(self, at, found, count=1):
+        """So many of an object, in the place of what stands there and behind."""
+        place = bisect.bisect_left(self.starts, at)
+        del self.starts[place:], self.blocks[place:], self.sizes[place:]
+        self.length = at
+        if count:
+            self.sizes.append(self.taken(at))
+            self.starts.append(at)
+            self.blocks.append(found)
+            self.length += count
+
+
 class Cartridge:
     """Its capacities and the objects of each partition, a filemark being MARK; whether its file gives none."""
 
     def __init__(self, capacities, damaged=False):
-        self.capacities, self.parts, self.damaged = capacities, [[] for _ in capacities], damaged
-
-
-def taken(objects):
-    return sum(len(it) if it is not MARK else 0 for it in objects) + 16 * len(objects)
+        self.capacities, self.parts, self.damaged = capacities, [Tape() for _ in capacities], damaged
 
 
 class Work:
@@ -97,7 +131,7 @@ class Work:
         if not data:
             self.does("WRITE", "length 0")
             return "GOOD"
-        used = taken(self.objects[:self.position]) + len(data) + 16
+        used = self.objects.taken(self.position) + len(data) + 16
         if used in (self.capacity, self.capacity + 1):
             self.see(f"full | WRITE | takes the capacity{' and a byte' if used > self.capacity else ' to the byte'}")
         if self.position >= MOST_OBJECTS:
@@ -111,7 +145,7 @@ class Work:
         if len(data) in (1, 1_048_576):
             self.see(f"limits | a block of {len(data):,} byte{'s' if len(data) > 1 else ''} is written")
         self.see(f"modes | WRITE, {'buffered' if self.buffered else 'unbuffered'}")
-        self.objects[self.position:] = [data]
+        self.objects.write(self.position, data)
         self.position += 1
         return self.early("WRITE", used)
 
@@ -119,10 +153,10 @@ class Work:
         if not count:
             self.does("WRITE FILEMARKS", "count 0")
             self.see(f"WRITE FILEMARKS | count 0, IMMED {immed}")
-            if taken(self.objects[:self.position]) > self.border:
+            if self.objects.taken(self.position) > self.border:
                 self.see("WRITE FILEMARKS | count 0 in the early zone")
             return "GOOD"
-        used = taken(self.objects[:self.position]) + 16 * count
+        used = self.objects.taken(self.position) + 16 * count
         if self.capacity - 15 <= used <= self.capacity + 16:
             self.see(f"full | WRITE FILEMARKS | {'the last' if used <= self.capacity else 'one'} mark "
                      f"{'that fits' if used <= self.capacity else 'too many'}")
@@ -135,7 +169,7 @@ class Work:
         if self.position < len(self.objects):
             self.see("WRITE FILEMARKS | what stood there and behind is gone")
         self.see(f"WRITE FILEMARKS | IMMED {immed}, {'buffered' if self.buffered else 'unbuffered'}")
-        self.objects[self.position:] = [MARK] * count
+        self.objects.write(self.position, MARK, count)
         self.position += count
         return self.early("WRITE FILEMARKS", used)
 
@@ -154,8 +188,6 @@ class Work:
             self.see(f"SPACE | COUNT {count:06X}h")
         left, step = (count, 1) if count < 1 << 23 else ((1 << 24) - count, -1)
         way = "forward" if step > 0 else "backward"
-        if step > 0 and left > 100_000 and code == 1:
-            left, self.position = self.fast_forward(left)
         while left:
             at = self.position if step > 0 else self.position - 1
             if at < 0:
@@ -166,20 +198,20 @@ class Work:
                 self.does("SPACE", "the end of data is on the way")
                 self.see(f"SPACE | over {what}, the end of data is on the way")
                 return check(8, 0x0005, left)
+            if code == 1 and objects[at] is MARK:
+                start, end = objects.run(at)
+                passed = min(left, end - at if step > 0 else at + 1 - start)
+                left, self.position = left - passed, self.position + step * passed
+                continue
             self.position += step
-            if objects[at] is MARK and code == 0:
+            if code == 0 and objects[at] is MARK:
                 self.does("SPACE", "over blocks, and a filemark is on the way")
                 self.see(f"SPACE | over blocks {way}, a filemark is on the way")
                 return check(0, 0x0001, left, 0x80)
-            left -= (objects[at] is MARK) == (code == 1)
+            left -= code == 0
         self.does("SPACE", "over blocks or filemarks, and all were passed")
         self.see(f"SPACE | over {what} {way}, all were passed")
         return "GOOD"
-
-    def fast_forward(self, left):
-        """The same over many objects at once, where not all are passed."""
-        marks = sum(1 for it in self.objects[self.position:] if it is MARK)
-        return (left - marks, len(self.objects)) if marks < left else (left, self.position)
 
     def locate(self, cdb):
         asked = int.from_bytes(cdb[3:7], "big")
@@ -199,7 +231,7 @@ class Work:
         return check(8, 0x0005)
 
     def tell_position(self):
-        near = taken(self.objects[:self.position]) > self.border
+        near = self.objects.taken(self.position) > self.border
         self.does("READ POSITION", "")
         self.see(f"READ POSITION | BOP {0 if self.position else 1}, EOP {int(near)}")
         self.see(f"READ POSITION | partition {self.partition}")
@@ -213,9 +245,9 @@ class Work:
         self.does("ERASE", "")
         self.see(f"ERASE | {'at the end of data' if self.position == len(self.objects) else 'before objects'}")
         self.see(f"modes | ERASE, {'buffered' if self.buffered else 'unbuffered'}")
-        if taken(self.objects[:self.position]) > self.border:
+        if self.objects.taken(self.position) > self.border:
             self.see("ERASE | in the early zone")
-        self.objects[self.position:] = []
+        self.objects.write(self.position, MARK, 0)
         return "GOOD"
 
     def load_unload(self, host, asked):
