@@ -20,7 +20,7 @@ TOP = os.path.dirname(os.path.dirname(os.path.abspath(__file__)))
 PROVED = os.path.join(TOP, "crates", "vtl", "out", "vtl")
 WAYS = ("as it stands", "each line a phase", "phases joined", "over files")
 END = rowfile.Line(0, b"--")
-SECONDS = 60
+SECONDS = 300
 # the library that is built in, as a configuration
 BUILT_IN = b"""drive = [{ number = 1, reservations = "drive1.pr" }]
 cartridge = [{ barcode = "BUILTIN", file = "builtin.tape", capacities = [16777216], home = 1 }]

@@ -43,8 +43,9 @@ def reader_now(pipe):
 def taken(words, folder):
     """Copies the program of such a command line, and writes what starts the copy."""
     loader, at = words[:words.index("run")], words.index("run") - 1
-    os.makedirs(ROOM, exist_ok=True)
-    copy = os.path.join(ROOM, "program")
+    # its help names the program by its file
+    copy = os.path.join(ROOM, "bin", "vtl")
+    os.makedirs(os.path.dirname(copy), exist_ok=True)
     shutil.copy(os.path.join(folder, loader[at]), copy)
     os.chmod(copy, 0o755)
     with open(STARTED, "w") as file:
