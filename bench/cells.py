@@ -34,7 +34,8 @@ def main():
     given = parser.parse_args()
     found, said = rows.read_all(given.names)
     said += tables.check_names(tables.read()) + elsewhere.missing()
-    owed = listing.required(tables.read())
+    owed, others = listing.required(tables.read())
+    said += others
     places, differ = shown(found)
     said += differ
     other = [cell for cell in places if listing.is_of_table(cell) and cell not in owed]

@@ -4,8 +4,67 @@ import re
 
 from .tables import TOP
 
+DRIVES, FAULTS, ENDINGS = "a_drive_answers", "faults.py", "endings.py"
+STORES = "what_is_pending_is_stored_first"
+UNLOADS = "an_unloading_meets_a_fault"
+OPENS = "a_fault_at_each_call_of_a_loading"
+SAVES = "a_fault_at_each_call_of_a_save"
 # by cell: the tests
-CELLS = {}
+CELLS = {
+    # a block of no byte has no line
+    "codes | no byte": ["every_code_at_every_length"],
+    # who meets one of these has given no command since, and so cannot be registered for the other
+    "attentions | 2A/03 is reported before 2A/05": ["a_set_has_its_conditions"],
+    # a cartridge's file is full at 1,099,511,627,776 bytes
+    "does | ERASE | the file is full": [DRIVES, "a_side_fills_and_a_device_fails"],
+    "full file | WRITE": [DRIVES, "what_a_file_has_room_for"],
+    "full file | WRITE FILEMARKS": [DRIVES, "what_a_file_has_room_for"],
+    # the device fails
+    "does | LOAD UNLOAD, LOAD 1 | a loaded cartridge, its medium failed": [UNLOADS, DRIVES],
+    "does | LOAD UNLOAD, LOAD 0 | a loaded cartridge, and a device fault": [UNLOADS],
+    "does | LOAD UNLOAD, LOAD 0 | a loaded cartridge, its medium failed already": [UNLOADS],
+    "out | drive | a device fault in that": ["what_is_not_written_stays_in_its_drive", FAULTS],
+    "out | drive | its medium failed already": ["what_is_not_written_stays_in_its_drive", FAULTS],
+    "back | out of memory": ["what_is_not_loaded_goes_back", FAULTS],
+    "exit | run: a buffer could not be written out": ["a_line_that_can_not_be_written", FAULTS],
+    "exit | a read or write of the streams failed": [ENDINGS],
+    "exit | out of memory": [ENDINGS, FAULTS],
+    "order of checks | a deferred error is reported, once": ["a_deferred_error_outlives_a_cartridge"],
+    "fault | out of memory": ["faults_are_reported", FAULTS],
+    "fault | device fault while all that is pending is stored": [STORES, FAULTS],
+    "fault | device fault while a block is read, with nothing pending any more": [DRIVES, FAULTS],
+    "fault | the medium has failed": [DRIVES, STORES],
+    "fault | device fault in a flusher's turn": ["a_deferred_error_outlives_a_cartridge", DRIVES],
+    "fault | device fault while reservations are saved": ["the_device_fails_in_a_save", SAVES],
+    "fault | the store of reservations is full": ["a_store_is_full", "a_store_fills"],
+    "fault | the power comes on, and the medium in the drive cannot be opened for one of these causes":
+        ["a_side_that_is_refused", FAULTS],
+    "memory | READ": [FAULTS], "memory | WRITE, WRITE FILEMARKS, ERASE": [FAULTS],
+    "memory | READ POSITION, INQUIRY, READ BLOCK LIMITS, REQUEST SENSE, MODE SENSE, PERSISTENT RESERVE IN": [FAULTS],
+    "memory | PERSISTENT RESERVE OUT": ["memory_runs_out_in_a_save", FAULTS],
+    "memory | LOAD UNLOAD, LOAD 1": [OPENS, FAULTS],
+    # a line too many for a script: what waits is seen from outside
+    "flush | READ of at least one byte": [STORES], "flush | REWIND": [STORES], "flush | LOCATE": [STORES],
+    "flush | SPACE, except over 0 blocks or 0 filemarks": [STORES], "flush | READ POSITION": [STORES],
+    "flush | WRITE FILEMARKS with IMMED 0, of any count, 0 too": [STORES, DRIVES],
+    "flush | LOAD UNLOAD of a loaded cartridge whose medium has not failed": [STORES, UNLOADS],
+    "flush | in unbuffered mode also WRITE of at least one byte, and ERASE": ["an_unbuffered_write_is_stored_at_once"],
+    "buffer | 64 changes, 4,194,304 bytes of blocks": ["a_change_too_many_is_preceded_by_a_settle",
+                                                      "a_turn_tells_how_many_waited", "what_waits_is_counted"],
+    # the streams
+    "stream | an interrupted read": ["reads_that_are_interrupted_many_times"],
+    "stream | any other error of the reader, or a script that is too long": ["reads_that_fail", ENDINGS],
+    "stream | an interrupted write": ["writes_that_are_interrupted_many_times"],
+    "stream | any other error of the writer, and an interrupted flush": ["writes_that_fail", ENDINGS],
+    "stream | after a fault, and where memory runs out": ["writes_that_fail", ENDINGS],
+    "limits | a script of 2,147,483,648 bytes, and one of a byte more": ["limits_of_bytes_and_reads", ENDINGS],
+    "limits | a script of 4,294,967,296 reads, and one more": ["limits_of_bytes_and_reads", "reads_are_counted"],
+    "limits | PRGENERATION wraps at 2^32": ["the_generation_wraps"],
+    "run | a file that is open in another process": [ENDINGS],
+    "create | a file that could not be completed is taken away": [ENDINGS, "a_creation_takes_away_what_is_not_whole"],
+    "opening | what a run writes again": ["which_bytes_are_written_again", "a_file_is_written_again"],
+    "opening | after a failed sync": ["a_disk_makes_no_sync_after_one_that_failed"],
+}
 
 
 def missing():

@@ -70,6 +70,7 @@ class Library:
         if kinds[1] == "drive" and cartridge.damaged:
             self.see("in | drive | it cannot be loaded: it is put back")
             self.see("back | the cartridge is damaged, or its device fails")
+            self.see("fault | a parked medium is loaded, by a move or at the start: it is damaged, or the device fails")
             self.see(f"moves | a damaged cartridge is back at its source, a {kinds[0]}")
             if kinds[0] == "drive":
                 self.drives[source].loaded = False

@@ -1,7 +1,7 @@
 """Which cells need a row: the lines of the tables of docs/FORMATS.md, and what its words and bits ask for beside them."""
 from . import elsewhere, listing_limits
 from .fields import ACTIONS, IGNORED
-from .tables import ALWAYS, FENCED, NAMES, NEEDS_MEDIUM, TYPES
+from .tables import ALWAYS, NAMES, NEEDS_MEDIUM, TYPES, flushing
 
 OF_TABLE = ("does | ", "action | ", "preempt | ", "when 2A/04 | ", "move | ", "out | ", "in | ", "back | ")
 LEVELS = ["29/00", "28/00", "2A/03", "2A/05", "2A/04", "2A/01"]
@@ -29,7 +29,9 @@ def of_tables(tables):
     for heading, at, prefix, columns in (
             ("Actions of PERSISTENT RESERVE OUT", 0, "action", 2), ("The cases of PREEMPT", 0, "preempt", 2),
             ("When 2A/04 is established", 0, "when 2A/04", 1), ("Moves", 0, "move", 1), ("Moves", 1, "out", 2),
-            ("Moves", 2, "in", 2), ("When a move puts the cartridge back", 0, "back", 1)):
+            ("Moves", 2, "in", 2), ("When a move puts the cartridge back", 0, "back", 1),
+            ("Memory and device faults", 0, "fault", 1), ("Memory and device faults", 1, "memory", 1),
+            ("Scripts", 1, "stream", 1)):
         cells += [" | ".join([prefix, *fields[:columns]]) for fields in lines(tables, heading, at)]
     found = [fields[2] for fields in lines(tables, "Exit status")]
     for cause in CAUSES:
@@ -108,8 +110,21 @@ def of_attentions():
     return cells
 
 
+def of_no_script():
+    """What stands in words of FORMATS.md and no script reaches."""
+    cells = [f"flush | {command}" for command in flushing()]
+    cells += ["full file | WRITE", "full file | WRITE FILEMARKS", "codes | no byte",
+              "order of checks | a deferred error is reported, once", "buffer | 64 changes, 4,194,304 bytes of blocks",
+              "limits | a script of 2,147,483,648 bytes, and one of a byte more",
+              "limits | a script of 4,294,967,296 reads, and one more", "limits | PRGENERATION wraps at 2^32",
+              "run | a file that is open in another process", "opening | what a run writes again",
+              "opening | after a failed sync", "create | a file that could not be completed is taken away"]
+    return cells
+
+
 def required(tables):
-    """All cells that need a row, each once."""
-    cells = [*of_tables(tables), *of_blocks(), *of_checks(), *of_attentions(), *listing_limits.cells()]
-    left = set(elsewhere.CELLS)
-    return [cell for cell in dict.fromkeys(cells) if cell not in left]
+    """All cells that need a row, each once; and what is named to be in tests and is no cell."""
+    cells = [*of_tables(tables), *of_blocks(), *of_checks(), *of_attentions(), *listing_limits.cells(),
+             *of_no_script()]
+    others = [f"elsewhere: {cell} is no cell" for cell in elsewhere.CELLS if cell not in cells]
+    return [cell for cell in dict.fromkeys(cells) if cell not in elsewhere.CELLS], others

@@ -43,6 +43,13 @@ def read():
     return found
 
 
+def flushing():
+    """The list of the commands that flush."""
+    with open(FORMATS, encoding="utf-8") as lines:
+        part = lines.read().partition("### The commands that flush\n")[2].partition("\n#")[0]
+    return [plain(line[2:]) for line in part.split("\n") if line.startswith("- ")]
+
+
 def check_names(tables):
     """What the table of command blocks says otherwise than the names and lengths above."""
     said = []
