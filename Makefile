@@ -1,7 +1,7 @@
 # docs/GATE.md says what each target does.
 RT := $(shell command -v rt)
 
-.PHONY: demo vtl check wrong rows faults endings examples stops kills bench gate definitions need-rt
+.PHONY: demo vtl check wrong rows rows-wrong mutants faults endings examples stops kills bench gate definitions need-rt
 .DEFAULT_GOAL := demo
 
 need-rt:
@@ -23,8 +23,16 @@ check: need-rt
 wrong: need-rt
 	python3 bench/wrong.py $(CRATE) $(EDIT)
 
-rows: need-rt
-	python3 bench/rows.py
+rows: $(if $(PROGRAM),,vtl)
+	python3 bench/rows.py --selftest
+	python3 bench/cells.py --check
+	python3 bench/rows.py $(if $(PROGRAM),--program $(PROGRAM))
+
+rows-wrong: need-rt
+	python3 bench/rows_wrong.py $(EDIT)
+
+mutants: need-rt
+	python3 bench/mutants.py
 
 faults: vtl
 	@for crate in journal_bench cartridge_bench buffer_bench; do (cd crates/$$crate && rt run > /dev/null) || exit 1; done

@@ -214,7 +214,7 @@ def main():
             wrong += len(missed)
             said = f"; NOT {', '.join(missed)}" if missed else ""
             print(f"{edit[0]}: {', '.join(sorted(failed)) or 'no test'} failed{said}", flush=True)
-    print(f"rows: {len(edits)} bodies tried, {wrong} tests passed that must fail")
+    print(f"mutants: {len(edits)} bodies tried, {wrong} tests passed that must fail")
     return 1 if wrong else 0
 
 

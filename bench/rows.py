@@ -130,8 +130,9 @@ class Room:
         if found != step.content:
             at = next((at for at, (a, b) in enumerate(zip(found, step.content)) if a != b),
                       min(len(found), len(step.content)))
-            self.tell(step.number, f"{short(step.name)} has {len(found)} bytes, and {found[at:at + 16].hex() or 'none'} "
-                      f"at {at}, in the place of {len(step.content)} and {step.content[at:at + 16].hex() or 'none'}")
+            here, there = (it[at:at + 16].hex() or "none" for it in (found, step.content))
+            self.tell(step.number, f"{short(step.name)} has {len(found)} bytes, and {here} at {at}, in the place of "
+                      f"{len(step.content)} and {there}")
 
     def ended(self, words, room, given):
         self.runs += 1

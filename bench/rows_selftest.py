@@ -1,7 +1,7 @@
 """The runner's own tests: rows that are wrong on purpose, over a program that stands here.
 
-That program answers each command `GOOD` and its command block, a phase's answers by rising host, and refuses a line `x`.
-Behind the word `counts` it answers a command `LAST` where it ends a phase of several; behind `swaps` it answers `LONG`
+That program answers each command `GOOD` and its command block, a phase's answers by rising host, and refuses a line
+`x`. Behind the word `counts` it answers a command `LAST` where it ends a phase of several; behind `swaps` it answers `LONG`
 where a phase has one command; with `--config` it answers the third drive `FILE`."""
 import os
 import subprocess
@@ -92,7 +92,8 @@ gone made
 WRONG = [
     ("a wrong answer", "  > GOOD 020202", "  > GOOD 020203",
      ":7: as it stands: GOOD 020202 in the place of GOOD 020203"),
-    ("a wrong answer of a move", "2\n  > GOOD\n", "2\n  > CONFLICT\n", ":12: as it stands: GOOD in the place of CONFLICT"),
+    ("a wrong answer of a move", "2\n  > GOOD\n", "2\n  > CONFLICT\n",
+     ":12: as it stands: GOOD in the place of CONFLICT"),
     ("an answer that is missing", "  > GOOD 05\n", "", ":17: the line has no answer"),
     ("an answer that the program does not give", "  1 1 04\\e\n", "  move 1 2\n  > GOOD\n  #\n  move 1 2\n",
      ":18: as it stands: GOOD in the place of GOOD 04"),
@@ -103,7 +104,8 @@ WRONG = [
      ":28: as it stands: no line in the place of check a"),
     ("a line of output that is missing", "  > check a\n", "", ":26: as it stands: one line too many: check a"),
     ("another status", "check a\n  > check a\n", "check bad\n  > check bad\n", "status 1 in the place of 0"),
-    ("a status that is not owed", "bytes held", "exit 2\nerror vtl: device fault\nbytes held", "status 0 in the place of 2"),
+    ("a status that is not owed", "bytes held", "exit 2\nerror vtl: device fault\nbytes held",
+     "status 0 in the place of 2"),
     ("another line of standard error", "line 4", "line 5", "standard error b'vtl: script line 4 refused"),
     ("a refusal that does not come", "  x\n", "  --\n", ":20: as it stands: one line too many: GOOD 07"),
     ("a refusal that is not owed", "exit 1\nerror vtl: script line 4 refused\n", "", ":22: the line has no answer"),
@@ -126,7 +128,8 @@ WRONG = [
     ("an indented line behind a folder", "bytes held\n", "folder held\n", "an indented line belongs to nothing"),
     ("a status without its line", "error vtl: script line 4 refused\n", "", "do not go together"),
     ("a refused line that the script lacks", "line 4", "line 40", ":25: the script has no line 40"),
-    ("a way that parts the lines", "$ vtl run\n  1 1 05", "$ vtl run counts\n  1 1 05", " as it stands: LAST in the place"),
+    ("a way that parts the lines", "$ vtl run\n  1 1 05", "$ vtl run counts\n  1 1 05",
+     " as it stands: LAST in the place"),
     ("a way that parts the lines, and only it", "$ vtl run\n  1 1 05\n  > GOOD 05\n  1 1 06\n  > GOOD 06",
      "$ vtl run counts\n  1 1 05\n  > GOOD 05\n  1 1 06\n  > LAST",
      ":20: each line a phase: GOOD 06 in the place of LAST"),

@@ -170,6 +170,11 @@ class Library:
         return self.drives[line.drive].execute(line.host, bytes.fromhex(fields[2].decode()), data)
 
 
+def stripped(line):
+    raw = line.text
+    return (raw[:-1] if line.has_end and raw.endswith(b"\r") else raw).strip(b" ")
+
+
 def no_number(field):
     if NUMBER.fullmatch(field):
         return None

@@ -1,4 +1,4 @@
-"""Which cells need a row: the lines of the tables of docs/FORMATS.md, and what its words and bits ask for beside them."""
+"""Which cells need a row: the lines of the tables of docs/FORMATS.md, and what its words and bits ask for."""
 from . import elsewhere, listing_limits
 from .fields import ACTIONS, IGNORED
 from .tables import ALWAYS, NAMES, NEEDS_MEDIUM, TYPES, flushing
@@ -55,7 +55,8 @@ def of_blocks():
         cells += [f"drives | {name} over an unloaded cartridge"] if code in NEEDS_MEDIUM else []
     cells += [f"sense | 3A/00 | LOAD UNLOAD, LOAD {load}" for load in (0, 1)] + ["ignored | LOCATE | byte 8"]
     bits = [1 << at for at in range(8)]
-    fields = ["REQUEST SENSE | DESC 1", "READ BLOCK LIMITS | MLOI 1", "READ | FIXED 1, SILI 0", "READ | FIXED 1, SILI 1",
+    fields = ["REQUEST SENSE | DESC 1", "READ BLOCK LIMITS | MLOI 1", "READ | FIXED 1, SILI 0",
+              "READ | FIXED 1, SILI 1",
               "READ | FIXED 1, length 0", "WRITE | FIXED 1, length 0",
               "WRITE | FIXED 1", "WRITE FILEMARKS | IMMED 1, unbuffered, count 0",
               "WRITE FILEMARKS | IMMED 1, unbuffered, count above 0", "INQUIRY | EVPD 1", "MODE SELECT | SP 1"]
@@ -66,7 +67,8 @@ def of_blocks():
     fields += [f"LOCATE | partition {bit:02X}h of 1" for bit in bits]
     fields += [f"READ POSITION | SERVICE ACTION {bit:02X}h" for bit in bits[:5]]
     fields += [f"PERSISTENT RESERVE IN | SERVICE ACTION {action:02X}h" for action in range(2, 32)]
-    fields += [f"PERSISTENT RESERVE OUT | SERVICE ACTION {action:02X}h" for action in range(32) if action not in ACTIONS]
+    fields += [f"PERSISTENT RESERVE OUT | SERVICE ACTION {action:02X}h" for action in range(32)
+               if action not in ACTIONS]
     for name in ("RESERVE", "RELEASE"):
         fields += [f"{name} | SCOPE {bit:X}h" for bit in bits[:4]]
         fields += [f"{name} | TYPE {kind:X}h" for kind in range(16) if kind not in TYPES]

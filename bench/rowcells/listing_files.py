@@ -19,14 +19,15 @@ def of_moves():
 def of_lines():
     cells = [f"line | {what}" for what in (
         "2,200,000 bytes, a remark", "2,200,000 bytes, spaces", "2,200,000 bytes, a command", "a CR before the LF",
-        "a CR before the LF, a remark or empty", "the last has no LF", "spaces before it", "spaces behind it", "a remark",
-        "empty", "of spaces", "several spaces between fields", "move, an address of five digits with leading zeros",
+        "a CR before the LF, a remark or empty", "the last has no LF", "spaces before it", "spaces behind it",
+        "a remark", "empty", "of spaces", "several spaces between fields", "move, an address of five digits with leading zeros",
         "with data", "a number of five digits, leading zeros included", "host 1", "host 64", "drive 1", "drive 16",
         "hexadecimal in capitals")]
     cells += [f"bad line | {what}" for what in (
         "2,200,001 bytes, a remark", "2,200,001 bytes, a line of spaces", "2,200,001 bytes, a command",
         "move with fewer fields", "move with more fields", "move in capitals", "1 field", "2 fields", "more fields",
-        "host 0", "host 65", "drive 0", "drive 17", "drive that is not configured", "the answers of the phases before it stand",
+        "host 0", "host 65", "drive 0", "drive 17", "drive that is not configured",
+        "the answers of the phases before it stand",
         "behind a move, whose answer stands", "no line of its phase is run", "the first of two is returned",
         "skipped lines count", "a line -- counts", "the last, without its LF")]
     for what in ("HOST", "DRIVE"):
@@ -37,7 +38,8 @@ def of_lines():
                                                                "that is no number")]
     cells += ["bad line | move, TO with a CR"]
     for what in ("CDB", "DATA"):
-        cells += [f"bad line | {what} {why}" for why in ("with a tab", "with a CR", "with 0x", "of an odd count of digits",
+        cells += [f"bad line | {what} {why}" for why in ("with a tab", "with a CR", "with 0x",
+                                                         "of an odd count of digits",
                                                          "that is no hexadecimal")]
     return cells + [f"script | {what}" for what in (
         "no line", "hosts run by rising number", "a phase without a command has no answer", "-- ends a phase",
@@ -90,8 +92,8 @@ def of_configurations():
 
 def of_sides():
     none = ["empty", "shorter than a header", "the header's gate is closed", "the header's gate has another value",
-            "another name of the format", "the pair gate is not 00h", "a store of partitions", "a store of another name",
-            "0 partitions", "5 partitions", "a barcode that is none", "a capacity is missing", "a capacity of 4,095",
+            "another name of the format", "the pair gate is not 00h", "a store of partitions",
+            "a store of another name", "0 partitions", "5 partitions", "a barcode that is none", "a capacity is missing", "a capacity of 4,095",
             "a capacity of 1,099,511,627,777"]
     damaged = ["the first gate is missing", "the length is missing", "a length of 0", "a length of 8,388,609",
                "the body is missing", "the gate behind the body is missing"]
@@ -102,14 +104,16 @@ def of_sides():
            "more than the capacity"]
     stores = ["another length than its registrations take", "an APTPL above 1", "type 02h", "type 04h", "type 09h",
               "65 registrations", "nexus 0", "nexus 65", "a nexus twice", "nexuses that do not rise", "a key of 0",
-              "a holder under type 0", "a holder under type 7", "a holder under type 8", "type 7 without a registration",
-              "type 8 without a registration", "a holder that is not registered", "a type without a holder"]
+              "a holder under type 0", "a holder under type 7", "a holder under type 8",
+              "type 7 without a registration", "type 8 without a registration", "a holder that is not registered", "a type without a holder"]
     cells = [f"file | not a side: {why}" for why in none] + [f"file | damaged: {why}" for why in damaged]
     cells += [f"file | bad record: cartridge: {why}" for why in bad]
     cells += [f"file | bad record: store: {why}" for why in stores]
     cells += [f"file | a {kind} of {count} frames" for kind in ("cartridge", "store") for count in ("no", "some")]
-    cells += ["file | what lies behind a closed gate counts for nothing", "file | a gate of another value ends the frames"]
-    cells += [f"damaged | {order} | {line}" for order in ("check", "run") for line in ("not a side", "damaged", "bad record")]
+    cells += ["file | what lies behind a closed gate counts for nothing",
+              "file | a gate of another value ends the frames"]
+    cells += [f"damaged | {order} | {line}" for order in ("check", "run")
+              for line in ("not a side", "damaged", "bad record")]
     cells += ["damaged | run | a store's header", "damaged | run | a damaged store of reservations",
               "power | the cartridge in the drive is damaged: the drive is on, the medium unloaded",
               "sense | 11/00 | LOAD UNLOAD"]
@@ -119,7 +123,8 @@ def of_sides():
     cells += [f"create | {what}" for what in (
         "created: a cartridge", "created: a store", "kept: a side", "kept: another file", "kept: a folder",
         "a file that cannot be made: the lines before it stand")]
-    cells += [f"check | {what}" for what in ("no file", "a folder", "a cartridge that a run left", "a store that a run left")]
+    cells += [f"check | {what}" for what in ("no file", "a folder", "a cartridge that a run left",
+                                           "a store that a run left")]
     return cells + [f"files | a {kind} with {frames}, by its bytes" for kind in ("cartridge", "store")
                     for frames in ("no frame", "frames")] + ["files | a file that stays as it was"]
 

@@ -105,7 +105,8 @@ def of_actions():
     cells += [f"PREEMPT | case {case}, refused type {kind:X}h" for case in (1, 3) for kind in range(16)
               if kind not in TYPES]
     cells += [f"READ KEYS | {count}" for count in ("none", "one", "several")]
-    return cells + ["power | APTPL 0, registered alone", "power | APTPL 1, registered alone", "power | PRGENERATION is 0",
+    return cells + ["power | APTPL 0, registered alone", "power | APTPL 1, registered alone",
+                    "power | PRGENERATION is 0",
                     *(f"power | APTPL 0, type {kind}" for kind in TYPES)]
 
 

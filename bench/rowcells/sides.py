@@ -33,7 +33,8 @@ class Side:
             return [f"reservations {self.name} frames {frames} registrations {len(left.keys)}"]
         parts = self.content.parts
         return [f"cartridge {self.name} partitions {len(parts)} frames {frames}"] + [
-            f"partition {at} objects {len(objects)} used {objects.taken(len(objects))}" for at, objects in enumerate(parts)]
+            f"partition {at} objects {len(objects)} used {objects.taken(len(objects))}"
+            for at, objects in enumerate(parts)]
 
 
 def header(raw):

@@ -7,7 +7,7 @@ sys.path.insert(0, os.path.dirname(os.path.dirname(os.path.abspath(__file__))))
 import rowfile  # noqa: E402
 
 from . import sides, words  # noqa: E402
-from .library import Library  # noqa: E402
+from .library import Library, stripped  # noqa: E402
 from .work import Cartridge  # noqa: E402
 
 BUILT_IN = {"drive": [{"number": 1, "reservations": "drive1.pr"}],
@@ -156,8 +156,9 @@ class Walk:
                 shown = entry["barcode"] if what == "cartridge" else f"DRIVE{entry['number']}"
                 at = os.path.normpath(os.fsencode(name))
                 if is_possible(name) and at in self.folder:
-                    kind = self.folder[at]
-                    self.see(f"create | kept: {'a folder' if kind is FOLDER else 'a side' if isinstance(kind, sides.Side) else 'another file'}")
+                    kind = FOLDER if self.folder[at] is FOLDER else \
+                        "a side" if isinstance(self.folder[at], sides.Side) else "another file"
+                    self.see(f"create | kept: {kind}")
                     lines.append(f"kept {shown}")
                     continue
                 folder = os.path.dirname(at)
@@ -292,11 +293,6 @@ class Walk:
 def is_possible(name):
     """Whether a file may have this name: it is not empty, and no part of it is too long for a file system."""
     return bool(name) and all(len(os.fsencode(part)) <= 255 for part in name.split("/"))
-
-
-def stripped(line):
-    raw = line.text
-    return (raw[:-1] if line.has_end and raw.endswith(b"\r") else raw).strip(b" ")
 
 
 def short(text):
