@@ -1,8 +1,8 @@
 """The runner's own tests: rows that are wrong on purpose, over a program that stands here.
 
 That program answers each command `GOOD` and its command block, a phase's answers by rising host, and refuses a line
-`x`. Behind the word `counts` it answers a command `LAST` where it ends a phase of several; behind `swaps` it answers `LONG`
-where a phase has one command; with `--config` it answers the third drive `FILE`."""
+`x`. Behind the word `counts` it answers a command `LAST` where it ends a phase of several; behind `swaps` it answers
+`LONG` where a phase has one command; with `--config` it answers the third drive `FILE`."""
 import os
 import subprocess
 import sys

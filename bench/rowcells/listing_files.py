@@ -20,7 +20,8 @@ def of_lines():
     cells = [f"line | {what}" for what in (
         "2,200,000 bytes, a remark", "2,200,000 bytes, spaces", "2,200,000 bytes, a command", "a CR before the LF",
         "a CR before the LF, a remark or empty", "the last has no LF", "spaces before it", "spaces behind it",
-        "a remark", "empty", "of spaces", "several spaces between fields", "move, an address of five digits with leading zeros",
+        "a remark", "empty", "of spaces", "several spaces between fields",
+        "move, an address of five digits with leading zeros",
         "with data", "a number of five digits, leading zeros included", "host 1", "host 64", "drive 1", "drive 16",
         "hexadecimal in capitals")]
     cells += [f"bad line | {what}" for what in (
@@ -93,7 +94,8 @@ def of_configurations():
 def of_sides():
     none = ["empty", "shorter than a header", "the header's gate is closed", "the header's gate has another value",
             "another name of the format", "the pair gate is not 00h", "a store of partitions",
-            "a store of another name", "0 partitions", "5 partitions", "a barcode that is none", "a capacity is missing", "a capacity of 4,095",
+            "a store of another name", "0 partitions", "5 partitions", "a barcode that is none",
+            "a capacity is missing", "a capacity of 4,095",
             "a capacity of 1,099,511,627,777"]
     damaged = ["the first gate is missing", "the length is missing", "a length of 0", "a length of 8,388,609",
                "the body is missing", "the gate behind the body is missing"]
@@ -105,7 +107,8 @@ def of_sides():
     stores = ["another length than its registrations take", "an APTPL above 1", "type 02h", "type 04h", "type 09h",
               "65 registrations", "nexus 0", "nexus 65", "a nexus twice", "nexuses that do not rise", "a key of 0",
               "a holder under type 0", "a holder under type 7", "a holder under type 8",
-              "type 7 without a registration", "type 8 without a registration", "a holder that is not registered", "a type without a holder"]
+              "type 7 without a registration", "type 8 without a registration", "a holder that is not registered",
+              "a type without a holder"]
     cells = [f"file | not a side: {why}" for why in none] + [f"file | damaged: {why}" for why in damaged]
     cells += [f"file | bad record: cartridge: {why}" for why in bad]
     cells += [f"file | bad record: store: {why}" for why in stores]

@@ -151,7 +151,8 @@ def config_faults(raw):
     faults += ["two drives of one file"] if doubles(stores) else []
     faults += ["two cartridges of one file"] if doubles(files) else []
     faults += ["a cartridge and a drive of one file"] if set(stores) & set(files) else []
-    faults += ["a home that is a drive not listed" for it in cartridges if it["home"] not in [*numbers, *range(17, 1257)]]
+    faults += ["a home that is a drive not listed" for it in cartridges
+               if it["home"] <= 16 and it["home"] not in numbers]
     return (None if faults else lists), faults
 
 

@@ -1,0 +1,119 @@
+#!/usr/bin/env python3
+"""Tries whether the rows find wrong code: each edit of rows/wrong.txt, CRATE/NAME of crates/CRATE/wrong/NAME.edit.
+
+On a copy of the repository each is made, the program is built without its proofs, and the rows are run as they stand,
+the short ones first, until one differs: it is named. An edit that no row finds, or that does not build, is an error.
+--at-once N: so many copies. CRATE/NAME ..: these edits alone."""
+import argparse
+import os
+import queue
+import shutil
+import subprocess
+import sys
+import tempfile
+from concurrent.futures import ThreadPoolExecutor
+
+import rows
+import wrong
+
+TOP = os.path.dirname(os.path.dirname(os.path.abspath(__file__)))
+LIST = os.path.join(TOP, "rows", "wrong.txt")
+
+
+def listed():
+    with open(LIST, encoding="utf-8") as lines:
+        return [line.strip() for line in lines if line.strip() and not line.startswith("#")]
+
+
+def edited(room, name):
+    """Makes the edit in the copy; the old texts by path."""
+    crate, _, edit = name.partition("/")
+    old, texts, path = None, {}, None
+    for line in wrong.read(TOP, "crates", crate, "wrong", f"{edit}.edit").removesuffix("\n").split("\n"):
+        word, _, rest = line.partition(":")
+        rest = rest[1:]
+        if word == "file":
+            path = os.path.join(room, "crates", crate, rest)
+            texts.setdefault(path, wrong.read(path))
+        elif word == "old":
+            old = rest
+        else:
+            with open(path, encoding="utf-8") as file:
+                text = file.read()
+            with open(path, "w", encoding="utf-8") as file:
+                file.write(text.replace(old, rest))
+    return texts
+
+
+def copied(room):
+    for name in ("crates.txt", "HANDLES"):
+        shutil.copy(os.path.join(TOP, name), room)
+    shutil.copytree(os.path.join(TOP, "crates"), os.path.join(room, "crates"),
+                    ignore=shutil.ignore_patterns("out", "must-fail", "wrong", "*_tests", "*_bench"))
+    os.makedirs(os.path.join(room, "bench"))
+    shutil.copy(os.path.join(TOP, "bench", "unproved.py"), os.path.join(room, "bench"))
+    subprocess.run(["git", "init", "-q", room], check=True)
+
+
+def weight(row):
+    return sum(len(line.text) for run in row.runs for line in run.lines) + 100 * len(row.runs)
+
+
+def found_by(room, program, ordered):
+    """What the first row says that differs, of rows that are run one after another."""
+    for row in ordered:
+        said = rows.run_in(program, row, rows.WAYS[0]).said
+        if said:
+            return said[0]
+    return None
+
+
+def tried(rooms, name, ordered):
+    """Whether a row found the edit."""
+    room = rooms.get()
+    texts = edited(room, name)
+    built = subprocess.run([sys.executable, os.path.join(room, "bench", "unproved.py"), "--new"], cwd=room,
+                           capture_output=True, text=True)
+    said = None
+    if not built.returncode:
+        said = found_by(room, os.path.join(room, ".unproved", "vtl"), ordered)
+    for path, text in texts.items():
+        with open(path, "w", encoding="utf-8") as file:
+            file.write(text)
+    rooms.put(room)
+    told = "NOT BUILT: " + built.stderr.strip()[-300:] if built.returncode else said or "NO ROW FINDS IT"
+    print(f"{name}: {told}", flush=True)
+    return bool(said)
+
+
+def main():
+    parser = argparse.ArgumentParser()
+    parser.add_argument("names", nargs="*")
+    parser.add_argument("--at-once", type=int, default=2)
+    given = parser.parse_args()
+    names = given.names or listed()
+    for name in names:
+        crate, _, edit = name.partition("/")
+        path = os.path.join(TOP, "crates", crate, "wrong", f"{edit}.edit")
+        why = wrong.fault_in(crate, path) if os.path.isfile(path) else "there is no such edit"
+        if why:
+            sys.exit(f"{name}: {why}")
+    ordered, said = rows.read_all([os.path.join(TOP, "rows")])
+    if said:
+        sys.exit("\n".join(said))
+    ordered.sort(key=weight)
+    with tempfile.TemporaryDirectory(prefix="vtl-rows-wrong-") as top:
+        rooms = queue.Queue()
+        for at in range(given.at_once):
+            room = os.path.join(top, str(at))
+            os.makedirs(room)
+            copied(room)
+            rooms.put(room)
+        with ThreadPoolExecutor(given.at_once) as pool:
+            found = list(pool.map(lambda name: tried(rooms, name, ordered), names))
+    print(f"rows-wrong: {len(names)} edits, {found.count(False)} that no row finds")
+    return 1 if False in found else 0
+
+
+if __name__ == "__main__":
+    sys.exit(main())
