@@ -49,7 +49,7 @@ def copied(room):
     for name in ("crates.txt", "HANDLES"):
         shutil.copy(os.path.join(TOP, name), room)
     shutil.copytree(os.path.join(TOP, "crates"), os.path.join(room, "crates"),
-                    ignore=shutil.ignore_patterns("out", "must-fail", "wrong", "*_tests", "*_bench"))
+                    ignore=shutil.ignore_patterns("out", "must-fail", "wrong"))
     os.makedirs(os.path.join(room, "bench"))
     shutil.copy(os.path.join(TOP, "bench", "unproved.py"), os.path.join(room, "bench"))
     subprocess.run(["git", "init", "-q", room], check=True)

@@ -1,5 +1,5 @@
 """Which cells need a row: the lines of the tables of docs/FORMATS.md, and what its words and bits ask for."""
-from . import elsewhere, listing_limits
+from . import elsewhere, guard, listing_limits
 from .fields import ACTIONS, IGNORED
 from .tables import ALWAYS, NAMES, NEEDS_MEDIUM, TYPES, flushing
 
@@ -129,4 +129,5 @@ def required(tables):
     cells = [*of_tables(tables), *of_blocks(), *of_checks(), *of_attentions(), *listing_limits.cells(),
              *of_no_script()]
     others = [f"elsewhere: {cell} is no cell" for cell in elsewhere.CELLS if cell not in cells]
+    others += guard.faults(tables, set(cells))
     return [cell for cell in dict.fromkeys(cells) if cell not in elsewhere.CELLS], others

@@ -20,6 +20,7 @@ def of_writing():
     cells += ["WRITE FILEMARKS | count 0, IMMED 0", "WRITE FILEMARKS | count 0, IMMED 1",
               "WRITE FILEMARKS | count 0 in the early zone", "ERASE | at the end of data", "ERASE | before objects",
               "ERASE | in the early zone", "modes | loading leaves the mode"]
+    cells += [f"limits | a partition of {size} bytes is filled" for size in ("4,096", "16,777,216")]
     return cells + ["limits | a block of 1 byte is written", "limits | a block of 1,048,576 bytes is written",
                     "limits | a block of 1,048,576 bytes is read"]
 

@@ -124,6 +124,8 @@ class Work:
                      f"{' and a byte' if used > self.border else ' to the byte'}")
         if used <= self.border:
             return "GOOD"
+        if used == self.capacity:
+            self.see(f"limits | a partition of {used:,} bytes is filled")
         self.see(f"early warning | {name}")
         return check(0, 0x0002, 0, 0x40)
 
