@@ -10,6 +10,7 @@ import tempfile
 
 import rowfile
 import rows
+from rowcells import walk
 
 
 def answers(phase, words):
@@ -140,6 +141,44 @@ WRONG = [
 ]
 
 
+# a row whose title says nothing, the cells that it shows, one that it does not, and an answer that the model refuses
+SHOWS = """# a title
+$ vtl run
+  1 1 000000000000
+  > CHECK 700006000000000a00000000290000000000
+  1 1 100000000100
+  > GOOD
+  1 1 010000000000
+  > GOOD
+  1 1 080000000500
+  > CHECK f00080000000050a00000000000100000000
+"""
+SHOWN = ["does | READ | at a filemark", "sense | 29/00 | in the place of TEST UNIT READY", "words | run",
+         "script | the end of the script ends a phase"]
+NOT_SHOWN = ["does | READ | at a block", "does | TEST UNIT READY | "]
+
+
+def cells_of(room, text):
+    """How many of the cells of the row are not as they should be."""
+    path = os.path.join(room, "a.row")
+    with open(path, "w") as file:
+        file.write(text)
+    walked = walk.Walk(rowfile.read(path)).all()
+    return walked.said, [cell for cell in SHOWN if cell not in walked.cells] + [
+        cell for cell in NOT_SHOWN if cell in walked.cells]
+
+
+def wrong_cells(room):
+    """What the cells of a row say that they must not."""
+    said, other = cells_of(room, SHOWS)
+    found = [f"the cells of a row that is right: {it}" for it in said + other]
+    said, _ = cells_of(room, SHOWS.replace("f00080000000050a", "f00080000000040a"))
+    if len(said) != 1 or ":10: " not in said[0]:
+        found.append(f"the cells of a row with another answer: {said}")
+    _, other = cells_of(room, SHOWS.replace("# a title", "# does READ at a block"))
+    return found + [f"the title shows {it}" for it in other]
+
+
 def said_of(room, text):
     path = os.path.join(room, "a.row")
     with open(path, "w") as file:
@@ -155,6 +194,9 @@ def main():
     wrong = 0
     with tempfile.TemporaryDirectory(prefix="vtl-rows-selftest-") as room:
         rows.Room.ended = ended
+        others = wrong_cells(room)
+        wrong += len(others)
+        print("\n".join(others), end="\n" if others else "")
         said = said_of(room, GOOD)
         if said:
             wrong += 1
