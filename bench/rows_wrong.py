@@ -2,8 +2,9 @@
 """Tries whether the rows find wrong code: each edit of rows/wrong.txt, CRATE/NAME of crates/CRATE/wrong/NAME.edit.
 
 On a copy of the repository each is made, the program is built without its proofs, and the rows are run as they stand,
-the short ones first, until one differs: it is named. An edit that no row finds, or that does not build, is an error.
---at-once N: so many copies. CRATE/NAME ..: these edits alone."""
+the short ones first, until one differs: it is named. An edit that no row finds, or that does not build, is an error;
+and so is a row that differs without an edit, which is tried first. --at-once N: so many copies. CRATE/NAME ..: these
+edits alone."""
 import argparse
 import os
 import queue
@@ -69,9 +70,9 @@ def found_by(room, program, ordered):
 
 
 def tried(rooms, name, ordered):
-    """Whether a row found the edit."""
+    """Whether a row found the edit; without one, whether no row differs."""
     room = rooms.get()
-    texts = edited(room, name)
+    texts = edited(room, name) if name else {}
     built = subprocess.run([sys.executable, os.path.join(room, "bench", "unproved.py"), "--new"], cwd=room,
                            capture_output=True, text=True)
     said = None
@@ -81,9 +82,9 @@ def tried(rooms, name, ordered):
         with open(path, "w", encoding="utf-8") as file:
             file.write(text)
     rooms.put(room)
-    told = "NOT BUILT: " + built.stderr.strip()[-300:] if built.returncode else said or "NO ROW FINDS IT"
-    print(f"{name}: {told}", flush=True)
-    return bool(said)
+    told = "NOT BUILT: " + built.stderr.strip()[-300:] if built.returncode else said or "no row differs"
+    print(f"{name or 'without an edit'}: {told}", flush=True)
+    return bool(said) if name else not said and not built.returncode
 
 
 def main():
@@ -109,6 +110,8 @@ def main():
             os.makedirs(room)
             copied(room)
             rooms.put(room)
+        if not tried(rooms, None, ordered):
+            return 1
         with ThreadPoolExecutor(given.at_once) as pool:
             found = list(pool.map(lambda name: tried(rooms, name, ordered), names))
     print(f"rows-wrong: {len(names)} edits, {found.count(False)} that no row finds")
