@@ -2,9 +2,9 @@
 """Tries whether the rows find wrong code: each edit of rows/wrong.txt, CRATE/NAME of crates/CRATE/wrong/NAME.edit.
 
 On a copy of the repository each is made, the program is built without its proofs, and the rows are run as they stand,
-the short ones first, until one differs: it is named. An edit that no row finds, or that does not build, is an error;
-and so is a row that differs without an edit, which is tried first. --at-once N: so many copies. CRATE/NAME ..: these
-edits alone."""
+those of its subject first, until one differs: it is named. An edit that no row finds, or that does not build, is an
+error; and so is a row that differs without an edit, which is tried first, but for --edits-alone. --at-once N: so many
+copies. CRATE/NAME ..: these edits."""
 import argparse
 import os
 import queue
@@ -19,6 +19,11 @@ import wrong
 
 TOP = os.path.dirname(os.path.dirname(os.path.abspath(__file__)))
 LIST = os.path.join(TOP, "rows", "wrong.txt")
+# by crate, the folders whose rows are run first
+FIRST = {"scsi_sense": "03 05 11", "scsi_wire": "01", "scsi_lists": "07 09", "scsi_attention": "10", "pr_core": "09",
+         "positioning": "05 06", "drive_core": "10 08 03", "library": "11", "vtl_config": "12", "vtl_words": "13",
+         "vtl_script": "14", "volume_core": "06", "record_index": "06", "aptpl_store": "09 15", "gate_journal": "15",
+         "vtl_program": "15"}
 
 
 def listed():
@@ -77,7 +82,9 @@ def tried(rooms, name, ordered):
                            capture_output=True, text=True)
     said = None
     if not built.returncode:
-        said = found_by(room, os.path.join(room, ".unproved", "vtl"), ordered)
+        first = FIRST.get((name or "").partition("/")[0], "").split()
+        said = found_by(room, os.path.join(room, ".unproved", "vtl"), sorted(
+            ordered, key=lambda row: os.path.basename(os.path.dirname(row.path))[:2] not in first))
     for path, text in texts.items():
         with open(path, "w", encoding="utf-8") as file:
             file.write(text)
@@ -91,6 +98,7 @@ def main():
     parser = argparse.ArgumentParser()
     parser.add_argument("names", nargs="*")
     parser.add_argument("--at-once", type=int, default=2)
+    parser.add_argument("--edits-alone", action="store_true", help="nothing is tried without an edit")
     given = parser.parse_args()
     names = given.names or listed()
     for name in names:
@@ -110,7 +118,7 @@ def main():
             os.makedirs(room)
             copied(room)
             rooms.put(room)
-        if not tried(rooms, None, ordered):
+        if not given.edits_alone and not tried(rooms, None, ordered):
             return 1
         with ThreadPoolExecutor(given.at_once) as pool:
             found = list(pool.map(lambda name: tried(rooms, name, ordered), names))
