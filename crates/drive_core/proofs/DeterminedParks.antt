@@ -27,9 +27,10 @@ parked_sight stored torn = record {
   side = Some (record { stored = stored; torn = torn });
 }
 
-parked_seen : (stored : Option (List Part)) (torn : List Change) (room : _) (taken : List Change) (new : MediumState)
-    → IsParked (Unit {0}) stored torn room taken new → sight_of new ≡ parked_sight stored torn
-parked_seen stored torn room taken new h = λ i. record {
+parked_seen : (stored : Option (List Part)) (torn : List Change) (room : _) (taken : List Change) (unread : Bool)
+    (new : MediumState)
+    → IsParked (Unit {0}) stored torn room taken unread new → sight_of new ≡ parked_sight stored torn
+parked_seen stored torn room taken unread new h = λ i. record {
   awake = h.parked i;
   volume = after (volume_or_empty ((h.gives tt).0 i)) (h.nothing_pending i);
   failed = h.works i;
@@ -57,10 +58,10 @@ ands_not false = refl
 
 parks_seen : (failed : Bool) (medium new : MediumState) → medium.failed ≡ failed
     → IsParkedFrom (Unit {0}) failed medium new → sight_of new ≡ parks_sight failed (sight_of medium)
-parks_seen false medium new is h = parked_seen (Some (volume_of medium)) [] medium.room medium.pending new h
+parks_seen false medium new is h = parked_seen (Some (volume_of medium)) [] medium.room medium.pending false new h
 parks_seen true medium new is h =
     let unsound : is_sound medium ≡ false = ap (λ (b : Bool). medium.awake && not b) is ∙ ands_not medium.awake in
-    parked_seen medium.stored medium.torn medium.room [] new h
+    parked_seen medium.stored medium.torn medium.room [] false new h
     ∙ sym (ap (λ (b : Bool). side_parked (side_sight b medium)) unsound)
 
 -- and it is sure what its side gives

@@ -10,7 +10,7 @@ use Rattle.volume_core.specs.declared.changes.Change.{Change}
 use Rattle.volume_core.specs.declared.media.MediumError.{MediumError}
 use Rattle.volume_core.specs.declared.media.MediumError.TheVariants as Errors
 use Rattle.volume_core.specs.Volume.{Part}
-use Rattle.volume_core.specs.Medium.{MediumState, IsParked, IsParkedFrom, Parks, WakesFrom, volume_of}
+use Rattle.volume_core.specs.Medium.{MediumState, IsParked, IsParkedFrom, IsUnopened, Parks, StaysParked, WakesFrom, volume_of}
 use Rattle.drive_core.specs.declared.bays.Bay.{Bay}
 use Rattle.drive_core.specs.declared.bays.Bay.TheVariants.{Empty, Unloaded, Loaded}
 use Rattle.drive_core.specs.declared.faults.Fault.{Fault}
@@ -50,14 +50,33 @@ module _ (H H' : Type 0) (so : H → H') where
   work_where (LoadUnload load) buffered sent old answer made new h = h
 
   parked_where : (stored : Option (List Part)) (torn : List Change) (room : Option ℕ) (taken : List Change)
-      (new : MediumState) → IsParked H' stored torn room taken new → IsParked H stored torn room taken new
-  parked_where stored torn room taken new h =
+      (unread : Bool) (new : MediumState)
+      → IsParked H' stored torn room taken unread new → IsParked H stored torn room taken unread new
+  parked_where stored torn room taken unread new h =
       record {
         parked = h.parked;
         works = h.works;
         nothing_pending = h.nothing_pending;
+        unread_is = h.unread_is;
         gives = λ honest. h.gives (so honest);
         room_is = λ honest. h.room_is (so honest);
+      }
+
+  stays_where : (old new : MediumState) → StaysParked H' old new → StaysParked H old new
+  stays_where old new h = parked_where old.stored old.torn old.room [] old.unread new h
+
+  unopened_where : (old new : MediumState) → IsUnopened H' old new → IsUnopened H old new
+  unopened_where old new h =
+      record {
+        stays = record {
+          parked = h.stays.parked;
+          works = h.stays.works;
+          nothing_pending = h.stays.nothing_pending;
+          unread_is = h.stays.unread_is;
+          gives = λ here. h.stays.gives (so here.0, here.1);
+          room_is = λ here. h.stays.room_is (so here.0, here.1);
+        };
+        torn = λ honest. h.torn (so honest);
       }
 
   wakes_from_where : (awake : Bool) (old : MediumState) (woke : Result Unit MediumError) (new : MediumState)
@@ -70,17 +89,17 @@ module _ (H H' : Type 0) (so : H → H') where
   wakes_from_where true old (Err Errors.Device) new h = h
   wakes_from_where true old (Err Errors.Unreadable) new h = h
   wakes_from_where false old (Ok done) new h = (h.0, λ honest. h.1 (so honest))
-  wakes_from_where false old (Err Errors.NoMemory) new h = parked_where old.stored old.torn old.room [] new h
-  wakes_from_where false old (Err Errors.Device) new h = parked_where old.stored old.torn old.room [] new h
+  wakes_from_where false old (Err Errors.NoMemory) new h = stays_where old new h
+  wakes_from_where false old (Err Errors.Device) new h = unopened_where old new h
   wakes_from_where false old (Err Errors.Unreadable) new h =
-      (parked_where old.stored old.torn old.room [] new h.0, λ honest. h.1 (so honest))
+      (stays_where old new h.0, λ honest. h.1 (so honest))
   wakes_from_where false old (Err Errors.Failed) new h = h
   wakes_from_where false old (Err (Errors.Refused cause)) new h = h
   wakes_from_where false old (Err Errors.SideFull) new h = h
 
   parks_where : (failed : Bool) (old new : MediumState) → IsParkedFrom H' failed old new → IsParkedFrom H failed old new
-  parks_where false old new h = parked_where (Some (volume_of old)) [] old.room old.pending new h
-  parks_where true old new h = parked_where old.stored old.torn old.room [] new h
+  parks_where false old new h = parked_where (Some (volume_of old)) [] old.room old.pending false new h
+  parks_where true old new h = parked_where old.stored old.torn old.room [] false new h
 
   park_where : (old : MediumState) (parking : Result Unit MediumError) (new : MediumState)
       → Parks H' old parking new → Parks H old parking new

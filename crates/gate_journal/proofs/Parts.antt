@@ -9,7 +9,7 @@ use Rattle.gate_journal.specs.Side.{Heading, frame, spell, spell_heading, Stands
 use Rattle.gate_journal.specs.State.{StoresSide, IsExtent, IsBodyAt, LiesInBody, IsBodyPart, bodies_at, extents_from}
 use Rattle.gate_journal.specs.Inner.Frames.{length-frame}
 
-place_of : (at : ℕ) (bodies : List (List ℕ)) (i : ℕ) (d : ℕ × ℕ) → i < length bodies →
+pub place_of : (at : ℕ) (bodies : List (List ℕ)) (i : ℕ) (d : ℕ × ℕ) → i < length bodies →
     get_or (extents_from at bodies)
     i d ≡ (at + length (flat_map frame (take i bodies)) + 5, length (get_or bodies i []))
 place_of at [] i d inside = absurd (omega (arith, inside))

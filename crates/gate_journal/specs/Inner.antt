@@ -2,6 +2,7 @@ pub mod Asked
 pub mod Deciding
 pub mod Found
 pub mod Frames
+pub mod Gates
 pub mod Headings
 pub mod Reading
 pub mod Sides

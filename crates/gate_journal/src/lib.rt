@@ -3,6 +3,7 @@
 
 mod device;
 pub mod error;
+pub mod gates;
 pub mod header;
 pub mod journal;
 pub mod laws;
@@ -13,5 +14,6 @@ mod spelling;
 pub mod stops;
 
 pub use error::{JournalError, Refused};
+pub use gates::{Gates, last_gates};
 pub use header::{Header, SideKind};
 pub use journal::Journal;

@@ -5,6 +5,7 @@ ghost use Rattle.gate_journal.specs.Side.{Heading, IsHeading, OPEN, heading_of, 
 ghost use Rattle.gate_journal.specs.Inner.Reading.{numbers_of, heading_within, kind_by_letter};
 ghost use Rattle.std.specs.Int.{to_be_bytes, w32};
 ghost use Rattle.gate_journal.specs.Crash.{Unwritten};
+ghost use Rattle.gate_journal.specs.Reads.{OnlyReads};
 ghost use Rattle.gate_journal.specs.Inner.Found.{FindsRow, FindsHeader, FindsAsked, FindsMark, FindsFrames, FindsSide};
 ghost use Rattle.tape_disk.specs.Moments.{LeavesOnly};
 
@@ -53,7 +54,7 @@ fn make_sure<D: Disk>(disk: &mut D) -> Result<(), DevFault>
 }
 
 // The header that the disk begins with, where it is of the kind that is asked for.
-fn read_asked<D: Disk>(
+pub(crate) fn read_asked<D: Disk>(
     alloc: Global,
     disk: &mut D,
     asked: Option<SideKind>,
@@ -61,6 +62,7 @@ fn read_asked<D: Disk>(
     ensures disk { Keeps (D.state disk.old) (D.state disk.new) }
     ensures unwritten { (D.state disk.old).honest →
         Unwritten (D.state disk.old) (D.state disk.new) }
+    ensures reads { OnlyReads D.effect disk.old disk.new }
     ensures answer { FindsAsked asked result (D.state disk.old) (D.state disk.new) }
 {
     let header = read_header(alloc, disk)?;
@@ -75,6 +77,7 @@ fn read_header<D: Disk>(alloc: Global, disk: &mut D) -> Result<Header, JournalEr
     ensures disk { Keeps (D.state disk.old) (D.state disk.new) }
     ensures unwritten { (D.state disk.old).honest →
         Unwritten (D.state disk.old) (D.state disk.new) }
+    ensures reads { OnlyReads D.effect disk.old disk.new }
     ensures answer { FindsHeader result (D.state disk.old) (D.state disk.new) }
 {
     let len = disk.len();
@@ -108,6 +111,7 @@ fn read_row<D: Disk>(
     ensures disk { Keeps (D.state disk.old) (D.state disk.new) }
     ensures unwritten { (D.state disk.old).honest →
         Unwritten (D.state disk.old) (D.state disk.new) }
+    ensures reads { OnlyReads D.effect disk.old disk.new }
     ensures answer { FindsRow result at count (D.state disk.old) (D.state disk.new) }
 {
     let mut bytes = vec![in alloc; 0; count]?;
@@ -182,6 +186,7 @@ fn read_mark<D: Disk>(disk: &mut D, at: u64, len: u64) -> Result<Option<u32>, Jo
     ensures disk { Keeps (D.state disk.old) (D.state disk.new) }
     ensures unwritten { (D.state disk.old).honest →
         Unwritten (D.state disk.old) (D.state disk.new) }
+    ensures reads { OnlyReads D.effect disk.old disk.new }
     ensures answer { FindsMark result at len (D.state disk.old) (D.state disk.new) }
 {
     if len - at < 5 {
@@ -214,11 +219,16 @@ fn length_behind(mark: &[u8; 5]) -> u32
 }
 
 // The frames from that place on, up to the first closed gate.
-fn read_frames<D: Disk>(alloc: Global, disk: &mut D, start: u64) -> Result<Frames, JournalError>
+pub(crate) fn read_frames<D: Disk>(
+    alloc: Global,
+    disk: &mut D,
+    start: u64,
+) -> Result<Frames, JournalError>
     requires { (D.state disk.old).honest → start ≤ length (D.state disk.old).seen }
     ensures disk { Keeps (D.state disk.old) (D.state disk.new) }
     ensures unwritten { (D.state disk.old).honest →
         Unwritten (D.state disk.old) (D.state disk.new) }
+    ensures reads { OnlyReads D.effect disk.old disk.new }
     ensures answer { FindsFrames result start (D.state disk.old) (D.state disk.new) }
 {
     let len = disk.len();

@@ -146,6 +146,7 @@ parks_failed old failed =
       parked = refl;
       works = refl;
       nothing_pending = refl;
+      unread_is = refl;
       gives = λ honest. (refl, refl);
       room_is = λ honest. omega arith;
     })
@@ -159,6 +160,7 @@ parks_stored old awake works =
       parked = refl;
       works = refl;
       nothing_pending = refl;
+      unread_is = refl;
       gives = λ honest. (ap Some (after_append (empty_volume old.capacities) old.stored old.rest), refl);
       room_is = λ honest. omega arith;
     })
@@ -167,8 +169,8 @@ parks_stored old awake works =
 pub opens_without : (old : Staged)
     → IsFresh (staged_state (opened old)) × Opens (staged_state old) (staged_state (opened old))
 opens_without old = (
-  record { awake = refl; works = refl; nothing_pending = refl },
-  record { volume = inl refl; readable = λ none. search rules; room_is = omega arith },
+  record { awake = refl; works = refl; nothing_pending = refl; read = refl },
+  record { volume = inl refl; first = λ unread. cc; readable = λ none. search rules; room_is = omega arith },
 )
 
 -- or with the frame that was under way
@@ -176,8 +178,9 @@ pub opens_with : (old : Staged) → old.is_torn ≡ true
     → IsFresh (staged_state (opened (all_stored old)))
     × Opens (staged_state old) (staged_state (opened (all_stored old)))
 opens_with old torn = (
-  record { awake = refl; works = refl; nothing_pending = refl },
+  record { awake = refl; works = refl; nothing_pending = refl; read = refl },
   record {
+    first = λ unread. cc;
     volume = rw torn (inr (ap Some (after_append (empty_volume old.capacities) old.stored old.rest)));
     readable = λ none. search rules;
     room_is = rw torn (omega arith);

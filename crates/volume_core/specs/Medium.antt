@@ -22,6 +22,9 @@ pub record MediumState : Type 0 where
   pub failed : Bool
   -- the bytes that may still be added to the side; None is no bound, as in memory
   pub room : Option ℕ
+  -- of a parked medium alone: it was not opened yet. What its side gives is what a read gives now. No frame is under
+  -- way, and a device that fails in its opening may leave that another volume is given, or none.
+  pub unread : Bool
 
 -- the volume that a side gives; of a side with none, one of no partition (own)
 abbrev pub volume_or_empty : Option (List Part) → List Part
@@ -127,22 +130,23 @@ abbrev pub turn_met_fault : Turn → Bool
 turn_met_fault turns.Device = true
 turn_met_fault _ = false
 
--- a parked medium; where it is honest, its side gives this volume, with none or all of these changes, and of this room
--- at most what some changes take is gone (own)
+-- a parked medium, which was opened before or was not; where it is honest, its side gives this volume, with none or all
+-- of these changes, and of this room at most what some changes take is gone (own)
 pub record IsParked
     (honest : Type 0) (stored : Option (List Part)) (torn : List Change) (room : Option ℕ) (taken : List Change)
-    (new : MediumState) : Type 0 where
+    (unread : Bool) (new : MediumState) : Type 0 where
   pub parked : new.awake ≡ false
   pub works : new.failed ≡ false
   pub nothing_pending : new.pending ≡ []
+  pub unread_is : new.unread ≡ unread
   pub gives : honest → (new.stored ≡ stored) × (new.torn ≡ torn)
   pub room_is : honest → LeavesRoom room taken new.room
 
 -- what the side of a medium gives once it is parked: all that was accepted, or of one that has failed what was stored,
 -- with none or all of the frame that was under way (own)
 abbrev pub IsParkedFrom : Type 0 → Bool → MediumState → MediumState → Type 0
-IsParkedFrom honest false old new = IsParked honest (Some (volume_of old)) [] old.room old.pending new
-IsParkedFrom honest true old new = IsParked honest old.stored old.torn old.room [] new
+IsParkedFrom honest false old new = IsParked honest (Some (volume_of old)) [] old.room old.pending false new
+IsParkedFrom honest true old new = IsParked honest old.stored old.torn old.room [] false new
 
 -- A medium is parked, once what is pending is stored, and answers so. One that has failed gives up what is pending
 -- (own).
@@ -161,12 +165,25 @@ pub record IsFresh (new : MediumState) : Type 0 where
   pub awake : new.awake ≡ true
   pub works : new.failed ≡ false
   pub nothing_pending : new.pending ≡ []
+  pub read : new.unread ≡ false
 
--- a medium is opened by what its side gave, which is a volume (own)
+-- a medium is opened by what its side gave, which is a volume; the first opening finds just that (own)
 pub record Opens (old new : MediumState) : Type 0 where
   pub volume : GivenBy old new.stored
+  pub first : old.unread ≡ true → new.stored ≡ old.stored
   pub readable : old.stored ≡ None → ⊥
   pub room_is : LeavesRoom old.room old.torn new.room
+
+-- a parked medium that is not opened: what its side gives stays (own)
+abbrev pub StaysParked : Type 0 → MediumState → MediumState → Type 0
+StaysParked honest old new = IsParked honest old.stored old.torn old.room [] old.unread new
+
+-- A parked medium that is not opened, since the device failed: what its side gives stays, if it was opened before. Of
+-- one that was not that is open: a sync failed, and promises nothing of what a read gives. No frame is under way that
+-- was not (own).
+pub record IsUnopened (honest : Type 0) (old new : MediumState) : Type 0 where
+  pub stays : StaysParked (honest × (old.unread ≡ false)) old new
+  pub torn : honest → new.torn ≡ old.torn
 
 -- A medium that is awake stays as it is. A parked one is opened, or stays parked: its side gives no volume, the device
 -- failed, or memory ran out. What its side gives is known where it is honest (own).
@@ -175,10 +192,9 @@ WakesFrom honest true old (Ok done) new = (old.failed ≡ false) × (new ≡ old
 WakesFrom honest true old (Err Failed) new = (old.failed ≡ true) × (new ≡ old)
 WakesFrom honest true old (Err _) new = ⊥
 WakesFrom honest false old (Ok done) new = IsFresh new × (honest → Opens old new)
-WakesFrom honest false old (Err NoMemory) new = IsParked honest old.stored old.torn old.room [] new
-WakesFrom honest false old (Err Device) new = IsParked honest old.stored old.torn old.room [] new
-WakesFrom honest false old (Err Unreadable) new =
-    IsParked honest old.stored old.torn old.room [] new × (honest → old.stored ≡ None)
+WakesFrom honest false old (Err NoMemory) new = StaysParked honest old new
+WakesFrom honest false old (Err Device) new = IsUnopened honest old new
+WakesFrom honest false old (Err Unreadable) new = StaysParked honest old new × (honest → old.stored ≡ None)
 WakesFrom honest false old (Err _) new = ⊥
 
 -- A medium is opened, and answers so (own).

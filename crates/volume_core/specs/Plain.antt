@@ -21,6 +21,7 @@ plain_state plain =
       torn = [];
       failed = false;
       room = None;
+      unread = false;
     }
 
 -- the changes apply in order, and lead from one volume to the other (own)

@@ -32,6 +32,7 @@ staged_state medium =
       torn = if medium.is_torn then medium.rest else [];
       failed = medium.failed;
       room = Some medium.room;
+      unread = false;
     }
 
 -- it works, and has given up nothing since it was opened (own)

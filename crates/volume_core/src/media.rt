@@ -195,6 +195,10 @@ pub trait Medium: Catalog {
     /// Nothing done accepts nothing, and meets no fault.
     ghost advances_nowhere: { (medium : Self) → Advances below medium [] false medium };
 
+    /// One that is awake was opened.
+    ghost awake_is_read: { (medium : Self) →
+        (Self.state medium).awake ≡ true → (Self.state medium).unread ≡ false };
+
     /// Nothing done stores nothing.
     ghost stores_nowhere: { (medium : Self) →
         Stores (Self.state medium) [] (Self.state medium) };

@@ -72,6 +72,7 @@ impl Catalog for PlainMedium {
 }
 
 impl Medium for PlainMedium {
+    ghost use Rattle.std.specs.Prelude.{refl};
     ghost use Rattle.vtl_base.specs.Below.{advances_nowhere};
     ghost use Rattle.volume_core.specs.Stores.{stores_nowhere};
     ghost use Rattle.volume_core.specs.Plain.{Plain, plain_state, plain_below, moves_nowhere_by_changes, moves_on_by_changes};
@@ -127,6 +128,8 @@ impl Medium for PlainMedium {
 
     ghost advances_nowhere = { λ medium. advances_nowhere plain_below
         (λ (m : Plain). moves_nowhere_by_changes m.volume) medium };
+
+    ghost awake_is_read = { λ medium awake. refl };
 
     ghost stores_nowhere = { λ medium. stores_nowhere (plain_state medium) };
 

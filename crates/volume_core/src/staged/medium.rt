@@ -32,6 +32,7 @@ impl Catalog for StagedMedium {
 }
 
 impl Medium for StagedMedium {
+    ghost use Rattle.std.specs.Prelude.{refl};
     ghost use Rattle.vtl_base.specs.Below.{advances_nowhere};
     ghost use Rattle.volume_core.specs.Stores.{stores_nowhere};
     ghost use Rattle.volume_core.specs.Staged.{staged_state, staged_below, staged_moves_nowhere, staged_moves_on};
@@ -125,6 +126,8 @@ impl Medium for StagedMedium {
     }
 
     ghost advances_nowhere = { λ medium. advances_nowhere staged_below staged_moves_nowhere medium };
+
+    ghost awake_is_read = { λ medium awake. refl };
 
     ghost stores_nowhere = { λ medium. stores_nowhere (staged_state medium) };
 

@@ -1,6 +1,7 @@
 use Rattle.std.proofs.Common.{◌≡◌, ℕ, List, ◌++◌, ◌∷◌, [], drop, ◌+◌, arith, refl, sym, ◌∙◌, ap}
 use Rattle.std.proofs.lemmas.Result.{err_from_is_err_and}
 use Rattle.tape_disk.specs.Sequences.{keeps_in_sequence}
+use Rattle.gate_journal.specs.Reads.{reads_then}
 use Rattle.gate_journal.proofs.Extents.{one_more}
 use Rattle.gate_journal.proofs.Walks.{nothing_there, walked_more, broken_there, unwritten_then, not_read_since}
 use Rattle.gate_journal.proofs.reading.read_frames.Goals as goal
@@ -46,6 +47,7 @@ loop-extents-preserved g c =
       inside = omega (arith, far, found.3);
       extents = one_more at size (at + (5 + c.from.result))
           c.loop-extents.extents.items c.push_reserved.new.self.items i.extents extents_are found.1 found.2 far;
+      reads = reads_then g.D.Disk.effect _ _ _ i.reads c.read_mark.ensures.reads;
       keeps = keeps_in_sequence d0 d1 d2 i.keeps c.read_mark.ensures.disk;
       none_failed = found.0 ∙ i.none_failed;
       honest = λ honest.
@@ -64,3 +66,15 @@ loop-extents-preserved g c =
             ),
           );
     }
+
+pub returns-in_err-size-clause-reads : goal.returns-in_err-size-clause-reads
+returns-in_err-size-clause-reads g c =
+    reads_then g.D.Disk.effect _ _ _ c.loop-extents.invariant.reads c.read_mark.ensures.reads
+
+pub returns-in_err-reserve-clause-reads : goal.returns-in_err-reserve-clause-reads
+returns-in_err-reserve-clause-reads g c =
+    reads_then g.D.Disk.effect _ _ _ c.loop-extents.invariant.reads c.read_mark.ensures.reads
+
+pub returns-clause-reads : goal.returns-clause-reads
+returns-clause-reads g c =
+    reads_then g.D.Disk.effect _ _ _ c.loop-extents.invariant.reads c.read_mark.ensures.reads

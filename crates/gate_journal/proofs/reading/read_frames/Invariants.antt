@@ -4,6 +4,7 @@ use Rattle.tape_disk.specs.Disk.{Keeps}
 use Rattle.gate_journal.specs.Answers.{NoneFailed}
 use Rattle.gate_journal.specs.Crash.{Unwritten}
 use Rattle.gate_journal.specs.Inner.Found.{Walked}
+use Rattle.gate_journal.specs.Reads.{OnlyReads}
 use Rattle.gate_journal.specs.State.{IsExtent}
 use Rattle.gate_journal.proofs.reading.read_frames.Given as goal
 
@@ -15,6 +16,7 @@ invariant-loop-extents g l =
       started : l.start ≤ l.at;
       inside : l.at < l.len;
       extents : All (IsExtent l.at) l.extents.items;
+      reads : OnlyReads g.D.Disk.effect l.initial.disk l.disk;
       keeps : Keeps old new;
       none_failed : NoneFailed old new;
       honest :

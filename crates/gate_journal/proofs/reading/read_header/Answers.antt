@@ -1,6 +1,7 @@
 use Rattle.std.proofs.Common.{ℕ, List, ◌++◌, ◌+◌, ◌*◌, arith, ◌∙◌, ap}
 use Rattle.std.specs.Prelude.{slice_range}
 use Rattle.gate_journal.specs.Side.{heading_of}
+use Rattle.gate_journal.specs.Reads.{reads_then}
 use Rattle.gate_journal.proofs.Walks.{too_short, header_there, no_header, count_read}
 use Rattle.gate_journal.proofs.reading.read_header.Goals as goal
 
@@ -53,3 +54,23 @@ returns-clause-answer g c = (
       no_header seen bytes capacities c.deref-2.result.now count (row.2 honest) second whole
       (count_read seen bytes count row.1 (row.2 honest) c.index-count.ensures) never,
 )
+
+pub returns-in_err-capacities-clause-reads : goal.returns-in_err-capacities-clause-reads
+returns-in_err-capacities-clause-reads g c =
+    reads_then g.D.Disk.effect _ _ _ c.read_row.ensures.reads c.read_row-2.ensures.reads
+
+pub returns-in_err-extend_from_slice-clause-reads : goal.returns-in_err-extend_from_slice-clause-reads
+returns-in_err-extend_from_slice-clause-reads g c =
+    reads_then g.D.Disk.effect _ _ _ c.read_row.ensures.reads c.read_row-2.ensures.reads
+
+pub returns-in_err-header-clause-reads : goal.returns-in_err-header-clause-reads
+returns-in_err-header-clause-reads g c =
+    reads_then g.D.Disk.effect _ _ _ c.read_row.ensures.reads c.read_row-2.ensures.reads
+
+pub returns-in-Some-clause-reads : goal.returns-in-Some-clause-reads
+returns-in-Some-clause-reads g c =
+    reads_then g.D.Disk.effect _ _ _ c.read_row.ensures.reads c.read_row-2.ensures.reads
+
+pub returns-clause-reads : goal.returns-clause-reads
+returns-clause-reads g c =
+    reads_then g.D.Disk.effect _ _ _ c.read_row.ensures.reads c.read_row-2.ensures.reads

@@ -10,6 +10,16 @@ use Rattle.gate_journal.proofs.AskedLemmas.{damaged_asked}
 use Rattle.gate_journal.proofs.Walks.{not_opened_since, damaged_there, stands_for, on_disk, seen_2, only_3}
 use Rattle.gate_journal.proofs.reading.read_side.Goals as goal
 
+pub read_frames-requires : goal.read_frames-requires
+read_frames-requires g c = λ honest.
+    let h = heading_of c.in_ok-header.header in
+    let found = c.in_ok-header.ensures.answer.0 in
+    let honest1 = c.read_asked.ensures.disk.was_honest honest in
+    let rest = found.2 honest1 in
+    let seen = (c.read_asked.ensures.unwritten honest1).seen ∙ rest.1 in
+    let count : c.len.result ≡ length c.in_ok-header.header.capacities.items = search rules in
+    omega (arith, count, length_heading h found.1, ap length seen, length-append (spell_heading h) rest.0)
+
 pub returns-in_err-frames-clause-answer : goal.returns-in_err-frames-clause-answer
 returns-in_err-frames-clause-answer g c =
     let d0 = g.D.Disk.state c.args.disk.now in
