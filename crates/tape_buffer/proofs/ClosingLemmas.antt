@@ -70,6 +70,7 @@ module _ {D : Type 0} (state : D → DiskState) (is_disk : (disk : D) → (state
           parked = works.parked;
           works = works.works;
           nothing_pending = works.nothing_pending;
+          unread_is = works.unread_is;
           gives = λ h. ((works.gives (stays h)).0 ∙ ap Some settled.2.volume_is, (works.gives (stays h)).1);
           room_is = λ h.
               omega (

@@ -199,6 +199,7 @@ module _ {D : Type 0} (state : D → DiskState) (one : GivesOne) (old : ClosedCa
   opens_known is =
       let shows = known is in
       record {
+        first = λ unread. cc;
         volume =
             ⊎_elim (λ same. inl (ap Some same)) (λ more. inr (ap Some more))
             (volume_from one old.contents old.torn c.contents (state old.disk).seen gives shows);
@@ -212,6 +213,7 @@ module _ {D : Type 0} (state : D → DiskState) (one : GivesOne) (old : ClosedCa
       let is = contents_on_is (state old.disk).seen c.contents gives in
       record {
         volume = inl (sym (ap (option_map volume_made) is));
+        first = λ unread. sym (ap (option_map volume_made) is);
         readable = λ none. let e = sym (ap (option_map volume_made) is) ∙ none in absurd (cc);
         room_is = omega (arith, room, ap room_found is);
       }

@@ -3,6 +3,7 @@ use Rattle.std.specs.Prelude.{◌≡◌, ◌++◌, ℕ, List, [], Option, None, 
 use Rattle.std.proofs.Common.{◌∙◌}
 use Rattle.vtl_base.specs.Below.{Below}
 use Rattle.tape_disk.specs.Disk.{DiskState, IsDisk, Each}
+use Rattle.tape_disk.specs.Moments.{LeavesOnly, no_call}
 use Rattle.volume_core.specs.declared.changes.Change.{Change}
 use Rattle.gate_journal.specs.Side.{Heading}
 use Rattle.accepting.specs.Core.{Core}
@@ -55,6 +56,27 @@ module _ {D : Type 0} (state : D → DiskState) where
   abbrev pub ShowsOn : Option D → Core Heading Change → Type 0
   ShowsOn None core = Unit {0}
   ShowsOn (Some disk) core = (state disk).honest → Each (state disk) (ShowsCore medium_rules core)
+
+  -- over the same disk: at each moment of it a crash leaves what it might have left before (own)
+  abbrev pub LeavesAloneOn : Option D → Option D → Type 0
+  LeavesAloneOn (Some disk) (Some disk') =
+      (state disk).honest → LeavesOnly (state disk) (state disk') (state disk).may_leave
+  LeavesAloneOn None None = Unit {0}
+  LeavesAloneOn _ _ = ⊥
+
+  -- from one medium to the other nothing was written (own)
+  abbrev pub LeavesAlone : BufferState D → BufferState D → Type 0
+  LeavesAlone old new = LeavesAloneOn (disk_in old.held) (disk_in new.held)
+
+  -- nothing done writes nothing
+  pub leaves_alone_nowhere : ((disk : D) → (state disk).honest → IsDisk (state disk))
+      → (buffer : BufferState D) → LeavesAlone buffer buffer
+  leaves_alone_nowhere is_disk buffer = by (disk_in buffer.held)
+    where
+      by : (disk : Option D) → LeavesAloneOn disk disk
+      by None = tt
+      by (Some disk) =
+          λ honest. no_call (state disk) (state disk).may_leave (is_disk disk honest) (λ image left. left)
 
   -- nothing done is the empty list
   pub medium_moves_nowhere : ((disk : D) → (state disk).honest → IsDisk (state disk))

@@ -1,4 +1,11 @@
 //! The calls of a buffered medium, as a drive makes them.
+ghost use Rattle.std.specs.Prelude.{◌≢◌, [], IfErr};
+ghost use Rattle.vtl_base.specs.Below.{Advances};
+ghost use Rattle.volume_core.specs.declared.media.MediumError.TheVariants as Errors;
+ghost use Rattle.volume_core.specs.Medium.{Wakes, met_fault};
+ghost use Rattle.tape_buffer.specs.State.{IsSettledIn, state_of};
+ghost use Rattle.tape_buffer.specs.Moves.{LeavesAlone, buffer_below};
+
 use crate::adding::accept_over;
 use crate::buffered::Buffered;
 use crate::closing::{park_over, wake_closed};
@@ -13,7 +20,7 @@ use vtl_base::{ObjNo, PartNo};
 impl<D: Disk> Medium for Buffered<D> {
     ghost use Rattle.vtl_base.specs.Below.{advances_nowhere};
     ghost use Rattle.volume_core.specs.Stores.{stores_nowhere};
-    ghost use Rattle.tape_buffer.specs.State.{state_of};
+    ghost use Rattle.tape_buffer.specs.State.{awake_is_read, state_of};
     ghost use Rattle.tape_buffer.specs.Moves.{buffer_below, medium_moves_nowhere, medium_moves_on};
 
     ghost below = { buffer_below D.state };
@@ -69,7 +76,16 @@ impl<D: Disk> Medium for Buffered<D> {
         }
     }
 
-    fn wake(&mut self) -> Result<(), MediumError> {
+    /// Opens it. One that is awake stays as it is, and answers whether it has failed. Whatever it answers, nothing is
+    /// written: at every moment a crash leaves what it might have left before. But for a device fault what stands is
+    /// sure.
+    fn wake(&mut self) -> Result<(), MediumError>
+        ensures answer { Wakes ((buffer_below D.state).honest self.old) (state_of D.state self.old) result
+            (state_of D.state self.new) }
+        ensures advances { Advances (buffer_below D.state) self.old [] (met_fault result) self.new }
+        ensures alone { LeavesAlone D.state self.old self.new }
+        ensures settled { IfErr result (λ error. error ≢ Errors.Device → IsSettledIn D.state self.new.held) }
+    {
         if let Holding::Open(cartridge) = &self.held {
             if cartridge.has_failed() {
                 return Err(MediumError::Failed);
@@ -106,6 +122,8 @@ impl<D: Disk> Medium for Buffered<D> {
 
     ghost advances_nowhere = { λ medium. advances_nowhere (buffer_below D.state)
         (medium_moves_nowhere D.state (λ disk honest. D.is_disk disk honest)) medium };
+
+    ghost awake_is_read = { awake_is_read D.state };
 
     ghost stores_nowhere = { λ medium. stores_nowhere (state_of D.state medium) };
 
