@@ -19,6 +19,7 @@ use Rattle.record_index.specs.Records.{spell_all}
 use Rattle.cartridge.specs.Contents.{IsContents, changes_in, changes_of, volume_made}
 use Rattle.cartridge.specs.State.{OpenCartridge}
 use Rattle.accepting.specs.Core.{Core, with_item}
+use Rattle.accepting.specs.Device.{one_disk, one_is_device}
 use Rattle.accepting.specs.Events.{CoreMoves}
 use Rattle.accepting.specs.Kinds.{moves_accepting}
 use Rattle.tape_buffer.specs.Limits.{FitsBuffer, block_bytes}
@@ -185,15 +186,16 @@ module _ {D : Type 0} (c m c' : OpenCartridge D) (pending between pending' : Lis
         subst (λ (p : OpenCartridge D × List Change).
         Advances (buffer_below state) (open_buffer c pending) (change ∷ []) false (open_buffer p.0 p.1))
         (λ i. ((sym same) i, (sym is) i))
-        (advances_on (buffer_below state) (medium_moves_on state) (open_buffer c pending) (open_buffer m between)
-        (open_buffer (record m { reserved = c'.reserved }) (between ++ change ∷ [])) [] (change ∷ []) false advances
+        (advances_on (buffer_below state) (medium_moves_on state) (open_buffer c pending)
+        (open_buffer m between) (open_buffer (record m { reserved = c'.reserved }) (between ++ change ∷ [])) []
+        (change ∷ []) false advances
         (record {
           moved =
               subst (λ (new : Core Heading Change).
-              CoreMoves medium_rules (state m.disk) (state m.disk) (open_core m between) new (change ∷ []))
+              CoreMoves medium_rules (one_disk state) m.disk m.disk (open_core m between) new (change ∷ []))
               (sym with_change)
-              (moves_accepting medium_rules (state m.disk) (open_core m between) change (is_disk m.disk)
-              (open_is_core m between over.torn) works refl (applies contents none));
+              (moves_accepting medium_rules (one_disk state) (one_is_device state) m.disk (open_core m between)
+              change (is_disk m.disk) (open_is_core m between over.torn) works refl (applies contents none));
           counted = refl;
           honesty = (λ h. h, λ h. h);
         }))

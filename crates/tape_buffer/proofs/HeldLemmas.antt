@@ -27,6 +27,11 @@ found_is_core None torn = record { safe = omega arith; stored = omega arith }
 found_is_core (Some contents) torn =
     record { safe = omega arith; stored = omega (arith, length-append (changes_in contents) torn) }
 
+-- a closed cartridge is one that was stopped
+pub found_stopped : (found : Option Contents) (torn : List Change) → (found_core found torn).recovering ≡ true
+found_stopped None torn = refl
+found_stopped (Some contents) torn = refl
+
 -- what shows contents shows their core
 pub found_shows : (contents : Contents) (torn : List (List Change)) (image : List ℕ) → ShowsContents contents torn image
     → ShowsCore medium_rules (found_core (Some contents) (changes_of torn)) image

@@ -18,6 +18,7 @@ use Rattle.cartridge.specs.Contents.{Contents, GivesContents, IsBadFrameAt, IsNo
 use Rattle.cartridge.specs.ContentsOn.{contents_on, contents_on_is, contents_on_none}
 use Rattle.cartridge.specs.State.{ClosedCartridge}
 use Rattle.accepting.specs.Core.{Core}
+use Rattle.accepting.specs.Device.{one_disk, one_is_device, one_keeps, one_rests}
 use Rattle.accepting.specs.Events.{CoreMoves, ShowsCore}
 use Rattle.accepting.specs.Kinds.{moves_resting}
 use Rattle.tape_buffer.specs.Inner.Waking.{wake_error_of}
@@ -129,15 +130,17 @@ module _ {D : Type 0} (state : D → DiskState) (is_disk : (disk : D) → (state
           (shows (state disk).seen (read_image honest)))
           ∙ ap (λ (k : Bool). core_where k (state old.disk).seen) (sym is)
 
-  pub moves_closed : CoreMoves medium_rules (state old.disk) (state disk) (core_in old) (core_in new_closed) []
+  pub moves_closed : CoreMoves medium_rules (one_disk state) old.disk disk (core_in old) (core_in new_closed) []
   moves_closed =
       record {
-        keeps = keeps;
+        keeps = one_keeps state old.disk disk keeps;
         goes = λ honest shows.
-            (subst (λ (new : Core Heading Change). CoreMoves medium_rules (state old.disk) (state disk) (core_in old)
+            (subst (λ (new : Core Heading Change). CoreMoves medium_rules (one_disk state) old.disk disk (core_in old)
             new [])
             (sym (same_core honest shows))
-            (moves_resting medium_rules (state old.disk) (state disk) (core_in old) (is_disk disk) keeps moments)).goes
+            (moves_resting medium_rules (one_disk state) (one_is_device state) old.disk disk (core_in old)
+            (is_disk disk) (one_keeps state old.disk disk keeps)
+            (λ h. one_rests state old.disk disk (ShowsCore medium_rules (core_in old)) (moments h)))).goes
             honest
             shows;
       }

@@ -38,9 +38,14 @@ impl<D: Disk> Model for Buffered<D> {
 }
 
 impl<D: Disk> Accepting for Buffered<D> {
+    ghost use Rattle.accepting.specs.Device.{one_disk, one_is_device};
     ghost use Rattle.tape_buffer.specs.Rules.{medium_rules};
 
     ghost rules = { medium_rules };
+
+    ghost device = { one_disk D.state };
+
+    ghost is_device = { one_is_device D.state };
 }
 
 impl<D: Disk> Buffered<D> {
