@@ -1,5 +1,5 @@
 -- A change more is pending.
-use Rattle.std.specs.Prelude.{◌≡◌, ◌+◌, ◌++◌, ◌≤◌, ◌<◌, List, [], ◌∷◌, Bool, true, false, Option, None, Some, Ok, IsTrue, length, sum_by, slice_get, not, if◌then◌else◌, refl}
+use Rattle.std.specs.Prelude.{◌≡◌, ◌+◌, ◌++◌, ◌≤◌, ◌<◌, ℕ, List, [], ◌∷◌, Bool, true, false, Option, None, Some, Ok, IsTrue, length, sum_by, slice_get, not, if◌then◌else◌, refl}
 use Rattle.std.proofs.Common.{inl, sym, ◌∙◌, ap, subst, arith, append_assoc}
 use Rattle.std.proofs.lemmas.Bool.{and_parts, leb-true}
 use Rattle.std.proofs.lemmas.List.{append-nil}
@@ -101,6 +101,14 @@ way_after c c' pending pending' change alone room stores empty = (
   ),
 )
 
+-- a frame more that has room fits beside what is pending
+pub fits_more : (room size : ℕ) (has : Bool) (pending : List Change) (change : Change)
+    → (IsTrue has → sum_by frame_size pending + size ≤ room) → size ≡ frame_size change → has ≡ true
+    → sum_by frame_size (pending ++ change ∷ []) ≤ room
+fits_more room size true pending change told is none =
+    omega (arith, told refl, is, sum_by-append frame_size pending (change ∷ []))
+fits_more room size false pending change told is none = absurd (cc)
+
 unless : (past room well : Bool)
     → (if past then Some PastEnd else (if not room then Some NoRoom else (if not well then Some TooLong else None)))
     ≡ None → well ≡ true
@@ -147,8 +155,9 @@ module _ {D : Type 0} (c m c' : OpenCartridge D) (pending between pending' : Lis
     new_state = λ i. open_state (same i) (is i)
 
     pub accepts_more : refusal_of (volume_of (open_state c pending)) change ≡ None → c.failed ≡ false
+        → sum_by frame_size (pending ++ change ∷ []) ≤ c.room
         → Accepts (open_state c pending) change (Ok tt) (open_state c' pending')
-    accepts_more none works = (
+    accepts_more none works room = (
       none,
       works,
       subst (λ (s : MediumState). Works (changed (volume_of (open_state c pending)) change) s) (sym new_state)
@@ -159,6 +168,7 @@ module _ {D : Type 0} (c m c' : OpenCartridge D) (pending between pending' : Lis
             works = ready.works;
             awake = refl;
           }),
+      room,
     )
 
     pub stores_more : Stores (open_state c pending) (change ∷ []) (open_state c' pending')

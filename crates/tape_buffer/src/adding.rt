@@ -1,5 +1,5 @@
 //! A change is accepted.
-ghost use Rattle.std.specs.Prelude.{◌≡◌, ◌≤◌, ◌++◌, ◌∷◌, [], None, OnOk, OnErr, false, sum_by};
+ghost use Rattle.std.specs.Prelude.{◌≡◌, ◌≤◌, ◌+◌, ◌↔◌, ◌++◌, ◌∷◌, [], None, IsTrue, OnOk, OnErr, false, sum_by};
 ghost use Rattle.vtl_base.specs.Below.{Advances};
 ghost use Rattle.volume_core.specs.Volume.{after, refusal_of};
 ghost use Rattle.volume_core.specs.Medium.{Accepts, accepted_by, frame_size, met_fault};
@@ -41,7 +41,7 @@ pub(crate) fn accept_over<D: Disk>(
         Some(cause) => return Err(MediumError::Refused(cause)),
         None => {}
     }
-    if change.frame_size() > cartridge.room() - pending.frame_bytes() {
+    if !has_room_over(cartridge, pending, change.frame_size()) {
         return Err(MediumError::SideFull);
     }
     make_way(cartridge, pending, &change)?;
@@ -51,6 +51,14 @@ pub(crate) fn accept_over<D: Disk>(
         Ok(()) => Ok(()),
         Err(NoMemory) => Err(MediumError::NoMemory),
     }
+}
+
+// Whether a frame more of this many bytes has room on the side, beside what is pending.
+pub(crate) fn has_room_over<D: Disk>(cartridge: &Cartridge<D>, pending: &Pending, size: u64) -> bool
+    requires { IsPendingOver cartridge.now pending.now }
+    ensures { IsTrue result ↔ sum_by frame_size pending.now + size ≤ cartridge.now.room }
+{
+    size <= cartridge.room() - pending.frame_bytes()
 }
 
 // Makes way for a change more among what is pending: where that would pass a limit, all is stored.

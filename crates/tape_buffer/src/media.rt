@@ -6,7 +6,7 @@ ghost use Rattle.volume_core.specs.Medium.{Wakes, met_fault};
 ghost use Rattle.tape_buffer.specs.State.{IsSettledIn, state_of};
 ghost use Rattle.tape_buffer.specs.Moves.{LeavesAlone, buffer_below};
 
-use crate::adding::accept_over;
+use crate::adding::{accept_over, has_room_over};
 use crate::buffered::Buffered;
 use crate::closing::{park_over, wake_closed};
 use crate::fetching::fetch_over;
@@ -104,6 +104,16 @@ impl<D: Disk> Medium for Buffered<D> {
                 }
             },
             Holding::Open(_other) => unreachable!(),
+            Holding::Between => unreachable!(),
+        }
+    }
+
+    fn has_room_for(&self, bytes: u32) -> bool {
+        match &self.held {
+            Holding::Open(cartridge) => {
+                has_room_over(cartridge, &self.pending, 15 + bytes as u64)
+            }
+            Holding::Closed(_) => unreachable!(),
             Holding::Between => unreachable!(),
         }
     }

@@ -5,7 +5,7 @@ use Rattle.volume_core.specs.Medium.{volume_of}
 use Rattle.cartridge.specs.Contents.{volume_made}
 use Rattle.tape_buffer.specs.State.{open_buffer, open_state}
 use Rattle.tape_buffer.proofs.CoreLemmas.{rests}
-use Rattle.tape_buffer.proofs.AddingLemmas.{accepts_more, advances_more}
+use Rattle.tape_buffer.proofs.AddingLemmas.{accepts_more, advances_more, fits_more}
 use Rattle.tape_buffer.proofs.adding.accept_over.Given.{Over}
 use Rattle.tape_buffer.proofs.adding.accept_over.Goals as goal
 
@@ -19,9 +19,9 @@ returns-in-Some-clause-advances g c =
     rests g.D.Disk.state g.met.D.Disk.is_disk
     (open_buffer c.args.cartridge.now c.args.pending.now)
 
-pub returns-then-frame_size-room-clause-advances :
-    goal.returns-then-frame_size-room-clause-advances
-returns-then-frame_size-room-clause-advances g c =
+pub returns-then-not-has_room_over-clause-advances :
+    goal.returns-then-not-has_room_over-clause-advances
+returns-then-not-has_room_over-clause-advances g c =
     rests g.D.Disk.state g.met.D.Disk.is_disk
     (open_buffer c.args.cartridge.now c.args.pending.now)
 
@@ -37,6 +37,8 @@ returns-in-Ok-clause-answer g c =
     c.make_way.new.pending c.add_over.new.pending c.args.change c.in_ok-make_way.ensures.answer
     c.in_ok-make_way.ensures.stores c.in-Ok.ensures.same c.in-Ok.ensures.ok (unrefused g c)
     (sym c.has_failed.ensures ∙ c.if-has_failed.false)
+    (fits_more c.args.cartridge.now.room c.frame_size.result c.has_room_over.result c.args.pending.now c.args.change
+    c.has_room_over.ensures.0 c.frame_size.ensures c.if-not-has_room_over.false)
 
 pub returns-in-Ok-clause-advances : goal.returns-in-Ok-clause-advances
 returns-in-Ok-clause-advances g c =
