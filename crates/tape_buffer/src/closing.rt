@@ -5,6 +5,7 @@ ghost use Rattle.volume_core.specs.declared.media.MediumError.TheVariants as Err
 ghost use Rattle.volume_core.specs.Medium.{Parks, Wakes, met_fault};
 ghost use Rattle.volume_core.specs.Stores.{Stores};
 ghost use Rattle.tape_buffer.specs.State.{IsPendingOver, IsSettledOn, closed_buffer, closed_state, open_buffer, open_state};
+ghost use Rattle.tape_buffer.specs.Frames.{ParksInFrames};
 ghost use Rattle.tape_buffer.specs.Moves.{LeavesAlone, buffer_below};
 ghost use Rattle.tape_buffer.specs.Inner.Waking.{wake_error_of};
 
@@ -24,10 +25,12 @@ pub(crate) fn park_over<D: Disk>(
 ) -> Result<Shelved<D>, Cartridge<D>>
     requires { IsPendingOver cartridge pending.old }
     ensures ok { IfOk result (λ shelved. (pending.new ≡ []) × (shelved.known ≡ true)
+        × ParksInFrames cartridge.failed (Ok tt) cartridge.contents.frames pending.old shelved.contents.frames
         × Parks (D.state cartridge.disk).honest (open_state cartridge pending.old) (Ok tt)
         (closed_state D.state shelved)
         × Advances (buffer_below D.state) (open_buffer cartridge pending.old) [] false (closed_buffer shelved)) }
     ensures err { IfErr result (λ broken. IsPendingOver broken pending.new
+        × (broken.contents.frames ≡ cartridge.contents.frames)
         × Parks (D.state cartridge.disk).honest (open_state cartridge pending.old) (Err Errors.Device)
         (open_state broken pending.new)
         × Stores (open_state cartridge pending.old) [] (open_state broken pending.new)
@@ -51,6 +54,7 @@ fn shelve_over<D: Disk>(cartridge: Cartridge<D>, pending: &mut Pending) -> Shelv
     requires at_rest { (pending.old ≡ []) ⊎ (cartridge.failed ≡ true) }
     ensures empty { pending.new ≡ [] }
     ensures known { result.known ≡ true }
+    ensures frames { result.contents.frames ≡ cartridge.contents.frames }
     ensures parks { Parks (D.state cartridge.disk).honest (open_state cartridge pending.old) (Ok tt)
         (closed_state D.state result) }
     ensures advances { Advances (buffer_below D.state) (open_buffer cartridge pending.old) [] false

@@ -1,10 +1,12 @@
 //! The calls of a buffered medium, as a drive makes them.
-ghost use Rattle.std.specs.Prelude.{◌≢◌, [], IfErr};
+ghost use Rattle.std.specs.Prelude.{◌≡◌, ◌≢◌, [], true, IfErr, OnErr};
 ghost use Rattle.vtl_base.specs.Below.{Advances};
 ghost use Rattle.volume_core.specs.declared.media.MediumError.TheVariants as Errors;
-ghost use Rattle.volume_core.specs.Medium.{Wakes, met_fault};
-ghost use Rattle.tape_buffer.specs.State.{IsSettledIn, state_of};
-ghost use Rattle.tape_buffer.specs.Moves.{LeavesAlone, buffer_below};
+ghost use Rattle.volume_core.specs.Medium.{Accepts, Parks, Settles, Turns, Wakes, accepted_by, met_fault, turn_met_fault};
+ghost use Rattle.volume_core.specs.Stores.{Stores};
+ghost use Rattle.tape_buffer.specs.State.{IsSettledIn, disk_in, state_of};
+ghost use Rattle.tape_buffer.specs.Frames.{AcceptsInFrames, IsOneFrame, IsOneFrameIn, ParksInFrames, frames_in};
+ghost use Rattle.tape_buffer.specs.Moves.{HonestOn, LeavesAlone, buffer_below};
 
 use crate::adding::{accept_over, has_room_over};
 use crate::buffered::Buffered;
@@ -25,7 +27,18 @@ impl<D: Disk> Medium for Buffered<D> {
 
     ghost below = { buffer_below D.state };
 
-    fn accept(&mut self, change: Change) -> Result<(), MediumError> {
+    // The trait's clauses, and which frames are stored on the way: none while the change may wait beside what is
+    // pending, else one.
+    fn accept(&mut self, change: Change) -> Result<(), MediumError>
+        requires { (state_of D.state self.old).awake ≡ true }
+        ensures answer { Accepts (state_of D.state self.old) change result (state_of D.state self.new) }
+        ensures frames { AcceptsInFrames change result (frames_in self.old) self.old.pending
+            (frames_in self.new) self.new.pending }
+        ensures stores { Stores (state_of D.state self.old) (accepted_by result change)
+            (state_of D.state self.new) }
+        ensures advances { Advances (buffer_below D.state) self.old (accepted_by result change) (met_fault result)
+            self.new }
+    {
         match &mut self.held {
             Holding::Open(cartridge) => accept_over(cartridge, &mut self.pending, change),
             Holding::Closed(_) => unreachable!(),
@@ -43,7 +56,14 @@ impl<D: Disk> Medium for Buffered<D> {
         }
     }
 
-    fn settle(&mut self) -> Result<(), MediumError> {
+    // The trait's clauses, and that all that is pending is stored as one frame.
+    fn settle(&mut self) -> Result<(), MediumError>
+        requires { (state_of D.state self.old).awake ≡ true }
+        ensures answer { Settles (state_of D.state self.old) result (state_of D.state self.new) }
+        ensures frame { IsOneFrame result (frames_in self.old) self.old.pending (frames_in self.new) }
+        ensures stores { Stores (state_of D.state self.old) [] (state_of D.state self.new) }
+        ensures advances { Advances (buffer_below D.state) self.old [] (met_fault result) self.new }
+    {
         match &mut self.held {
             Holding::Open(cartridge) => settle_over(cartridge, &mut self.pending),
             Holding::Closed(_) => unreachable!(),
@@ -51,7 +71,14 @@ impl<D: Disk> Medium for Buffered<D> {
         }
     }
 
-    fn flush_turn(&mut self) -> Turn {
+    // The trait's clauses, and that all that is pending is stored as one frame.
+    fn flush_turn(&mut self) -> Turn
+        requires { (state_of D.state self.old).awake ≡ true }
+        ensures answer { Turns (state_of D.state self.old) result (state_of D.state self.new) }
+        ensures frame { IsOneFrameIn result (frames_in self.old) self.old.pending (frames_in self.new) }
+        ensures stores { Stores (state_of D.state self.old) [] (state_of D.state self.new) }
+        ensures advances { Advances (buffer_below D.state) self.old [] (turn_met_fault result) self.new }
+    {
         match &mut self.held {
             Holding::Open(cartridge) => turn_over(cartridge, &mut self.pending),
             Holding::Closed(_) => unreachable!(),
@@ -59,7 +86,16 @@ impl<D: Disk> Medium for Buffered<D> {
         }
     }
 
-    fn park(&mut self) -> Result<(), MediumError> {
+    // The trait's clauses, and that all that is pending is stored as one frame, or nothing of one that has failed.
+    fn park(&mut self) -> Result<(), MediumError>
+        requires { (state_of D.state self.old).awake ≡ true }
+        ensures answer { Parks (HonestOn D.state (disk_in self.old.held)) (state_of D.state self.old) result
+            (state_of D.state self.new) }
+        ensures frame { ParksInFrames (state_of D.state self.old).failed result (frames_in self.old)
+            self.old.pending (frames_in self.new) }
+        ensures stores { OnErr result (Stores (state_of D.state self.old) [] (state_of D.state self.new)) }
+        ensures advances { Advances (buffer_below D.state) self.old [] (met_fault result) self.new }
+    {
         match mem::replace(&mut self.held, Holding::Between) {
             Holding::Open(cartridge) => match park_over(cartridge, &mut self.pending) {
                 Ok(shelved) => {
