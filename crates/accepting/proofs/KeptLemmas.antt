@@ -1,64 +1,105 @@
 -- Each step keeps what was acknowledged.
-use Rattle.std.proofs.Common.{◌≡◌, ℕ, ◌≤◌, List, [], ◌∷◌, ◌++◌, length, take, drop, refl, sym, ◌∙◌, ap, subst, arith, ⊎_elim, length-append}
+use Rattle.std.specs.Prelude.{suc, ◌⊎◌, false, true}
+use Rattle.std.proofs.Common.{◌≡◌, ℕ, ◌+◌, inl, inr, ◌≤◌, List, [], ◌∷◌, ◌++◌, length, take, drop, refl, sym, ◌∙◌, ap, subst, arith, ⊎_elim, length-append}
 use Rattle.std.proofs.lemmas.List.{take-append-drop, take-append-le, take-take, length-take-le, take_all}
-use Rattle.tape_disk.specs.Disk.{DiskState, Each}
-use Rattle.tape_disk.specs.Moments.{LeavesOnly, weakened}
-use Rattle.accepting.specs.Core.{Rules, Core, CoreStep, Accept, Store, Safe, Ack, Fault, Stop, IsCore, IsPrefix, CanAcknowledge, StepsTo, AllStepTo}
+use Rattle.accepting.specs.Device.{Device, IsDevice}
+use Rattle.accepting.specs.Core.{Rules, Core, CoreStep, Accept, Store, Safe, Ack, Fault, Stop, Rebase, IsCore, IsPrefix, IsKept, KeptThrough, CanAcknowledge, NeverRebases, StepsTo, AllStepTo, kept_begins, stopped}
 use Rattle.accepting.specs.Events.{CoreMoves, GivesAcknowledged, IsEvent, ShowsCore, ShowsBetween}
 
 module _ (rules : Rules) where
   -- these were accepted first, and are safe; all is carried out from there
-  pub record Holds (base : rules.Base) (xs : List rules.Item) (s : Core rules.Base rules.Item) : Type 0 where
-    pub core : IsCore s
+  pub record HoldsFirst (base : rules.Base) (xs : List rules.Item) (s : Core rules.Base rules.Item) : Type 0 where
     pub safe : length xs ≤ s.safe
     pub first : take (length xs) s.accepted ≡ xs
     pub base_is : s.base ≡ base
 
+  -- these went into what all is carried out from
+  abbrev HoldsBelow : rules.Base → List rules.Item → Core rules.Base rules.Item → Type 0
+  HoldsBelow base xs s =
+      (n : ℕ) × (mid : rules.Base) × (more : List rules.Item)
+      × KeptThrough rules n base xs mid more × rules.rebases mid more s.base
+
+  -- these are kept: accepted first and safe, or below
+  pub record Holds (base : rules.Base) (xs : List rules.Item) (s : Core rules.Base rules.Item) : Type 0 where
+    pub core : IsCore s
+    pub held : HoldsFirst base xs s ⊎ HoldsBelow base xs s
+
+  -- a step that leaves what all is carried out from
+  stays : (base : rules.Base) (xs : List rules.Item) (s t : Core rules.Base rules.Item) → IsCore t
+      → t.base ≡ s.base → (length xs ≤ s.safe → length xs ≤ t.safe)
+      → (length xs ≤ s.safe → take (length xs) t.accepted ≡ take (length xs) s.accepted)
+      → Holds base xs s → Holds base xs t
+  stays base xs s t core same safe first h =
+      record {
+        core = core;
+        held =
+            ⊎_elim
+            (λ (f : HoldsFirst base xs s). inl (record {
+              safe = safe f.safe;
+              first = first f.safe ∙ f.first;
+              base_is = same ∙ f.base_is;
+            }))
+            (λ (b : HoldsBelow base xs s). inr (
+              b.0,
+              b.1,
+              b.2,
+              b.3,
+              subst (λ (x : rules.Base). rules.rebases b.1 b.2 x) (sym same) b.4,
+            ))
+            h.held;
+      }
+
   step_holds : (base : rules.Base) (xs : List rules.Item) (s t : Core rules.Base rules.Item)
       (step : CoreStep rules.Item) → StepsTo rules s step t → Holds base xs s → Holds base xs t
   step_holds base xs s t (Accept c) to h =
-      subst (Holds base xs) (sym to.3) (record {
-        core = record { safe = h.core.safe; stored = omega (arith, h.core.stored, length-append s.accepted (c ∷ [])) };
-        safe = h.safe;
-        first =
-            take-append-le (length xs) s.accepted (c ∷ []) (omega (arith, h.safe, h.core.safe, h.core.stored))
-            ∙ h.first;
-        base_is = h.base_is;
-      })
+      subst (Holds base xs) (sym to.3)
+      (stays base xs s (record s { accepted = s.accepted ++ c ∷ [] })
+      (record { safe = h.core.safe; stored = omega (arith, h.core.stored, length-append s.accepted (c ∷ [])) })
+      refl (λ le. le)
+      (λ le. take-append-le (length xs) s.accepted (c ∷ []) (omega (arith, le, h.core.safe, h.core.stored))) h)
   step_holds base xs s t (Store k) to h =
-      subst (Holds base xs) (sym to.3) (record {
-        core = record { safe = omega (arith, h.core.safe); stored = to.2 };
-        safe = h.safe;
-        first = h.first;
-        base_is = h.base_is;
-      })
+      subst (Holds base xs) (sym to.3)
+      (stays base xs s (record s { stored = s.stored + k })
+      (record { safe = omega (arith, h.core.safe); stored = to.2 })
+      refl (λ le. le) (λ le. refl) h)
   step_holds base xs s t Safe to h =
-      subst (Holds base xs) (sym to.1) (record {
-        core = record { safe = omega arith; stored = h.core.stored };
-        safe = omega (arith, h.safe, h.core.safe);
-        first = h.first;
-        base_is = h.base_is;
-      })
+      subst (Holds base xs) (sym to.1)
+      (stays base xs s (record s { safe = s.stored; recovering = false })
+      (record { safe = omega arith; stored = h.core.stored }) refl (λ le. omega (arith, le, h.core.safe))
+      (λ le. refl) h)
   step_holds base xs s t Ack to h = subst (Holds base xs) (sym to.1) h
   step_holds base xs s t Fault to h =
-      subst (Holds base xs) (sym to) (record {
-        core = record { safe = h.core.safe; stored = h.core.stored };
-        safe = h.safe;
-        first = h.first;
-        base_is = h.base_is;
-      })
+      subst (Holds base xs) (sym to)
+      (stays base xs s (record s { fault = true }) (record { safe = h.core.safe; stored = h.core.stored }) refl
+      (λ le. le) (λ le. refl) h)
   step_holds base xs s t (Stop k) to h =
       let low : s.safe ≤ k =
       ⊎_elim (λ (e : k ≡ s.safe). omega arith) (λ (e : k ≡ s.stored). omega (arith, h.core.safe)) to.0 in
       let high : k ≤ length s.accepted =
       ⊎_elim (λ (e : k ≡ s.safe). omega (arith, h.core.safe, h.core.stored))
       (λ (e : k ≡ s.stored). omega (arith, h.core.stored)) to.0 in
-      subst (Holds base xs) (sym to.1) (record {
-        core = record { safe = low; stored = omega (arith, length-take-le k s.accepted high) };
-        safe = h.safe;
-        first = take-take (length xs) k s.accepted (omega (arith, h.safe, low)) ∙ h.first;
-        base_is = h.base_is;
+      subst (Holds base xs) (sym to.1)
+      (stays base xs s (stopped k s)
+      (record { safe = low; stored = omega (arith, length-take-le k s.accepted high) })
+      refl (λ le. le) (λ le. take-take (length xs) k s.accepted (omega (arith, le, low))) h)
+  step_holds base xs s t Rebase to h =
+      subst (Holds base xs) (sym to.1.2)
+      (record {
+        core = record { safe = omega arith; stored = omega arith };
+        held =
+            ⊎_elim
+            (λ (f : HoldsFirst base xs s). inr (0, s.base, s.accepted, (f.base_is, prefix f), to.1.1))
+            (λ (b : HoldsBelow base xs s). inr (suc b.0, s.base, s.accepted, (b.1, b.2, b.3, b.4), to.1.1))
+            h.held;
       })
+    where
+      prefix : HoldsFirst base xs s → IsPrefix xs s.accepted
+      prefix f = (
+        drop (length xs) s.accepted,
+        sym
+            (ap (λ (l : List rules.Item). l ++ drop (length xs) s.accepted) (sym f.first)
+            ∙ take-append-drop (length xs) s.accepted),
+      )
 
   pub steps_hold : (base : rules.Base) (xs : List rules.Item) (s t : Core rules.Base rules.Item)
       (steps : List (CoreStep rules.Item)) → AllStepTo rules s steps t → Holds base xs s → Holds base xs t
@@ -67,73 +108,99 @@ module _ (rules : Rules) where
       steps_hold base xs run.0 t steps run.2 (step_holds base xs s run.0 step run.1 h)
 
   holds_nothing : (s : Core rules.Base rules.Item) → IsCore s → Holds s.base [] s
-  holds_nothing s core = record { core = core; safe = omega arith; first = refl; base_is = refl }
+  holds_nothing s core =
+      record { core = core; held = inl (record { safe = omega arith; first = refl; base_is = refl }) }
 
-  pub keeps_core : (old new : Core rules.Base rules.Item) (steps : List (CoreStep rules.Item))
-      → IsCore old → AllStepTo rules old steps new → IsCore new × (new.base ≡ old.base)
-  keeps_core old new steps core run =
-      let h = steps_hold old.base [] old new steps run (holds_nothing old core) in (h.core, h.base_is)
+  held_core : (old new : Core rules.Base rules.Item) (steps : List (CoreStep rules.Item))
+      → IsCore old → AllStepTo rules old steps new → IsCore new
+  held_core old new steps core run =
+      (steps_hold old.base [] old new steps run (holds_nothing old core)).core
 
   holds_all : (s : Core rules.Base rules.Item) → IsCore s → length s.accepted ≤ s.safe
       → Holds s.base s.accepted s
   holds_all s core all =
       record {
         core = core;
-        safe = all;
-        first = take_all (length s.accepted) s.accepted (omega arith);
-        base_is = refl;
+        held = inl (record {
+          safe = all;
+          first = take_all (length s.accepted) s.accepted (omega arith);
+          base_is = refl;
+        });
       }
 
-  -- what is held begins each first part that has what is safe
+  -- what is held is kept in each first part that has what is safe
   begins : (base : rules.Base) (xs : List rules.Item) (s : Core rules.Base rules.Item) (n : ℕ) → Holds base xs s
-      → s.safe ≤ n → IsPrefix xs (take n s.accepted)
-  begins base xs s n h le = (
-    drop (length xs) (take n s.accepted),
-    sym
-        (ap (λ (l : List rules.Item). l ++ drop (length xs) (take n s.accepted))
-        (sym (take-take (length xs) n s.accepted (omega (arith, h.safe, le)) ∙ h.first))
-        ∙ take-append-drop (length xs) (take n s.accepted)),
-  )
+      → s.safe ≤ n → IsKept rules base xs s.base (take n s.accepted)
+  begins base xs s n h le =
+      ⊎_elim
+      (λ (f : HoldsFirst base xs s). (
+        0,
+        (
+          f.base_is,
+          (
+            drop (length xs) (take n s.accepted),
+            sym
+                (ap (λ (l : List rules.Item). l ++ drop (length xs) (take n s.accepted))
+                (sym (take-take (length xs) n s.accepted (omega (arith, f.safe, le)) ∙ f.first))
+                ∙ take-append-drop (length xs) (take n s.accepted)),
+          ),
+        ),
+      ))
+      (λ (b : HoldsBelow base xs s). (suc b.0, (b.1, b.2, b.3, b.4)))
+      h.held
+
+  -- in all of it too
+  begins_all : (base : rules.Base) (xs : List rules.Item) (s : Core rules.Base rules.Item) → Holds base xs s
+      → IsKept rules base xs s.base s.accepted
+  begins_all base xs s h =
+      subst (λ (l : List rules.Item). IsKept rules base xs s.base l)
+      (take_all (length s.accepted) s.accepted (omega arith))
+      (begins base xs s (length s.accepted) h (omega (arith, h.core.safe, h.core.stored)))
+
+  pub keeps_core : (old new : Core rules.Base rules.Item) (steps : List (CoreStep rules.Item))
+      → IsCore old → AllStepTo rules old steps new → IsCore new × (NeverRebases rules → new.base ≡ old.base)
+  keeps_core old new steps core run =
+      let h = steps_hold old.base [] old new steps run (holds_nothing old core) in (
+        h.core,
+        λ never. (kept_begins rules never old.base new.base [] new.accepted (begins_all old.base [] new h)).0,
+      )
 
   pub acknowledged_is_kept : (first acked last : Core rules.Base rules.Item)
       (before after : List (CoreStep rules.Item))
       → IsCore first → AllStepTo rules first before acked → AllStepTo rules acked (Ack ∷ after) last
-      → IsPrefix acked.accepted last.accepted
+      → IsKept rules acked.base acked.accepted last.base last.accepted
   acknowledged_is_kept first acked last before after core to from =
-      let here = (keeps_core first acked before core to).0 in
+      let here = held_core first acked before core to in
       let held = holds_all acked here (omega (arith, from.1.0.1)) in
-      let end =
-      steps_hold acked.base acked.accepted from.0 last after from.2
-      (step_holds acked.base acked.accepted acked from.0 Ack from.1 held) in
-      let part = begins acked.base acked.accepted last (length last.accepted) end
-      (omega (arith, end.core.safe, end.core.stored)) in
-      (part.0, sym (take_all (length last.accepted) last.accepted (omega arith)) ∙ part.1)
+      begins_all acked.base acked.accepted last
+      (steps_hold acked.base acked.accepted from.0 last after from.2
+      (step_holds acked.base acked.accepted acked from.0 Ack from.1 held))
 
   pub safe_is_kept : (old new : Core rules.Base rules.Item) (steps : List (CoreStep rules.Item))
-      → IsCore old → AllStepTo rules old steps new → IsPrefix (take old.safe old.accepted) new.accepted
+      → IsCore old → AllStepTo rules old steps new
+      → IsKept rules old.base (take old.safe old.accepted) new.base new.accepted
   safe_is_kept old new steps core run =
       let fits : old.safe ≤ length old.accepted = omega (arith, core.safe, core.stored) in
       let len = length-take-le old.safe old.accepted fits in
       let held : Holds old.base (take old.safe old.accepted) old =
       record {
         core = core;
-        safe = omega (arith, len);
-        first = ap (λ (n : ℕ). take n old.accepted) len;
-        base_is = refl;
+        held = inl (record {
+          safe = omega (arith, len);
+          first = ap (λ (n : ℕ). take n old.accepted) len;
+          base_is = refl;
+        });
       } in
-      let end = steps_hold old.base (take old.safe old.accepted) old new steps run held in
-      let part = begins old.base (take old.safe old.accepted) new (length new.accepted) end
-      (omega (arith, end.core.safe, end.core.stored)) in
-      (part.0, sym (take_all (length new.accepted) new.accepted (omega arith)) ∙ part.1)
+      begins_all old.base (take old.safe old.accepted) new
+      (steps_hold old.base (take old.safe old.accepted) old new steps run held)
 
   -- an image of a core between gives what was acknowledged
-  gives_acknowledged : (old : Core rules.Base rules.Item) (steps : List (CoreStep rules.Item)) (image : List ℕ)
+  gives_acknowledged : (old : Core rules.Base rules.Item) (steps : List (CoreStep rules.Item)) (image : rules.Image)
       → IsCore old → CanAcknowledge old → ShowsBetween rules old steps image → GivesAcknowledged rules old steps image
   gives_acknowledged old steps image core can shows =
       let held =
       steps_hold old.base old.accepted old shows.1 (take shows.0 steps) shows.2
       (holds_all old core (omega (arith, can.1))) in
-      let base = λ (n : ℕ). λ (base : rules.Base). rules.gives base (take n shows.1.accepted) image in
       ⊎_elim
       (λ g. record {
         count = shows.0;
@@ -141,7 +208,7 @@ module _ (rules : Rules) where
         leads = shows.2;
         kept = shows.1.safe;
         acknowledged = begins old.base old.accepted shows.1 shows.1.safe held (omega arith);
-        gives = subst (base shows.1.safe) held.base_is g;
+        gives = g;
       })
       (λ g. record {
         count = shows.0;
@@ -149,18 +216,19 @@ module _ (rules : Rules) where
         leads = shows.2;
         kept = shows.1.stored;
         acknowledged = begins old.base old.accepted shows.1 shows.1.stored held held.core.safe;
-        gives = subst (base shows.1.stored) held.base_is g;
+        gives = g;
       })
       shows.3
 
-  pub crash_keeps : (disk disk' : DiskState) (old new : Core rules.Base rules.Item) (made : List rules.Item)
-      → disk.honest → IsCore old → CanAcknowledge old → Each disk (ShowsCore rules old)
-      → CoreMoves rules disk disk' old new made
-      → (event : IsEvent rules disk disk' old new made)
-      × LeavesOnly disk disk' (GivesAcknowledged rules old event.steps)
+module _ (rules : Rules) (device : Device rules.Image) (laws : IsDevice device) where
+  pub crash_keeps : (disk disk' : device.State) (old new : Core rules.Base rules.Item) (made : List rules.Item)
+      → device.honest disk → IsCore old → CanAcknowledge old → device.each disk (ShowsCore rules old)
+      → CoreMoves rules device disk disk' old new made
+      → (event : IsEvent rules device disk disk' old new made)
+      × device.leaves disk disk' (GivesAcknowledged rules old event.steps)
   crash_keeps disk disk' old new made honest core can shows moves =
       let event = (moves.goes honest shows).0 in (
         event,
-        weakened disk disk' (ShowsBetween rules old event.steps) (GivesAcknowledged rules old event.steps)
-            event.moments (λ image s. gives_acknowledged old event.steps image core can s),
+        laws.weakened disk disk' (ShowsBetween rules old event.steps) (GivesAcknowledged rules old event.steps)
+            event.moments (λ image s. gives_acknowledged rules old event.steps image core can s),
       )

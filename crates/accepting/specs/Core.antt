@@ -1,15 +1,19 @@
 -- What was accepted, how much of it is stored and how much is safe; and the steps by which that goes on.
-use Rattle.std.specs.Prelude.{◌≡◌, ◌⊎◌, ℕ, ◌+◌, ◌≤◌, List, [], ◌∷◌, ◌++◌, length, take, drop, Bool, true, false, IsTrue}
+use Rattle.std.specs.Prelude.{◌≡◌, ◌⊎◌, ℕ, zero, suc, ◌+◌, ◌≤◌, List, [], ◌∷◌, ◌++◌, length, take, drop, Bool, true, false, IsTrue}
 
 -- What is accepted, and what an image gives: changes of a cartridge, say, or states of a reservation store (own).
 pub record Rules : Type 1 where
   -- what all is carried out from: the side as it was made, with its heading
   pub Base : Type 0
   pub Item : Type 0
+  -- what a crash leaves of the device
+  pub Image : Type 0
   -- the item applies behind these, all carried out from there
   pub applies : Base → List Item → Item → Bool
   -- what is found on the image is just these, in order, all carried out from there
-  pub gives : Base → List Item → List ℕ → Type 0
+  pub gives : Base → List Item → Image → Type 0
+  -- these, all carried out from there, may go into the other, from which the next ones are then carried out
+  pub rebases : Base → List Item → Base → Type 0
 
 -- What was accepted, and how far it got (own).
 pub record Core (S C : Type 0) : Type 0 where
@@ -43,6 +47,8 @@ pub data CoreStep (C : Type 0) : Type 0 where
   Fault : CoreStep C
   -- a stop leaves so many
   Stop : (kept : ℕ) → CoreStep C
+  -- all that was accepted goes into what the next ones are carried out from
+  Rebase : CoreStep C
 
 -- the second begins with the first (own)
 abbrev pub IsPrefix : {C : Type 0} → List C → List C → Type 0
@@ -57,6 +63,7 @@ accepted_in (Safe ∷ steps) = accepted_in steps
 accepted_in (Ack ∷ steps) = accepted_in steps
 accepted_in (Fault ∷ steps) = accepted_in steps
 accepted_in (Stop kept ∷ steps) = accepted_in steps
+accepted_in (Rebase ∷ steps) = accepted_in steps
 
 module _ {S C : Type 0} where
   -- what is safe is stored, and what is stored was accepted (own)
@@ -129,9 +136,14 @@ module _ {S C : Type 0} where
         recovering = true;
       }
 
+  -- all that was accepted went into this, from which the next ones are carried out (own)
+  abbrev pub rebased : S → Core S C → Core S C
+  rebased base core = record core { base = base; accepted = []; stored = 0; safe = 0 }
+
 module _ (rules : Rules) where
   -- One step leads from old to new. Nothing is accepted after a fault, or after a stop until what was found is safe;
-  -- nothing is stored while something is in flight; a stop leaves what is safe or what is stored (own).
+  -- nothing is stored while something is in flight; a stop leaves what is safe or what is stored; what is carried out
+  -- from changes only where all may be acknowledged (own).
   abbrev pub StepsTo : Core rules.Base rules.Item → CoreStep rules.Item → Core rules.Base rules.Item → Type 0
   StepsTo old (Accept item) new =
       (old.fault ≡ false) × (old.recovering ≡ false) × IsTrue (rules.applies old.base old.accepted item)
@@ -145,9 +157,50 @@ module _ (rules : Rules) where
   StepsTo old Ack new = CanAcknowledge old × (new ≡ old)
   StepsTo old Fault new = new ≡ record old { fault = true }
   StepsTo old (Stop kept) new = ((kept ≡ old.safe) ⊎ (kept ≡ old.stored)) × (new ≡ stopped kept old)
+  StepsTo old Rebase new =
+      CanAcknowledge old
+      × ((base : rules.Base) × rules.rebases old.base old.accepted base × (new ≡ rebased base old))
 
   -- steps in a row lead from old to new (own)
   abbrev pub AllStepTo : Core rules.Base rules.Item → List (CoreStep rules.Item) → Core rules.Base rules.Item → Type 0
   AllStepTo old [] new = new ≡ old
   AllStepTo old (step ∷ steps) new =
       (between : Core rules.Base rules.Item) × StepsTo old step between × AllStepTo between steps new
+
+  -- These, carried out from the first, are kept in the others, carried out from the second: they begin them, where the
+  -- two are the same; or they begin what went into something from which the second came by so many changes (own).
+  abbrev pub KeptThrough : ℕ → rules.Base → List rules.Item → rules.Base → List rules.Item → Type 0
+  KeptThrough zero base items base' items' = (base' ≡ base) × IsPrefix items items'
+  KeptThrough (suc n) base items base' items' =
+      (mid : rules.Base) × (more : List rules.Item)
+      × KeptThrough n base items mid more × rules.rebases mid more base'
+
+  -- these are kept in the others, however often what is carried out from has changed since (own)
+  abbrev pub IsKept : rules.Base → List rules.Item → rules.Base → List rules.Item → Type 0
+  IsKept base items base' items' = (n : ℕ) × KeptThrough n base items base' items'
+
+  -- what all is carried out from never changes (own)
+  abbrev pub NeverRebases : Type 0
+  NeverRebases = (base base' : rules.Base) (items : List rules.Item) → rules.rebases base items base' → ⊥
+
+  -- where it never changes, what is kept begins what is accepted
+  pub kept_begins : NeverRebases → (base base' : rules.Base) (items items' : List rules.Item)
+      → IsKept base items base' items' → (base' ≡ base) × IsPrefix items items'
+  kept_begins never base base' items items' (zero, kept) = kept
+  kept_begins never base base' items items' (suc n, kept) = absurd (never kept.0 base' kept.1 kept.3)
+
+  -- What may come in a call, in which the device failed or did not: it fails only where it did, and a stop comes only
+  -- after a fault, or while what an earlier stop left is not yet made safe, or where all that was accepted is safe
+  -- (own).
+  abbrev pub MayCome : Type 0 → Core rules.Base rules.Item → CoreStep rules.Item → Type 0
+  MayCome failed core Fault = failed
+  MayCome failed core (Stop kept) =
+      (core.fault ≡ true) ⊎ (core.recovering ≡ true) ⊎ (core.safe ≡ length core.accepted)
+  MayCome failed core _ = Unit {0}
+
+  -- each of these steps may come in a call (own)
+  abbrev pub AllMayCome : Type 0 → (old : Core rules.Base rules.Item) (steps : List (CoreStep rules.Item))
+      (new : Core rules.Base rules.Item) → AllStepTo old steps new → Type 0
+  AllMayCome failed old [] new leads = Unit {0}
+  AllMayCome failed old (step ∷ steps) new leads =
+      MayCome failed old step × AllMayCome failed leads.0 steps new leads.2

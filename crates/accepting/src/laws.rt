@@ -1,32 +1,41 @@
 //! Laws of what accepts. Each is a function that does nothing, and its contract is the law.
-ghost use Rattle.accepting.specs.Laws.{AcknowledgedIsKept, CrashesKeepAcknowledged, MovesAppend, NothingMoves, SafeIsKept, StepsKeepCores};
+ghost use Rattle.accepting.specs.Laws.{AcknowledgedIsKept, CallsDropNothing, CrashesKeepAcknowledged, KeptBegins, MovesAppend, NothingMoves, SafeIsKept, StepsKeepCores};
 
 use crate::accepting::Accepting;
-use tape_disk::Disk;
 
-/// What was acknowledged begins whatever is accepted later, over any number of stops and faults.
+/// What was acknowledged is kept in whatever is accepted later, over any number of stops and faults.
 pub fn what_was_acknowledged_is_kept<A: Accepting>()
     ensures { AcknowledgedIsKept A.rules }
 {}
 
-/// What is safe begins whatever is accepted later, over any number of stops and faults.
+/// What is safe is kept in whatever is accepted later, over any number of stops and faults.
 pub fn what_is_safe_is_kept<A: Accepting>()
     ensures { SafeIsKept A.rules }
 {}
 
-/// Steps leave a core well-formed, and leave what all is carried out from.
+/// Where what all is carried out from never changes, what is kept begins what is accepted.
+pub fn what_is_kept_begins<A: Accepting>()
+    ensures { KeptBegins A.rules }
+{}
+
+/// Steps leave a core well-formed, and leave what all is carried out from where that never changes.
 pub fn steps_keep_cores<A: Accepting>()
     ensures { StepsKeepCores A.rules }
 {}
 
 /// Nothing done accepts nothing, and what is done in a row appends what it accepts.
-pub fn moves_append<A: Accepting, D: Disk>()
-    ensures nothing { NothingMoves A.rules D.state }
-    ensures in_a_row { MovesAppend A.rules D.state }
+pub fn moves_append<A: Accepting>()
+    ensures nothing { NothingMoves A.rules A.device }
+    ensures in_a_row { MovesAppend A.rules A.device }
 {}
 
 /// After an acknowledgement a crash, at any moment of whatever is done then, leaves all that was
 /// acknowledged.
-pub fn a_crash_leaves_what_was_acknowledged<A: Accepting, D: Disk>()
-    ensures { CrashesKeepAcknowledged A.rules D.state }
+pub fn a_crash_leaves_what_was_acknowledged<A: Accepting>()
+    ensures { CrashesKeepAcknowledged A.rules A.device }
+{}
+
+/// A call in which the device does not fail, from where it works, drops nothing that was accepted.
+pub fn calls_drop_nothing<A: Accepting>()
+    ensures { CallsDropNothing A.rules A.device }
 {}

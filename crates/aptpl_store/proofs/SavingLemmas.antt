@@ -10,6 +10,7 @@ use Rattle.gate_journal.specs.Crash.{WithOrWithout}
 use Rattle.gate_journal.specs.Side.{Heading, StandsFor}
 use Rattle.gate_journal.specs.State.{OpenSide, room_behind}
 use Rattle.accepting.specs.Core.{Core, IsCore, settled, with_item}
+use Rattle.accepting.specs.Device.{IsDevice, one_disk, one_is_device, one_keeps}
 use Rattle.accepting.specs.Events.{CoreMoves, core_moves_nowhere, core_moves_on}
 use Rattle.accepting.specs.Kinds.{GivesSoMany, moves_accepting, moves_failing, moves_storing}
 use Rattle.pr_core.specs.declared.states.PrState.{PrState}
@@ -58,17 +59,24 @@ frame_of state body savable is =
 core_is : (heading : Heading) (states : List PrState) → IsCore (core_with heading states None)
 core_is heading states = record { safe = omega arith; stored = omega arith }
 
-module _ (disk disk' : DiskState) (is_disk : disk.honest → IsDisk disk) (keeps : Keeps disk disk')
+module _ {D : Type 0} (device : D → DiskState) (is_disk : (d : D) → (device d).honest → IsDisk (device d))
+    (disk disk' : D) (keeps : Keeps (device disk) (device disk'))
     (heading : Heading) (states : List PrState) (state : PrState)
-    (leaves : disk.honest → LeavesOnly disk disk' (ShowsStates heading states (Some state))) where
+    (leaves : (device disk).honest
+    → LeavesOnly (device disk) (device disk') (ShowsStates heading states (Some state))) where
   abbrev old : Core Heading PrState
   old = core_with heading states None
 
   abbrev mid : Core Heading PrState
   mid = with_item state old
 
-  accepts : CoreMoves store_rules disk disk old mid (state ∷ [])
-  accepts = moves_accepting store_rules disk old state is_disk (core_is heading states) refl refl refl
+  is_device : IsDevice (one_disk device)
+  is_device = one_is_device device
+
+  accepts : CoreMoves store_rules (one_disk device) disk disk old mid (state ∷ [])
+  accepts =
+      moves_accepting store_rules (one_disk device) is_device disk old state (is_disk disk)
+      (core_is heading states) refl refl refl
 
   counted : length (states ++ state ∷ []) ≡ length states + 1
   counted = omega (arith, length-append states (state ∷ []))
@@ -84,17 +92,20 @@ module _ (disk disk' : DiskState) (is_disk : disk.honest → IsDisk disk) (keeps
   either image (inl gives) = inl (subst (λ (l : List PrState). GivesStates heading l image) (sym before) gives)
   either image (inr gives) = inr (subst (λ (l : List PrState). GivesStates heading l image) (sym after) gives)
 
-  so_many : disk.honest → LeavesOnly disk disk' (GivesSoMany store_rules mid 1)
+  so_many : (device disk).honest → LeavesOnly (device disk) (device disk') (GivesSoMany store_rules mid 1)
   so_many h =
-      weakened disk disk' (ShowsStates heading states (Some state)) (GivesSoMany store_rules mid 1) (leaves h) either
+      weakened (device disk) (device disk') (ShowsStates heading states (Some state)) (GivesSoMany store_rules mid 1)
+      (leaves h) either
 
   -- the state was saved
-  pub moves_saved : (disk.honest → Each disk' (GivesStates heading (states ++ state ∷ [])))
-      → CoreMoves store_rules disk disk' old (core_with heading (states ++ state ∷ []) None) (state ∷ [])
+  pub moves_saved : ((device disk).honest → Each (device disk') (GivesStates heading (states ++ state ∷ [])))
+      → CoreMoves store_rules (one_disk device) disk disk' old (core_with heading (states ++ state ∷ []) None)
+      (state ∷ [])
   moves_saved sure =
-      let stored = moves_storing store_rules disk disk' mid 1 keeps (refl, refl) refl (omega (arith, counted)) so_many
+      let stored = moves_storing store_rules (one_disk device) is_device disk disk' mid 1
+      (one_keeps device disk disk' keeps) (refl, refl) refl (omega (arith, counted)) so_many
       (λ h image left. subst (λ (l : List PrState). GivesStates heading l image) (sym after) (sure h image left)) in
-      subst (λ (core : Core Heading PrState). CoreMoves store_rules disk disk' old core (state ∷ []))
+      subst (λ (core : Core Heading PrState). CoreMoves store_rules (one_disk device) disk disk' old core (state ∷ []))
       (λ i. record {
         base = heading;
         accepted = states ++ state ∷ [];
@@ -104,14 +115,17 @@ module _ (disk disk' : DiskState) (is_disk : disk.honest → IsDisk disk) (keeps
         stuck = false;
         recovering = false;
       })
-      (core_moves_on store_rules disk disk disk' old mid (settled 1 mid) (state ∷ []) [] accepts stored)
+      (core_moves_on store_rules (one_disk device) is_device disk disk disk' old mid (settled 1 mid) (state ∷ []) []
+      accepts stored)
 
   -- the disk failed while it was saved
-  pub moves_broken : (disk'.honest → IsDisk disk')
-      → CoreMoves store_rules disk disk' old (core_with heading states (Some state)) (state ∷ [])
-  moves_broken is_disk' =
-      core_moves_on store_rules disk disk disk' old mid (core_with heading states (Some state)) (state ∷ []) [] accepts
-      (moves_failing store_rules disk disk' mid 1 is_disk' keeps (refl, refl) refl (omega (arith, counted)) so_many)
+  pub moves_broken : (device disk).failures < (device disk').failures
+      → CoreMoves store_rules (one_disk device) disk disk' old (core_with heading states (Some state)) (state ∷ [])
+  moves_broken rose =
+      core_moves_on store_rules (one_disk device) is_device disk disk disk' old mid
+      (core_with heading states (Some state)) (state ∷ []) [] accepts
+      (moves_failing store_rules (one_disk device) is_device disk disk' mid 1 (is_disk disk')
+      (one_keeps device disk disk' keeps) rose (refl, refl) refl (omega (arith, counted)) so_many)
 
 module _ {D : Type 0} (state : D → DiskState) (is_disk : (d : D) → (state d).honest → IsDisk (state d)) where
   -- a store that is the same
@@ -121,7 +135,9 @@ module _ {D : Type 0} (state : D → DiskState) (is_disk : (d : D) → (state d)
       subst (λ (side : OpenSide D). Advances (store_below state) (store_on old notes) [] false (store_on side notes))
       (sym same)
       (advances_nowhere (store_below state)
-      (λ (value : OpenStore D). core_moves_nowhere store_rules (state value.disk) (core_of value) (is_disk value.disk))
+      (λ (value : OpenStore D).
+      core_moves_nowhere store_rules (one_disk state) (one_is_device state) value.disk (core_of value)
+      (is_disk value.disk))
       (store_on old notes))
 
   module _ (old new : OpenSide D) (capacity capacity' : ℕ) (notes : NotedStates)
@@ -184,11 +200,10 @@ module _ {D : Type 0} (state : D → DiskState) (is_disk : (d : D) → (state d)
         broken_advances cause = record {
           moved =
               subst (λ (x : (Heading × NotedStates) × Option PrState).
-              CoreMoves store_rules (state old.disk) (state new.disk) (core_with old.heading notes.states x.1)
+              CoreMoves store_rules (one_disk state) old.disk new.disk (core_with old.heading notes.states x.1)
               (core_with x.0.0 x.0.1.states x.0.1.torn) (saved ∷ []))
               (λ i. ((sym heading_is i, sym notes_are i), sym at_rest i))
-              (moves_broken (state old.disk) (state new.disk) (is_disk old.disk) keeps old.heading notes.states saved
-              shown (is_disk new.disk));
+              (moves_broken state is_disk old.disk new.disk keeps old.heading notes.states saved shown cause);
           counted = cause;
           honesty = (keeps.stays_honest, keeps.was_honest);
         }
@@ -248,7 +263,7 @@ module _ {D : Type 0} (state : D → DiskState) (is_disk : (d : D) → (state d)
         saved_advances none = record {
           moved =
               subst (λ (x : (Heading × NotedStates) × Option PrState).
-              CoreMoves store_rules (state old.disk) (state new.disk) (core_with old.heading notes.states x.1)
+              CoreMoves store_rules (one_disk state) old.disk new.disk (core_with old.heading notes.states x.1)
               (core_with x.0.0 x.0.1.states x.0.1.torn) (saved ∷ []))
               (λ i. (
                 (
@@ -260,8 +275,7 @@ module _ {D : Type 0} (state : D → DiskState) (is_disk : (d : D) → (state d)
                 ),
                 sym at_rest i,
               ))
-              (moves_saved (state old.disk) (state new.disk) (is_disk old.disk) keeps old.heading notes.states saved
-              shown given);
+              (moves_saved state is_disk old.disk new.disk keeps old.heading notes.states saved shown given);
           counted = none;
           honesty = (keeps.stays_honest, keeps.was_honest);
         }

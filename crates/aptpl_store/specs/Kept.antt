@@ -1,22 +1,26 @@
 -- What a store is as a keeper: what it holds, and how it goes on below.
-use Rattle.std.specs.Prelude.{◌+◌, List, [], ◌∷◌, ◌++◌, length, Option, None, Some, true, false}
+use Rattle.std.specs.Prelude.{◌+◌, ℕ, List, [], ◌∷◌, ◌++◌, length, Option, None, Some, true, false}
 use Rattle.vtl_base.specs.Below.{Below}
 use Rattle.tape_disk.specs.Disk.{DiskState}
 use Rattle.gate_journal.specs.Side.{Heading}
 use Rattle.accepting.specs.Core.{Core, Rules}
+use Rattle.accepting.specs.Device.{one_disk}
 use Rattle.accepting.specs.Events.{CoreMoves}
 use Rattle.pr_core.specs.declared.states.PrState.{PrState}
 use Rattle.pr_core.specs.Keepers.{KeeperState}
 use Rattle.aptpl_store.specs.Contents.{GivesStates, latest}
 use Rattle.aptpl_store.specs.State.{OpenStore}
 
--- a store accepts any state, and an image of it gives the states that were saved, in order (own)
+-- A store accepts any state, and an image of it gives the states that were saved, in order; what all is carried out
+-- from never changes (own).
 abbrev pub store_rules : Rules
 store_rules = record {
   Base = Heading;
   Item = PrState;
+  Image = List ℕ;
   applies = λ heading states state. true;
   gives = GivesStates;
+  rebases = λ heading states other. ⊥;
 }
 
 -- how far the saves of a store got: all its states are safe, and the one whose save was under way when the disk failed
@@ -63,7 +67,7 @@ module _ {D : Type 0} where
     -- and its images were those of the old store, each moment between has images of a store between (own).
     abbrev pub StoreMoves : OpenStore D → List PrState → OpenStore D → Type 0
     StoreMoves old made new =
-        CoreMoves store_rules (state old.disk) (state new.disk) (core_of old) (core_of new) made
+        CoreMoves store_rules (one_disk state) old.disk new.disk (core_of old) (core_of new) made
 
     -- what is seen below a store: the failures of its disk, whether it is honest, and its saves (own)
     abbrev pub store_below : Below (OpenStore D) PrState

@@ -17,6 +17,7 @@ use tape_disk::Disk;
 
 impl<D: Disk> Keeper for AptplStore<D> {
     ghost use Rattle.vtl_base.specs.Below.{advances_nowhere};
+    ghost use Rattle.accepting.specs.Device.{one_disk, one_is_device};
     ghost use Rattle.accepting.specs.Events.{core_moves_nowhere, core_moves_on};
     ghost use Rattle.aptpl_store.specs.Kept.{core_of, store_below, store_kept, store_rules};
     ghost use Rattle.aptpl_store.specs.State.{OpenStore};
@@ -63,10 +64,11 @@ impl<D: Disk> Keeper for AptplStore<D> {
 
     ghost advances_nowhere = { λ store. advances_nowhere (store_below D.state)
         (λ (value : OpenStore D).
-        core_moves_nowhere store_rules (D.state value.disk) (core_of value) (D.is_disk value.disk))
+        core_moves_nowhere store_rules (one_disk D.state) (one_is_device D.state) value.disk (core_of value)
+        (D.is_disk value.disk))
         store };
 
     ghost moves_on = { λ a b c first second one two.
-        core_moves_on store_rules (D.state a.disk) (D.state b.disk) (D.state c.disk)
+        core_moves_on store_rules (one_disk D.state) (one_is_device D.state) a.disk b.disk c.disk
         (core_of a) (core_of b) (core_of c) first second one two };
 }

@@ -1,5 +1,5 @@
 //! A drive over a cartridge in a file.
-use crate::drives::{Tape, sure, switched_on};
+use crate::drives::{Tape, switched_on};
 use crate::work::{TEST_UNIT_READY, Timed, writes};
 use cartridge::Cartridge;
 use file_disk::{FileDisk, create};
@@ -20,7 +20,7 @@ fn new_drive(rt: &HostRuntime, path: &str) -> Option<Tape<FileDisk>> {
     let barcode = Barcode::parse(b"T00001L6").ok()?;
     let disk = create(rt, path).ok()?;
     let shelved = Cartridge::create(rt.alloc(), disk, &barcode, &[MAX_CAPACITY]).ok()?;
-    switched_on(rt.alloc(), sure(shelved.into_disk()).ok()?)
+    switched_on(rt.alloc(), shelved.into_disk())
 }
 
 // Whether all these blocks and the last mark were taken.

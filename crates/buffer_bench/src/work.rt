@@ -1,5 +1,5 @@
 //! What is timed.
-use crate::drives::{Tape, sure, switched_on};
+use crate::drives::{Tape, switched_on};
 use scsi_sense::{Reply, Sense, Status};
 use std::alloc::Global;
 use std::time::Instant;
@@ -28,7 +28,7 @@ pub type Timed = (u128, u64);
 
 // A drive with an empty cartridge in memory, and a host that took its power on.
 fn new_drive(alloc: Global) -> Option<(Tape<MemDisk>, Nexus)> {
-    let disk = sure(MemDisk::from_bytes(alloc, &SIDE).ok()?).ok()?;
+    let disk = MemDisk::from_bytes(alloc, &SIDE).ok()?;
     let mut drive = switched_on(alloc, disk)?;
     let host = Nexus::new(1)?;
     let _ = drive.execute(host, &TEST_UNIT_READY, &[]);

@@ -75,7 +75,7 @@ static CASES: &'static [Case<'static>] = &[
     (TWO_STAND, ERASE, NONE, GOOD, b"ab", b""),
 ];
 
-// A drive with an empty tape, of whose disk the call after so many fails. Five calls switch it on, and four store
+// A drive with an empty tape, of whose disk the call after so many fails. Four calls switch it on, and four store
 // what stands before a case's command.
 fn failing(
     rt: &impl Abort,
@@ -122,8 +122,8 @@ fn storing(rt: &impl Abort, alloc: Global, case: &Case, calls: u64) -> Result<()
     let (_, _, _, _, without, with) = *case;
     let mut drive = failing(rt, alloc, EMPTY, calls)?;
     match calls {
-        13 => passes(rt, &mut drive, case),
-        12 => fails(rt, &mut drive, case, with),
+        12 => passes(rt, &mut drive, case),
+        11 => fails(rt, &mut drive, case, with),
         _ => fails(rt, &mut drive, case, without),
     }
     Ok(())
@@ -132,7 +132,7 @@ fn storing(rt: &impl Abort, alloc: Global, case: &Case, calls: u64) -> Result<()
 #[test]
 fn a_fault_at_each_call_of_a_storing(rt: HostRuntime) -> Result<(), Fail> {
     for case in CASES {
-        for calls in 9..14 {
+        for calls in 8..13 {
             storing(&rt, rt.alloc(), case, calls)?;
         }
     }
@@ -188,7 +188,7 @@ fn turn_fails<D: Disk + Drop>(rt: &impl Abort, drive: &mut Tape<D>, told: &[Row]
 
 fn turns(rt: &impl Abort, alloc: Global, calls: u64, told: &[Row]) -> Result<(), Fail> {
     let mut drive = failing(rt, alloc, EMPTY, calls)?;
-    let holds: &[u8] = if calls == 12 { b"ab" } else { b"a" };
+    let holds: &[u8] = if calls == 11 { b"ab" } else { b"a" };
     turn_fails(rt, &mut drive, told, holds);
     Ok(())
 }
@@ -196,7 +196,7 @@ fn turns(rt: &impl Abort, alloc: Global, calls: u64, told: &[Row]) -> Result<(),
 #[test]
 fn a_fault_at_each_call_of_a_turn(rt: HostRuntime) -> Result<(), Fail> {
     let alloc = rt.alloc();
-    for calls in 9..13 {
+    for calls in 8..12 {
         turns(&rt, alloc, calls, TOLD_ONCE)?;
         turns(&rt, alloc, calls, TOLD_TO_A_READ)?;
         turns(&rt, alloc, calls, TOLD_AS_DATA)?;
@@ -242,14 +242,14 @@ fn loading(rt: &impl Abort, alloc: Global, calls: u64, rows: &[Row]) -> Result<(
 #[test]
 fn a_fault_at_each_call_of_a_loading(rt: HostRuntime) -> Result<(), Fail> {
     let alloc = rt.alloc();
-    // Behind the sync that comes first: a sync, two reads of the header, two of gates and one of the body.
-    for calls in 1..7 {
+    // A sync, two reads of the header, two of gates and one of the body.
+    for calls in 0..6 {
         loading(&rt, alloc, calls, LOADED_LATE)?;
     }
-    for calls in 7..13 {
+    for calls in 6..12 {
         loading(&rt, alloc, calls, LOADED_AGAIN)?;
     }
-    loading(&rt, alloc, 7, READ_AGAIN)
+    loading(&rt, alloc, 6, READ_AGAIN)
 }
 
 // A side that is refused stands in the drive unloaded, and LOAD tells so; UNLOAD leaves it.

@@ -1,5 +1,4 @@
 //! A buffered medium on its own: what waits, and what it costs.
-use crate::drives::sure;
 use crate::samples::{EMPTY, ONE};
 use assertions::assert_equal;
 use cartridge::Shelved;
@@ -13,10 +12,8 @@ use vtl_base::Bytes;
 
 // A parked medium over the cartridge of these bytes.
 fn parked(alloc: Global, side: &[u8]) -> Result<Buffered<MemDisk>, Fail> {
-    match sure(MemDisk::from_bytes(alloc, side)?) {
-        Ok(disk) => Ok(Buffered::parked(alloc, Shelved::of(disk))),
-        Err(_) => Err(Fail::from("no sync")),
-    }
+    let disk = MemDisk::from_bytes(alloc, side)?;
+    Ok(Buffered::parked(alloc, Shelved::of(disk)))
 }
 
 // How many changes wait after so many blocks of one size, and how many syncs these took.

@@ -1,5 +1,5 @@
 //! A drive over a cartridge on a disk, and what tests ask of it.
-use crate::drives::{Tape, sure, switched_on};
+use crate::drives::{Tape, switched_on};
 use assertions::assert_equal;
 use cartridge::{Cartridge, Shelved};
 use scsi_sense::{Reply, Status};
@@ -157,9 +157,6 @@ static GREETINGS: &'static [Row<'static>] = &[
 
 /// A drive with the cartridge that a disk holds. Hosts 1 and 2 took their power on.
 pub fn greeted<D: Disk + Drop>(rt: &impl Abort, alloc: Global, disk: D) -> Result<Tape<D>, Fail> {
-    let Ok(disk) = sure(disk) else {
-        return Err(Fail::from("no sync"));
-    };
     let Some(mut drive) = switched_on(alloc, disk) else {
         return Err(Fail::from("not switched on"));
     };

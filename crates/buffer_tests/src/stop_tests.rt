@@ -1,5 +1,5 @@
 //! A stop at each call of the disk.
-use crate::drives::{Tape, sure, switched_on};
+use crate::drives::{Tape, switched_on};
 use crate::samples::{
     EMPTY, GOOD, LOCATE_1, NONE, POWERED_ON, Row, TEST_UNIT_READY, WRITE_1, WRITE_OUT, answered,
     found,
@@ -37,10 +37,6 @@ fn reached(alloc: Global, drive: &Tape<FuseDisk<MemDisk>>) -> MemDisk {
 
 impl Run for Rewriting {
     fn run(&self, alloc: Global, disk: FuseDisk<MemDisk>) -> (MemDisk, bool) {
-        let disk = match sure(disk) {
-            Ok(disk) => disk,
-            Err(disk) => return (disk.into_inner(), false),
-        };
         let Some(mut drive) = switched_on(alloc, disk) else {
             return (MemDisk::new(alloc), false);
         };
@@ -49,14 +45,14 @@ impl Run for Rewriting {
     }
 }
 
-// What the tape may hold after so many calls. A sync and four calls open it, four store the three
-// blocks, and four the block in the middle.
+// What the tape may hold after so many calls. Four calls open it, four store the three blocks, and
+// four the block in the middle.
 fn may_be_found(calls: u64) -> (&'static [u8], &'static [u8]) {
     match calls {
-        0..=5 => (b"", b""),
-        6..=8 => (b"", b"abc"),
-        9 => (b"abc", b"abc"),
-        10..=12 => (b"abc", b"ax"),
+        0..=4 => (b"", b""),
+        5..=7 => (b"", b"abc"),
+        8 => (b"abc", b"abc"),
+        9..=11 => (b"abc", b"ax"),
         _ => (b"ax", b"ax"),
     }
 }
@@ -66,10 +62,10 @@ fn a_stop_never_leaves_a_cut_without_its_block(rt: HostRuntime) -> Result<(), Fa
     let alloc = rt.alloc();
     let disk = MemDisk::from_bytes(alloc, EMPTY)?;
     let stops = stop_at_each_call(alloc, &disk, &Rewriting)?;
-    // Before each of 13 calls and behind them all, nine crashes.
-    assert_equal!(rt; stops.len(), 126);
+    // Before each of 12 calls and behind them all, nine crashes.
+    assert_equal!(rt; stops.len(), 117);
     for Stop { calls, ended, disk } in stops {
-        assert_equal!(rt; ended, calls == 13);
+        assert_equal!(rt; ended, calls == 12);
         let (old, new) = may_be_found(calls);
         let left = found(alloc, disk)?;
         let left = left.as_slice();

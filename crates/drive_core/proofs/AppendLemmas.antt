@@ -1,5 +1,5 @@
 -- What a change at the position makes of a medium, and how it is answered.
-use Rattle.std.proofs.Common.{◌≡◌, ◌<◌, ◌≤◌, ◌+◌, ◌++◌, if◌then◌else◌, ℕ, zero, suc, List, [], ◌∷◌, Option, Some, None, Result, Ok, Err, Bool, true, length, take, nat_le, slice_get, slice_set, refl, arith, sym, ◌∙◌, ap, inl, inr, length-append, append-nil}
+use Rattle.std.proofs.Common.{◌≡◌, ◌<◌, ◌≤◌, ◌+◌, ◌++◌, if◌then◌else◌, ℕ, zero, suc, List, [], ◌∷◌, Option, Some, None, Result, Ok, Err, Bool, true, false, IsTrue, length, take, nat_le, slice_get, slice_set, refl, arith, sym, ◌∙◌, ap, inl, inr, length-append, append-nil}
 use Rattle.std.proofs.lemmas.Bool.Decides.{nat_tests}
 use Rattle.std.proofs.lemmas.List.{length-take-le}
 use Rattle.std.proofs.lemmas.List.Sums.{sum_by_push}
@@ -13,7 +13,7 @@ use Rattle.volume_core.specs.declared.media.MediumError.TheVariants as medium
 use Rattle.volume_core.specs.declared.objects.Object.{Object}
 use Rattle.volume_core.specs.declared.objects.Object.TheVariants.{Block}
 use Rattle.volume_core.specs.Volume.{Part, objects_of, capacity_of, used_up_to, used_of, cost_of, refusal_in, refusal_of, changed, part_after, added_by, part_of, kept_of, is_well_formed}
-use Rattle.volume_core.specs.Medium.{MediumState, volume_of, Accepts, met_fault}
+use Rattle.volume_core.specs.Medium.{Accepts, Fits, HasRoomFor, IsFull, MediumState, frame_size, met_fault, volume_of}
 use Rattle.positioning.specs.declared.positions.Pos.{Pos}
 use Rattle.drive_core.specs.declared.faults.Fault.{Fault}
 use Rattle.drive_core.specs.declared.faults.Fault.TheVariants.{Writing, NoMemory, Reading, SideFull, Saving, StoreFull}
@@ -22,7 +22,7 @@ use Rattle.scsi_sense.specs.Replies.{check_with}
 use Rattle.scsi_sense.specs.Senses.{volume_overflow}
 use Rattle.drive_core.specs.Append.{AppendWork, LacksRoom, amount_of, behind, done_reply, is_warned}
 use Rattle.drive_core.specs.Erase.{erase_at}
-use Rattle.drive_core.specs.Write.{put_at}
+use Rattle.drive_core.specs.Write.{WriteWork, put_at}
 use Rattle.drive_core.specs.Execute.{is_device_fault}
 use Rattle.drive_core.specs.Inner.Carries.{IsReady}
 use Rattle.drive_core.specs.Inner.Appending.{IsAt, SettlesAfter, refused_as}
@@ -87,11 +87,11 @@ append_refused settles change u t p (medium.Refused cause) ready at formed fits 
     answer.0 in
     rw room (lacks (amount_of change) u t p (λ none. cc (room, fits none)) answer.2)
 append_refused settles change u t p medium.NoMemory ready at formed fits answer =
-    (answer.0, refl, record { medium = answer.2; position = refl })
+    (answer.0, refl, record { medium = answer.2; position = refl }, answer.3)
 append_refused settles change u t p medium.SideFull ready at formed fits answer =
     (answer.0, refl, refl, ap (λ (x : MediumState). mounted x p) answer.2, answer.1)
 append_refused settles change u t p medium.Device ready at formed fits answer =
-    (answer.0, inl (refl, record { some_pending = answer.2; medium = answer.3; position = refl }))
+    (answer.0, inl (refl, record { some_pending = answer.2; medium = answer.3; position = refl }), answer.4)
 append_refused settles change u t p medium.Failed ready at formed fits answer =
     let works = ready.works in cc answer.0
 append_refused settles change u t p medium.Unreadable ready at formed fits answer = absurd answer
@@ -132,6 +132,7 @@ append_accepted settles change u mid t p count warned (Ok reply) ready at accept
         position_is = stands change u mid p count ready at accepts counted;
       },
       done.2,
+      accepts.3,
     )
 append_accepted settles change u mid t p count warned (Err Writing) ready at accepts counted warns done = (
   accepts.0,
@@ -145,6 +146,7 @@ append_accepted settles change u mid t p count warned (Err Writing) ready at acc
     },
     done.1,
   ),
+  accepts.3,
 )
 append_accepted settles change u mid t p count warned (Err NoMemory) ready at accepts counted warns done = absurd done
 append_accepted settles change u mid t p count warned (Err Reading) ready at accepts counted warns done = absurd done
@@ -211,3 +213,50 @@ pub erase_fits : (volume : List Part) (position : Pos) → position.part < lengt
 erase_fits volume position within at few fits =
     let (part, is) = part_at volume position.part within in
     rw is (erase_in part position.part position.obj (rw is at at) (rw is at few) (rw is at fits))
+
+-- where a side has no room for a block, the change that puts it does not fit
+full_where : (room : Option ℕ) (pending : List Change) (change : Change) (bytes : ℕ) → frame_size change ≡ 15 + bytes
+    → (HasRoomFor room pending bytes → ⊥) → IsFull room (pending ++ change ∷ [])
+full_where None pending change bytes size lacks = lacks tt
+full_where (Some room) pending change bytes size lacks =
+    omega (arith, lacks, size, sum_by_push frame_size pending change)
+
+-- where it has room, the change fits
+fits_where : (room : Option ℕ) (pending : List Change) (change : Change) (bytes : ℕ) → frame_size change ≡ 15 + bytes
+    → HasRoomFor room pending bytes → Fits room (pending ++ change ∷ [])
+fits_where None pending change bytes size has = tt
+fits_where (Some room) pending change bytes size has =
+    omega (arith, has, size, sum_by_push frame_size pending change)
+
+-- a WRITE that the side has no room for
+pub write_lacks_side : (buffered : Bool) (sent : List ℕ) (u : MediumState) (p : Pos) (has : Bool) → 1 ≤ length sent
+    → refusal_of (volume_of u) (put_at p sent) ≡ None
+    → (HasRoomFor u.room u.pending (length sent) → IsTrue has) → has ≡ false
+    → WriteWork buffered sent (mounted u p) (Err (SideFull (Some (length sent)))) [] (mounted u p)
+write_lacks_side buffered [] u p has some none told lacking = absurd (omega (arith, some))
+write_lacks_side buffered (byte ∷ bytes) u p true some none told lacking = absurd (cc)
+write_lacks_side buffered (byte ∷ bytes) u p false some none told lacking = (
+  none,
+  refl,
+  refl,
+  refl,
+  full_where u.room u.pending (put_at p (byte ∷ bytes)) (length (byte ∷ bytes)) refl
+      (λ room. let never : IsTrue false = told room in absurd (cc)),
+)
+
+-- a WRITE that the side has room for, and no memory
+pub write_lacks_memory : (buffered : Bool) (sent : List ℕ) (u : MediumState) (p : Pos) (has : Bool) → 1 ≤ length sent
+    → IsReady (mounted u p) → refusal_of (volume_of u) (put_at p sent) ≡ None
+    → (IsTrue has → HasRoomFor u.room u.pending (length sent)) → has ≡ true
+    → WriteWork buffered sent (mounted u p) (Err NoMemory) [] (mounted u p)
+write_lacks_memory buffered [] u p has some ready none told having = absurd (omega (arith, some))
+write_lacks_memory buffered (byte ∷ bytes) u p false some ready none told having = absurd (cc)
+write_lacks_memory buffered (byte ∷ bytes) u p true some ready none told having = (
+  none,
+  refl,
+  record {
+    medium = record { volume_is = refl; works = ready.works; awake = ready.on.awake };
+    position = refl;
+  },
+  fits_where u.room u.pending (put_at p (byte ∷ bytes)) (length (byte ∷ bytes)) refl (told refl),
+)

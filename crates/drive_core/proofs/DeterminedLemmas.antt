@@ -1,5 +1,5 @@
 -- Where no fault comes, a step has one outcome, and so has a run, wherever flusher's turns stand in it.
-use Rattle.std.proofs.Common.{◌≡◌, Option, Ok, Err, true, not, ◌&&◌, subst, sym, ◌∙◌, ap, refl}
+use Rattle.std.proofs.Common.{◌≡◌, Option, IfSome, Ok, Err, true, not, ◌&&◌, subst, sym, ◌∙◌, ap, refl}
 use Rattle.volume_core.specs.declared.media.Turn.{Turn}
 use Rattle.volume_core.specs.declared.media.Turn.TheVariants.{Idle, Stored, Device}
 use Rattle.volume_core.specs.Medium.{MediumState, volume_of, Turns}
@@ -12,8 +12,8 @@ use Rattle.drive_core.specs.State.{DriveState, Machine, bay_of}
 use Rattle.drive_core.specs.Relations.{Made, made_nothing}
 use Rattle.drive_core.specs.Work.{Request}
 use Rattle.drive_core.specs.Turn.{TurnsIn, after_turn, turn_outcome}
-use Rattle.drive_core.specs.Step.{Execute, FlushTurn, Insert, Load, Unload, PowerOn, Output, Answered, Unanswered, Step}
-use Rattle.drive_core.specs.Determined.{IsSureDrive, Sight, sight_of, side_sight, seen_of, without_room, IsCalm, AreSureAlike, AreAllSureAlike, AreAlike, StepsAreDetermined}
+use Rattle.drive_core.specs.Step.{Input, Execute, FlushTurn, Insert, Load, Unload, PowerOn, Output, Answered, Unanswered, Step}
+use Rattle.drive_core.specs.Determined.{BringsSure, IsSure, IsSureDrive, IsSureInput, OpensSurely, Sight, sight_of, side_sight, seen_of, without_room, IsCalm, AreSeenAlike, AreAlike, StepsAreDetermined}
 use Rattle.drive_core.proofs.AlikeLemmas.{works_sight}
 use Rattle.drive_core.specs.LoadUnload.{emptied}
 use Rattle.drive_core.proofs.DeterminedLoads.{loads, powers_on}
@@ -76,61 +76,75 @@ turn_unseen old (Answered answer) made new calm h = absurd h
 
 module _ (spaces : NoSpaceEndsTwice) (locates : NoLocateEndsTwice) (orders : NoOrderEndsTwice) (old beside : Machine)
     (made made' : Made) (new
-    new' : Machine) (e : seen_of old ≡ seen_of beside)
-    (sure : IsSureDrive (seen_of old)) where
-  execute_determined : (request other : Request) (output output' : Output) → request ≡ other
-      → IsCalm output → IsCalm output' → Step (Unit {0}) old (Execute request) output made new
-      → Step (Unit {0}) beside (Execute other) output' made' new' → AreAlike output output' made made' new new'
-  execute_determined request other (Answered (Ok reply)) (Answered (Ok reply')) asks calm calm' h k =
-      let k' : Step (Unit {0}) beside (Execute request) (Answered (Ok reply')) made' new' = rw (sym asks) at k in
-      requests spaces locates orders old beside reply reply' made made' new new' e sure request h k'
-  execute_determined request other (Answered (Ok reply)) (Answered (Err fault)) asks calm calm' h k = absurd calm'
-  execute_determined request other (Answered (Ok reply)) (Unanswered outcome) asks calm calm' h k = absurd k
-  execute_determined request other (Answered (Err fault)) output' asks calm calm' h k = absurd calm
-  execute_determined request other (Unanswered outcome) output' asks calm calm' h k = absurd h
+    new' : Machine) (e : seen_of old ≡ seen_of beside) where
+  -- both came out alike, and what was sure of the medium in the drive stays so where the input brings a sure one
+  abbrev Alike : Input → Output → Output → Type 0
+  Alike input output output' =
+      AreAlike (IsSureDrive (seen_of old) × BringsSure input) output output' made made' new new'
 
-  load_determined : (medium other : MediumState) (output output' : Output) → AreSureAlike medium other
+  execute_determined : (request other : Request) (output output' : Output) → IsSureInput old (Execute request)
+      → request ≡ other
+      → IsCalm output → IsCalm output' → Step (Unit {0}) old (Execute request) output made new
+      → Step (Unit {0}) beside (Execute other) output' made' new' → Alike (Execute request) output output'
+  execute_determined request other (Answered (Ok reply)) (Answered (Ok reply')) opens asks calm calm' h k =
+      let k' : Step (Unit {0}) beside (Execute request) (Answered (Ok reply')) made' new' = rw (sym asks) at k in
+      requests spaces locates orders old beside reply reply' made made' new new' e (IsSureDrive (seen_of old) × Unit
+          {0})
+      (λ known. known.0) request opens h k'
+  execute_determined request other (Answered (Ok reply)) (Answered (Err fault)) opens asks calm calm' h k = absurd calm'
+  execute_determined request other (Answered (Ok reply)) (Unanswered outcome) opens asks calm calm' h k = absurd k
+  execute_determined request other (Answered (Err fault)) output' opens asks calm calm' h k = absurd calm
+  execute_determined request other (Unanswered outcome) output' opens asks calm calm' h k = absurd h
+
+  load_determined : (medium other : MediumState) (output output' : Output) → OpensSurely medium
+      → sight_of medium ≡ sight_of other
       → IsCalm output → IsCalm output' → Step (Unit {0}) old (Load medium) output made new
-      → Step (Unit {0}) beside (Load other) output' made' new' → AreAlike output output' made made' new new'
-  load_determined medium other (Answered (Ok reply)) (Answered (Ok reply')) asks calm calm' h k =
-      loads made made' new new' old.bay beside.bay old beside medium other reply reply' e sure asks h k
-  load_determined medium other (Answered (Ok reply)) (Answered (Err fault)) asks calm calm' h k = absurd calm'
-  load_determined medium other (Answered (Ok reply)) (Unanswered outcome) asks calm calm' h k = absurd k
-  load_determined medium other (Answered (Err fault)) output' asks calm calm' h k = absurd calm
-  load_determined medium other (Unanswered outcome) output' asks calm calm' h k = absurd h
+      → Step (Unit {0}) beside (Load other) output' made' new' → Alike (Load medium) output output'
+  load_determined medium other (Answered (Ok reply)) (Answered (Ok reply')) opens asks calm calm' h k =
+      loads (IsSureDrive (seen_of old) × IsSure medium) made made' new new' old.bay beside.bay old beside medium other
+      reply reply' e (λ known. known.0) asks opens (λ known. known.1) h k
+  load_determined medium other (Answered (Ok reply)) (Answered (Err fault)) opens asks calm calm' h k = absurd calm'
+  load_determined medium other (Answered (Ok reply)) (Unanswered outcome) opens asks calm calm' h k = absurd k
+  load_determined medium other (Answered (Err fault)) output' opens asks calm calm' h k = absurd calm
+  load_determined medium other (Unanswered outcome) output' opens asks calm calm' h k = absurd h
 
   power_on_determined : (medium other : Option MediumState) (keeper keeper' : KeeperState) (output output' : Output)
-      → AreAllSureAlike medium other → without_room keeper ≡ without_room keeper'
+      → IfSome medium OpensSurely → AreSeenAlike medium other → without_room keeper ≡ without_room keeper'
       → IsCalm output → IsCalm output' → Step (Unit {0}) old (PowerOn medium keeper) output made new
-      → Step (Unit {0}) beside (PowerOn other keeper') output' made' new' → AreAlike output output' made made' new new'
-  power_on_determined medium other keeper keeper' (Unanswered outcome) (Unanswered outcome') asks kept calm calm' h k =
-      powers_on made made' new new' medium other keeper keeper' outcome outcome' asks kept calm calm' h k
-  power_on_determined medium other keeper keeper' (Unanswered outcome) (Answered answer) asks kept calm calm' h k =
+      → Step (Unit {0}) beside (PowerOn other keeper') output' made' new'
+      → Alike (PowerOn medium keeper) output output'
+  power_on_determined medium other keeper keeper' (Unanswered outcome) (Unanswered outcome') opens asks kept calm
+      calm' h k =
+      powers_on (IsSureDrive (seen_of old) × IfSome medium IsSure) made made' new new' medium other keeper keeper'
+          outcome
+      outcome' asks opens (λ known. known.1) kept calm calm' h k
+  power_on_determined medium other keeper keeper' (Unanswered outcome) (Answered answer) opens asks kept calm calm' h
+      k =
       absurd k
-  power_on_determined medium other keeper keeper' (Answered answer) output' asks kept calm calm' h k = absurd h
+  power_on_determined medium other keeper keeper' (Answered answer) output' opens asks kept calm calm' h k = absurd h
 
-  insert_determined : (medium other : MediumState) (output output' : Output) → AreSureAlike medium other
+  insert_determined : (medium other : MediumState) (output output' : Output) → sight_of medium ≡ sight_of other
       → Step (Unit {0}) old (Insert medium) output made new → Step (Unit {0}) beside (Insert other) output' made' new'
-      → AreAlike output output' made made' new new'
+      → Alike (Insert medium) output output'
   insert_determined medium other (Unanswered outcome) (Unanswered outcome') asks h k =
       let seen : seen_of (record old { bay = Unloaded medium }) ≡ seen_of (record beside { bay = Unloaded other }) =
-      λ i. record (e i) { bay = Unloaded (asks.1 i) } in
+      λ i. record (e i) { bay = Unloaded (asks i) } in
       record {
         outputs = ap Unanswered (h.2 ∙ sym k.2);
         changes = h.3 ∙ sym k.3;
         drives = ap seen_of h.4 ∙ seen ∙ ap seen_of (sym k.4);
-        sure = subst (λ (m : Machine). IsSureDrive (seen_of m)) (sym h.4) asks.0;
+        sure = λ known. subst (λ (m : Machine). IsSureDrive (seen_of m)) (sym h.4) known.1;
       }
   insert_determined medium other (Unanswered outcome) (Answered answer) asks h k = absurd k
   insert_determined medium other (Answered answer) output' asks h k = absurd h
 
   unload_determined : (output output' : Output) → IsCalm output → IsCalm output'
       → Step (Unit {0}) old Unload output made new → Step (Unit {0}) beside Unload output' made' new'
-      → AreAlike output output' made made' new new'
+      → Alike Unload output output'
   unload_determined (Answered (Ok reply)) (Answered (Ok reply')) calm calm' h k =
-      unloads_alike made made' new new' emptied old beside
-      (λ m m' same surely. ((λ i. record (e i) { bay = Empty }), tt)) reply reply' e sure old.bay beside.bay
-      (ap (λ (x : DriveState Sight KeeperState). x.bay) e) sure h k
+      unloads_alike (IsSureDrive (seen_of old) × Unit {0}) made made' new new' emptied old beside
+      (λ m m' same. ((λ i. record (e i) { bay = Empty }), λ surely. tt)) reply reply' e (λ known. known.0) old.bay
+      beside.bay (ap (λ (x : DriveState Sight KeeperState). x.bay) e) (λ known. known.0) h k
   unload_determined (Answered (Ok reply)) (Answered (Err fault)) calm calm' h k = absurd calm'
   unload_determined (Answered (Ok reply)) (Unanswered outcome) calm calm' h k = absurd k
   unload_determined (Answered (Err fault)) output' calm calm' h k = absurd calm
@@ -138,7 +152,7 @@ module _ (spaces : NoSpaceEndsTwice) (locates : NoLocateEndsTwice) (orders : NoO
 
   turn_determined : (output output' : Output) → IsCalm output → IsCalm output'
       → Step (Unit {0}) old FlushTurn output made new → Step (Unit {0}) beside FlushTurn output' made' new'
-      → AreAlike output output' made made' new new'
+      → Alike FlushTurn output output'
   turn_determined output output' calm calm' h k =
       let one = turn_unseen old output made new calm h in
       let two = turn_unseen beside output' made' new' calm' k in
@@ -146,129 +160,136 @@ module _ (spaces : NoSpaceEndsTwice) (locates : NoLocateEndsTwice) (orders : NoO
         outputs = one.output_is ∙ sym two.output_is;
         changes = one.made_is ∙ sym two.made_is;
         drives = one.drive_is ∙ e ∙ sym two.drive_is;
-        sure = subst IsSureDrive (sym one.drive_is) sure;
+        sure = λ known. subst IsSureDrive (sym one.drive_is) known.0;
       }
 
 pub steps_determined : NoSpaceEndsTwice → NoLocateEndsTwice → NoOrderEndsTwice → StepsAreDetermined
 steps_determined spaces locates orders old beside (Execute request) (Execute other) output output' made made' new new'
-    e sure
+    e opens
     asks calm calm' h k =
-    execute_determined spaces locates orders old beside made made' new new' e sure request other output output' asks
+    execute_determined spaces locates orders old beside made made' new new' e request other output output' opens asks
     calm
     calm' h k
-steps_determined spaces locates orders old beside (Load medium) (Load other) output output' made made' new new' e sure
+steps_determined spaces locates orders old beside (Load medium) (Load other) output output' made made' new new' e opens
     asks
     calm
     calm' h k =
-    load_determined spaces locates orders old beside made made' new new' e sure medium other output output' asks calm
+    load_determined spaces locates orders old beside made made' new new' e medium other output output' opens asks calm
     calm'
     h k
 steps_determined spaces locates orders old beside (PowerOn medium keeper) (PowerOn other keeper') output output' made
-    made' new new' e sure asks calm calm' h k =
-    power_on_determined spaces locates orders old beside made made' new new' e sure medium other keeper keeper' output
+    made' new new' e opens asks calm calm' h k =
+    power_on_determined spaces locates orders old beside made made' new new' e medium other keeper keeper' output
     output'
-    asks.0 asks.1 calm calm' h k
-steps_determined spaces locates orders old beside FlushTurn FlushTurn output output' made made' new new' e sure asks
+    opens asks.0 asks.1 calm calm' h k
+steps_determined spaces locates orders old beside FlushTurn FlushTurn output output' made made' new new' e opens asks
     calm
     calm' h
     k =
-    turn_determined spaces locates orders old beside made made' new new' e sure output output' calm calm' h k
-steps_determined spaces locates orders old beside (Execute request) (Load other) o o' made made' new new' e sure asks
+    turn_determined spaces locates orders old beside made made' new new' e output output' calm calm' h k
+steps_determined spaces locates orders old beside (Execute request) (Load other) o o' made made' new new' e opens asks
     c c'
     h k =
     absurd asks
-steps_determined spaces locates orders old beside (Execute request) (PowerOn other kept) o o' made made' new new' e sure
+steps_determined spaces locates orders old beside (Execute request) (PowerOn other kept) o o' made made' new new' e
+    opens
     asks c c' h k =
     absurd asks
-steps_determined spaces locates orders old beside (Execute request) FlushTurn o o' made made' new new' e sure asks c
+steps_determined spaces locates orders old beside (Execute request) FlushTurn o o' made made' new new' e opens asks c
     c' h k =
     absurd asks
-steps_determined spaces locates orders old beside (Load medium) (Execute other) o o' made made' new new' e sure asks c
+steps_determined spaces locates orders old beside (Load medium) (Execute other) o o' made made' new new' e opens asks c
     c' h
     k =
     absurd asks
-steps_determined spaces locates orders old beside (Load medium) (PowerOn other kept) o o' made made' new new' e sure
+steps_determined spaces locates orders old beside (Load medium) (PowerOn other kept) o o' made made' new new' e opens
     asks c
     c' h k =
     absurd asks
-steps_determined spaces locates orders old beside (Load medium) FlushTurn o o' made made' new new' e sure asks c c' h
+steps_determined spaces locates orders old beside (Load medium) FlushTurn o o' made made' new new' e opens asks c c' h
     k =
     absurd asks
-steps_determined spaces locates orders old beside (PowerOn medium kept) (Execute other) o o' made made' new new' e sure
+steps_determined spaces locates orders old beside (PowerOn medium kept) (Execute other) o o' made made' new new' e opens
     asks c c' h k =
     absurd asks
-steps_determined spaces locates orders old beside (PowerOn medium kept) (Load other) o o' made made' new new' e sure
+steps_determined spaces locates orders old beside (PowerOn medium kept) (Load other) o o' made made' new new' e opens
     asks c
     c' h k =
     absurd asks
-steps_determined spaces locates orders old beside (PowerOn medium kept) FlushTurn o o' made made' new new' e sure asks
+steps_determined spaces locates orders old beside (PowerOn medium kept) FlushTurn o o' made made' new new' e opens asks
     c c'
     h k =
     absurd asks
-steps_determined spaces locates orders old beside FlushTurn (Execute other) o o' made made' new new' e sure asks c c'
+steps_determined spaces locates orders old beside FlushTurn (Execute other) o o' made made' new new' e opens asks c c'
     h k =
     absurd asks
-steps_determined spaces locates orders old beside FlushTurn (Load other) o o' made made' new new' e sure asks c c' h k =
-    absurd asks
-steps_determined spaces locates orders old beside FlushTurn (PowerOn other kept) o o' made made' new new' e sure asks
-    c c'
-    h k =
-    absurd asks
-steps_determined spaces locates orders old beside Unload Unload output output' made made' new new' e sure asks calm
-    calm' h k =
-    unload_determined spaces locates orders old beside made made' new new' e sure output output' calm calm' h k
-steps_determined spaces locates orders old beside (Execute request) Unload o o' made made' new new' e sure asks c c' h
+steps_determined spaces locates orders old beside FlushTurn (Load other) o o' made made' new new' e opens asks c c' h
     k =
     absurd asks
-steps_determined spaces locates orders old beside (Load medium) Unload o o' made made' new new' e sure asks c c' h k =
+steps_determined spaces locates orders old beside FlushTurn (PowerOn other kept) o o' made made' new new' e opens asks
+    c c'
+    h k =
     absurd asks
-steps_determined spaces locates orders old beside (PowerOn medium kept) Unload o o' made made' new new' e sure asks c
+steps_determined spaces locates orders old beside Unload Unload output output' made made' new new' e opens asks calm
+    calm' h k =
+    unload_determined spaces locates orders old beside made made' new new' e output output' calm calm' h k
+steps_determined spaces locates orders old beside (Execute request) Unload o o' made made' new new' e opens asks c c' h
+    k =
+    absurd asks
+steps_determined spaces locates orders old beside (Load medium) Unload o o' made made' new new' e opens asks c c' h k =
+    absurd asks
+steps_determined spaces locates orders old beside (PowerOn medium kept) Unload o o' made made' new new' e opens asks c
     c' h k =
     absurd asks
-steps_determined spaces locates orders old beside FlushTurn Unload o o' made made' new new' e sure asks c c' h k =
+steps_determined spaces locates orders old beside FlushTurn Unload o o' made made' new new' e opens asks c c' h k =
     absurd asks
-steps_determined spaces locates orders old beside Unload (Execute other) o o' made made' new new' e sure asks c c' h k =
+steps_determined spaces locates orders old beside Unload (Execute other) o o' made made' new new' e opens asks c c' h
+    k =
     absurd asks
-steps_determined spaces locates orders old beside Unload (Load other) o o' made made' new new' e sure asks c c' h k =
+steps_determined spaces locates orders old beside Unload (Load other) o o' made made' new new' e opens asks c c' h k =
     absurd asks
-steps_determined spaces locates orders old beside Unload (PowerOn other kept) o o' made made' new new' e sure asks c
+steps_determined spaces locates orders old beside Unload (PowerOn other kept) o o' made made' new new' e opens asks c
     c' h k =
     absurd asks
-steps_determined spaces locates orders old beside Unload FlushTurn o o' made made' new new' e sure asks c c' h k =
+steps_determined spaces locates orders old beside Unload FlushTurn o o' made made' new new' e opens asks c c' h k =
     absurd asks
 steps_determined spaces locates orders old beside (Insert medium) (Insert other) output output' made made' new new' e
-    sure asks calm calm' h k =
-    insert_determined spaces locates orders old beside made made' new new' e sure medium other output output' asks h k
-steps_determined spaces locates orders old beside (Execute request) (Insert inserted) o o' made made' new new' e sure
+    opens asks calm calm' h k =
+    insert_determined spaces locates orders old beside made made' new new' e medium other output output' asks h k
+steps_determined spaces locates orders old beside (Execute request) (Insert inserted) o o' made made' new new' e opens
     asks c c' h
     k =
     absurd asks
-steps_determined spaces locates orders old beside (Load medium) (Insert inserted) o o' made made' new new' e sure asks c
+steps_determined spaces locates orders old beside (Load medium) (Insert inserted) o o' made made' new new' e opens
+    asks c
     c' h
     k =
     absurd asks
 steps_determined spaces locates orders old beside (PowerOn medium kept) (Insert inserted) o o' made made' new new' e
-    sure asks c c' h
+    opens asks c c' h
     k =
     absurd asks
-steps_determined spaces locates orders old beside FlushTurn (Insert inserted) o o' made made' new new' e sure asks c c'
+steps_determined spaces locates orders old beside FlushTurn (Insert inserted) o o' made made' new new' e opens asks c c'
     h
     k =
     absurd asks
-steps_determined spaces locates orders old beside Unload (Insert inserted) o o' made made' new new' e sure asks c c' h
+steps_determined spaces locates orders old beside Unload (Insert inserted) o o' made made' new new' e opens asks c c' h
     k =
     absurd asks
-steps_determined spaces locates orders old beside (Insert medium) (Execute other) o o' made made' new new' e sure asks c
+steps_determined spaces locates orders old beside (Insert medium) (Execute other) o o' made made' new new' e opens
+    asks c
     c' h k =
     absurd asks
-steps_determined spaces locates orders old beside (Insert medium) (Load other) o o' made made' new new' e sure asks c c'
+steps_determined spaces locates orders old beside (Insert medium) (Load other) o o' made made' new new' e opens asks c
+    c'
     h k =
     absurd asks
-steps_determined spaces locates orders old beside (Insert medium) (PowerOn other kept) o o' made made' new new' e sure
+steps_determined spaces locates orders old beside (Insert medium) (PowerOn other kept) o o' made made' new new' e opens
     asks c c' h k =
     absurd asks
-steps_determined spaces locates orders old beside (Insert medium) FlushTurn o o' made made' new new' e sure asks c c' h
+steps_determined spaces locates orders old beside (Insert medium) FlushTurn o o' made made' new new' e opens asks c c' h
     k =
     absurd asks
-steps_determined spaces locates orders old beside (Insert medium) Unload o o' made made' new new' e sure asks c c' h k =
+steps_determined spaces locates orders old beside (Insert medium) Unload o o' made made' new new' e opens asks c c' h
+    k =
     absurd asks

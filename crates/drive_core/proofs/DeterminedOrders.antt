@@ -36,21 +36,21 @@ saved_alike old other state new new' e h k =
     λ i. record { saved = saved i; torn = torn i; failed = failed i; room = None }
 
 module _ (orders : NoOrderEndsTwice) (old beside : Machine) (reply reply' : Reply) (made made' : Made) (new new'
-    : Machine) (e : seen_of old ≡ seen_of beside) (sure : IsSureDrive (seen_of old)) where
+    : Machine) (e : seen_of old ≡ seen_of beside) (S : Type 0) (sure : S → IsSureDrive (seen_of old)) where
   -- both were answered, and came out alike
   abbrev pub Alike : Type 0
-  Alike = AreAlike (Answered (Ok reply)) (Answered (Ok reply')) made made' new new'
+  Alike = AreAlike S (Answered (Ok reply)) (Answered (Ok reply')) made made' new new'
 
   -- what makes nothing leaves drives that are seen alike
   pub ends : (answer : Result Reply Fault) (left left' : Machine) → seen_of left ≡ seen_of left'
-      → IsSureDrive (seen_of left)
+      → (S → IsSureDrive (seen_of left))
       → (Ok reply ≡ answer) × (made ≡ made_nothing) × (new ≡ left)
       → (Ok reply' ≡ answer) × (made' ≡ made_nothing) × (new' ≡ left') → Alike
   ends answer left left' same left_sure h k = record {
     outputs = ap Answered (h.0 ∙ sym k.0);
     changes = h.1 ∙ sym k.1;
     drives = ap seen_of h.2 ∙ same ∙ sym (ap seen_of k.2);
-    sure = subst IsSureDrive (sym (ap seen_of h.2)) left_sure;
+    sure = λ s. subst IsSureDrive (sym (ap seen_of h.2)) (left_sure s);
   }
 
   -- the same order stands in both
@@ -78,7 +78,7 @@ module _ (orders : NoOrderEndsTwice) (old beside : Machine) (reply reply' : Repl
             ∙ ordered_same keeper keeper' state told
             (saved_alike old.keeper beside.keeper state keeper keeper' (ap (λ (x : Seen). x.keeper) e) saves.1 saves'.1)
             ∙ sym (ap seen_of stands'.1);
-        sure = subst IsSureDrive (sym (ap seen_of stands.1)) sure;
+        sure = λ s. subst IsSureDrive (sym (ap seen_of stands.1)) (sure s);
       }
   saved_stand brought state told (Err error, keeper, saves, stands, made_is) k = cc stands.0
   saved_stand brought state told (Ok done, keeper, saves, stands, made_is) (Err error, keeper', saves', stands', is') =

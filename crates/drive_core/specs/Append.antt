@@ -8,7 +8,7 @@ use Rattle.volume_core.specs.declared.changes.Change.TheVariants.{Put, Marks, Er
 use Rattle.volume_core.specs.declared.changes.Refusal.{Refusal}
 use Rattle.volume_core.specs.declared.changes.Refusal.TheVariants.{NoRoom}
 use Rattle.volume_core.specs.Volume.{Part, refusal_of, changed, added_by}
-use Rattle.volume_core.specs.Medium.{MediumState, IsFull, Works, Breaks}
+use Rattle.volume_core.specs.Medium.{MediumState, Fits, IsFull, Works, Breaks}
 use Rattle.positioning.specs.declared.positions.Pos.{Pos}
 use Rattle.positioning.specs.Report.{is_near_end}
 use Rattle.drive_core.specs.declared.faults.Fault.TheVariants.{NoMemory, Writing, SideFull}
@@ -58,7 +58,7 @@ abbrev pub AppendAnswer :
     Option Refusal → Bool → Change → Mounted → Reply → List Change → Mounted → Type 0
 AppendAnswer None settles change old reply made new =
     (reply ≡ made_reply change old) × (made ≡ change ∷ []) × IsAppended change old new.medium new.position
-    × (settles ≡ true → new.medium.pending ≡ [])
+    × (settles ≡ true → new.medium.pending ≡ []) × Fits old.medium.room (old.medium.pending ++ change ∷ [])
 AppendAnswer (Some NoRoom) settles change old reply made new = LacksRoom (amount_of change) old reply made new
 AppendAnswer (Some _) settles change old reply made new = ⊥
 
@@ -71,16 +71,18 @@ AppendFails settles change old made new =
     × (between : MediumState) × IsAppended change old between new.position × Breaks between new.medium)
 
 -- A change is made at the position, or nothing is changed. Memory runs out, the side is full and the device fails only
--- for a change that the volume does not refuse; a side is full only where what is pending and the change exceed its
--- room (SSC-4; faults own).
+-- for a change that the volume does not refuse. The side is full exactly where what is pending and the change exceed
+-- its room: there nothing else is answered (SSC-4; faults own).
 abbrev pub AppendWork : Bool → Change → MediumRelation
 AppendWork settles change old (Ok reply) made new =
     AppendAnswer (refusal_of (contents_of old) change) settles change old reply made new
 AppendWork settles change old (Err NoMemory) made new =
     (refusal_of (contents_of old) change ≡ None) × (made ≡ []) × Stays old new
+    × Fits old.medium.room (old.medium.pending ++ change ∷ [])
 AppendWork settles change old (Err (SideFull residue)) made new =
     (refusal_of (contents_of old) change ≡ None) × (residue ≡ amount_of change) × (made ≡ [])
     × (new ≡ old) × IsFull old.medium.room (old.medium.pending ++ change ∷ [])
 AppendWork settles change old (Err Writing) made new =
     (refusal_of (contents_of old) change ≡ None) × AppendFails settles change old made new
+    × Fits old.medium.room (old.medium.pending ++ change ∷ [])
 AppendWork settles change old (Err _) made new = ⊥

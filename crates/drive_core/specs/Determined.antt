@@ -1,9 +1,14 @@
 -- Where no outcome came between, an input has one answer.
-use Rattle.std.specs.Prelude.{◌≡◌, ◌&&◌, not, List, [], ◌∷◌, filter, All, IfSome, Option, None, Some, Ok, Err, Bool, true, false}
+use Rattle.std.specs.Prelude.{◌≡◌, ◌&&◌, not, List, [], ◌∷◌, filter, All, IfOk, IfSome, Option, None, Some, Ok, Err, Bool, true, false}
 use Rattle.volume_core.specs.declared.changes.Change.{Change}
 use Rattle.volume_core.specs.Volume.{Part}
 use Rattle.volume_core.specs.Medium.{MediumState, volume_of}
+use Rattle.scsi_wire.specs.declared.commands.Command.{Command}
+use Rattle.scsi_wire.specs.declared.commands.Command.TheVariants.{LoadUnload}
 use Rattle.pr_core.specs.Keepers.{KeeperState}
+use Rattle.drive_core.specs.declared.bays.Bay.{Bay}
+use Rattle.drive_core.specs.declared.bays.Bay.TheVariants.{Unloaded}
+use Rattle.drive_core.specs.Checks.{verdict}
 use Rattle.drive_core.specs.State.{Machine, DriveState, bay_of, medium_in}
 use Rattle.drive_core.specs.Relations.{Made}
 use Rattle.drive_core.specs.Step.{Input, Execute, FlushTurn, Insert, Load, Unload, PowerOn, Output, Answered, Unanswered, Step, replies_of}
@@ -80,23 +85,44 @@ IsSure medium = IsSureSight (sight_of medium)
 abbrev pub IsSureDrive : DriveState Sight KeeperState → Type 0
 IsSureDrive seen = IfSome (medium_in seen.bay) IsSureSight
 
--- two media are seen alike, and it is sure what they give (own)
-abbrev pub AreSureAlike : MediumState → MediumState → Type 0
-AreSureAlike medium other = IsSure medium × (sight_of medium ≡ sight_of other)
+-- it is sure how a medium is opened: one that is awake stays as it is, and of a parked one no frame was under way when
+-- a device failed (own)
+abbrev pub OpensSurely : MediumState → Type 0
+OpensSurely medium = medium.awake ≡ false → medium.torn ≡ []
 
--- two media that may be there are seen alike, and it is sure what they give (own)
-abbrev pub AreAllSureAlike : Option MediumState → Option MediumState → Type 0
-AreAllSureAlike (Some medium) (Some other) = AreSureAlike medium other
-AreAllSureAlike None None = Unit {0}
-AreAllSureAlike _ _ = ⊥
+-- it is sure how what a command opens is opened: LOAD alone opens one, the medium in the drive that is not loaded (own)
+abbrev pub IsSureCommand : Command → Bay MediumState → Type 0
+IsSureCommand (LoadUnload true) (Unloaded medium) = OpensSurely medium
+IsSureCommand _ _ = Unit {0}
+
+-- It is sure how what an input opens is opened. A LOAD that is carried out, a loading and a power on open a medium, and
+-- nothing else does (own).
+abbrev pub IsSureInput : Machine → Input → Type 0
+IsSureInput old (Execute request) = IfOk (verdict old request) (λ command. IsSureCommand command old.bay)
+IsSureInput old (Load medium) = OpensSurely medium
+IsSureInput old (PowerOn medium keeper) = IfSome medium OpensSurely
+IsSureInput old _ = Unit {0}
+
+-- it is sure what the side of a medium gives that an input takes in (own)
+abbrev pub BringsSure : Input → Type 0
+BringsSure (Load medium) = IsSure medium
+BringsSure (Insert medium) = IsSure medium
+BringsSure (PowerOn medium keeper) = IfSome medium IsSure
+BringsSure _ = Unit {0}
+
+-- two media that may be there are seen alike (own)
+abbrev pub AreSeenAlike : Option MediumState → Option MediumState → Type 0
+AreSeenAlike (Some medium) (Some other) = sight_of medium ≡ sight_of other
+AreSeenAlike None None = Unit {0}
+AreSeenAlike _ _ = ⊥
 
 -- two inputs ask the same, and take in media and keepers that are seen alike (own)
 abbrev pub AskAlike : Input → Input → Type 0
 AskAlike (Execute request) (Execute other) = request ≡ other
-AskAlike (Load medium) (Load other) = AreSureAlike medium other
-AskAlike (Insert medium) (Insert other) = AreSureAlike medium other
+AskAlike (Load medium) (Load other) = sight_of medium ≡ sight_of other
+AskAlike (Insert medium) (Insert other) = sight_of medium ≡ sight_of other
 AskAlike (PowerOn medium keeper) (PowerOn other beside) =
-    AreAllSureAlike medium other × (without_room keeper ≡ without_room beside)
+    AreSeenAlike medium other × (without_room keeper ≡ without_room beside)
 AskAlike FlushTurn FlushTurn = Unit {0}
 AskAlike Unload Unload = Unit {0}
 AskAlike _ _ = ⊥
@@ -123,30 +149,52 @@ IsCalm (Answered (Err fault)) = ⊥
 IsCalm (Unanswered (Ok done)) = Unit {0}
 IsCalm (Unanswered (Err fault)) = ⊥
 
--- the same came of both, they made the same, and the drives are seen alike, and it is sure what their media give (own)
-pub record AreAlike {R : Type 0} (out other : R) (made others : Made) (new beside : Machine) : Type 0 where
+-- each input of a run and the drive that it comes to have this relation (own)
+abbrev pub InRun : (P : Machine → Input → Type 0) (old : Machine) (inputs : List Input) (outputs : List Output)
+    (made : Made) (new : Machine) → Run (Unit {0}) old inputs outputs made new → Type 0
+InRun P old (input ∷ inputs) (output ∷ outputs) made new run =
+    P old input × InRun P run.0 inputs outputs run.2 new run.4
+InRun P old [] outputs made new run = Unit {0}
+InRun P old (input ∷ inputs) [] made new run = Unit {0}
+
+-- the same came of both, they made the same, and the drives are seen alike; where something holds, it is sure what the
+-- sides of their media give (own)
+pub record AreAlike {R : Type 0} (where_sure : Type 0) (out other : R) (made others : Made) (new beside : Machine) :
+    Type 0 where
   pub outputs : out ≡ other
   pub changes : made ≡ others
   pub drives : seen_of new ≡ seen_of beside
-  pub sure : IsSureDrive (seen_of new)
+  pub sure : where_sure → IsSureDrive (seen_of new)
 
--- two steps of which no fault, want of memory or full side came, by inputs that ask alike, from drives that are seen
--- alike, and of whose media it is sure what they give: they come out alike (own)
+-- Two steps of which no fault, want of memory or full side came, by inputs that ask alike, from drives that are seen
+-- alike, come out alike. An input that opens a medium is asked that it be sure how that is opened, and no other. What
+-- was sure of the side of a medium in the drive stays so (own).
 abbrev pub StepsAreDetermined : Type 0
 StepsAreDetermined =
     (old beside : Machine) (input other : Input) (output output' : Output) (made made' : Made) (new new' : Machine)
-    → seen_of old ≡ seen_of beside → IsSureDrive (seen_of old) → AskAlike input other → IsCalm output → IsCalm output'
+    → seen_of old ≡ seen_of beside → IsSureInput old input → AskAlike input other → IsCalm output → IsCalm output'
     → Step (Unit {0}) old input output made new → Step (Unit {0}) beside other output' made' new'
-    → AreAlike output output' made made' new new'
+    → AreAlike (IsSureDrive (seen_of old) × BringsSure input) output output' made made' new new'
 
--- two runs of which none of these came, by inputs that ask alike but for flusher's turns, which may stand at different
--- places, from such drives: the replies are the same, and they come out alike (own)
+-- Two runs of which none of these came, by inputs that ask alike but for flusher's turns, which may stand at different
+-- places, from drives that are seen alike: the replies are the same, and they come out alike. Again the inputs of one
+-- run that open a medium are asked that it be sure how that is opened, in the drives that they come to (own).
 abbrev pub RunsAreDetermined : Type 0
 RunsAreDetermined =
     (old beside : Machine) (inputs others : List Input) (outputs outputs' : List Output) (made made' : Made)
     (new new' : Machine)
-    → seen_of old ≡ seen_of beside → IsSureDrive (seen_of old)
+    → seen_of old ≡ seen_of beside
     → AllAskAlike (without_turns inputs) (without_turns others)
     → All IsCalm outputs → All IsCalm outputs'
-    → Run (Unit {0}) old inputs outputs made new → Run (Unit {0}) beside others outputs' made' new'
-    → AreAlike (replies_of outputs) (replies_of outputs') made made' new new'
+    → (run : Run (Unit {0}) old inputs outputs made new) → InRun IsSureInput old inputs outputs made new run
+    → Run (Unit {0}) beside others outputs' made' new'
+    → AreAlike (IsSureDrive (seen_of old) × All BringsSure (without_turns inputs)) (replies_of outputs)
+    (replies_of outputs') made made' new new'
+
+-- From a drive of whose medium it is sure what its side gives, in a run of which none of these came and which takes in
+-- such media alone, it is sure how each medium is opened (own).
+abbrev pub RunsStaySure : Type 0
+RunsStaySure =
+    (old : Machine) (inputs : List Input) (outputs : List Output) (made : Made) (new : Machine)
+    → IsSureDrive (seen_of old) → All BringsSure inputs → All IsCalm outputs
+    → (run : Run (Unit {0}) old inputs outputs made new) → InRun IsSureInput old inputs outputs made new run

@@ -1,5 +1,5 @@
 //! Laws of the drive machine.
-ghost use Rattle.drive_core.specs.Determined.{HonestStepsAreSteps, StepsAreDetermined, RunsAreDetermined};
+ghost use Rattle.drive_core.specs.Determined.{HonestStepsAreSteps, StepsAreDetermined, RunsAreDetermined, RunsStaySure};
 ghost use Rattle.drive_core.specs.Run.{EventsAreRuns, RunsAppend, ServedByRuns};
 
 use positioning::laws::{each_locate_has_one_end, each_space_has_one_end};
@@ -14,10 +14,13 @@ pub fn honest_steps<M: Medium>()
 
 /// Where no fault, want of memory or full side came, an input has one answer, makes one list of
 /// changes and leaves one drive, however its volume is split into what is stored and what is
-/// pending; and so have the inputs of a run, wherever flusher's turns stand in it.
+/// pending; and so have the inputs of a run, wherever flusher's turns stand in it. Only of an input
+/// that opens a medium it is asked that it be sure how that is opened. That is so in each run of
+/// which none of these came, if it was sure at the start what the side of each medium gives.
 pub fn answers_are_determined()
     ensures step { StepsAreDetermined }
     ensures run { RunsAreDetermined }
+    ensures sure { RunsStaySure }
 {
     each_space_has_one_end();
     each_locate_has_one_end();

@@ -18,7 +18,8 @@ use vtl_base::Bytes;
 use vtl_base::limits::{MAX_OBJECTS, OBJECT_COST};
 
 /// Puts what was sent as a block at the position, which is then behind it and the end of data
-/// (SSC-4, WRITE(6)). Of no bytes nothing is done. A block that does not fit is not copied.
+/// (SSC-4, WRITE(6)). Of no bytes nothing is done. A block that does not fit the partition, or the
+/// side, is not copied.
 pub fn write<M: Medium>(
     alloc: Global,
     medium: &mut M,
@@ -39,6 +40,11 @@ pub fn write<M: Medium>(
     let amount = sent.len() as u32;
     if !has_room(medium, *position, sent) {
         return Ok(Reply::check(Sense::volume_overflow(Some(amount)), Bytes::new(alloc)));
+    }
+    if !medium.has_room_for(amount) {
+        return Err(Fault::SideFull {
+            residue: Some(amount),
+        });
     }
     let block = Bytes::from_slice(alloc, sent)?;
     let change = Change::Put {

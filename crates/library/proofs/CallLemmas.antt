@@ -8,6 +8,7 @@ use Rattle.volume_core.specs.declared.media.Turn.{Turn}
 use Rattle.volume_core.specs.declared.media.Turn.TheVariants as turns
 use Rattle.volume_core.specs.Medium.{MediumState}
 use Rattle.tape_disk.specs.Disk.{DiskState, IsDisk}
+use Rattle.accepting.specs.Device.{one_disk, one_is_device}
 use Rattle.accepting.specs.Events.{CoreMoves, core_moves_nowhere}
 use Rattle.pr_core.specs.declared.keepers.KeeperError.{KeeperError}
 use Rattle.pr_core.specs.declared.keepers.KeeperError.TheVariants as save
@@ -31,7 +32,7 @@ use Rattle.drive_core.specs.Work.{Request}
 use Rattle.aptpl_store.specs.Contents.{latest}
 use Rattle.aptpl_store.specs.Kept.{core_of, store_below, store_kept, store_rules}
 use Rattle.aptpl_store.specs.State.{OpenStore}
-use Rattle.library.specs.Reservations.{Asked, Call, CallDoes, ChangesBay, IsHolding, IsOrdered, IsOrderedIn, MayStand, Moved, Turned, disk_of}
+use Rattle.library.specs.Reservations.{Asked, Call, CallDoes, ChangesBay, IsHolding, IsOrdered, IsOrderedIn, MayStand, Moved, Turned}
 use Rattle.library.proofs.MachineLemmas.{Goes, step_goes}
 use Rattle.library.proofs.StoreCoreLemmas.{none_torn}
 
@@ -42,7 +43,7 @@ module _ {M D : Type 0} (medium : M → MediumState) (below : Below M Change) (d
   pub record CallGoes (old : DriveState M (OpenStore D)) (call : Call) (new : DriveState M (OpenStore D)) : Type 0 where
     pub made : List PrState
     pub moves :
-        CoreMoves store_rules (disk_of medium below disk old) (disk_of medium below disk new) (core_of old.keeper)
+        CoreMoves store_rules (one_disk disk) old.keeper.disk new.keeper.disk (core_of old.keeper)
         (core_of new.keeper) made
     pub more : PrState
     pub stands : (power_loss more ≡ power_loss old.reservations) ⊎ MayStand medium below disk old call new more
@@ -54,7 +55,7 @@ module _ {M D : Type 0} (medium : M → MediumState) (below : Below M Change) (d
 
   module _ (old new : DriveState M (OpenStore D)) (holding : IsHolding medium below disk old) (call : Call)
       (made : List PrState)
-      (moves : CoreMoves store_rules (disk_of medium below disk old) (disk_of medium below disk new)
+      (moves : CoreMoves store_rules (one_disk disk) old.keeper.disk new.keeper.disk
       (core_of old.keeper) (core_of new.keeper) made) where
     -- nothing was saved
     unsaved : made ≡ [] → store_kept new.keeper ≡ store_kept old.keeper → IsSound new.reservations
@@ -148,7 +149,7 @@ module _ {M D : Type 0} (medium : M → MediumState) (below : Below M Change) (d
   -- what an order's work does
   module _ (old new : DriveState M (OpenStore D)) (holding : IsHolding medium below disk old) (request : Request)
       (reply : Reply) (answer : Result Reply Fault) (made : Made)
-      (moves : CoreMoves store_rules (disk_of medium below disk old) (disk_of medium below disk new)
+      (moves : CoreMoves store_rules (one_disk disk) old.keeper.disk new.keeper.disk
       (core_of old.keeper) (core_of new.keeper) made.saved) (state : PrState)
       (ordered : IsOrdered (machine_of medium store_kept old) request state) where
     sound : IsSound state
@@ -222,9 +223,10 @@ module _ {M D : Type 0} (medium : M → MediumState) (below : Below M Change) (d
       let same = turn_leaves _ (machine_of medium store_kept old) takes.step.0 (machine_of medium store_kept new)
       takes.step.1 in
       unsaved old new holding (Turned turn) []
-      (subst (λ (k : OpenStore D). CoreMoves store_rules (disk_of medium below disk old) (disk k.disk)
+      (subst (λ (k : OpenStore D). CoreMoves store_rules (one_disk disk) old.keeper.disk k.disk
       (core_of old.keeper) (core_of k) []) (sym takes.keeper)
-      (core_moves_nowhere store_rules (disk_of medium below disk old) (core_of old.keeper) (is_disk old.keeper.disk)))
+      (core_moves_nowhere store_rules (one_disk disk) (one_is_device disk) old.keeper.disk (core_of old.keeper)
+      (is_disk old.keeper.disk)))
       refl (ap (λ (k : OpenStore D). store_kept k) takes.keeper) (subst IsSound (sym same) holding.sound)
       (ap power_loss same)
 
@@ -264,9 +266,10 @@ module _ {M D : Type 0} (medium : M → MediumState) (below : Below M Change) (d
   moved_goes old new holding carried =
       let stays = carried_stays old new carried in
       unsaved old new holding Moved []
-      (subst (λ (k : OpenStore D). CoreMoves store_rules (disk_of medium below disk old) (disk k.disk)
+      (subst (λ (k : OpenStore D). CoreMoves store_rules (one_disk disk) old.keeper.disk k.disk
       (core_of old.keeper) (core_of k) []) (sym stays.0)
-      (core_moves_nowhere store_rules (disk_of medium below disk old) (core_of old.keeper) (is_disk old.keeper.disk)))
+      (core_moves_nowhere store_rules (one_disk disk) (one_is_device disk) old.keeper.disk (core_of old.keeper)
+      (is_disk old.keeper.disk)))
       refl (ap (λ (k : OpenStore D). store_kept k) stays.0) (subst IsSound (sym stays.1) holding.sound)
       (ap power_loss stays.1)
 

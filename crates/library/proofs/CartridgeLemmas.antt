@@ -1,10 +1,10 @@
 -- What was acknowledged of a cartridge in a drive is kept.
-use Rattle.std.specs.Prelude.{◌≡◌, ◌++◌, List, [], ◌∷◌, Bool, true, false, Option, None, Some, length, refl}
+use Rattle.std.specs.Prelude.{◌≡◌, ◌++◌, ℕ, List, [], ◌∷◌, Bool, true, false, Option, None, Some, length, take, refl}
 use Rattle.std.proofs.Common.{sym, ◌∙◌, ap, subst}
 use Rattle.std.proofs.lemmas.List.{append-nil}
 use Rattle.vtl_base.specs.Below.{Below}
 use Rattle.tape_disk.specs.Disk.{DiskState, Each, IsDisk}
-use Rattle.tape_disk.specs.Moments.{LeavesOnly}
+use Rattle.tape_disk.specs.Moments.{LeavesOnly, weakened}
 use Rattle.pr_core.specs.declared.states.PrState.{PrState}
 use Rattle.pr_core.specs.Keepers.{KeeperState}
 use Rattle.volume_core.specs.declared.changes.Change.{Change}
@@ -12,12 +12,14 @@ use Rattle.volume_core.specs.Medium.{turn_met_fault}
 use Rattle.gate_journal.specs.Side.{Heading}
 use Rattle.cartridge.specs.Contents.{Contents, changes_in}
 use Rattle.cartridge.specs.State.{ClosedCartridge, OpenCartridge}
-use Rattle.accepting.specs.Core.{CanAcknowledge, Core, IsCore}
-use Rattle.accepting.specs.Events.{GivesAcknowledged, IsEvent, ShowsCore}
-use Rattle.accepting.specs.Laws.{CrashesKeepAcknowledged, StepsKeepCores}
+use Rattle.accepting.specs.Core.{CanAcknowledge, Core, CoreStep, IsCore}
+use Rattle.accepting.specs.Device.{one_disk}
+use Rattle.accepting.specs.Events as Events
+use Rattle.accepting.specs.Events.{IsEvent, ShowsCore}
+use Rattle.accepting.specs.Laws.{CrashesKeepAcknowledged, KeptBegins, StepsKeepCores}
 use Rattle.tape_buffer.specs.declared.holding.Holding.{Holding}
 use Rattle.tape_buffer.specs.declared.holding.Holding.TheVariants.{Open, Closed, Between}
-use Rattle.tape_buffer.specs.Rules.{medium_rules}
+use Rattle.tape_buffer.specs.Rules.{GivesChanges, medium_rules}
 use Rattle.tape_buffer.specs.Moves.{HonestOn, MediumMoves, MovesOn, buffer_below, medium_core, medium_moves_nowhere, medium_moves_on}
 use Rattle.tape_buffer.specs.State.{BufferState, core_held, disk_in, found_core, found_in, state_held, state_of, torn_in}
 use Rattle.drive_core.specs.declared.bays.Bay.{Bay}
@@ -26,7 +28,7 @@ use Rattle.drive_core.specs.State.{DriveState, IsBayPositioned, machine_of, medi
 use Rattle.drive_core.specs.Relations.{Made}
 use Rattle.drive_core.specs.Execute.{AdvancesIn, HonestIn, is_device_fault}
 use Rattle.drive_core.specs.Synchronize.{NothingPending}
-use Rattle.library.specs.Cartridges.{IsKnown, KeepsIn, StopsKeepChanges}
+use Rattle.library.specs.Cartridges.{GivesAcknowledged, IsKnown, KeepsIn, StopsKeepChanges}
 use Rattle.library.specs.Doings.{Commanded, Does, Doing, DoesAll, Turned}
 
 module _ {D : Type 0} (state : D → DiskState) (is_disk : (disk : D) → (state disk).honest → IsDisk (state disk)) where
@@ -133,14 +135,32 @@ module _ {D : Type 0} (state : D → DiskState) (is_disk : (disk : D) → (state
         subst (λ (x : BufferState D). CanAcknowledge (medium_core state x)) e
         (safe_parked m.held m.pending on (nothing.1 h))
 
-  module _ (crash : CrashesKeepAcknowledged medium_rules state) (cores : StepsKeepCores medium_rules) where
+  module _ (crash : CrashesKeepAcknowledged medium_rules (one_disk state)) (cores : StepsKeepCores medium_rules)
+      (begins : KeptBegins medium_rules) where
+    -- what all is carried out from never changes, so what was acknowledged begins what is given
+    gives_acknowledged : (old : Core Heading Change) (steps : List (CoreStep Change)) (image : List ℕ)
+        → Events.GivesAcknowledged medium_rules old steps image → GivesAcknowledged old steps image
+    gives_acknowledged old steps image given =
+        let is = begins (λ base base' items never. never) old.base given.between.base old.accepted
+        (take given.kept given.between.accepted) given.acknowledged in
+        record {
+          count = given.count;
+          between = given.between;
+          leads = given.leads;
+          kept = given.kept;
+          acknowledged = is.1;
+          gives =
+              subst (λ (heading : Heading). GivesChanges heading (take given.kept given.between.accepted) image) is.0
+              given.gives;
+        }
+
     -- what is acknowledged over one disk is kept over the next
     keep_on : (x y z : Option D) (first second third : Core Heading Change) (made more : List Change) (disk : D)
         → x ≡ Some disk → (state disk).honest → IsCore first → Each (state disk) (ShowsCore medium_rules first)
         → MovesOn state x y first second made → MovesOn state y z second third more → CanAcknowledge second
         → (before : D) × (y ≡ Some before) × (after : D) × (z ≡ Some after)
-        × (event : IsEvent medium_rules (state before) (state after) second third more)
-        × LeavesOnly (state before) (state after) (GivesAcknowledged medium_rules second event.steps)
+        × (event : IsEvent medium_rules (one_disk state) before after second third more)
+        × LeavesOnly (state before) (state after) (GivesAcknowledged second event.steps)
     keep_on None y z first second third made more disk is honest core shows one two safe = absurd (cc)
     keep_on (Some x) None z first second third made more disk is honest core shows one two safe = absurd one
     keep_on (Some x) (Some y) None first second third made more disk is honest core shows one two safe = absurd two
@@ -150,8 +170,15 @@ module _ {D : Type 0} (state : D → DiskState) (is_disk : (disk : D) → (state
         let shows_x = subst (λ (d : D). Each (state d) (ShowsCore medium_rules first)) (sym same) shows in
         let goes = one.goes honest_x shows_x in
         let kept = cores first second goes.0.steps core goes.0.leads in
-        let found = crash y z second third more (one.keeps.stays_honest honest_x) kept.0 safe goes.1 two in
-        (y, refl, z, refl, found.0, found.1)
+        let found = crash y z second third more (one.keeps.stays_honest honest_x) kept.0 safe goes.1 two in (
+          y,
+          refl,
+          z,
+          refl,
+          found.0,
+          weakened (state y) (state z) (Events.GivesAcknowledged medium_rules second found.0.steps)
+              (GivesAcknowledged second found.0.steps) found.1 (gives_acknowledged second found.0.steps),
+        )
 
     pub keep_media : (a b c : Option (BufferState D)) (medium : BufferState D) (made more : List Change)
         → a ≡ Some medium → IsKnown state medium → Moved a b made → Moved b c more

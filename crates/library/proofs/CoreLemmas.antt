@@ -2,7 +2,7 @@
 use Rattle.std.proofs.Common.{◌≡◌, ◌⊎◌, inl, inr, ℕ, zero, suc, ◌≤◌, ◌<◌, ◌+◌, List, [], ◌∷◌, ◌++◌, length, take, refl, sym, ◌∙◌, ap, subst, arith, length-append}
 use Rattle.std.proofs.lemmas.Bool.{cases_lt}
 use Rattle.std.proofs.lemmas.List.{length-take-le, take_all, take_at}
-use Rattle.accepting.specs.Core.{Rules, Core, CoreStep, Accept, Store, Safe, Ack, Fault, Stop, AllStepTo, accepted_in}
+use Rattle.accepting.specs.Core.{Rules, Core, CoreStep, Accept, Store, Safe, Ack, Fault, Stop, Rebase, AllStepTo, NeverRebases, accepted_in}
 
 -- the first item, or this one
 abbrev head_or : {A : Type 0} → A → List A → A
@@ -49,51 +49,52 @@ module _ (rules : Rules) (base : rules.Base) (states : List rules.Item) (more : 
   MayAccept steps accepted =
       (accepted_in steps ≡ []) ⊎ ((accepted_in steps ≡ more ∷ []) × (accepted ≡ states))
 
-  pub within_steps : (steps : List (CoreStep rules.Item)) (old new : Core rules.Base rules.Item) → Within old
+  pub within_steps : NeverRebases rules → (steps : List (CoreStep rules.Item))
+      (old new : Core rules.Base rules.Item) → Within old
       → MayAccept steps old.accepted → AllStepTo rules old steps new → Within new
-  within_steps [] old new is may leads = subst Within (sym leads) is
-  within_steps (Accept item ∷ steps) old new is (inl none) leads = absurd (cc)
-  within_steps (Accept item ∷ steps) old new is (inr one) leads =
+  within_steps never [] old new is may leads = subst Within (sym leads) is
+  within_steps never (Accept item ∷ steps) old new is (inl none) leads = absurd (cc)
+  within_steps never (Accept item ∷ steps) old new is (inr one) leads =
       let this : item ≡ more = ap (λ (l : List rules.Item). head_or item l) one.0 in
       let rest : accepted_in steps ≡ [] = ap (λ (l : List rules.Item). tail_of l) one.0 in
       let mid = leads.0 in
       let mid_is = leads.1.3 in
-      within_steps steps mid new (subst Within (sym mid_is) (record {
+      within_steps never steps mid new (subst Within (sym mid_is) (record {
         base_is = is.base_is;
         accepted = inr (λ i. one.1 i ++ this i ∷ []);
         safe = is.safe;
         stored = is.stored;
         all = omega (arith, is.all, length-append old.accepted (item ∷ []));
       })) (inl rest) leads.2
-  within_steps (Store count ∷ steps) old new is may leads =
-      within_steps steps leads.0 new (subst Within (sym leads.1.3) (record {
+  within_steps never (Store count ∷ steps) old new is may leads =
+      within_steps never steps leads.0 new (subst Within (sym leads.1.3) (record {
         base_is = is.base_is;
         accepted = is.accepted;
         safe = is.safe;
         stored = omega (arith, is.stored);
         all = omega (arith, leads.1.2);
       })) (subst (λ (c : Core rules.Base rules.Item). MayAccept steps c.accepted) (sym leads.1.3) may) leads.2
-  within_steps (Safe ∷ steps) old new is may leads =
-      within_steps steps leads.0 new (subst Within (sym leads.1.1) (record {
+  within_steps never (Safe ∷ steps) old new is may leads =
+      within_steps never steps leads.0 new (subst Within (sym leads.1.1) (record {
         base_is = is.base_is;
         accepted = is.accepted;
         safe = omega (arith, is.safe, is.stored);
         stored = omega arith;
         all = is.all;
       })) (subst (λ (c : Core rules.Base rules.Item). MayAccept steps c.accepted) (sym leads.1.1) may) leads.2
-  within_steps (Ack ∷ steps) old new is may leads =
-      within_steps steps leads.0 new (subst Within (sym leads.1.1) is)
+  within_steps never (Ack ∷ steps) old new is may leads =
+      within_steps never steps leads.0 new (subst Within (sym leads.1.1) is)
       (subst (λ (c : Core rules.Base rules.Item). MayAccept steps c.accepted) (sym leads.1.1) may) leads.2
-  within_steps (Fault ∷ steps) old new is may leads =
-      within_steps steps leads.0 new (subst Within (sym leads.1) (record {
+  within_steps never (Fault ∷ steps) old new is may leads =
+      within_steps never steps leads.0 new (subst Within (sym leads.1) (record {
         base_is = is.base_is;
         accepted = is.accepted;
         safe = is.safe;
         stored = is.stored;
         all = is.all;
       })) (subst (λ (c : Core rules.Base rules.Item). MayAccept steps c.accepted) (sym leads.1) may) leads.2
-  within_steps (Stop kept ∷ steps) old new is may leads =
-      within_steps steps leads.0 new (subst Within (sym leads.1.1) (record {
+  within_steps never (Stop kept ∷ steps) old new is may leads =
+      within_steps never steps leads.0 new (subst Within (sym leads.1.1) (record {
         base_is = is.base_is;
         accepted = first_many old.accepted kept is.accepted enough (omega (arith, few));
         safe = is.safe;
@@ -125,6 +126,8 @@ module _ (rules : Rules) (base : rules.Base) (states : List rules.Item) (more : 
             one.0,
             take_all kept old.accepted (omega (arith, enough, ap (λ (l : List rules.Item). length l) one.1)) ∙ one.1,
           )
+  within_steps never (Rebase ∷ steps) old new is may leads =
+      absurd (never old.base leads.1.1.0 old.accepted leads.1.1.1)
 
   -- where steps accept nothing, the first of them accept nothing
   fewer_none : (steps : List (CoreStep rules.Item)) (count : ℕ) → accepted_in steps ≡ []
@@ -137,6 +140,7 @@ module _ (rules : Rules) (base : rules.Base) (states : List rules.Item) (more : 
   fewer_none (Ack ∷ steps) (suc count) none = fewer_none steps count none
   fewer_none (Fault ∷ steps) (suc count) none = fewer_none steps count none
   fewer_none (Stop n ∷ steps) (suc count) none = fewer_none steps count none
+  fewer_none (Rebase ∷ steps) (suc count) none = fewer_none steps count none
 
   -- the first so many of some steps accept what may be accepted still
   pub fewer_accept : (steps : List (CoreStep rules.Item)) (count : ℕ) (accepted : List rules.Item)
@@ -151,3 +155,4 @@ module _ (rules : Rules) (base : rules.Base) (states : List rules.Item) (more : 
   fewer_accept (Ack ∷ steps) (suc count) accepted may = fewer_accept steps count accepted may
   fewer_accept (Fault ∷ steps) (suc count) accepted may = fewer_accept steps count accepted may
   fewer_accept (Stop n ∷ steps) (suc count) accepted may = fewer_accept steps count accepted may
+  fewer_accept (Rebase ∷ steps) (suc count) accepted may = fewer_accept steps count accepted may

@@ -5,7 +5,8 @@ use Rattle.tape_disk.specs.Disk.{DiskState, IsDisk}
 use Rattle.scsi_sense.specs.declared.replies.Reply.{Reply}
 use Rattle.volume_core.specs.declared.changes.Change.{Change}
 use Rattle.accepting.specs.Core.{CanAcknowledge}
-use Rattle.accepting.specs.Laws.{CrashesKeepAcknowledged, StepsKeepCores}
+use Rattle.accepting.specs.Device.{one_disk}
+use Rattle.accepting.specs.Laws.{CrashesKeepAcknowledged, KeptBegins, StepsKeepCores}
 use Rattle.tape_buffer.specs.Rules.{medium_rules}
 use Rattle.tape_buffer.specs.Moves.{buffer_below, medium_core}
 use Rattle.tape_buffer.specs.State.{BufferState}
@@ -149,7 +150,8 @@ module _ {D : Type 0} (state : D → DiskState) (is_disk : (disk : D) → (state
       (moved_on state is_disk (cartridge_at old place) (cartridge_at mid at) (cartridge_at new after) first rest here
       (moved_with_all mid new at after deeds rest later.0 later.1 others))
 
-  module _ (crash : CrashesKeepAcknowledged medium_rules state) (cores : StepsKeepCores medium_rules) where
+  module _ (crash : CrashesKeepAcknowledged medium_rules (one_disk state)) (cores : StepsKeepCores medium_rules)
+      (begins : KeptBegins medium_rules) where
     pub stops_keep_what_is_moved : StopsKeepWhatIsMoved state
     stops_keep_what_is_moved old acked new number after medium request reply deeds changes drive at known answers sure
         told on goes =
@@ -165,19 +167,20 @@ module _ {D : Type 0} (state : D → DiskState) (is_disk : (disk : D) → (state
         (cartridge_at acked number) taken.made.changes was is moved in
         let later = still_there (cartridge_at old number) (cartridge_at acked number) taken.made.changes medium at
         first in
-        keep_media state is_disk crash cores (cartridge_at old number) (cartridge_at acked number)
+        keep_media state is_disk crash cores begins (cartridge_at old number) (cartridge_at acked number)
         (cartridge_at new after) medium taken.made.changes changes at known first
         (moved_with_all acked new number after deeds changes later.0 later.1 goes)
         (λ left there. safe_in state is_disk store_kept (HonestIn (buffer_below state) (medium_in answers.bay.bay))
         answers.left answers.left.bay left refl (sym is ∙ there)
-        (honest_in state is_disk crash cores store_kept (store_below state) (medium_in answers.bay.bay) medium inside
-        known)
+        (honest_in state is_disk crash cores begins store_kept (store_below state) (medium_in answers.bay.bay) medium
+        inside known)
         on (answers.settled sure told))
 
     pub keeps_what_is_safe : KeepsWhatIsSafe state
     keeps_what_is_safe old new place after medium deeds changes at known safe goes =
-        keep_media state is_disk crash cores (cartridge_at old place) (cartridge_at old place) (cartridge_at new after)
-        medium [] changes at known (unmoved (cartridge_at old place) (cartridge_at old place) refl)
+        keep_media state is_disk crash cores begins (cartridge_at old place) (cartridge_at old place)
+        (cartridge_at new after) medium [] changes at known
+        (unmoved (cartridge_at old place) (cartridge_at old place) refl)
         (moved_with_all old new place after deeds changes medium at goes)
         (λ left there. let same : medium ≡ left = cc in
         subst (λ (m : BufferState D). CanAcknowledge (medium_core state m)) same safe)

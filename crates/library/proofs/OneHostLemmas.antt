@@ -8,7 +8,7 @@ use Rattle.tape_disk.specs.Disk.{DiskState}
 use Rattle.scsi_sense.specs.declared.replies.Reply.{Reply}
 use Rattle.volume_core.specs.declared.changes.Change.{Change}
 use Rattle.drive_core.specs.declared.faults.Fault.{Fault}
-use Rattle.drive_core.specs.Determined.{AllAskAlike, HonestStepsAreSteps, IsCalm, IsSureDrive, RunsAreDetermined, seen_of, without_turns}
+use Rattle.drive_core.specs.Determined.{AllAskAlike, BringsSure, HonestStepsAreSteps, InRun, IsCalm, IsSureDrive, IsSureInput, RunsAreDetermined, RunsStaySure, seen_of, without_turns}
 use Rattle.drive_core.specs.Execute.{HonestIn}
 use Rattle.drive_core.specs.Faults.{reply_of}
 use Rattle.drive_core.specs.Relations.{Made}
@@ -57,6 +57,10 @@ all_calm replies =
     All-map IsCalm Answered (map Ok replies)
     (All-map (λ (answer : Result Reply Fault). IsCalm (Answered answer)) Ok replies (λ k d h. tt))
 
+-- requests take no medium in
+bring_nothing : (requests : List Request) → All BringsSure (map Execute requests)
+bring_nothing requests = All-map BringsSure Execute requests (λ k d h. tt)
+
 -- a run over a medium that is honest is a run of the machine
 run_over : {M : Type 0} (honest : M → Type 0) → HonestStepsAreSteps honest → (medium : M) → honest medium
     → (old : Machine) (inputs : List Input) (outputs : List Output) (made : Made) (new : Machine)
@@ -85,6 +89,7 @@ run_in below steps (Some medium) is old inputs outputs made new run =
 pub record Laws {D : Type 0} (state : D → DiskState) : Type 0 where
   pub steps : HonestStepsAreSteps (buffer_below state).honest
   pub determined : RunsAreDetermined
+  pub stay : RunsStaySure
   pub runs : ServedByRuns (state_of state) (buffer_below state) store_kept (store_below state)
   pub in_order : OneHostInOrder
   pub no_moves : NoMoveIsRun
@@ -101,12 +106,16 @@ module _ {D : Type 0} (state : D → DiskState) (laws : Laws state) where
       let alike : AllAskAlike (without_turns own) (without_turns may.inputs) =
       subst (λ (xs : List Input). AllAskAlike (without_turns own) xs) (sym may.asked)
       (subst (λ (xs : List Input). AllAskAlike xs own) (sym (no_turns requests)) (ask_alike requests)) in
+      let answered = map Answered (map Ok silent) in
+      let taken : Run (Unit {0}) (machine_in state bay) own answered made end =
+      run_in (buffer_below state) laws.steps (medium_in bay.bay) honest (machine_in state bay) own answered made end
+          run in
+      let opens : InRun IsSureInput (machine_in state bay) own answered made end taken =
+      laws.stay (machine_in state bay) own answered made end sure (bring_nothing requests) (all_calm silent) taken in
       let same =
-      laws.determined (machine_in state bay) (machine_in state bay) own may.inputs (map Answered (map Ok silent))
-      may.outputs made may.made end may.end refl sure alike (all_calm silent) may.calm
-      (run_in (buffer_below state) laws.steps (medium_in bay.bay) honest (machine_in state bay) own
-      (map Answered (map Ok silent)) made end run)
-      may.run in
+      laws.determined (machine_in state bay) (machine_in state bay) own may.inputs answered may.outputs made may.made
+          end
+      may.end refl alike (all_calm silent) may.calm taken opens may.run in
       sym (replies_among silent) ∙ same.outputs ∙ sym may.replied
 
   -- the answers of one drive

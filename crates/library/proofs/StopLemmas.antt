@@ -41,7 +41,7 @@ module _ {M D : Type 0} (medium : M → MediumState) (below : Below M Change) (d
       let core = core_with old.keeper.heading old.keeper.states old.keeper.torn in
       let leaves : LeavesOnly (disk_of medium below disk old) (disk_of medium below disk new)
       (GivesEither old.keeper.heading old.keeper.states goes.more) =
-      event_leaves (disk_of medium below disk old) (disk_of medium below disk new) old.keeper.heading old.keeper.states
+      event_leaves disk old.keeper.disk new.keeper.disk old.keeper.heading old.keeper.states
       goes.more core (core_of new.keeper) goes.made
       (core_within old.keeper.heading old.keeper.states old.keeper.torn goes.more goes.torn)
       (accepts old goes.more goes.made goes.fits) went.0 in (

@@ -5,6 +5,7 @@ use Rattle.tape_disk.specs.Disk.{DiskState}
 use Rattle.tape_disk.specs.Moments.{LeavesOnly, weakened}
 use Rattle.gate_journal.specs.Side.{Heading}
 use Rattle.accepting.specs.Core.{Core}
+use Rattle.accepting.specs.Device.{one_disk}
 use Rattle.accepting.specs.Events.{IsEvent, ShowsCore}
 use Rattle.pr_core.specs.declared.states.PrState.{PrState}
 use Rattle.pr_core.specs.Staged.{last_saved}
@@ -108,15 +109,18 @@ within_gives heading states more core is image shows = by shows
     by (inr gives) = either core.stored (omega (arith, is.safe, is.stored)) is.all gives
 
 -- at each moment of an event that accepts one more, or nothing, the images give one of the two
-pub event_leaves : (d d' : DiskState) (heading : Heading) (states : List PrState) (more : PrState)
+pub event_leaves : {D : Type 0} (disk : D → DiskState) (d d' : D) (heading : Heading) (states : List PrState)
+    (more : PrState)
     (old new : Core Heading PrState) (made : List PrState) → Within store_rules heading states more old
     → (made ≡ []) ⊎ ((made ≡ more ∷ []) × (old.accepted ≡ states))
-    → IsEvent store_rules d d' old new made → LeavesOnly d d' (GivesEither heading states more)
-event_leaves d d' heading states more old new made is fits event =
-    weakened d d' _ (GivesEither heading states more) event.moments
+    → IsEvent store_rules (one_disk disk) d d' old new made
+    → LeavesOnly (disk d) (disk d') (GivesEither heading states more)
+event_leaves disk d d' heading states more old new made is fits event =
+    weakened (disk d) (disk d') _ (GivesEither heading states more) event.moments
     (λ image shown.
     within_gives heading states more shown.1
-    (within_steps store_rules heading states more (take shown.0 event.steps) old shown.1 is
+    (within_steps store_rules heading states more (λ base other items never. never)
+    (take shown.0 event.steps) old shown.1 is
     (fewer_accept store_rules heading states more event.steps shown.0 old.accepted (may fits)) shown.2)
     image shown.3)
   where

@@ -1,5 +1,5 @@
 -- What a stop leaves of the cartridge in a drive.
-use Rattle.std.specs.Prelude.{◌≡◌, List, Option, Some}
+use Rattle.std.specs.Prelude.{◌≡◌, ℕ, List, Option, Some, take}
 use Rattle.vtl_base.specs.Below.{Below}
 use Rattle.tape_disk.specs.Disk.{DiskState, Each}
 use Rattle.tape_disk.specs.Moments.{LeavesOnly}
@@ -7,9 +7,11 @@ use Rattle.scsi_sense.specs.declared.replies.Reply.{Reply}
 use Rattle.pr_core.specs.declared.states.PrState.{PrState}
 use Rattle.pr_core.specs.Keepers.{KeeperState}
 use Rattle.volume_core.specs.declared.changes.Change.{Change}
-use Rattle.accepting.specs.Core.{CanAcknowledge, IsCore}
-use Rattle.accepting.specs.Events.{GivesAcknowledged, IsEvent, ShowsCore}
-use Rattle.tape_buffer.specs.Rules.{medium_rules}
+use Rattle.gate_journal.specs.Side.{Heading}
+use Rattle.accepting.specs.Core.{AllStepTo, CanAcknowledge, Core, CoreStep, IsCore, IsPrefix}
+use Rattle.accepting.specs.Device.{one_disk}
+use Rattle.accepting.specs.Events.{IsEvent, ShowsCore}
+use Rattle.tape_buffer.specs.Rules.{GivesChanges, medium_rules}
 use Rattle.tape_buffer.specs.Moves.{buffer_below, medium_core}
 use Rattle.tape_buffer.specs.State.{BufferState, disk_in, state_of}
 use Rattle.drive_core.specs.State.{DriveState, IsBayPositioned, machine_of, medium_in}
@@ -18,6 +20,17 @@ use Rattle.drive_core.specs.Work.{Request}
 use Rattle.drive_core.specs.Execute.{Answers, HonestIn}
 use Rattle.drive_core.specs.Synchronize.{Acknowledges, IsSynchronizing, NothingPending}
 use Rattle.library.specs.Doings.{Doing, DoesAll}
+
+-- An image gives all that was acknowledged in the old core: the first so many changes that were accepted in a core
+-- between, which some of the steps lead to, and what was acknowledged begins these (own).
+pub record GivesAcknowledged (old : Core Heading Change) (steps : List (CoreStep Change)) (image : List ℕ)
+    : Type 0 where
+  pub count : ℕ
+  pub between : Core Heading Change
+  pub leads : AllStepTo medium_rules old (take count steps) between
+  pub kept : ℕ
+  pub acknowledged : IsPrefix old.accepted (take kept between.accepted)
+  pub gives : GivesChanges old.base (take kept between.accepted) image
 
 module _ {D : Type 0} (state : D → DiskState) where
   -- what a medium over an honest disk knows of itself: what is safe is stored, what is stored was accepted, and each
@@ -38,10 +51,10 @@ module _ {D : Type 0} (state : D → DiskState) where
     pub after : D
     pub disk_after : disk_in last.held ≡ Some after
     pub all_safe : CanAcknowledge (medium_core state acked)
-    pub event : IsEvent medium_rules (state before) (state after) (medium_core state acked) (medium_core state last)
+    pub event : IsEvent medium_rules (one_disk state) before after (medium_core state acked) (medium_core state last)
         made
     pub moments :
-        LeavesOnly (state before) (state after) (GivesAcknowledged medium_rules (medium_core state acked) event.steps)
+        LeavesOnly (state before) (state after) (GivesAcknowledged (medium_core state acked) event.steps)
 
   -- the same of the media in two bays (own)
   abbrev pub KeepsIn : Option (BufferState D) → Option (BufferState D) → List Change → Type 0

@@ -1,5 +1,5 @@
 -- A change more is pending.
-use Rattle.std.specs.Prelude.{◌≡◌, ◌+◌, ◌++◌, ◌≤◌, ◌<◌, List, [], ◌∷◌, Bool, true, false, Option, None, Some, Ok, IsTrue, length, sum_by, slice_get, not, if◌then◌else◌, refl}
+use Rattle.std.specs.Prelude.{◌≡◌, ◌+◌, ◌++◌, ◌≤◌, ◌<◌, ℕ, List, [], ◌∷◌, Bool, true, false, Option, None, Some, Ok, IsTrue, length, sum_by, slice_get, not, if◌then◌else◌, refl}
 use Rattle.std.proofs.Common.{inl, sym, ◌∙◌, ap, subst, arith, append_assoc}
 use Rattle.std.proofs.lemmas.Bool.{and_parts, leb-true}
 use Rattle.std.proofs.lemmas.List.{append-nil}
@@ -19,6 +19,7 @@ use Rattle.record_index.specs.Records.{spell_all}
 use Rattle.cartridge.specs.Contents.{IsContents, changes_in, changes_of, volume_made}
 use Rattle.cartridge.specs.State.{OpenCartridge}
 use Rattle.accepting.specs.Core.{Core, with_item}
+use Rattle.accepting.specs.Device.{one_disk, one_is_device}
 use Rattle.accepting.specs.Events.{CoreMoves}
 use Rattle.accepting.specs.Kinds.{moves_accepting}
 use Rattle.tape_buffer.specs.Limits.{FitsBuffer, block_bytes}
@@ -100,6 +101,14 @@ way_after c c' pending pending' change alone room stores empty = (
   ),
 )
 
+-- a frame more that has room fits beside what is pending
+pub fits_more : (room size : ℕ) (has : Bool) (pending : List Change) (change : Change)
+    → (IsTrue has → sum_by frame_size pending + size ≤ room) → size ≡ frame_size change → has ≡ true
+    → sum_by frame_size (pending ++ change ∷ []) ≤ room
+fits_more room size true pending change told is none =
+    omega (arith, told refl, is, sum_by-append frame_size pending (change ∷ []))
+fits_more room size false pending change told is none = absurd (cc)
+
 unless : (past room well : Bool)
     → (if past then Some PastEnd else (if not room then Some NoRoom else (if not well then Some TooLong else None)))
     ≡ None → well ≡ true
@@ -146,8 +155,9 @@ module _ {D : Type 0} (c m c' : OpenCartridge D) (pending between pending' : Lis
     new_state = λ i. open_state (same i) (is i)
 
     pub accepts_more : refusal_of (volume_of (open_state c pending)) change ≡ None → c.failed ≡ false
+        → sum_by frame_size (pending ++ change ∷ []) ≤ c.room
         → Accepts (open_state c pending) change (Ok tt) (open_state c' pending')
-    accepts_more none works = (
+    accepts_more none works room = (
       none,
       works,
       subst (λ (s : MediumState). Works (changed (volume_of (open_state c pending)) change) s) (sym new_state)
@@ -158,6 +168,7 @@ module _ {D : Type 0} (c m c' : OpenCartridge D) (pending between pending' : Lis
             works = ready.works;
             awake = refl;
           }),
+      room,
     )
 
     pub stores_more : Stores (open_state c pending) (change ∷ []) (open_state c' pending')
@@ -185,15 +196,16 @@ module _ {D : Type 0} (c m c' : OpenCartridge D) (pending between pending' : Lis
         subst (λ (p : OpenCartridge D × List Change).
         Advances (buffer_below state) (open_buffer c pending) (change ∷ []) false (open_buffer p.0 p.1))
         (λ i. ((sym same) i, (sym is) i))
-        (advances_on (buffer_below state) (medium_moves_on state) (open_buffer c pending) (open_buffer m between)
-        (open_buffer (record m { reserved = c'.reserved }) (between ++ change ∷ [])) [] (change ∷ []) false advances
+        (advances_on (buffer_below state) (medium_moves_on state) (open_buffer c pending)
+        (open_buffer m between) (open_buffer (record m { reserved = c'.reserved }) (between ++ change ∷ [])) []
+        (change ∷ []) false advances
         (record {
           moved =
               subst (λ (new : Core Heading Change).
-              CoreMoves medium_rules (state m.disk) (state m.disk) (open_core m between) new (change ∷ []))
+              CoreMoves medium_rules (one_disk state) m.disk m.disk (open_core m between) new (change ∷ []))
               (sym with_change)
-              (moves_accepting medium_rules (state m.disk) (open_core m between) change (is_disk m.disk)
-              (open_is_core m between over.torn) works refl (applies contents none));
+              (moves_accepting medium_rules (one_disk state) (one_is_device state) m.disk (open_core m between)
+              change (is_disk m.disk) (open_is_core m between over.torn) works refl (applies contents none));
           counted = refl;
           honesty = (λ h. h, λ h. h);
         }))

@@ -1,6 +1,6 @@
 -- A medium is parked: what its cartridge's side then gives.
 use Rattle.std.specs.Prelude.{◌≡◌, ◌⊎◌, ◌+◌, ◌++◌, List, [], ◌∷◌, Bool, true, false, Some, Ok, length, sum_by, refl}
-use Rattle.std.proofs.Common.{sym, ◌∙◌, ap, subst, arith}
+use Rattle.std.proofs.Common.{inl, inr, sym, ◌∙◌, ap, subst, arith, length-append}
 use Rattle.std.proofs.lemmas.List.{append-nil}
 use Rattle.std.proofs.lemmas.List.Sums.{sum_by-take-le}
 use Rattle.vtl_base.specs.Below.{Advances, advances_on}
@@ -11,6 +11,7 @@ use Rattle.volume_core.specs.Stores.{Stores}
 use Rattle.cartridge.specs.Contents.{changes_in, changes_of}
 use Rattle.cartridge.specs.State.{ClosedCartridge, OpenCartridge}
 use Rattle.accepting.specs.Core.{Core, stopped}
+use Rattle.accepting.specs.Device.{one_disk, one_is_device}
 use Rattle.accepting.specs.Events.{CoreMoves}
 use Rattle.accepting.specs.Kinds.{moves_stopping}
 use Rattle.tape_buffer.specs.Moves.{buffer_below, medium_moves_on}
@@ -38,19 +39,32 @@ module _ {D : Type 0} (state : D → DiskState) (is_disk : (disk : D) → (state
           recovering = true;
         }
 
-    pub advances_shelved : (shelved : ClosedCartridge D) → shelved ≡ shelved_of c
+    -- it has failed, or all that was accepted is safe
+    may_stop : (pending ≡ []) ⊎ (c.failed ≡ true)
+        → ((open_core c pending).fault ≡ true) ⊎ ((open_core c pending).recovering ≡ true)
+        ⊎ ((open_core c pending).safe ≡ length (open_core c pending).accepted)
+    may_stop (inr failed) = inl failed
+    may_stop (inl none) =
+        inr (inr (omega (
+          arith,
+          length-append (changes_in c.contents) pending,
+          ap (λ (l : List Change). length l) none,
+        )))
+
+    pub advances_shelved : (pending ≡ []) ⊎ (c.failed ≡ true)
+        → (shelved : ClosedCartridge D) → shelved ≡ shelved_of c
         → Advances (buffer_below state) (open_buffer c pending) [] false (closed_buffer shelved)
-    advances_shelved shelved is =
+    advances_shelved at_rest shelved is =
         subst (λ (s : ClosedCartridge D). Advances (buffer_below state) (open_buffer c pending) [] false
         (closed_buffer s))
         (sym is)
         (record {
           moved =
-              subst (λ (new : Core _ Change). CoreMoves medium_rules (state c.disk) (state c.disk) (open_core c pending)
-              new [])
+              subst (λ (new : Core _ Change). CoreMoves medium_rules (one_disk state) c.disk c.disk
+              (open_core c pending) new [])
               (sym shelved_core)
-              (moves_stopping medium_rules (state c.disk) (open_core c pending) (is_disk c.disk)
-              (open_is_core c pending torn));
+              (moves_stopping medium_rules (one_disk state) (one_is_device state) c.disk (open_core c pending)
+              (is_disk c.disk) (open_is_core c pending torn) (may_stop at_rest));
           counted = refl;
           honesty = (λ h. h, λ h. h);
         })
@@ -70,6 +84,7 @@ module _ {D : Type 0} (state : D → DiskState) (is_disk : (disk : D) → (state
           parked = works.parked;
           works = works.works;
           nothing_pending = works.nothing_pending;
+          unread_is = works.unread_is;
           gives = λ h. ((works.gives (stays h)).0 ∙ ap Some settled.2.volume_is, (works.gives (stays h)).1);
           room_is = λ h.
               omega (
@@ -87,5 +102,5 @@ module _ {D : Type 0} (state : D → DiskState) (is_disk : (disk : D) → (state
         → Advances (buffer_below state) (open_buffer c' pending') [] false (closed_buffer shelved)
         → Advances (buffer_below state) (open_buffer c pending) [] false (closed_buffer shelved)
     advances_after shelved first second =
-        advances_on (buffer_below state) (medium_moves_on state) (open_buffer c pending) (open_buffer c' pending')
-        (closed_buffer shelved) [] [] false first second
+        advances_on (buffer_below state) (medium_moves_on state) (open_buffer c pending)
+        (open_buffer c' pending') (closed_buffer shelved) [] [] false first second

@@ -14,6 +14,7 @@ use Rattle.cartridge.specs.Contents.{Contents, GivesContents, IsContents, ShowsC
 use Rattle.cartridge.specs.Extending.{changes_more}
 use Rattle.cartridge.specs.State.{OpenCartridge}
 use Rattle.accepting.specs.Core.{Core, IsCore, broken_in, settled}
+use Rattle.accepting.specs.Device.{one_disk, one_is_device, one_keeps}
 use Rattle.accepting.specs.Events.{CoreMoves, ShowsCore}
 use Rattle.accepting.specs.Kinds.{GivesSoMany, moves_failing, moves_storing}
 use Rattle.tape_buffer.specs.Rules.{GivesChanges, medium_rules}
@@ -195,14 +196,13 @@ module _ {D : Type 0} (c : OpenCartridge D) (pending : List Change) where
 
     pub moves_stored : HasStored c pending c'
         → ((state c.disk).honest → Each (state c'.disk) (GivesContents c'.contents))
-        → CoreMoves medium_rules (state c.disk) (state c'.disk) old_core (open_core c' []) []
+        → CoreMoves medium_rules (one_disk state) c.disk c'.disk old_core (open_core c' []) []
     moves_stored stored sure =
         subst (λ (new : Core Heading Change).
-        CoreMoves medium_rules (state c.disk) (state c'.disk) old_core new [])
+        CoreMoves medium_rules (one_disk state) c.disk c'.disk old_core new [])
         (sym (stored_core c' none stored))
-        (moves_storing medium_rules (state c.disk) (state c'.disk) old_core (length pending) keeps (works, refl) same
-        fits
-        leaves
+        (moves_storing medium_rules (one_disk state) (one_is_device state) c.disk c'.disk old_core
+        (length pending) (one_keeps state c.disk c'.disk keeps) (works, refl) same fits leaves
         (λ honest image left.
         subst (λ (heading : Heading). GivesChanges heading
         (take (length stored_changes + length (changes_of c.torn) + length pending) (stored_changes ++ pending)) image)
@@ -213,14 +213,14 @@ module _ {D : Type 0} (c : OpenCartridge D) (pending : List Change) where
         ∙ ap (λ (n : ℕ). take n (stored_changes ++ pending)) (omega (arith, at_rest none)))
         (gives_changes c'.contents image (sure honest image left)))))
 
-    pub moves_broken : HasBroken c pending c'
-        → CoreMoves medium_rules (state c.disk) (state c'.disk) old_core (open_core c' pending) []
-    moves_broken broken =
+    pub moves_broken : HasBroken c pending c' → (state c.disk).failures < (state c'.disk).failures
+        → CoreMoves medium_rules (one_disk state) c.disk c'.disk old_core (open_core c' pending) []
+    moves_broken broken rose =
         subst (λ (new : Core Heading Change).
-        CoreMoves medium_rules (state c.disk) (state c'.disk) old_core new [])
+        CoreMoves medium_rules (one_disk state) c.disk c'.disk old_core new [])
         (sym (broken_core c' none broken))
-        (moves_failing medium_rules (state c.disk) (state c'.disk) old_core (length pending) (is_disk c'.disk) keeps
-        (works, refl) same fits leaves)
+        (moves_failing medium_rules (one_disk state) (one_is_device state) c.disk c'.disk old_core
+        (length pending) (is_disk c'.disk) (one_keeps state c.disk c'.disk keeps) rose (works, refl) same fits leaves)
 
     pub advances_stored : (changes pending' : List Change) → changes ≡ pending → pending' ≡ []
         → HasStored c changes c' × NoneFailed (state c.disk) (state c'.disk)
@@ -240,7 +240,7 @@ module _ {D : Type 0} (c : OpenCartridge D) (pending : List Change) where
         → Advances (buffer_below state) (open_buffer c pending) [] true (open_buffer c' pending)
     advances_broken changes same_changes broken rose =
         record {
-          moved = moves_broken (subst (λ (l : List Change). HasBroken c l c') same_changes broken);
+          moved = moves_broken (subst (λ (l : List Change). HasBroken c l c') same_changes broken) rose;
           counted = rose;
           honesty = (keeps.stays_honest, keeps.was_honest);
         }

@@ -5,7 +5,8 @@ use Rattle.std.proofs.lemmas.Bool.{and_parts, leb-true}
 use Rattle.std.proofs.lemmas.Option.{get_or_from_slice_get, slice_get_within}
 use Rattle.vtl_base.specs.Below.{Advances}
 use Rattle.vtl_base.specs.declared.limits.TheConstants.{MAX_BLOCK}
-use Rattle.tape_disk.specs.Disk.{DiskState, IsDisk, Keeps}
+use Rattle.tape_disk.specs.Disk.{DiskState, Each, IsDisk, Keeps}
+use Rattle.tape_disk.specs.Moments.{LeavesOnly}
 use Rattle.gate_journal.specs.Crash.{Unwritten}
 use Rattle.volume_core.specs.declared.changes.Change.{Change}
 use Rattle.volume_core.specs.declared.changes.Change.TheVariants.{Put}
@@ -14,6 +15,8 @@ use Rattle.volume_core.specs.declared.media.MediumError.TheVariants.{Refused, No
 use Rattle.volume_core.specs.Volume.{AllApply, Part, after, block_at, block_in, changed}
 use Rattle.volume_core.specs.Medium.{met_fault}
 use Rattle.cartridge.specs.State.{OpenCartridge}
+use Rattle.accepting.specs.Device.{one_disk, one_is_device, one_keeps, one_rests}
+use Rattle.accepting.specs.Events.{ShowsCore}
 use Rattle.accepting.specs.Kinds.{moves_faulting, moves_resting}
 use Rattle.tape_buffer.specs.declared.overlay.Seen.TheVariants as Places
 use Rattle.tape_buffer.specs.Inner.Fetching.{IsCopied, IsFetched, IsPut}
@@ -84,6 +87,12 @@ module _ {D : Type 0} (state : D → DiskState) (is_disk : (disk : D) → (state
     (c c' : OpenCartridge D) (pending : List Change) (works : c.failed ≡ false)
     (same : c' ≡ record c { disk = c'.disk; failed = c'.failed }) (keeps : Keeps (state c.disk) (state c'.disk))
     (quiet : (state c.disk).honest → Unwritten (state c.disk) (state c'.disk)) where
+  -- each moment shows what was shown before
+  rests_so : (state c.disk).honest → Each (state c.disk) (ShowsCore medium_rules (open_core c pending))
+      → LeavesOnly (state c.disk) (state c'.disk) (ShowsCore medium_rules (open_core c pending))
+  rests_so honest =
+      one_rests state c.disk c'.disk (ShowsCore medium_rules (open_core c pending)) (quiet honest).moments
+
   -- nothing failed
   fetched_well : c'.failed ≡ false → (state c'.disk).failures ≡ (state c.disk).failures
       → Advances (buffer_below state) (open_buffer c pending) [] false (open_buffer c' pending)
@@ -93,8 +102,8 @@ module _ {D : Type 0} (state : D → DiskState) (is_disk : (disk : D) → (state
       (sym (same ∙ (λ i. record c { disk = c'.disk; failed = (fine ∙ sym works) i })))
       (record {
         moved =
-            moves_resting medium_rules (state c.disk) (state c'.disk) (open_core c pending) (is_disk c'.disk) keeps
-            (λ honest. (quiet honest).moments);
+            moves_resting medium_rules (one_disk state) (one_is_device state) c.disk c'.disk
+            (open_core c pending) (is_disk c'.disk) (one_keeps state c.disk c'.disk keeps) rests_so;
         counted = counted;
         honesty = (keeps.stays_honest, keeps.was_honest);
       })
@@ -108,8 +117,8 @@ module _ {D : Type 0} (state : D → DiskState) (is_disk : (disk : D) → (state
       (sym (same ∙ (λ i. record c { disk = c'.disk; failed = failed i })))
       (record {
         moved =
-            moves_faulting medium_rules (state c.disk) (state c'.disk) (open_core c pending) (is_disk c'.disk) keeps
-            (λ honest. (quiet honest).moments);
+            moves_faulting medium_rules (one_disk state) (one_is_device state) c.disk c'.disk
+            (open_core c pending) (is_disk c'.disk) (one_keeps state c.disk c'.disk keeps) counted rests_so;
         counted = counted;
         honesty = (keeps.stays_honest, keeps.was_honest);
       })

@@ -1,5 +1,5 @@
 -- What is known of a cartridge that is held, open or closed.
-use Rattle.std.specs.Prelude.{◌≡◌, ◌+◌, ◌++◌, ℕ, List, [], Bool, true, false, Option, None, Some, length, option_map, if◌then◌else◌, refl}
+use Rattle.std.specs.Prelude.{◌≡◌, ◌⊎◌, ◌+◌, ◌++◌, ℕ, List, [], Bool, true, false, not, Option, None, Some, length, option_map, if◌then◌else◌, refl}
 use Rattle.std.proofs.Common.{inl, inr, sym, ◌∙◌, ap, subst, arith, ⊎_elim, length-append}
 use Rattle.std.proofs.lemmas.List.{take_at, take_all}
 use Rattle.tape_disk.specs.Disk.{DiskState, Each, IsDisk}
@@ -17,7 +17,7 @@ use Rattle.tape_buffer.specs.declared.holding.Holding.TheVariants.{Open, Closed,
 use Rattle.tape_buffer.specs.Invariants.{IsHeld}
 use Rattle.tape_buffer.specs.Moves.{IsSafeOrPending, ShowsOn}
 use Rattle.tape_buffer.specs.Rules.{GivesChanges, medium_rules}
-use Rattle.tape_buffer.specs.State.{IsPendingOver, IsSettledOn, closed_state, core_held, disk_in, found_core, found_in, state_held, torn_in}
+use Rattle.tape_buffer.specs.State.{IsPendingOver, IsSettledIn, IsSettledOn, closed_state, core_held, disk_in, found_core, found_in, state_held, torn_in}
 use Rattle.tape_buffer.proofs.VolumeLemmas.{stays_so}
 use Rattle.tape_buffer.proofs.CoreLemmas.{gives_changes, gives_more, open_is_core, open_shows}
 
@@ -26,6 +26,11 @@ pub found_is_core : (found : Option Contents) (torn : List Change) → IsCore (f
 found_is_core None torn = record { safe = omega arith; stored = omega arith }
 found_is_core (Some contents) torn =
     record { safe = omega arith; stored = omega (arith, length-append (changes_in contents) torn) }
+
+-- a closed cartridge is one that was stopped
+pub found_stopped : (found : Option Contents) (torn : List Change) → (found_core found torn).recovering ≡ true
+found_stopped None torn = refl
+found_stopped (Some contents) torn = refl
 
 -- what shows contents shows their core
 pub found_shows : (contents : Contents) (torn : List (List Change)) (image : List ℕ) → ShowsContents contents torn image
@@ -74,12 +79,18 @@ module _ {D : Type 0} (state : D → DiskState) (is_disk : (disk : D) → (state
           ≡ Some volume) is gives)
           (settled is honest image left))
 
+  -- a closed cartridge that was opened before is settled, as one that is known to be
+  settled_where : (c : ClosedCartridge D) → ((closed_state state c).unread ≡ false) ⊎ IsSettledOn state c
+      → IsSettledOn state c
+  settled_where c (inl read) unknown = let e : true ≡ false = sym (ap not unknown) ∙ read in cc
+  settled_where c (inr settled) unknown = settled unknown
+
   module _ (held : Holding (OpenCartridge D) (ClosedCartridge D)) (pending : List Change)
-      (is : IsHeld state held pending) where
+      (is : IsHeld held pending) where
     pub held_is_core : IsCore (core_held state held pending)
     held_is_core = by held is
       where
-        by : (h : Holding (OpenCartridge D) (ClosedCartridge D)) → IsHeld state h pending → IsCore
+        by : (h : Holding (OpenCartridge D) (ClosedCartridge D)) → IsHeld h pending → IsCore
             (core_held state h pending)
         by (Open c) over = open_is_core c pending over.torn
         by (Closed c) over = found_is_core (found_in state c) (torn_in state c)
@@ -87,31 +98,34 @@ module _ {D : Type 0} (state : D → DiskState) (is_disk : (disk : D) → (state
 
     pub shows_open : (c : OpenCartridge D) → held ≡ Open c
         → ((state c.disk).honest → Each (state c.disk) (ShowsContents c.contents c.torn))
+        → ((state_held state held pending).unread ≡ false) ⊎ IsSettledIn state held
         → (volume : List Part) → (state_held state held pending).stored ≡ Some volume
         → ShowsOn state (disk_in held) (core_held state held pending)
-    shows_open c same shows volume some =
-        let over = subst (λ (h : Holding (OpenCartridge D) (ClosedCartridge D)). IsHeld state h pending) same is in
+    shows_open c same shows sure volume some =
+        let over = subst (λ (h : Holding (OpenCartridge D) (ClosedCartridge D)). IsHeld h pending) same is in
         subst (λ (h : Holding (OpenCartridge D) (ClosedCartridge D)).
         ShowsOn state (disk_in h) (core_held state h pending)) (sym same)
         (λ honest image left. open_shows c pending over.torn image (shows honest image left))
 
     pub shows_closed : (c : ClosedCartridge D) → held ≡ Closed c
         → (c.known ≡ true → (state c.disk).honest → Each (state c.disk) (ShowsContents c.contents c.torn))
+        → ((state_held state held pending).unread ≡ false) ⊎ IsSettledIn state held
         → (volume : List Part) → (state_held state held pending).stored ≡ Some volume
         → ShowsOn state (disk_in held) (core_held state held pending)
-    shows_closed c same shows volume some =
-        let over = subst (λ (h : Holding (OpenCartridge D) (ClosedCartridge D)). IsHeld state h pending) same is in
+    shows_closed c same shows sure volume some =
+        let settled = settled_where c (subst (λ (h : Holding (OpenCartridge D) (ClosedCartridge D)).
+        ((state_held state h pending).unread ≡ false) ⊎ IsSettledIn state h) same sure) in
         let gives = subst (λ (h : Holding (OpenCartridge D) (ClosedCartridge D)).
         (state_held state h pending).stored ≡ Some volume) same some in
         subst (λ (h : Holding (OpenCartridge D) (ClosedCartridge D)).
         ShowsOn state (disk_in h) (core_held state h pending)) (sym same)
-        (closed_shows c over.1 shows volume gives)
+        (closed_shows c settled shows volume gives)
 
 -- the partitions and capacities of a medium that is open are its cartridge's
 module _ {D : Type 0} (state : D → DiskState) (held : Holding (OpenCartridge D) (ClosedCartridge D))
-    (pending : List Change) (is : IsHeld state held pending) (c : OpenCartridge D) (same : held ≡ Open c) where
+    (pending : List Change) (is : IsHeld held pending) (c : OpenCartridge D) (same : held ≡ Open c) where
   over : IsPendingOver c pending
-  over = subst (λ (h : Holding (OpenCartridge D) (ClosedCartridge D)). IsHeld state h pending) same is
+  over = subst (λ (h : Holding (OpenCartridge D) (ClosedCartridge D)). IsHeld h pending) same is
 
   pub parts_held : length (volume_of (state_held state held pending)) ≡ length (volume_made c.contents)
   parts_held =

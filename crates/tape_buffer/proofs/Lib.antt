@@ -2,6 +2,7 @@ pub mod AddingLemmas
 pub mod ClosingLemmas
 pub mod CoreLemmas
 pub mod FetchingLemmas
+pub mod FrameLemmas
 pub mod HeldLemmas
 pub mod MediumLemmas
 pub mod OpeningLemmas

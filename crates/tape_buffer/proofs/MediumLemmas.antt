@@ -11,7 +11,7 @@ use Rattle.cartridge.specs.Contents.{Contents, volume_made}
 use Rattle.cartridge.specs.Extending.{volume_more}
 use Rattle.cartridge.specs.State.{OpenCartridge}
 use Rattle.tape_buffer.specs.State.{open_state}
-use Rattle.tape_buffer.specs.Inner.Storing.{with_pending}
+use Rattle.tape_buffer.specs.Frames.{with_pending}
 use Rattle.tape_buffer.proofs.RoomLemmas.{one_frame_fits}
 
 with_some : (frames : List (List Change)) (pending : List Change) → 1 ≤ length pending

@@ -20,13 +20,14 @@ use Rattle.cartridge.specs.Contents.{Contents, GivesContents, ShowsContents, bod
 use Rattle.cartridge.specs.ContentsOn.{contents_on_is}
 use Rattle.cartridge.specs.State.{ClosedCartridge, OpenCartridge}
 use Rattle.accepting.specs.Core.{Core, IsCore, recovered}
+use Rattle.accepting.specs.Device.{one_disk, one_is_device, one_keeps, one_rests}
 use Rattle.accepting.specs.Events.{ShowsCore}
 use Rattle.accepting.specs.Kinds.{moves_recovering}
 use Rattle.tape_buffer.specs.Moves.{buffer_below}
 use Rattle.tape_buffer.specs.Rules.{GivesChanges, medium_rules}
 use Rattle.tape_buffer.specs.State.{IsPendingOver, closed_buffer, closed_state, found_core, found_in, open_buffer, open_core, open_state, room_found, room_of, torn_in}
 use Rattle.tape_buffer.proofs.CoreLemmas.{gives_changes}
-use Rattle.tape_buffer.proofs.HeldLemmas.{found_is_core}
+use Rattle.tape_buffer.proofs.HeldLemmas.{found_is_core, found_stopped}
 use Rattle.tape_buffer.proofs.RoomLemmas.{one_frame_fits}
 
 -- an image gives one cartridge's contents at most
@@ -90,7 +91,10 @@ module _ {D : Type 0} (state : D → DiskState) (is_disk : (disk : D) → (state
   advances_opened moments same =
       record {
         moved =
-            moves_recovering medium_rules (state old.disk) (state c.disk) old_core (open_core c []) keeps moments
+            moves_recovering medium_rules (one_disk state) (one_is_device state) old.disk c.disk old_core
+            (open_core c []) (one_keeps state old.disk c.disk keeps)
+            (found_stopped (found_in state old) (torn_in state old))
+            (λ honest. one_rests state old.disk c.disk (ShowsCore medium_rules old_core) (moments honest))
             (λ honest shows.
             let given = gives honest in
             let back = recovers one old_core (found_is_core (found_in state old) (torn_in state old)) c.contents
@@ -199,6 +203,7 @@ module _ {D : Type 0} (state : D → DiskState) (one : GivesOne) (old : ClosedCa
   opens_known is =
       let shows = known is in
       record {
+        first = λ unread. cc;
         volume =
             ⊎_elim (λ same. inl (ap Some same)) (λ more. inr (ap Some more))
             (volume_from one old.contents old.torn c.contents (state old.disk).seen gives shows);
@@ -212,6 +217,7 @@ module _ {D : Type 0} (state : D → DiskState) (one : GivesOne) (old : ClosedCa
       let is = contents_on_is (state old.disk).seen c.contents gives in
       record {
         volume = inl (sym (ap (option_map volume_made) is));
+        first = λ unread. sym (ap (option_map volume_made) is);
         readable = λ none. let e = sym (ap (option_map volume_made) is) ∙ none in absurd (cc);
         room_is = omega (arith, room, ap room_found is);
       }

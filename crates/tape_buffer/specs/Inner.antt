@@ -1,5 +1,4 @@
 -- What only private contracts use.
 pub mod Adding
 pub mod Fetching
-pub mod Storing
 pub mod Waking

@@ -1,3 +1,4 @@
+pub mod Frames
 pub mod Inner
 pub mod Invariants
 pub mod Limits

@@ -3,9 +3,11 @@ use Rattle.std.specs.Prelude.{◌≡◌, ◌++◌, ℕ, List, [], Option, None, 
 use Rattle.std.proofs.Common.{◌∙◌}
 use Rattle.vtl_base.specs.Below.{Below}
 use Rattle.tape_disk.specs.Disk.{DiskState, IsDisk, Each}
+use Rattle.tape_disk.specs.Moments.{LeavesOnly, no_call}
 use Rattle.volume_core.specs.declared.changes.Change.{Change}
 use Rattle.gate_journal.specs.Side.{Heading}
 use Rattle.accepting.specs.Core.{Core}
+use Rattle.accepting.specs.Device.{one_disk, one_is_device}
 use Rattle.accepting.specs.Events.{CoreMoves, ShowsCore, core_moves_nowhere, core_moves_on}
 use Rattle.tape_buffer.specs.Rules.{medium_rules}
 use Rattle.tape_buffer.specs.State.{BufferState, core_held, disk_in}
@@ -34,7 +36,7 @@ module _ {D : Type 0} (state : D → DiskState) where
 
   -- from one core to the other just these were accepted, over these disks (own)
   abbrev pub MovesOn : Option D → Option D → Core Heading Change → Core Heading Change → List Change → Type 0
-  MovesOn (Some disk) (Some disk') old new made = CoreMoves medium_rules (state disk) (state disk') old new made
+  MovesOn (Some disk) (Some disk') old new made = CoreMoves medium_rules (one_disk state) disk disk' old new made
   MovesOn None None old new made = made ≡ []
   MovesOn _ _ old new made = ⊥
 
@@ -56,6 +58,27 @@ module _ {D : Type 0} (state : D → DiskState) where
   ShowsOn None core = Unit {0}
   ShowsOn (Some disk) core = (state disk).honest → Each (state disk) (ShowsCore medium_rules core)
 
+  -- over the same disk: at each moment of it a crash leaves what it might have left before (own)
+  abbrev pub LeavesAloneOn : Option D → Option D → Type 0
+  LeavesAloneOn (Some disk) (Some disk') =
+      (state disk).honest → LeavesOnly (state disk) (state disk') (state disk).may_leave
+  LeavesAloneOn None None = Unit {0}
+  LeavesAloneOn _ _ = ⊥
+
+  -- from one medium to the other nothing was written (own)
+  abbrev pub LeavesAlone : BufferState D → BufferState D → Type 0
+  LeavesAlone old new = LeavesAloneOn (disk_in old.held) (disk_in new.held)
+
+  -- nothing done writes nothing
+  pub leaves_alone_nowhere : ((disk : D) → (state disk).honest → IsDisk (state disk))
+      → (buffer : BufferState D) → LeavesAlone buffer buffer
+  leaves_alone_nowhere is_disk buffer = by (disk_in buffer.held)
+    where
+      by : (disk : Option D) → LeavesAloneOn disk disk
+      by None = tt
+      by (Some disk) =
+          λ honest. no_call (state disk) (state disk).may_leave (is_disk disk honest) (λ image left. left)
+
   -- nothing done is the empty list
   pub medium_moves_nowhere : ((disk : D) → (state disk).honest → IsDisk (state disk))
       → (buffer : BufferState D) → MediumMoves buffer [] buffer
@@ -63,7 +86,9 @@ module _ {D : Type 0} (state : D → DiskState) where
     where
       by : (disk : Option D) → MovesOn disk disk (medium_core buffer) (medium_core buffer) []
       by None = refl
-      by (Some disk) = core_moves_nowhere medium_rules (state disk) (medium_core buffer) (is_disk disk)
+      by (Some disk) =
+          core_moves_nowhere medium_rules (one_disk state) (one_is_device state) disk (medium_core buffer)
+          (is_disk disk)
 
   -- two in a row append what they accept
   pub medium_moves_on : (a b c : BufferState D) (first second : List Change)
@@ -79,6 +104,5 @@ module _ {D : Type 0} (state : D → DiskState) where
       by (Some x) None z one two = absurd one
       by (Some x) (Some y) None one two = absurd two
       by (Some x) (Some y) (Some z) one two =
-          core_moves_on medium_rules (state x) (state y) (state z) (medium_core a) (medium_core b) (medium_core c) first
-          second one
-          two
+          core_moves_on medium_rules (one_disk state) (one_is_device state) x y z (medium_core a)
+          (medium_core b) (medium_core c) first second one two

@@ -24,6 +24,13 @@ GivesChanges heading changes image =
     (frames : List (List Change)) × GivesContents (contents_from heading frames) image × (changes_of frames ≡ changes)
 
 -- A cartridge accepts changes that apply to what stands before them, from the empty volume of its heading on, and an
--- image gives the changes that its side spells (own).
+-- image gives the changes that its side spells; what all is carried out from never changes (own).
 abbrev pub medium_rules : Rules
-medium_rules = record { Base = Heading; Item = Change; applies = applies_behind; gives = GivesChanges }
+medium_rules = record {
+  Base = Heading;
+  Item = Change;
+  Image = List ℕ;
+  applies = applies_behind;
+  gives = GivesChanges;
+  rebases = λ heading changes other. ⊥;
+}

@@ -1,5 +1,5 @@
 -- What contracts see of a buffered medium.
-use Rattle.std.specs.Prelude.{◌≡◌, ◌⊎◌, ◌+◌, ◌++◌, ◌≤◌, ℕ, List, [], ◌∷◌, Option, None, Some, true, false, length, sum_by, slice_index_or, if◌then◌else◌, option_map}
+use Rattle.std.specs.Prelude.{◌≡◌, ◌⊎◌, ◌+◌, ◌++◌, ◌≤◌, ℕ, List, [], ◌∷◌, Option, None, Some, true, false, not, length, sum_by, slice_index_or, if◌then◌else◌, option_map, refl}
 use Rattle.tape_disk.specs.Disk.{DiskState, Only}
 use Rattle.volume_core.specs.declared.changes.Change.{Change}
 use Rattle.volume_core.specs.Volume.{AllApply}
@@ -81,6 +81,7 @@ module _ {D : Type 0} where
         torn = changes_of cartridge.torn;
         failed = cartridge.failed;
         room = Some cartridge.room;
+        unread = false;
       }
 
   -- what was accepted by an open cartridge and what is pending over it: what its side holds is safe, and a frame under
@@ -116,7 +117,8 @@ module _ {D : Type 0} where
     abbrev pub torn_in : ClosedCartridge D → List Change
     torn_in cartridge = if cartridge.known then changes_of cartridge.torn else []
 
-    -- a closed cartridge to a drive: what its side gives, which may be no volume (own)
+    -- a closed cartridge to a drive: what its side gives, which may be no volume; one of which nothing is known was not
+    -- opened yet (own)
     abbrev pub closed_state : ClosedCartridge D → MediumState
     closed_state cartridge =
         record {
@@ -126,6 +128,7 @@ module _ {D : Type 0} where
           torn = torn_in cartridge;
           failed = false;
           room = Some (room_found (found_in cartridge));
+          unread = not cartridge.known;
         }
 
     -- a cartridge that is held, and what is pending, to a drive (own)
@@ -133,11 +136,21 @@ module _ {D : Type 0} where
     state_held (Open cartridge) pending = open_state cartridge pending
     state_held (Closed cartridge) pending = closed_state cartridge
     state_held Between pending =
-        record { awake = false; stored = None; pending = []; torn = []; failed = false; room = None }
+        record { awake = false; stored = None; pending = []; torn = []; failed = false; room = None; unread = false }
 
     -- a buffered medium to a drive (own)
     abbrev pub state_of : BufferState D → MediumState
     state_of buffer = state_held buffer.held buffer.pending
+
+    -- one that is awake was opened
+    pub awake_is_read : (buffer : BufferState D) → (state_of buffer).awake ≡ true → (state_of buffer).unread ≡ false
+    awake_is_read buffer = by buffer.held
+      where
+        by : (held : Holding (OpenCartridge D) (ClosedCartridge D)) → (state_held held buffer.pending).awake ≡ true
+            → (state_held held buffer.pending).unread ≡ false
+        by (Open cartridge) awake = refl
+        by (Closed cartridge) awake = cc
+        by Between awake = refl
 
     -- what a buffered medium has accepted, and how much of it is stored and safe (own)
     abbrev pub core_held : Holding (OpenCartridge D) (ClosedCartridge D) → List Change → Core Heading Change
@@ -150,3 +163,9 @@ module _ {D : Type 0} where
     IsSettledOn cartridge =
         cartridge.known ≡ false → (state cartridge.disk).honest →
         Only (state cartridge.disk).seen (state cartridge.disk).may_leave
+
+    -- the same of a cartridge that is held; one that is open was settled (own)
+    abbrev pub IsSettledIn : Holding (OpenCartridge D) (ClosedCartridge D) → Type 0
+    IsSettledIn (Open cartridge) = Unit {0}
+    IsSettledIn (Closed cartridge) = IsSettledOn cartridge
+    IsSettledIn Between = Unit {0}

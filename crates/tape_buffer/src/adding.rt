@@ -1,14 +1,15 @@
 //! A change is accepted.
-ghost use Rattle.std.specs.Prelude.{◌≡◌, ◌≤◌, ◌++◌, ◌∷◌, [], None, OnOk, OnErr, false, sum_by};
+ghost use Rattle.std.specs.Prelude.{◌≡◌, ◌≤◌, ◌+◌, ◌↔◌, ◌++◌, ◌∷◌, [], None, IsTrue, OnOk, OnErr, false, sum_by};
 ghost use Rattle.vtl_base.specs.Below.{Advances};
 ghost use Rattle.volume_core.specs.Volume.{after, refusal_of};
 ghost use Rattle.volume_core.specs.Medium.{Accepts, accepted_by, frame_size, met_fault};
 ghost use Rattle.volume_core.specs.Stores.{Stores};
 ghost use Rattle.cartridge.specs.Contents.{volume_made};
+ghost use Rattle.tape_buffer.specs.Frames.{AcceptsInFrames};
 ghost use Rattle.tape_buffer.specs.Limits.{FitsBuffer};
 ghost use Rattle.tape_buffer.specs.State.{IsPendingOver, open_buffer, open_state};
 ghost use Rattle.tape_buffer.specs.Moves.{buffer_below};
-ghost use Rattle.tape_buffer.specs.Inner.Adding.{IsReady};
+ghost use Rattle.tape_buffer.specs.Inner.Adding.{IsReady, IsWay};
 
 use crate::overlay::refusal_seen;
 use crate::pending::Pending;
@@ -29,6 +30,8 @@ pub(crate) fn accept_over<D: Disk>(
     ensures held { IsPendingOver cartridge.new pending.new }
     ensures answer { Accepts (open_state cartridge.old pending.old) change result
         (open_state cartridge.new pending.new) }
+    ensures frames { AcceptsInFrames change result cartridge.old.contents.frames pending.old
+        cartridge.new.contents.frames pending.new }
     ensures stores { Stores (open_state cartridge.old pending.old) (accepted_by result change)
         (open_state cartridge.new pending.new) }
     ensures advances { Advances (buffer_below D.state) (open_buffer cartridge.old pending.old)
@@ -41,7 +44,7 @@ pub(crate) fn accept_over<D: Disk>(
         Some(cause) => return Err(MediumError::Refused(cause)),
         None => {}
     }
-    if change.frame_size() > cartridge.room() - pending.frame_bytes() {
+    if !has_room_over(cartridge, pending, change.frame_size()) {
         return Err(MediumError::SideFull);
     }
     make_way(cartridge, pending, &change)?;
@@ -51,6 +54,14 @@ pub(crate) fn accept_over<D: Disk>(
         Ok(()) => Ok(()),
         Err(NoMemory) => Err(MediumError::NoMemory),
     }
+}
+
+// Whether a frame more of this many bytes has room on the side, beside what is pending.
+pub(crate) fn has_room_over<D: Disk>(cartridge: &Cartridge<D>, pending: &Pending, size: u64) -> bool
+    requires { IsPendingOver cartridge.now pending.now }
+    ensures { IsTrue result ↔ sum_by frame_size pending.now + size ≤ cartridge.now.room }
+{
+    size <= cartridge.room() - pending.frame_bytes()
 }
 
 // Makes way for a change more among what is pending: where that would pass a limit, all is stored.
@@ -67,6 +78,8 @@ fn make_way<D: Disk>(
     ensures answer { IsReady (open_state cartridge.old pending.old) result (open_state cartridge.new pending.new) }
     ensures way { OnOk result (FitsBuffer (pending.new ++ change.now ∷ [])
         × (sum_by frame_size (pending.new ++ change.now ∷ []) ≤ cartridge.new.room)) }
+    ensures frames { IsWay change.now result cartridge.old.contents.frames pending.old
+        cartridge.new.contents.frames pending.new }
     ensures stores { Stores (open_state cartridge.old pending.old) [] (open_state cartridge.new pending.new) }
     ensures advances { Advances (buffer_below D.state) (open_buffer cartridge.old pending.old) [] (met_fault result)
         (open_buffer cartridge.new pending.new) }

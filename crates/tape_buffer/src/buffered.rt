@@ -1,10 +1,10 @@
 //! A buffered medium.
-ghost use Rattle.std.specs.Prelude.{◌≡◌, List, Some, true, false};
+ghost use Rattle.std.specs.Prelude.{◌≡◌, ◌⊎◌, List, Some, true, false};
 ghost use Rattle.volume_core.specs.Volume.{Part};
 ghost use Rattle.accepting.specs.Core.{IsCore};
 ghost use Rattle.tape_buffer.specs.Limits.{FitsBuffer};
 ghost use Rattle.tape_buffer.specs.Rules.{medium_rules};
-ghost use Rattle.tape_buffer.specs.State.{IsSettledOn, closed_buffer, disk_in, state_of};
+ghost use Rattle.tape_buffer.specs.State.{IsSettledIn, closed_buffer, disk_in, state_of};
 ghost use Rattle.tape_buffer.specs.Moves.{IsSafeOrPending, ShowsOn, medium_core};
 ghost use Rattle.tape_buffer.specs.declared.holding.Holding.TheVariants as Holdings;
 
@@ -34,20 +34,24 @@ impl<D: Disk> Model for Buffered<D> {
 
     ghost view = { λ b. record { held = b.held; pending = b.pending } };
 
-    ghost invariant = { λ b. IsHeld D.state b.held b.pending };
+    ghost invariant = { λ b. IsHeld b.held b.pending };
 }
 
 impl<D: Disk> Accepting for Buffered<D> {
+    ghost use Rattle.accepting.specs.Device.{one_disk, one_is_device};
     ghost use Rattle.tape_buffer.specs.Rules.{medium_rules};
 
     ghost rules = { medium_rules };
+
+    ghost device = { one_disk D.state };
+
+    ghost is_device = { one_is_device D.state };
 }
 
 impl<D: Disk> Buffered<D> {
-    /// A parked medium over a closed cartridge. Of a disk that was only taken for a cartridge nothing may be unsure: a
-    /// sync of it has made that so.
+    /// A parked medium over a closed cartridge. Over a disk that was only taken for a cartridge it is unread: nothing is
+    /// known of it until it is woken.
     pub fn parked(alloc: Global, shelved: Shelved<D>) -> Buffered<D>
-        requires { IsSettledOn D.state shelved }
         ensures { result ≡ closed_buffer shelved }
     {
         Buffered {
@@ -60,8 +64,7 @@ impl<D: Disk> Buffered<D> {
     /// Gives the closed cartridge of a parked medium, which may be parked again as it is.
     pub fn into_shelved(self) -> Shelved<D>
         requires { (state_of D.state self).awake ≡ false }
-        ensures held { self.held ≡ Holdings.Closed result }
-        ensures settled { IsSettledOn D.state result }
+        ensures { self.held ≡ Holdings.Closed result }
     {
         let Buffered { held, .. } = self;
         match held {
@@ -73,12 +76,14 @@ impl<D: Disk> Buffered<D> {
 
     /// What is safe is stored, and what is stored was accepted; while it is open and has not failed,
     /// all that is stored is safe, and the rest is pending. Each image that a crash now may leave
-    /// gives what is safe, or what is stored; of a parked medium where its side gives a volume.
+    /// gives what is safe, or what is stored; of a parked medium where its side gives a volume, and where it was opened
+    /// before, or a crash leaves just what a read gives.
     pub fn known(&self)
         ensures core { IsCore (medium_core D.state self.now) }
         ensures whole { IsSafeOrPending (medium_core D.state self.now) self.now.pending }
         ensures fits { FitsBuffer self.now.pending }
-        ensures shows { (volume : List Part) → (state_of D.state self.now).stored ≡ Some volume →
+        ensures shows { ((state_of D.state self.now).unread ≡ false) ⊎ IsSettledIn D.state self.now.held →
+            (volume : List Part) → (state_of D.state self.now).stored ≡ Some volume →
             ShowsOn D.state (disk_in self.now.held) (medium_core D.state self.now) }
     {
         self.pending.within();

@@ -1,11 +1,12 @@
 //! A medium is parked, and opened again.
-ghost use Rattle.std.specs.Prelude.{◌≡◌, ◌⊎◌, [], IfOk, IfErr, Ok, Err, true, false};
+ghost use Rattle.std.specs.Prelude.{◌≡◌, ◌≢◌, ◌⊎◌, [], IfOk, IfErr, Ok, Err, true, false};
 ghost use Rattle.vtl_base.specs.Below.{Advances};
 ghost use Rattle.volume_core.specs.declared.media.MediumError.TheVariants as Errors;
 ghost use Rattle.volume_core.specs.Medium.{Parks, Wakes, met_fault};
 ghost use Rattle.volume_core.specs.Stores.{Stores};
 ghost use Rattle.tape_buffer.specs.State.{IsPendingOver, IsSettledOn, closed_buffer, closed_state, open_buffer, open_state};
-ghost use Rattle.tape_buffer.specs.Moves.{buffer_below};
+ghost use Rattle.tape_buffer.specs.Frames.{ParksInFrames};
+ghost use Rattle.tape_buffer.specs.Moves.{LeavesAlone, buffer_below};
 ghost use Rattle.tape_buffer.specs.Inner.Waking.{wake_error_of};
 
 use crate::pending::Pending;
@@ -24,10 +25,12 @@ pub(crate) fn park_over<D: Disk>(
 ) -> Result<Shelved<D>, Cartridge<D>>
     requires { IsPendingOver cartridge pending.old }
     ensures ok { IfOk result (λ shelved. (pending.new ≡ []) × (shelved.known ≡ true)
+        × ParksInFrames cartridge.failed (Ok tt) cartridge.contents.frames pending.old shelved.contents.frames
         × Parks (D.state cartridge.disk).honest (open_state cartridge pending.old) (Ok tt)
         (closed_state D.state shelved)
         × Advances (buffer_below D.state) (open_buffer cartridge pending.old) [] false (closed_buffer shelved)) }
     ensures err { IfErr result (λ broken. IsPendingOver broken pending.new
+        × (broken.contents.frames ≡ cartridge.contents.frames)
         × Parks (D.state cartridge.disk).honest (open_state cartridge pending.old) (Err Errors.Device)
         (open_state broken pending.new)
         × Stores (open_state cartridge pending.old) [] (open_state broken pending.new)
@@ -51,6 +54,7 @@ fn shelve_over<D: Disk>(cartridge: Cartridge<D>, pending: &mut Pending) -> Shelv
     requires at_rest { (pending.old ≡ []) ⊎ (cartridge.failed ≡ true) }
     ensures empty { pending.new ≡ [] }
     ensures known { result.known ≡ true }
+    ensures frames { result.contents.frames ≡ cartridge.contents.frames }
     ensures parks { Parks (D.state cartridge.disk).honest (open_state cartridge pending.old) (Ok tt)
         (closed_state D.state result) }
     ensures advances { Advances (buffer_below D.state) (open_buffer cartridge pending.old) [] false
@@ -61,20 +65,22 @@ fn shelve_over<D: Disk>(cartridge: Cartridge<D>, pending: &mut Pending) -> Shelv
     cartridge.shelve()
 }
 
-// Opens a closed cartridge, or gives it back as it was.
+// Opens a closed cartridge, or gives it back as it was. It writes nothing, and but for a device fault what stands is
+// sure.
 pub(crate) fn wake_closed<D: Disk>(
     alloc: Global,
     shelved: Shelved<D>,
 ) -> Result<Cartridge<D>, (MediumError, Shelved<D>)>
-    requires { IsSettledOn D.state shelved }
     ensures ok { IfOk result (λ cartridge. IsPendingOver cartridge []
         × Wakes (D.state shelved.disk).honest (closed_state D.state shelved) (Ok tt) (open_state cartridge [])
-        × Advances (buffer_below D.state) (closed_buffer shelved) [] false (open_buffer cartridge [])) }
-    ensures err { IfErr result (λ back. IsSettledOn D.state back.1
+        × Advances (buffer_below D.state) (closed_buffer shelved) [] false (open_buffer cartridge [])
+        × LeavesAlone D.state (closed_buffer shelved) (open_buffer cartridge [])) }
+    ensures err { IfErr result (λ back. (back.0 ≢ Errors.Device → IsSettledOn D.state back.1)
         × Wakes (D.state shelved.disk).honest (closed_state D.state shelved) (Err back.0)
         (closed_state D.state back.1)
         × Advances (buffer_below D.state) (closed_buffer shelved) [] (met_fault (Err back.0))
-        (closed_buffer back.1)) }
+        (closed_buffer back.1)
+        × LeavesAlone D.state (closed_buffer shelved) (closed_buffer back.1)) }
 {
     // Asked for the proof's sake: an image gives one cartridge's contents at most.
     an_image_gives_one_volume();

@@ -1,5 +1,14 @@
 //! The calls of a buffered medium, as a drive makes them.
-use crate::adding::accept_over;
+ghost use Rattle.std.specs.Prelude.{◌≡◌, ◌≢◌, [], true, IfErr, OnErr};
+ghost use Rattle.vtl_base.specs.Below.{Advances};
+ghost use Rattle.volume_core.specs.declared.media.MediumError.TheVariants as Errors;
+ghost use Rattle.volume_core.specs.Medium.{Accepts, Parks, Settles, Turns, Wakes, accepted_by, met_fault, turn_met_fault};
+ghost use Rattle.volume_core.specs.Stores.{Stores};
+ghost use Rattle.tape_buffer.specs.State.{IsSettledIn, disk_in, state_of};
+ghost use Rattle.tape_buffer.specs.Frames.{AcceptsInFrames, IsOneFrame, IsOneFrameIn, ParksInFrames, frames_in};
+ghost use Rattle.tape_buffer.specs.Moves.{HonestOn, LeavesAlone, buffer_below};
+
+use crate::adding::{accept_over, has_room_over};
 use crate::buffered::Buffered;
 use crate::closing::{park_over, wake_closed};
 use crate::fetching::fetch_over;
@@ -13,12 +22,23 @@ use vtl_base::{ObjNo, PartNo};
 impl<D: Disk> Medium for Buffered<D> {
     ghost use Rattle.vtl_base.specs.Below.{advances_nowhere};
     ghost use Rattle.volume_core.specs.Stores.{stores_nowhere};
-    ghost use Rattle.tape_buffer.specs.State.{state_of};
+    ghost use Rattle.tape_buffer.specs.State.{awake_is_read, state_of};
     ghost use Rattle.tape_buffer.specs.Moves.{buffer_below, medium_moves_nowhere, medium_moves_on};
 
     ghost below = { buffer_below D.state };
 
-    fn accept(&mut self, change: Change) -> Result<(), MediumError> {
+    // The trait's clauses, and which frames are stored on the way: none while the change may wait beside what is
+    // pending, else one.
+    fn accept(&mut self, change: Change) -> Result<(), MediumError>
+        requires { (state_of D.state self.old).awake ≡ true }
+        ensures answer { Accepts (state_of D.state self.old) change result (state_of D.state self.new) }
+        ensures frames { AcceptsInFrames change result (frames_in self.old) self.old.pending
+            (frames_in self.new) self.new.pending }
+        ensures stores { Stores (state_of D.state self.old) (accepted_by result change)
+            (state_of D.state self.new) }
+        ensures advances { Advances (buffer_below D.state) self.old (accepted_by result change) (met_fault result)
+            self.new }
+    {
         match &mut self.held {
             Holding::Open(cartridge) => accept_over(cartridge, &mut self.pending, change),
             Holding::Closed(_) => unreachable!(),
@@ -36,7 +56,14 @@ impl<D: Disk> Medium for Buffered<D> {
         }
     }
 
-    fn settle(&mut self) -> Result<(), MediumError> {
+    // The trait's clauses, and that all that is pending is stored as one frame.
+    fn settle(&mut self) -> Result<(), MediumError>
+        requires { (state_of D.state self.old).awake ≡ true }
+        ensures answer { Settles (state_of D.state self.old) result (state_of D.state self.new) }
+        ensures frame { IsOneFrame result (frames_in self.old) self.old.pending (frames_in self.new) }
+        ensures stores { Stores (state_of D.state self.old) [] (state_of D.state self.new) }
+        ensures advances { Advances (buffer_below D.state) self.old [] (met_fault result) self.new }
+    {
         match &mut self.held {
             Holding::Open(cartridge) => settle_over(cartridge, &mut self.pending),
             Holding::Closed(_) => unreachable!(),
@@ -44,7 +71,14 @@ impl<D: Disk> Medium for Buffered<D> {
         }
     }
 
-    fn flush_turn(&mut self) -> Turn {
+    // The trait's clauses, and that all that is pending is stored as one frame.
+    fn flush_turn(&mut self) -> Turn
+        requires { (state_of D.state self.old).awake ≡ true }
+        ensures answer { Turns (state_of D.state self.old) result (state_of D.state self.new) }
+        ensures frame { IsOneFrameIn result (frames_in self.old) self.old.pending (frames_in self.new) }
+        ensures stores { Stores (state_of D.state self.old) [] (state_of D.state self.new) }
+        ensures advances { Advances (buffer_below D.state) self.old [] (turn_met_fault result) self.new }
+    {
         match &mut self.held {
             Holding::Open(cartridge) => turn_over(cartridge, &mut self.pending),
             Holding::Closed(_) => unreachable!(),
@@ -52,7 +86,16 @@ impl<D: Disk> Medium for Buffered<D> {
         }
     }
 
-    fn park(&mut self) -> Result<(), MediumError> {
+    // The trait's clauses, and that all that is pending is stored as one frame, or nothing of one that has failed.
+    fn park(&mut self) -> Result<(), MediumError>
+        requires { (state_of D.state self.old).awake ≡ true }
+        ensures answer { Parks (HonestOn D.state (disk_in self.old.held)) (state_of D.state self.old) result
+            (state_of D.state self.new) }
+        ensures frame { ParksInFrames (state_of D.state self.old).failed result (frames_in self.old)
+            self.old.pending (frames_in self.new) }
+        ensures stores { OnErr result (Stores (state_of D.state self.old) [] (state_of D.state self.new)) }
+        ensures advances { Advances (buffer_below D.state) self.old [] (met_fault result) self.new }
+    {
         match mem::replace(&mut self.held, Holding::Between) {
             Holding::Open(cartridge) => match park_over(cartridge, &mut self.pending) {
                 Ok(shelved) => {
@@ -69,7 +112,16 @@ impl<D: Disk> Medium for Buffered<D> {
         }
     }
 
-    fn wake(&mut self) -> Result<(), MediumError> {
+    /// Opens it. One that is awake stays as it is, and answers whether it has failed. Whatever it answers, nothing is
+    /// written: at every moment a crash leaves what it might have left before. But for a device fault what stands is
+    /// sure.
+    fn wake(&mut self) -> Result<(), MediumError>
+        ensures answer { Wakes ((buffer_below D.state).honest self.old) (state_of D.state self.old) result
+            (state_of D.state self.new) }
+        ensures advances { Advances (buffer_below D.state) self.old [] (met_fault result) self.new }
+        ensures alone { LeavesAlone D.state self.old self.new }
+        ensures settled { IfErr result (λ error. error ≢ Errors.Device → IsSettledIn D.state self.new.held) }
+    {
         if let Holding::Open(cartridge) = &self.held {
             if cartridge.has_failed() {
                 return Err(MediumError::Failed);
@@ -92,6 +144,16 @@ impl<D: Disk> Medium for Buffered<D> {
         }
     }
 
+    fn has_room_for(&self, bytes: u32) -> bool {
+        match &self.held {
+            Holding::Open(cartridge) => {
+                has_room_over(cartridge, &self.pending, 15 + bytes as u64)
+            }
+            Holding::Closed(_) => unreachable!(),
+            Holding::Between => unreachable!(),
+        }
+    }
+
     fn pending(&self) -> usize {
         self.pending.len()
     }
@@ -106,6 +168,8 @@ impl<D: Disk> Medium for Buffered<D> {
 
     ghost advances_nowhere = { λ medium. advances_nowhere (buffer_below D.state)
         (medium_moves_nowhere D.state (λ disk honest. D.is_disk disk honest)) medium };
+
+    ghost awake_is_read = { awake_is_read D.state };
 
     ghost stores_nowhere = { λ medium. stores_nowhere (state_of D.state medium) };
 

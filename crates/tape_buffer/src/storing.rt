@@ -7,7 +7,7 @@ ghost use Rattle.volume_core.specs.Stores.{Stores};
 ghost use Rattle.tape_buffer.specs.Limits.{FitsBuffer};
 ghost use Rattle.tape_buffer.specs.State.{IsPendingOver, IsReservedFor, open_buffer, open_state};
 ghost use Rattle.tape_buffer.specs.Moves.{buffer_below};
-ghost use Rattle.tape_buffer.specs.Inner.Storing.{IsOneFrame, IsOneFrameIn};
+ghost use Rattle.tape_buffer.specs.Frames.{IsOneFrame, IsOneFrameIn};
 
 use crate::pending::Pending;
 use cartridge::{Cartridge, CartridgeError};

@@ -7,7 +7,7 @@ use Rattle.volume_core.specs.declared.changes.Change.{Change}
 use Rattle.volume_core.specs.declared.media.MediumError.{MediumError}
 use Rattle.volume_core.specs.declared.media.MediumError.TheVariants.{Refused, NoMemory, SideFull, Device, Failed, Unreadable}
 use Rattle.volume_core.specs.Volume.{Part, AllApply, after, changed, empty_volume, refusal_of}
-use Rattle.volume_core.specs.Medium.{IsFresh, IsParkedFrom, MediumState, Opens, Settles, Wakes, WakesFrom, Works, frame_size, volume_of}
+use Rattle.volume_core.specs.Medium.{Fits, IsFresh, IsParkedFrom, MediumState, Opens, Settles, Wakes, WakesFrom, Works, frame_size, volume_of}
 use Rattle.volume_core.specs.Plain.{moves_on_by_changes}
 use Rattle.volume_core.specs.Stores.{Stores, after_append}
 use Rattle.volume_core.specs.Staged.{Staged, staged_state}
@@ -81,6 +81,13 @@ works_with old new change awake works same =
       works = works;
       awake = awake;
     })
+
+-- a change that has room beside what is pending fits
+pub fits_with : (old : Staged) (change : Change) → old.awake ≡ true
+    → sum_by frame_size old.rest + frame_size change ≤ old.room
+    → Fits (staged_state old).room ((staged_state old).pending ++ change ∷ [])
+fits_with old change awake room =
+    rw awake (omega (arith, room, sum_by-append frame_size old.rest (change ∷ [])))
 
 pub settles_by : (old new : Staged) (result : Result Unit MediumError) → old.awake ≡ true → old.failed ≡ false
     → IsStoring old result new → Settles (staged_state old) result (staged_state new)

@@ -46,6 +46,16 @@ abbrev pub IsFull : Option ℕ → List Change → Type 0
 IsFull None changes = ⊥
 IsFull (Some room) changes = room < sum_by frame_size changes
 
+-- these changes, each as a frame of its own, fit the room: it is not full (own)
+abbrev pub Fits : Option ℕ → List Change → Type 0
+Fits None changes = Unit {0}
+Fits (Some room) changes = sum_by frame_size changes ≤ room
+
+-- beside these changes a frame of a block of so many bytes, or of a change with none, fits the room (own)
+abbrev pub HasRoomFor : Option ℕ → List Change → ℕ → Type 0
+HasRoomFor None changes bytes = Unit {0}
+HasRoomFor (Some room) changes bytes = sum_by frame_size changes + (15 + bytes) ≤ room
+
 -- of the room of a side at most what these changes take as frames of their own is gone; no bound stays none (own)
 abbrev pub LeavesRoom : Option ℕ → List Change → Option ℕ → Type 0
 LeavesRoom None made now = now ≡ None
@@ -72,22 +82,24 @@ pub record Breaks (old new : MediumState) : Type 0 where
 abbrev pub after_failed_read : MediumState → MediumState
 after_failed_read state = record state { failed = true; torn = [] }
 
--- A medium is asked for a change, and answers so. What was pending may have been stored on the way. A failed medium
--- takes none, and only a device fault makes it fail (own).
+-- A medium is asked for a change, and answers so. What was pending may have been stored on the way, but not where the
+-- side is full: that is answered before all that comes of storing or of memory. A failed medium takes none, and only a
+-- device fault makes it fail (own).
 abbrev pub Accepts : MediumState → Change → Result Unit MediumError → MediumState → Type 0
 Accepts old change (Ok done) new =
     (refusal_of (volume_of old) change ≡ None) × (old.failed ≡ false)
-    × Works (changed (volume_of old) change) new
+    × Works (changed (volume_of old) change) new × Fits old.room (old.pending ++ change ∷ [])
 Accepts old change (Err (Refused cause)) new =
     (refusal_of (volume_of old) change ≡ Some cause) × (old.failed ≡ false) × (new ≡ old)
 Accepts old change (Err NoMemory) new =
     (refusal_of (volume_of old) change ≡ None) × (old.failed ≡ false) × Works (volume_of old) new
+    × Fits old.room (old.pending ++ change ∷ [])
 Accepts old change (Err SideFull) new =
     (refusal_of (volume_of old) change ≡ None) × IsFull old.room (old.pending ++ change ∷ [])
     × (new ≡ old) × (old.failed ≡ false)
 Accepts old change (Err Device) new =
     (refusal_of (volume_of old) change ≡ None) × (old.failed ≡ false) × (1 ≤ length old.pending)
-    × Breaks old new
+    × Breaks old new × Fits old.room (old.pending ++ change ∷ [])
 Accepts old change (Err Failed) new = (old.failed ≡ true) × (new ≡ old)
 Accepts old change (Err Unreadable) new = ⊥
 

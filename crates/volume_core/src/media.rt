@@ -1,12 +1,12 @@
 //! What stands below a drive: a volume that tells of itself, and takes changes.
-ghost use Rattle.std.specs.Prelude.{◌≡◌, ℕ, ◌≤◌, ◌↔◌, ◌++◌, [], List, true, false, Some, OnOk, OnErr, length};
+ghost use Rattle.std.specs.Prelude.{◌≡◌, ℕ, ◌≤◌, ◌↔◌, ◌++◌, [], List, IsTrue, true, false, Some, OnOk, OnErr, length};
 ghost use Rattle.vtl_base.specs.declared.limits.TheConstants.{MAX_BLOCK, MAX_CAPACITY, MAX_OBJECTS, MAX_PARTITIONS};
 ghost use Rattle.vtl_base.specs.Below.{Below, Advances};
 ghost use Rattle.volume_core.specs.declared.changes.Change.{Change};
 ghost use Rattle.volume_core.specs.declared.changes.Change.TheVariants.{Put, Marks, Erase};
 ghost use Rattle.volume_core.specs.declared.objects.Kind.TheVariants as Kinds;
 ghost use Rattle.volume_core.specs.Volume.{block_at, capacity_of, count_of, kind_at, used_up_to};
-ghost use Rattle.volume_core.specs.Medium.{MediumState, volume_of, Accepts, Fetches, Settles, Turns, Parks, Wakes, accepted_by, met_fault, turn_met_fault};
+ghost use Rattle.volume_core.specs.Medium.{MediumState, volume_of, Accepts, HasRoomFor, Fetches, Settles, Turns, Parks, Wakes, accepted_by, met_fault, turn_met_fault};
 ghost use Rattle.volume_core.specs.Stores.{Stores};
 
 use crate::changes::{Change, Refusal};
@@ -20,7 +20,8 @@ pub enum MediumError {
     /// The change is refused for its own sake. Nothing has changed.
     #[error("refused")]
     Refused(Refusal),
-    /// Memory ran out. The volume is as it was; what was pending may have been stored.
+    /// Memory ran out; the side has room for the change that was asked for, if one was. The volume
+    /// is as it was; what was pending may have been stored.
     #[error("out of memory")]
     NoMemory,
     /// The side has no room for what is pending and this change. Nothing has changed.
@@ -180,6 +181,14 @@ pub trait Medium: Catalog {
         ensures answer { Wakes (below.honest self.old) (Self.state self.old) result
             (Self.state self.new) }
         ensures advances { Advances below self.old [] (met_fault result) self.new };
+
+    /// Whether the side has room for what is pending and a change whose block has this many bytes, 0
+    /// for a change with no block. Where it has none, `accept` returns that the side is full, unless
+    /// it refuses the change or the medium has failed.
+    fn has_room_for(&self, bytes: u32) -> bool
+        requires { (Self.state self.now).awake ≡ true }
+        ensures { IsTrue result
+            ↔ HasRoomFor (Self.state self.now).room (Self.state self.now).pending bytes };
 
     /// How many changes are pending.
     fn pending(&self) -> usize

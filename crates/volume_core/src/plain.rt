@@ -118,6 +118,10 @@ impl Medium for PlainMedium {
         Ok(())
     }
 
+    fn has_room_for(&self, _bytes: u32) -> bool {
+        true
+    }
+
     fn pending(&self) -> usize {
         0
     }

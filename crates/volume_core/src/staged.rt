@@ -136,12 +136,11 @@ impl StagedMedium {
         &self.seen
     }
 
-    // Whether a change more has room, with what is pending.
-    fn has_room(&self, change: &Change) -> bool
-        ensures { IsTrue result
-            ↔ sum_by frame_size self.now.rest + frame_size change.now ≤ self.now.room }
+    // Whether a frame more of this many bytes has room, with what is pending.
+    fn has_room_for_frame(&self, size: u64) -> bool
+        ensures { IsTrue result ↔ sum_by frame_size self.now.rest + size ≤ self.now.room }
     {
-        change.frame_size() <= self.free
+        size <= self.free
     }
 
     // Takes a change that is not refused and has room.

@@ -25,6 +25,8 @@ pub enum Ask {
     // To be parked, and woken where that is done.
     Reopen,
     Wake,
+    // Whether a change with so many bytes of a block has room.
+    Room(u32),
 }
 
 /// How it answers.
@@ -33,6 +35,7 @@ pub enum Answer {
     Done,
     Not(MediumError),
     Turned(Turn),
+    Has(bool),
 }
 
 fn as_answer(returned: Result<(), MediumError>) -> Answer {
@@ -116,6 +119,7 @@ fn answered<M: Medium>(
         Ask::Turn => Ok(Answer::Turned(medium.flush_turn())),
         Ask::Reopen => reopen(medium),
         Ask::Wake => wake(medium),
+        Ask::Room(bytes) => Ok(Answer::Has(medium.has_room_for(bytes))),
         _ => take(alloc, medium, ask),
     }
 }
@@ -157,6 +161,7 @@ static IN_MEMORY: &'static [Row] = &[
     (Ask::Wake, Answer::Done, 0, false, 3),
     (Ask::Reopen, Answer::Done, 0, false, 3),
     (Ask::Fetch(2, 9), Answer::Done, 0, false, 3),
+    (Ask::Room(1_048_576), Answer::Has(true), 0, false, 3),
     (Ask::Accept(0, Add::Nothing), Answer::Done, 0, false, 0),
 ];
 

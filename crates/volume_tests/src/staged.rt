@@ -14,6 +14,8 @@ const FAILED: Answer = Answer::Not(MediumError::Failed);
 const FILLING: &'static [Row] = &[
     (Ask::Put(0, 5), Answer::Done, 1, false, 1),
     (Ask::Marks(1, 2), Answer::Done, 2, false, 3),
+    (Ask::Room(0), Answer::Has(true), 2, false, 3),
+    (Ask::Room(1), Answer::Has(false), 2, false, 3),
     (Ask::Put(3, 1), FULL, 2, false, 3),
     (Ask::Erase(2), Answer::Done, 3, false, 2),
     (Ask::Accept(9, Add::Marks(1)), PAST_END, 3, false, 2),

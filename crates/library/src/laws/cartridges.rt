@@ -2,7 +2,9 @@
 ghost use Rattle.library.specs.Cartridges.{StopsKeepChanges};
 ghost use Rattle.library.specs.Journeys.{KeepsWhatIsSafe, StopsKeepWhatIsMoved};
 
-use accepting::laws::{a_crash_leaves_what_was_acknowledged, steps_keep_cores};
+use accepting::laws::{
+    a_crash_leaves_what_was_acknowledged, steps_keep_cores, what_is_kept_begins,
+};
 use pr_core::Keeper;
 use tape_buffer::Buffered;
 use tape_disk::Disk;
@@ -13,8 +15,9 @@ use tape_disk::Disk;
 pub fn a_stop_keeps_acknowledged_changes<D: Disk, K: Keeper>()
     ensures { StopsKeepChanges D.state K.kept K.below }
 {
-    a_crash_leaves_what_was_acknowledged::<Buffered<D>, D>();
+    a_crash_leaves_what_was_acknowledged::<Buffered<D>>();
     steps_keep_cores::<Buffered<D>>();
+    what_is_kept_begins::<Buffered<D>>();
 }
 
 /// The same of a cartridge that is moved: once a synchronizing command was acknowledged, a stop at any moment of
@@ -25,6 +28,7 @@ pub fn a_stop_keeps_acknowledged_changes_of_what_is_moved<D: Disk>()
     ensures acknowledged { StopsKeepWhatIsMoved D.state }
     ensures safe { KeepsWhatIsSafe D.state }
 {
-    a_crash_leaves_what_was_acknowledged::<Buffered<D>, D>();
+    a_crash_leaves_what_was_acknowledged::<Buffered<D>>();
     steps_keep_cores::<Buffered<D>>();
+    what_is_kept_begins::<Buffered<D>>();
 }

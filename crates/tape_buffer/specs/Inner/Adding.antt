@@ -1,9 +1,17 @@
 -- How way is made for a change more.
-use Rattle.std.specs.Prelude.{Result, Ok, Err}
+use Rattle.std.specs.Prelude.{◌≡◌, List, Result, Ok, Err}
 use Rattle.volume_core.specs.declared.media.MediumError.{MediumError}
+use Rattle.volume_core.specs.declared.changes.Change.{Change}
 use Rattle.volume_core.specs.Medium.{MediumState, Settles, Works, volume_of}
+use Rattle.tape_buffer.specs.Frames.{MakesWay}
 
 -- a medium works on, with the same volume; or it was to store what is pending, and did not (own)
 abbrev pub IsReady : MediumState → Result Unit MediumError → MediumState → Type 0
 IsReady old (Ok done) new = Works (volume_of old) new
 IsReady old (Err error) new = Settles old (Err error) new
+
+-- the frames of a side on which way is made, or on which the device failed
+abbrev pub IsWay :
+    Change → Result Unit MediumError → List (List Change) → List Change → List (List Change) → List Change → Type 0
+IsWay change (Ok done) frames pending new left = MakesWay frames pending change new left
+IsWay change (Err error) frames pending new left = new ≡ frames

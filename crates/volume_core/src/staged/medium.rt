@@ -46,7 +46,7 @@ impl Medium for StagedMedium {
         if let Some(cause) = self.volume().refusal(&change) {
             return Err(MediumError::Refused(cause));
         }
-        if !self.has_room(&change) {
+        if !self.has_room_for_frame(change.frame_size()) {
             return Err(MediumError::SideFull);
         }
         match self.add(change) {
@@ -115,6 +115,10 @@ impl Medium for StagedMedium {
             Ok(()) => Ok(()),
             Err(NoMemory) => Err(MediumError::NoMemory),
         }
+    }
+
+    fn has_room_for(&self, bytes: u32) -> bool {
+        self.has_room_for_frame(15 + bytes as u64)
     }
 
     fn pending(&self) -> usize {

@@ -2,4 +2,4 @@ use Rattle.accepting.proofs.KeptLemmas.{crash_keeps}
 use Rattle.accepting.proofs.laws.a_crash_leaves_what_was_acknowledged.Goals as goal
 
 pub returns : goal.returns
-returns g c = λ disk after. crash_keeps g.A.Accepting.rules (g.D.Disk.state disk) (g.D.Disk.state after)
+returns g c = crash_keeps g.A.Accepting.rules g.A.Accepting.device g.A.Accepting.is_device

@@ -4,7 +4,6 @@ use Rattle.accepting.proofs.laws.moves_append.Goals as goal
 pub returns : goal.returns
 returns g c =
     record {
-      nothing = λ disk. core_moves_nowhere g.A.Accepting.rules (g.D.Disk.state disk);
-      in_a_row = λ x y z.
-          core_moves_on g.A.Accepting.rules (g.D.Disk.state x) (g.D.Disk.state y) (g.D.Disk.state z);
+      nothing = core_moves_nowhere g.A.Accepting.rules g.A.Accepting.device g.A.Accepting.is_device;
+      in_a_row = core_moves_on g.A.Accepting.rules g.A.Accepting.device g.A.Accepting.is_device;
     }

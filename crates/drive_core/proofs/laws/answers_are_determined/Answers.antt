@@ -1,5 +1,5 @@
 use Rattle.drive_core.proofs.DeterminedLemmas.{steps_determined}
-use Rattle.drive_core.proofs.DeterminedRuns.{runs_determined}
+use Rattle.drive_core.proofs.DeterminedRuns.{runs_determined, runs_stay_sure}
 use Rattle.drive_core.proofs.laws.answers_are_determined.Goals as goal
 
 pub returns-clause-step : goal.returns-clause-step
@@ -10,5 +10,11 @@ returns-clause-step c =
 pub returns-clause-run : goal.returns-clause-run
 returns-clause-run c =
     runs_determined
+    (steps_determined c.each_space_has_one_end.ensures.one c.each_locate_has_one_end.ensures.one
+    c.each_order_has_one_end.ensures.one)
+
+pub returns-clause-sure : goal.returns-clause-sure
+returns-clause-sure c =
+    runs_stay_sure
     (steps_determined c.each_space_has_one_end.ensures.one c.each_locate_has_one_end.ensures.one
     c.each_order_has_one_end.ensures.one)

@@ -6,6 +6,7 @@ returns-clause-one_host g c =
     one_host_of g.D.Disk.state (record {
       steps = c.honest_steps.ensures;
       determined = c.answers_are_determined.ensures.run;
+      stay = c.answers_are_determined.ensures.sure;
       runs = c.served_hosts_run.ensures;
       in_order = c.one_host_runs_in_order.ensures.order;
       no_moves = c.one_host_runs_in_order.ensures.moves;

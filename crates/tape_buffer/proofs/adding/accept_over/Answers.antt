@@ -1,11 +1,15 @@
-use Rattle.std.proofs.Common.{◌≡◌, List, None, ap, sym, ◌∙◌}
+use Rattle.std.proofs.Common.{◌≡◌, List, None, Err, ap, sym, subst, ◌∙◌}
+use Rattle.std.proofs.lemmas.Result.{err_from_is_err_and}
 use Rattle.volume_core.specs.declared.changes.Change.{Change}
 use Rattle.volume_core.specs.Volume.{Part, after, refusal_of}
 use Rattle.volume_core.specs.Medium.{volume_of}
 use Rattle.cartridge.specs.Contents.{volume_made}
+use Rattle.cartridge.specs.State.{OpenCartridge}
+use Rattle.tape_buffer.specs.Frames.{MakesWay}
 use Rattle.tape_buffer.specs.State.{open_buffer, open_state}
 use Rattle.tape_buffer.proofs.CoreLemmas.{rests}
-use Rattle.tape_buffer.proofs.AddingLemmas.{accepts_more, advances_more}
+use Rattle.tape_buffer.proofs.AddingLemmas.{accepts_more, advances_more, fits_more}
+use Rattle.tape_buffer.proofs.FrameLemmas.{frames_refused}
 use Rattle.tape_buffer.proofs.adding.accept_over.Given.{Over}
 use Rattle.tape_buffer.proofs.adding.accept_over.Goals as goal
 
@@ -19,9 +23,9 @@ returns-in-Some-clause-advances g c =
     rests g.D.Disk.state g.met.D.Disk.is_disk
     (open_buffer c.args.cartridge.now c.args.pending.now)
 
-pub returns-then-frame_size-room-clause-advances :
-    goal.returns-then-frame_size-room-clause-advances
-returns-then-frame_size-room-clause-advances g c =
+pub returns-then-not-has_room_over-clause-advances :
+    goal.returns-then-not-has_room_over-clause-advances
+returns-then-not-has_room_over-clause-advances g c =
     rests g.D.Disk.state g.met.D.Disk.is_disk
     (open_buffer c.args.cartridge.now c.args.pending.now)
 
@@ -37,6 +41,8 @@ returns-in-Ok-clause-answer g c =
     c.make_way.new.pending c.add_over.new.pending c.args.change c.in_ok-make_way.ensures.answer
     c.in_ok-make_way.ensures.stores c.in-Ok.ensures.same c.in-Ok.ensures.ok (unrefused g c)
     (sym c.has_failed.ensures ∙ c.if-has_failed.false)
+    (fits_more c.args.cartridge.now.room c.frame_size.result c.has_room_over.result c.args.pending.now c.args.change
+    c.has_room_over.ensures.0 c.frame_size.ensures c.if-not-has_room_over.false)
 
 pub returns-in-Ok-clause-advances : goal.returns-in-Ok-clause-advances
 returns-in-Ok-clause-advances g c =
@@ -47,3 +53,21 @@ returns-in-Ok-clause-advances g c =
     (ap (λ (v : List Part). refusal_of v c.args.change) c.in_ok-make_way.ensures.answer.volume_is ∙ unrefused g c)
     c.known.ensures.contents c.in_ok-make_way.ensures.answer.works
     c.in-Ok.ensures.ok
+
+pub returns-in-Ok-clause-frames : goal.returns-in-Ok-clause-frames
+returns-in-Ok-clause-frames g c = (
+  c.make_way.new.pending,
+  subst (λ (frames : List (List Change)). MakesWay c.args.cartridge.now.contents.frames c.args.pending.now
+      c.args.change frames c.make_way.new.pending)
+      (sym (ap (λ (k : OpenCartridge _). k.contents.frames) c.in-Ok.ensures.same)) c.in_ok-make_way.ensures.frames,
+  c.in-Ok.ensures.ok,
+)
+
+pub returns-in_err-make_way-clause-frames : goal.returns-in_err-make_way-clause-frames
+returns-in_err-make_way-clause-frames g c =
+    let exit = err_from_is_err_and c.from_residual.result c.from_residual.ensures.1 in
+    rw (exit.1 ∙ ap Err exit.2)
+    (frames_refused (open_state c.args.cartridge.now c.args.pending.now)
+    (open_state c.make_way.new.cartridge c.make_way.new.pending) c.args.change c.in_err-make_way.field-0.0
+    c.args.cartridge.now.contents.frames c.make_way.new.cartridge.contents.frames c.args.pending.now
+    c.make_way.new.pending c.in_err-make_way.ensures.answer c.in_err-make_way.ensures.frames)

@@ -1,3 +1,4 @@
+use Rattle.std.proofs.Common.{◌∙◌}
 use Rattle.tape_buffer.proofs.ClosingLemmas.{advances_after, parks_after}
 use Rattle.tape_buffer.proofs.closing.park_over.Goals as goal
 
@@ -8,6 +9,7 @@ returns-in-Ok-clause-ok g c =
     let disk = g.D.Disk.state in (
       shelved.ensures.empty,
       shelved.ensures.known,
+      rw stored.answer.0 (shelved.ensures.frames ∙ stored.frame),
       parks_after disk g.met.D.Disk.is_disk c.args.cartridge c.settle_over.new.cartridge c.args.pending.now
           c.settle_over.new.pending (disk c.args.cartridge.disk).honest
           (disk c.settle_over.new.cartridge.disk).honest shelved.result stored.advances.honesty.0 stored.answer

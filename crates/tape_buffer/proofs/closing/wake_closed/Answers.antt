@@ -1,13 +1,15 @@
 use Rattle.std.proofs.Common.{[], Err, false, refl, subst, sym}
+use Rattle.std.specs.Prelude.{◌≢◌}
 use Rattle.vtl_base.specs.Below.{Advances}
 use Rattle.volume_core.specs.declared.media.MediumError.{MediumError}
+use Rattle.volume_core.specs.declared.media.MediumError.TheVariants as Media
 use Rattle.volume_core.specs.Medium.{WakesFrom, met_fault}
 use Rattle.cartridge.specs.State.{ClosedCartridge}
 use Rattle.tape_buffer.specs.Inner.Waking.{wake_error_of}
-use Rattle.tape_buffer.specs.Moves.{buffer_below}
+use Rattle.tape_buffer.specs.Moves.{LeavesAlone, buffer_below}
 use Rattle.tape_buffer.specs.State.{IsSettledOn, closed_buffer, closed_state}
 use Rattle.tape_buffer.proofs.OpeningLemmas.{advances_opened, nothing_over, opens}
-use Rattle.tape_buffer.proofs.WakingLemmas.{settled_still, stays_closed}
+use Rattle.tape_buffer.proofs.WakingLemmas.{stays_closed}
 use Rattle.tape_buffer.proofs.closing.wake_closed.Goals as goal
 
 pub returns-in-Ok-clause-ok : goal.returns-in-Ok-clause-ok
@@ -19,13 +21,14 @@ returns-in-Ok-clause-ok g c =
     let new = c.in-Ok.cartridge in (
       nothing_over new told.ok.1,
       (
-        record { awake = refl; works = told.ok.0; nothing_pending = refl },
+        record { awake = refl; works = told.ok.0; nothing_pending = refl; read = refl },
         λ honest. opens disk one old new
             (λ known. c.known.ensures known honest (disk old.disk).seen (g.met.D.Disk.is_disk old.disk honest).reads)
             (told.gives honest).0 (c.known-in-Ok.ensures.room (told.disk.stays_honest honest)),
       ),
       advances_opened disk g.met.D.Disk.is_disk one old new told.disk told.ok.0 told.ok.1 told.gives told.any_moment
           told.ok.2,
+      told.any_moment,
     )
 
 pub returns-in-Err-clause-err : goal.returns-in-Err-clause-err
@@ -35,16 +38,18 @@ returns-in-Err-clause-err g c =
     let laws = c.an_image_gives_one_volume.ensures in
     let old = c.args.shelved in
     let new = c.in-Err.refused.shelved in
-    let stays = stays_closed disk g.met.D.Disk.is_disk old new.disk c.requires told.disk told.any_moment
+    let stays = stays_closed disk g.met.D.Disk.is_disk old new.disk told.disk told.any_moment
     (record { ours = laws.ours; whole = laws.whole; bad = laws.bad }) c.known.ensures c.in-Err.refused.error
     told.refused in
-    subst (λ (error : MediumError). IsSettledOn disk new
+    subst (λ (error : MediumError). (error ≢ Media.Device → IsSettledOn disk new)
     × WakesFrom (disk old.disk).honest false (closed_state disk old) (Err error) (closed_state disk new)
-    × Advances (buffer_below disk) (closed_buffer old) [] (met_fault (Err error)) (closed_buffer new))
+    × Advances (buffer_below disk) (closed_buffer old) [] (met_fault (Err error)) (closed_buffer new)
+    × LeavesAlone disk (closed_buffer old) (closed_buffer new))
     (sym c.wake_error.ensures)
-    (subst (λ (s : ClosedCartridge _). IsSettledOn disk s
+    (subst (λ (s : ClosedCartridge _). (wake_error_of c.in-Err.refused.error ≢ Media.Device → IsSettledOn disk s)
     × WakesFrom (disk old.disk).honest false (closed_state disk old) (Err (wake_error_of c.in-Err.refused.error))
     (closed_state disk s)
     × Advances (buffer_below disk) (closed_buffer old) [] (met_fault (Err (wake_error_of c.in-Err.refused.error)))
-    (closed_buffer s)) (sym told.same)
-    (settled_still disk g.met.D.Disk.is_disk old new.disk c.requires told.disk told.any_moment, stays.0, stays.1))
+    (closed_buffer s)
+    × LeavesAlone disk (closed_buffer old) (closed_buffer s)) (sym told.same)
+    (stays.0, stays.1, stays.2, told.any_moment))

@@ -1,3 +1,4 @@
+use Rattle.tape_buffer.specs.Moves.{leaves_alone_nowhere}
 use Rattle.tape_buffer.proofs.CoreLemmas.{rests}
 use Rattle.tape_buffer.proofs.media.BufferedMedium.wake.Goals as goal
 
@@ -6,3 +7,10 @@ returns-then-has_failed-clause-advances g c = rests g.D.Disk.state g.met.D.Disk.
 
 pub returns-in-Open-clause-advances : goal.returns-in-Open-clause-advances
 returns-in-Open-clause-advances g c = rests g.D.Disk.state g.met.D.Disk.is_disk c.args.self.now
+
+pub returns-then-has_failed-clause-alone : goal.returns-then-has_failed-clause-alone
+returns-then-has_failed-clause-alone g c =
+    leaves_alone_nowhere g.D.Disk.state g.met.D.Disk.is_disk c.args.self.now
+
+pub returns-in-Open-clause-alone : goal.returns-in-Open-clause-alone
+returns-in-Open-clause-alone g c = leaves_alone_nowhere g.D.Disk.state g.met.D.Disk.is_disk c.args.self.now

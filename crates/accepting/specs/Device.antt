@@ -1,0 +1,69 @@
+-- What is seen of a device, of whatever disks it is made; and of one disk.
+use Rattle.std.specs.Prelude.{◌≤◌, ℕ, List}
+use Rattle.tape_disk.specs.Disk.{DiskState, IsDisk, Keeps}
+use Rattle.tape_disk.specs.Disk as Disks
+use Rattle.tape_disk.specs.Moments as Moments
+use Rattle.tape_disk.specs.Moments.{LeavesOnly}
+
+-- A device with images of this kind: whether it is honest and keeps to the laws of its kind, how often it failed, and
+-- what a crash leaves, now or at a moment since (own).
+pub record Device (I : Type 0) : Type 1 where
+  pub State : Type 0
+  pub honest : State → Type 0
+  pub sound : State → Type 0
+  pub failures : State → ℕ
+  -- each image that a crash now may leave has P
+  pub each : State → (I → Type 0) → Type 0
+  -- each image that a crash at some moment since the first might have left has P
+  pub leaves : State → State → (I → Type 0) → Type 0
+
+-- The laws of a device: nothing was called; two runs in a row; other words; what holds of each moment since holds now;
+-- other words of that (own).
+pub record IsDevice {I : Type 0} (device : Device I) : Type 1 where
+  pub no_call : (now : device.State) (P : I → Type 0) → device.sound now → device.each now P
+      → device.leaves now now P
+  pub in_sequence : (a b c : device.State) (P : I → Type 0) → device.leaves a b P → device.leaves b c P
+      → device.leaves a c P
+  pub weakened : (a b : device.State) (P Q : I → Type 0) → device.leaves a b P → ((image : I) → P image → Q image)
+      → device.leaves a b Q
+  pub holds_now : (a b : device.State) (P : I → Type 0) → device.sound b → device.leaves a b P → device.each b P
+  pub each_weakened : (now : device.State) (P Q : I → Type 0) → device.each now P
+      → ((image : I) → P image → Q image) → device.each now Q
+
+-- What holds whatever is answered: honesty stays as it is, and failures are counted (own).
+pub record KeepsDevice {I : Type 0} (device : Device I) (old new : device.State) : Type 0 where
+  pub stays_honest : device.honest old → device.honest new
+  pub was_honest : device.honest new → device.honest old
+  pub counted : device.failures old ≤ device.failures new
+
+module _ {D : Type 0} (state : D → DiskState) where
+  -- one disk, whose images are bytes (own)
+  abbrev pub one_disk : Device (List ℕ)
+  one_disk = record {
+    State = D;
+    honest = λ disk. (state disk).honest;
+    sound = λ disk. IsDisk (state disk);
+    failures = λ disk. (state disk).failures;
+    each = λ disk P. Disks.Each (state disk) P;
+    leaves = λ old new P. LeavesOnly (state old) (state new) P;
+  }
+
+  pub one_is_device : IsDevice one_disk
+  one_is_device = record {
+    no_call = λ now P is_disk here. Moments.no_call (state now) P is_disk here;
+    in_sequence = λ a b c P. Moments.in_sequence (state a) (state b) (state c) P;
+    weakened = λ a b P Q. Moments.weakened (state a) (state b) P Q;
+    holds_now = λ a b P is_disk. Moments.holds_now (state a) (state b) P is_disk;
+    each_weakened = λ now P Q each means image left. means image (each image left);
+  }
+
+  -- what a disk keeps to, the device of it keeps to
+  pub one_keeps : (old new : D) → Keeps (state old) (state new) → KeepsDevice one_disk old new
+  one_keeps old new keeps =
+      record { stays_honest = keeps.stays_honest; was_honest = keeps.was_honest; counted = keeps.counted }
+
+  -- what held of each image before holds of each moment of calls that write nothing
+  pub one_rests : (old new : D) (P : List ℕ → Type 0)
+      → LeavesOnly (state old) (state new) (state old).may_leave → Disks.Each (state old) P
+      → LeavesOnly (state old) (state new) P
+  one_rests old new P quiet shows = Moments.weakened (state old) (state new) (state old).may_leave P quiet shows
