@@ -1,6 +1,6 @@
 #!/usr/bin/env python3
-"""Tries bodies that the contracts allow, and that a test has to refuse: on a copy of the repository, by the toolchain's
-unproved run."""
+"""Tries bodies that the contracts allow, and that a test or a row has to refuse: on a copy of the repository, by the
+toolchain's unproved run, and by a program that is built without its proofs."""
 import os
 import re
 import shutil
@@ -10,7 +10,7 @@ import tempfile
 
 TOP = os.path.dirname(os.path.dirname(os.path.abspath(__file__)))
 # what the edit makes of a crate, the crate and its file, the old text and the new one (or several of each), the tests
-# that must fail, behind their crate where two have one of that name
+# that must fail, behind their crate where two have one of that name, and the rows that must, by their paths
 EDITS = [
     ("what waits is stored before each write", "tape_buffer", "src/adding.rt", "    if !pending.is_full_for(change) {",
      "    if pending.is_empty() {",
@@ -36,7 +36,7 @@ EDITS = [
      "            let told = match error {\n"
      "                volume_core::MediumError::Unreadable => volume_core::MediumError::NoMemory,\n"
      "                other => other,\n            };\n            return Err((medium, wake_reply(self.alloc, told)));",
-     ["a_refused_cartridge_is_there_unloaded"]),
+     ["rows/11-moves/damaged-from-a-drive.row"]),
     ("an opening of a file takes all of it for sure", "file_disk", "src/opening.rt",
      "        Access::Change => Ok(DiskOver::opened(alloc, file)),",
      "        Access::Change => Ok(DiskOver::new(file)),",
@@ -62,7 +62,7 @@ EDITS = [
     ("create opens a file that is there", "file_disk", "src/opening.rt",
      "    options.read(true).write(true).create_new(true);",
      "    options.read(true).write(true).create(true);",
-     ["a_file_that_exists_is_not_touched", "files_are_made_kept_and_told"]),
+     ["disk_tests::what_is_refused", "rows/15-files/created-and-kept.row"]),
     ("a file is opened twice", "file_disk", "src/opening.rt", "    match lock(&file) {\n",
      "    match Ok::<(), FileError>(()) {\n", ["a_file_is_opened_once", "a_refused_opening_writes_nothing"]),
     ("a file is written before its lock is asked for", "file_disk", "src/opening.rt", "    match lock(&file) {\n",
@@ -85,7 +85,7 @@ EDITS = [
     ("a line that is far too long is a read that failed", "vtl_script", "src/phases.rt",
      "        Found::TooLong => Err(ScriptFault::BadLine { line: number }),",
      "        Found::TooLong => Err(ScriptFault::ReadFault),",
-     ["the_longest_line"]),
+     ["rows/14-scripts/the-longest-line.row"]),
     ("a read that is interrupted a third time in a row has failed", "vtl_script", "src/line_readers.rt",
      ("        let mut searched = 0;\n", "                None => searched = unread.len(),\n",
      "            if !self.fill(reader)? {\n"),
@@ -117,11 +117,12 @@ EDITS = [
     ("the third drive is want of memory", "vtl_config", "src/drive_entries.rt",
      "        let reservations = String::from_str(alloc, found.file)?;",
      "        if place >= 2 {\n            return Err(ConfigError::NoMemory);\n        }\n"
-     "        let reservations = String::from_str(alloc, found.file)?;", ["a_cartridge_at_each_element"]),
+     "        let reservations = String::from_str(alloc, found.file)?;", ["rows/12-configurations/sixteen-drives.row"]),
     ("the fifth cartridge is want of memory", "vtl_config", "src/cartridge_entries.rt",
      "        let file = String::from_str(alloc, found.file)?;",
      "        if place >= 4 {\n            return Err(ConfigError::NoMemory);\n        }\n"
-     "        let file = String::from_str(alloc, found.file)?;", ["a_cartridge_at_each_element"]),
+     "        let file = String::from_str(alloc, found.file)?;",
+     ["rows/12-configurations/the-greatest-library.row"]),
     ("another key of a cartridge is told last", "vtl_config", "src/cartridge_entries.rt",
      ("    if !has_only(entry, &KEYS) {\n        return Err(Rule::OtherKey);\n    }\n", "    Ok(FoundCartridge {\n"),
      ("", "    if !has_only(entry, &KEYS) {\n        return Err(Rule::OtherKey);\n    }\n    Ok(FoundCartridge {\n"),
@@ -138,14 +139,14 @@ EDITS = [
     ("help has two statuses exchanged", "vtl_words", "src/commands.rt",
      ("  1  refused: the command line, a configuration, a script line or a checked file\n", "  3  out of memory\n"),
      ("  1  out of memory\n", "  3  refused: the command line, a configuration, a script line or a checked file\n"),
-     ["help_is_told_whole"]),
+     ["rows/13-words/help.row"]),
     ("the example of help has a line that is refused", "vtl_words", "src/commands.rt", "  vtl check daily1.tape\n",
-     "  vtl check --config daily1.tape\n", ["help_is_told_whole"]),
+     "  vtl check --config daily1.tape\n", ["rows/13-words/help.row"]),
     ("the helps of two words are exchanged", "vtl_words", "src/commands.rt", ("flag.help(MEMORY_HELP)",
      'value_name("FILE").help(RUN_CONFIG_HELP)'),
-     ("flag.help(RUN_CONFIG_HELP)", 'value_name("FILE").help(MEMORY_HELP)'), ["help_is_told_whole"]),
+     ("flag.help(RUN_CONFIG_HELP)", 'value_name("FILE").help(MEMORY_HELP)'), ["rows/13-words/help-of-run.row"]),
     ("the words are left out of help", "vtl_words", "src/commands.rt", "    Command::new(alloc, name).about(about)\n",
-     "    Command::new(alloc, name).about(about).hide(true)\n", ["help_is_told_whole"]),
+     "    Command::new(alloc, name).about(about).hide(true)\n", ["rows/13-words/help.row"]),
     ("a long name is want of memory", "vtl_words", "src/reading.rt",
      "        Some(text) => match String::from_str(alloc, text) {",
      "        Some(text) if text.len() > 255 => Err(NoMemory),\n"
@@ -156,7 +157,7 @@ EDITS = [
      "        fill(slots, from, cartridge);\n"
      "        return check(alloc, Sense::insufficient_resources());\n    }\n"
      "    match destination.load(cartridge) {\n",
-     ["a_library_of_sixteen_drives"]),
+     ["rows/11-moves/each-drive.row"]),
     ("help of another text is written", "vtl_program", "src/orders.rt",
      "        Err(error) => answer_words(error, writer),",
      "        Err(WordsError::Help(_)) => answer_words(WordsError::Help(String::new(alloc)), writer),\n"
@@ -182,8 +183,25 @@ def crate_of(room, name):
     return found.pop()
 
 
+def rows_failed(room, names):
+    """Those of the rows that fail as they stand, with the program of the copy."""
+    if not names:
+        return set()
+    built = subprocess.run([sys.executable, os.path.join(room, "bench", "unproved.py"), "--new"], cwd=room,
+                           capture_output=True, text=True)
+    if built.returncode:
+        sys.exit(f"the program was not built\n{built.stderr}")
+    run = [sys.executable, os.path.join(TOP, "bench", "rows.py"), "--first", "--program",
+           os.path.join(room, ".unproved", "vtl")]
+    missing = [name for name in names if not os.path.isfile(os.path.join(TOP, name))]
+    if missing:
+        sys.exit(f"there is no row {missing[0]}")
+    return {name for name in names
+            if subprocess.run([*run, os.path.join(TOP, name)], capture_output=True).returncode}
+
+
 def failed_in(room, edit):
-    """The tests that fail with the edit, of the crates in which those stand that must."""
+    """The tests that fail with the edit, of the crates in which those stand that must, and the rows that must."""
     what, crate, file, old, new, names = edit
     path = os.path.join(room, "crates", crate, file)
     with open(path, encoding="utf-8") as lines:
@@ -195,8 +213,9 @@ def failed_in(room, edit):
         turned = turned.replace(one, other)
     with open(path, "w", encoding="utf-8") as lines:
         lines.write(turned)
-    failed = set()
-    for tests in sorted({crate_of(room, name) for name in names}):
+    rows = [name for name in names if name.startswith("rows/")]
+    failed = rows_failed(room, rows)
+    for tests in sorted({crate_of(room, name) for name in names if name not in rows}):
         done = subprocess.run(["rt", "try", "--test"], cwd=os.path.join(room, "crates", tests), capture_output=True,
                               text=True)
         said = re.findall(r"^test (?:\w+::)*(\w+) \.\.\. (\w+)", done.stdout, re.MULTILINE)
@@ -217,6 +236,8 @@ def main():
         shutil.copy(os.path.join(TOP, "HANDLES"), room)
         shutil.copytree(os.path.join(TOP, "crates"), os.path.join(room, "crates"),
                         ignore=shutil.ignore_patterns("out", "must-fail", "wrong"))
+        os.makedirs(os.path.join(room, "bench"))
+        shutil.copy(os.path.join(TOP, "bench", "unproved.py"), os.path.join(room, "bench"))
         subprocess.run(["git", "init", "-q", room], check=True)
         for edit in edits:
             failed = failed_in(room, edit)
@@ -224,7 +245,7 @@ def main():
             wrong += len(missed)
             said = f"; NOT {', '.join(missed)}" if missed else ""
             print(f"{edit[0]}: {', '.join(sorted(failed)) or 'no test'} failed{said}", flush=True)
-    print(f"mutants: {len(edits)} bodies tried, {wrong} tests passed that must fail")
+    print(f"mutants: {len(edits)} bodies tried, {wrong} tests or rows passed that must fail")
     return 1 if wrong else 0
 
 

@@ -1,5 +1,5 @@
 //! What hosts ask of a drive, by rows, and orders to its reservations.
-use crate::samples::{assert_told, sense_bytes, switched_on};
+use crate::samples::{assert_told, sense_bytes};
 use crate::tables::{NONE, SOUND, TEST_UNIT_READY};
 use drive_core::Drive;
 use pr_core::Keeper;
@@ -27,19 +27,11 @@ pub const CONFLICT: Answer<'static> = Answer::Conflict;
 
 pub const POWERED_ON: Answer<'static> = Answer::Check(6, 0x29, 0);
 
-pub const PREEMPTED: Answer<'static> = Answer::Check(6, 0x2a, 5);
-
 pub const CLEARED: Answer<'static> = Answer::Check(6, 0x2a, 3);
-
-pub const RELEASED: Answer<'static> = Answer::Check(6, 0x2a, 4);
 
 pub const BAD_FIELD: Answer<'static> = Answer::Check(5, 0x24, 0);
 
-pub const BAD_LIST: Answer<'static> = Answer::Check(5, 0x26, 0);
-
 pub const BAD_LENGTH: Answer<'static> = Answer::Check(5, 0x1a, 0);
-
-pub const BAD_RELEASE: Answer<'static> = Answer::Check(5, 0x26, 4);
 
 pub const NO_MEDIUM: Answer<'static> = Answer::Check(2, 0x3a, 0);
 
@@ -57,13 +49,9 @@ pub const RELEASE_5: &'static [u8] = &[0x5f, 2, 5, 0, 0, 0, 0, 0, 24, 0];
 
 pub const CLEAR: &'static [u8] = &[0x5f, 3, 0, 0, 0, 0, 0, 0, 24, 0];
 
-pub const PREEMPT_5: &'static [u8] = &[0x5f, 4, 5, 0, 0, 0, 0, 0, 24, 0];
-
 pub const READ_KEYS: &'static [u8] = &[0x5e, 0, 0, 0, 0, 0, 0, 0, 24, 0];
 
 pub const READ_RESERVATION: &'static [u8] = &[0x5e, 1, 0, 0, 0, 0, 0, 0, 24, 0];
-
-pub const WRITE_1: &'static [u8] = &[0x0a, 0, 0, 0, 1, 0];
 
 // Parameter lists: the reservation key, then the key of the service action; the last row has APTPL.
 pub const NO_KEYS: &'static [u8] = &[0; 24];
@@ -77,10 +65,6 @@ pub const BY_A: &'static [u8] = b"\0\0\0\0\0\0\0\xa1\0\0\0\0\0\0\0\0\0\0\0\0\0\0
 pub const BY_B: &'static [u8] = b"\0\0\0\0\0\0\0\xb2\0\0\0\0\0\0\0\0\0\0\0\0\0\0\0\0";
 
 pub const A_OVER_A: &'static [u8] = b"\0\0\0\0\0\0\0\xa1\0\0\0\0\0\0\0\xa1\0\0\0\0\0\0\0\0";
-
-pub const B_AGAINST_A: &'static [u8] = b"\0\0\0\0\0\0\0\xb2\0\0\0\0\0\0\0\xa1\0\0\0\0\0\0\0\0";
-
-pub const B_AGAINST_C: &'static [u8] = b"\0\0\0\0\0\0\0\xb2\0\0\0\0\0\0\0\xc3\0\0\0\0\0\0\0\0";
 
 pub const A_WITH_APTPL: &'static [u8] = b"\0\0\0\0\0\0\0\0\0\0\0\0\0\0\0\xa1\0\0\0\0\x01\0\0\0";
 
@@ -117,12 +101,4 @@ pub fn greet<K: Keeper>(rt: &impl Abort, drive: &mut Drive<StagedMedium, K>, hos
 // A medium with nothing on it.
 pub fn tape(alloc: Global) -> Result<StagedMedium, NoMemory> {
     StagedMedium::new(alloc, &[4_096], 4_096, SOUND)
-}
-
-// What host 1 is answered by a drive with nothing in it.
-pub fn ask_empty(rt: &impl Abort, alloc: Global, rows: &[Row]) -> Result<(), NoMemory> {
-    let mut drive = switched_on(alloc, None)?;
-    greet(rt, &mut drive, &[1]);
-    ask_all(rt, &mut drive, rows);
-    Ok(())
 }

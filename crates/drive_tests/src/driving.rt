@@ -1,15 +1,14 @@
 //! Each public call once, over a medium whose side has an end and whose device fails.
 use crate::motions::{
-    AFTER_A_FAULT, AFTER_A_LATE_FAULT, AFTER_A_MOVE, AFTER_AN_UNLOADING, AFTER_ANOTHER, ASKED,
-    ASKED_EMPTY, ASKED_LOADED, BEFORE_A_FAULT, ERASURES, MOVES, NO_ERASURE, STORED_FIRST,
+    AFTER_A_FAULT, AFTER_A_LATE_FAULT, AFTER_A_MOVE, AFTER_AN_UNLOADING, AFTER_ANOTHER,
+    BEFORE_A_FAULT, MOVES, NO_ERASURE, STORED_FIRST,
 };
 use crate::samples::{assert_reply, assert_row, assert_rows, load, switched_on, with_side};
 use crate::tables;
 use crate::tables::{
-    ARRIVALS, Arrival, BEFORE_A_TURN, FAULTS, FILLING, FULL_BY_4096, FULL_SIDE, HAS_FAILED, LOADED,
-    MARKS_FAIL, NO_MARKS_FAIL, NO_MEMORY, NONE, NOTHING_LOADED, POWERED_ON, READ_5, READ_FAILS,
-    READ_FAILS_TO_STORE, READS, REWIND_FAILS, Row, SOUND, TEST_UNIT_READY, WRITE_4096, WRITE_ERROR,
-    WRITES, Wanted,
+    ARRIVALS, Arrival, BEFORE_A_TURN, FAULTS, FILLING, FULL_SIDE, HAS_FAILED, LOADED, MARKS_FAIL,
+    NO_BYTE, NO_MARKS_FAIL, NO_MEMORY, NONE, NOTHING_LOADED, POWERED_ON, READ_5, READ_FAILS,
+    READ_FAILS_TO_STORE, REWIND_FAILS, Row, SOUND, WRITE_ERROR, Wanted,
 };
 use drive_core::laws::{
     answers_are_determined, events_run, honest_steps, runs_append, served_hosts_run,
@@ -47,23 +46,11 @@ fn assert_course(
     Ok(())
 }
 
-// A block that does not fit, as long as blocks may be here.
-fn assert_overflow(rt: &impl Abort, alloc: Global, too_much: &[u8]) -> Result<(), Fail> {
-    let mut drive = with_side(alloc, 9_000, SOUND)?;
-    assert_row(rt, &mut drive, (1, TEST_UNIT_READY, NONE, POWERED_ON), 0);
-    assert_row(rt, &mut drive, (1, WRITE_4096, too_much, FULL_BY_4096), 1);
-    assert_eq!(rt; drive.turn(), Turn::Idle);
-    Ok(())
-}
-
 #[test]
 fn a_drive_answers(rt: HostRuntime) -> Result<(), Fail> {
     let alloc = rt.alloc();
-    let too_much = vec![in alloc; 7u8; 4_096]?;
-    assert_overflow(&rt, alloc, too_much.as_slice())?;
     let sound = (None, None, 1_000);
-    assert_course(&rt, alloc, sound, WRITES, Turn::Idle, &[])?;
-    assert_course(&rt, alloc, sound, READS, Turn::Idle, &[])?;
+    assert_course(&rt, alloc, sound, NO_BYTE, Turn::Idle, &[])?;
     let small = (None, None, 50);
     assert_course(&rt, alloc, small, FILLING, Turn::Stored(3), FULL_SIDE)?;
     let first = (Some(0), None, 1_000);
@@ -173,16 +160,6 @@ fn powered(
     Ok(switched_on(alloc, Some(medium))?)
 }
 
-// A drive with nothing in it is asked; then a medium comes into it, and two conditions are due for a host.
-fn ask_and_load(rt: &impl Abort, alloc: Global) -> Result<(), Fail> {
-    let medium = written(alloc, SOUND, true, true)?;
-    let mut drive = switched_on(alloc, None)?;
-    assert_rows(rt, &mut drive, ASKED_EMPTY);
-    assert!(rt; load(rt, &mut drive, medium).is_none());
-    assert_rows(rt, &mut drive, ASKED_LOADED);
-    Ok(())
-}
-
 // What a drive of such a side answers to these.
 fn assert_moves(rt: &impl Abort, alloc: Global, room: u64, rows: &[Row]) -> Result<(), Fail> {
     let mut drive = powered(alloc, room, None)?;
@@ -194,10 +171,7 @@ fn assert_moves(rt: &impl Abort, alloc: Global, room: u64, rows: &[Row]) -> Resu
 fn a_drive_moves_and_tells(rt: HostRuntime) -> Result<(), Fail> {
     let alloc = rt.alloc();
     assert_moves(&rt, alloc, 1_000, MOVES)?;
-    assert_moves(&rt, alloc, 1_000, ERASURES)?;
-    assert_moves(&rt, alloc, 20, NO_ERASURE)?;
-    assert_moves(&rt, alloc, 1_000, ASKED)?;
-    ask_and_load(&rt, alloc)
+    assert_moves(&rt, alloc, 20, NO_ERASURE)
 }
 
 // A drive with a block that is pending, and whose device fails as it is stored.

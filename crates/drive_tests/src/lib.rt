@@ -12,8 +12,6 @@ mod loading;
 #[cfg(test)]
 mod motions;
 #[cfg(test)]
-mod reserving;
-#[cfg(test)]
 mod samples;
 #[cfg(test)]
 mod saving;

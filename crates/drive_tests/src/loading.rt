@@ -1,10 +1,10 @@
-//! MODE SELECT, MODE SENSE and LOAD UNLOAD, and a medium that goes out of the drive.
+//! Loading, unloading and unbuffered writes that meet a fault, and a medium that goes out of the drive.
 use crate::asking::{
-    A_NEW, Answer, BAD_FIELD, BAD_LENGTH, BAD_LIST, BY_A, CONFLICT, FAILED, GOOD, NO_MEDIUM,
-    REGISTER, RESERVE_5, Row, ask_all, ask_empty, asks, assert_answer, greet,
+    A_NEW, Answer, BY_A, FAILED, GOOD, NO_MEDIUM, REGISTER, RESERVE_5, Row, ask_all, asks,
+    assert_answer, greet,
 };
 use crate::samples::with_side;
-use crate::tables::{NONE, READ_5, REWIND, SOUND, TEST_UNIT_READY, WRITE_5};
+use crate::tables::{NONE, READ_5, SOUND, TEST_UNIT_READY, WRITE_5};
 use drive_core::Drive;
 use pr_core::NoKeeper;
 use std::alloc::Global;
@@ -17,31 +17,15 @@ pub const LOAD: &'static [u8] = &[0x1b, 0, 0, 0, 1, 0];
 
 pub const UNLOAD: &'static [u8] = &[0x1b, 0, 0, 0, 0, 0];
 
-const SENSE_MODE: &'static [u8] = &[0x1a, 0, 0, 0, 12, 0];
-
 const SENSE_MODE_BARE: &'static [u8] = &[0x1a, 8, 0x3f, 0, 255, 0];
 
 const SELECT_4: &'static [u8] = &[0x15, 0, 0, 0, 4, 0];
 
-const SELECT_12: &'static [u8] = &[0x15, 0, 0, 0, 12, 0];
-
-// A filemark that need not be stored before its answer.
-const IMMEDIATE: &'static [u8] = &[0x10, 1, 0, 0, 1, 0];
-
 const MODE_0: &'static [u8] = &[0, 0, 0, 0];
-
-const MODE_1: &'static [u8] = &[0, 0, 0x10, 0];
-
-// The lists with a block descriptor, as MODE SENSE gives them.
-const MODE_0_WHOLE: &'static [u8] = b"\x0b\0\0\x08\0\0\0\0\0\0\0\0";
-
-const MODE_1_WHOLE: &'static [u8] = b"\x0b\0\x10\x08\0\0\0\0\0\0\0\0";
 
 const HELLO: Answer<'static> = Answer::Good(b"hello");
 
 const CHANGED: Answer<'static> = Answer::Check(6, 0x28, 0);
-
-const MODE_CHANGED: Answer<'static> = Answer::Check(6, 0x2a, 1);
 
 const WRITE_ERROR: Answer<'static> = Answer::Check(3, 0x0c, 0);
 
@@ -61,42 +45,6 @@ fn ask_over(rt: &impl Abort, alloc: Global, plan: FaultPlan, rows: &[Row]) -> Re
     let mut drive = with_tape(rt, alloc, plan)?;
     ask_all(rt, &mut drive, rows);
     Ok(())
-}
-
-// A cartridge is unloaded and loaded by two hosts.
-static UNLOADINGS: &'static [Row<'static>] = &[
-    (1, WRITE_5, b"hello", GOOD),
-    (1, UNLOAD, NONE, GOOD),
-    (1, TEST_UNIT_READY, NONE, NO_MEDIUM),
-    (2, REWIND, NONE, NO_MEDIUM),
-    (1, UNLOAD, NONE, GOOD),
-    (1, LOAD, b"x", BAD_FIELD),
-    (1, LOAD, NONE, GOOD),
-    // The position is the start; the other host is told, and not the one that loads.
-    (1, READ_5, NONE, HELLO),
-    (2, TEST_UNIT_READY, NONE, CHANGED),
-    (2, TEST_UNIT_READY, NONE, GOOD),
-    (1, WRITE_5, b"world", GOOD),
-    // A loaded one goes to its start, and nobody is told.
-    (1, LOAD, NONE, GOOD),
-    (1, READ_5, NONE, HELLO),
-    (2, READ_5, NONE, Answer::Good(b"world")),
-    (1, UNLOAD, NONE, GOOD),
-    (2, LOAD, NONE, GOOD),
-    (1, READ_5, NONE, CHANGED),
-];
-
-// The same where nothing is in the drive.
-static NOTHING_THERE: &'static [Row<'static>] = &[
-    (1, LOAD, NONE, NO_MEDIUM),
-    (1, UNLOAD, NONE, NO_MEDIUM),
-    (1, UNLOAD, b"x", BAD_FIELD),
-];
-
-#[test]
-fn a_cartridge_is_unloaded_and_loaded(rt: HostRuntime) -> Result<(), Fail> {
-    ask_over(&rt, rt.alloc(), SOUND, UNLOADINGS)?;
-    Ok(ask_empty(&rt, rt.alloc(), NOTHING_THERE)?)
 }
 
 // What a drive answers once an unloading or a loading has met the fault.
@@ -147,74 +95,20 @@ fn an_unloading_meets_a_fault(rt: HostRuntime) -> Result<(), Fail> {
     Ok(())
 }
 
-// Modes that are set and told, and lists that are refused.
-static MODES: &'static [Row<'static>] = &[
-    (1, SENSE_MODE, NONE, Answer::Good(MODE_1_WHOLE)),
-    (1, SENSE_MODE_BARE, NONE, Answer::Good(b"\x03\0\x10\0")),
-    (1, SELECT_4, MODE_1, GOOD),
-    (2, TEST_UNIT_READY, NONE, GOOD),
+// In mode 0 a write is stored before its answer.
+static UNBUFFERED: &'static [Row<'static>] = &[
     (1, SELECT_4, MODE_0, GOOD),
-    // The other host is told, once; who sets the mode is not.
-    (1, TEST_UNIT_READY, NONE, GOOD),
-    (2, TEST_UNIT_READY, NONE, MODE_CHANGED),
-    (2, SENSE_MODE, NONE, Answer::Good(MODE_0_WHOLE)),
-    (2, SENSE_MODE_BARE, NONE, Answer::Good(b"\x03\0\0\0")),
-    (1, &[0x15, 0, 0, 0, 0, 0], NONE, GOOD),
-    (1, &[0x15, 0, 0, 0, 5, 0], &[0; 5], BAD_LENGTH),
-    (1, SELECT_4, &[0, 0, 0x20, 0], BAD_LIST),
-    (1, SELECT_4, &[0, 0, 0], BAD_FIELD),
-    (1, IMMEDIATE, NONE, BAD_FIELD),
-    // In this mode a write is stored before its answer.
     (1, WRITE_5, b"hello", WRITE_ERROR),
     (1, SENSE_MODE_BARE, NONE, Answer::Good(b"\x03\0\0\0")),
 ];
 
 #[test]
-fn the_mode_is_set_and_told(rt: HostRuntime) -> Result<(), Fail> {
+fn an_unbuffered_write_meets_a_fault(rt: HostRuntime) -> Result<(), Fail> {
     let plan = FaultPlan {
         store: Some(0),
         ..SOUND
     };
-    ask_over(&rt, rt.alloc(), plan, MODES)
-}
-
-// Lists with a block descriptor, and lists without one that are refused.
-static DESCRIPTORS: &'static [Row<'static>] = &[
-    (1, SELECT_12, b"\0\0\0\x08\0\0\0\0\0\0\0\0", GOOD),
-    (1, SENSE_MODE, NONE, Answer::Good(MODE_0_WHOLE)),
-    (2, TEST_UNIT_READY, NONE, MODE_CHANGED),
-    // What MODE SENSE gives may be sent back.
-    (2, SELECT_12, MODE_0_WHOLE, GOOD),
-    (1, TEST_UNIT_READY, NONE, GOOD),
-    (2, SELECT_12, MODE_1_WHOLE, GOOD),
-    (1, TEST_UNIT_READY, NONE, MODE_CHANGED),
-    // Blocks of one length, no descriptor in 12 bytes, and fewer bytes than the block tells.
-    (1, SELECT_12, b"\0\0\0\x08\0\0\0\0\0\0\x02\0", BAD_LIST),
-    (1, SELECT_12, &[0; 12], BAD_LIST),
-    (1, SELECT_12, MODE_0, BAD_FIELD),
-    (2, TEST_UNIT_READY, NONE, GOOD),
-    (2, SENSE_MODE, NONE, Answer::Good(MODE_1_WHOLE)),
-];
-
-#[test]
-fn a_mode_list_has_a_block_descriptor(rt: HostRuntime) -> Result<(), Fail> {
-    ask_over(&rt, rt.alloc(), SOUND, DESCRIPTORS)
-}
-
-// What a reservation stops, and what it does not.
-static STOPPED: &'static [Row<'static>] = &[
-    (1, REGISTER, A_NEW, GOOD),
-    (1, RESERVE_5, BY_A, GOOD),
-    (2, UNLOAD, NONE, CONFLICT),
-    (2, LOAD, NONE, CONFLICT),
-    (2, SELECT_4, MODE_0, CONFLICT),
-    (2, SENSE_MODE_BARE, NONE, Answer::Good(b"\x03\0\x10\0")),
-    (1, UNLOAD, NONE, GOOD),
-];
-
-#[test]
-fn a_reservation_stops_both(rt: HostRuntime) -> Result<(), Fail> {
-    ask_over(&rt, rt.alloc(), SOUND, STOPPED)
+    ask_over(&rt, rt.alloc(), plan, UNBUFFERED)
 }
 
 // Nothing comes out of the drive, and the reply says why.
@@ -246,18 +140,9 @@ fn one_with_a_fault_goes_out(rt: &impl Abort, alloc: Global) -> Result<(), Fail>
     Ok(())
 }
 
-// One that is not loaded goes out too.
-fn a_parked_one_goes_out(rt: &impl Abort, alloc: Global) -> Result<(), Fail> {
-    let mut parked = with_tape(rt, alloc, SOUND)?;
-    asks(rt, &mut parked, (1, UNLOAD, NONE, GOOD), 0);
-    comes_out(rt, &mut parked);
-    Ok(())
-}
-
 #[test]
 fn a_cartridge_goes_out(rt: HostRuntime) -> Result<(), Fail> {
-    one_with_a_fault_goes_out(&rt, rt.alloc())?;
-    a_parked_one_goes_out(&rt, rt.alloc())
+    one_with_a_fault_goes_out(&rt, rt.alloc())
 }
 
 // It is there, not loaded, and nobody is told; then it is loaded.

@@ -1,8 +1,8 @@
 //! Tables of motions, reports and erasing: over two partitions, over a full side, and where the device fails.
 use crate::loading::{LOAD, UNLOAD};
 use crate::tables::{
-    BAD_FIELD, CHANGED, END, FAILED, FULL, GOOD, LATE_ERROR, NO_MEDIUM, NONE, POWERED_ON, READ_5,
-    REWIND, Row, TEST_UNIT_READY, UNKNOWN, WRITE_5, WRITE_MARK, Wanted,
+    BAD_FIELD, CHANGED, END, FAILED, FULL, GOOD, LATE_ERROR, NONE, POWERED_ON, READ_5, REWIND, Row,
+    TEST_UNIT_READY, UNKNOWN, WRITE_5, WRITE_MARK, Wanted,
 };
 
 pub const ERASE: &'static [u8] = &[0x19, 0, 0, 0, 0, 0];
@@ -35,13 +35,6 @@ pub const PENDING_POWER_ON: Wanted<'static> = (
     None,
     &[
         0x70, 0, 6, 0, 0, 0, 0, 0x0a, 0, 0, 0, 0, 0x29, 0, 0, 0, 0, 0,
-    ],
-);
-
-pub const PENDING_CHANGE: Wanted<'static> = (
-    None,
-    &[
-        0x70, 0, 6, 0, 0, 0, 0, 0x0a, 0, 0, 0, 0, 0x28, 0, 0, 0, 0, 0,
     ],
 );
 
@@ -104,19 +97,6 @@ pub static MOVES: &'static [Row<'static>] = &[
     (1, &[0x11, 0, 0, 0, 0, 0], NONE, GOOD),
 ];
 
-// What is erased is gone, and what stands before it is there; at the end of data nothing is.
-pub static ERASURES: &'static [Row<'static>] = &[
-    (1, TEST_UNIT_READY, NONE, POWERED_ON),
-    (1, WRITE_5, b"block", GOOD),
-    (1, WRITE_5, b"other", GOOD),
-    (1, &[0x2b, 0, 0, 0, 0, 0, 1, 0, 0, 0], NONE, GOOD),
-    (1, ERASE, NONE, GOOD),
-    (1, READ_5, NONE, END),
-    (1, ERASE, NONE, GOOD),
-    (1, REWIND, NONE, GOOD),
-    (1, READ_5, NONE, (None, b"block")),
-];
-
 // A side of 20 bytes: a block of five bytes takes it all, and an erasing would take 15.
 pub static NO_ERASURE: &'static [Row<'static>] = &[
     (1, TEST_UNIT_READY, NONE, POWERED_ON),
@@ -125,40 +105,6 @@ pub static NO_ERASURE: &'static [Row<'static>] = &[
     (1, ERASE, NONE, FULL),
     (1, READ_5, NONE, (None, b"block")),
     (1, READ_5, NONE, END),
-];
-
-// What is told whatever stands in the way, and REQUEST SENSE, which clears what it reports.
-pub static ASKED: &'static [Row<'static>] = &[
-    (1, INQUIRY, NONE, IS),
-    (1, BLOCK_LIMITS, NONE, POWERED_ON),
-    (1, BLOCK_LIMITS, NONE, LIMITS),
-    (1, BLOCK_LIMITS, b"x", BAD_FIELD),
-    (2, &[0x12, 1, 0, 0, 36, 0], NONE, BAD_FIELD),
-    (2, &[0x12, 0, 0, 0, 2, 0], NONE, (None, &[0x01, 0x80])),
-    (2, &[0x03, 1, 0, 0, 18, 0], NONE, BAD_FIELD),
-    (2, REQUEST_SENSE, NONE, PENDING_POWER_ON),
-    (2, REQUEST_SENSE, NONE, NOTHING_PENDING),
-    (3, &[0x03, 0, 0, 0, 0, 0], NONE, GOOD),
-    (3, REQUEST_SENSE, NONE, NOTHING_PENDING),
-    (2, TEST_UNIT_READY, NONE, GOOD),
-    (4, TEST_UNIT_READY, NONE, POWERED_ON),
-];
-
-// The same of a drive with nothing in it.
-pub static ASKED_EMPTY: &'static [Row<'static>] = &[
-    (1, INQUIRY, NONE, IS),
-    (1, REQUEST_SENSE, NONE, PENDING_POWER_ON),
-    (1, BLOCK_LIMITS, NONE, LIMITS),
-    (1, MARK_FORWARD, NONE, NO_MEDIUM),
-    (1, POSITION, b"x", NO_MEDIUM),
-];
-
-// Two conditions are reported one after the other.
-pub static ASKED_LOADED: &'static [Row<'static>] = &[
-    (64, REQUEST_SENSE, NONE, PENDING_POWER_ON),
-    (64, REQUEST_SENSE, NONE, PENDING_CHANGE),
-    (64, REQUEST_SENSE, NONE, NOTHING_PENDING),
-    (1, ERASE, NONE, CHANGED),
 ];
 
 // A block is pending, and the device fails as it is stored: each command ends so, before its work.

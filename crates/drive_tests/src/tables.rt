@@ -17,8 +17,6 @@ pub const READ_5: &'static [u8] = &[0x08, 0, 0, 0, 5, 0];
 
 pub const WRITE_5: &'static [u8] = &[0x0a, 0, 0, 0, 5, 0];
 
-pub const WRITE_4096: &'static [u8] = &[0x0a, 0, 0, 0x10, 0, 0];
-
 pub const WRITE_MARK: &'static [u8] = &[0x10, 0, 0, 0, 1, 0];
 
 pub const NONE: &'static [u8] = &[];
@@ -60,13 +58,6 @@ pub const FULL_BY_3: Wanted<'static> = (Some((0xf0, 0x4d, 3, 0, 2)), &[]);
 
 pub const FULL_BY_5: Wanted<'static> = (Some((0xf0, 0x4d, 5, 0, 2)), &[]);
 
-pub const FULL_BY_256: Wanted<'static> = (Some((0xf0, 0x4d, 256, 0, 2)), &[]);
-
-pub const FULL_BY_4096: Wanted<'static> = (Some((0xf0, 0x4d, 4_096, 0, 2)), &[]);
-
-// Three bytes asked of a block of five.
-pub const SHORT: Wanted<'static> = (Some((0xf0, 0x20, 0xffff_fffe, 0, 0)), b"hel");
-
 pub const SOUND: FaultPlan = FaultPlan {
     store: None,
     fetch: None,
@@ -74,37 +65,11 @@ pub const SOUND: FaultPlan = FaultPlan {
     keeps_torn: false,
 };
 
-pub static WRITES: &'static [Row<'static>] = &[
-    (1, &[0xa5; 12], NONE, UNKNOWN),
+// A command block of no byte, before anything else.
+pub static NO_BYTE: &'static [Row<'static>] = &[
     (1, NONE, NONE, UNKNOWN),
     (1, TEST_UNIT_READY, NONE, POWERED_ON),
     (1, TEST_UNIT_READY, NONE, GOOD),
-    (64, &[1], NONE, POWERED_ON),
-    (64, &[1], NONE, BAD_FIELD),
-    (1, TEST_UNIT_READY, b"x", BAD_FIELD),
-    (1, WRITE_5, b"hello", GOOD),
-    (1, WRITE_5, b"hell", BAD_FIELD),
-    (1, &[0x0a, 1, 0, 0, 5, 0], b"hello", BAD_FIELD),
-    (1, &[0x0a, 0, 0, 0, 0, 0], NONE, GOOD),
-    (1, WRITE_MARK, NONE, GOOD),
-    (1, &[0x10, 1, 0, 1, 0, 0], NONE, FULL_BY_256),
-    (1, &[0x10, 1, 0, 0, 0, 0], NONE, GOOD),
-];
-
-pub static READS: &'static [Row<'static>] = &[
-    (1, TEST_UNIT_READY, NONE, POWERED_ON),
-    (1, WRITE_5, b"hello", GOOD),
-    (1, WRITE_MARK, NONE, GOOD),
-    (1, REWIND, NONE, GOOD),
-    (1, &[0x08, 0, 0, 0, 0, 0], NONE, GOOD),
-    (1, READ_5, NONE, HELLO),
-    (1, READ_5, NONE, MARK),
-    (1, READ_5, NONE, END),
-    (1, READ_5, NONE, END),
-    (1, REWIND, NONE, GOOD),
-    (1, &[0x08, 0, 0, 0, 3, 0], NONE, SHORT),
-    (1, REWIND, NONE, GOOD),
-    (1, &[0x08, 2, 0, 0, 3, 0], NONE, (None, b"hel")),
 ];
 
 // A side of 50 bytes: a block of five bytes takes 20 of it, one of one byte 16, marks 15.

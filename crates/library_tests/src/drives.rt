@@ -1,7 +1,5 @@
-//! All sixteen drives of a library, a drive whose cartridge is taken out, and a library in another thread.
-use crate::samples::{
-    Answer, Disk, GOOD, NEVER, add_drive, asks, cartridge, is_answer, library, store,
-};
+//! A drive whose cartridge is taken out, and a library in another thread.
+use crate::samples::{Answer, Disk, GOOD, NEVER, cartridge, is_answer, library, store};
 use assertions::{assert_equal, assert_holds};
 use library::{Bay, Held, Parked};
 use pr_core::Reservations;
@@ -20,8 +18,6 @@ const POWERED_ON: Answer = (Status::Check, 6, 0x29, 0);
 
 const MEDIUM_CHANGED: Answer = (Status::Check, 6, 0x28, 0);
 
-const NOT_PRESENT: Answer = (Status::Check, 2, 0x3a, 0);
-
 // A drive that is just switched on, with a new cartridge of this barcode in it.
 fn loaded(alloc: Global, number: u8, barcode: &[u8]) -> Result<Bay<Disk>, Fail> {
     let Some(number) = DriveNo::new(number) else {
@@ -33,49 +29,6 @@ fn loaded(alloc: Global, number: u8, barcode: &[u8]) -> Result<Bay<Disk>, Fail> 
         Ok(bay) => Ok(bay),
         Err(_) => Err(Fail::from("not switched on")),
     }
-}
-
-// Drives 1 to 16, a cartridge in slot 1001, and another one that drive 16 was switched on with.
-fn with_all_drives(alloc: Global) -> Result<Held<Disk>, Fail> {
-    let mut held = library(alloc, NEVER)?;
-    for number in 3..16 {
-        add_drive(alloc, &mut held, number)?;
-    }
-    let Some(last) = DriveNo::new(16) else {
-        return Err(Fail::from("no drive"));
-    };
-    if held.install(last, loaded(alloc, 16, b"T00016L6")?).is_err() {
-        return Err(Fail::from("not installed"));
-    }
-    Ok(held)
-}
-
-// The cartridge of slot 1001 goes into the drive and out of it again, and the host is told so.
-fn visits(rt: &impl Abort, held: &mut Held<Disk>, number: u8) {
-    let place = (1, number);
-    asks(rt, held, place, READY, b"", POWERED_ON);
-    asks(rt, held, place, READY, b"", NOT_PRESENT);
-    is_answer(rt, &held.move_medium(1001, number as u32), GOOD, 0);
-    asks(rt, held, place, READY, b"", MEDIUM_CHANGED);
-    asks(rt, held, place, READY, b"", GOOD);
-    is_answer(rt, &held.move_medium(number as u32, 1001), GOOD, 1);
-    asks(rt, held, place, READY, b"", NOT_PRESENT);
-}
-
-#[test]
-fn a_library_of_sixteen_drives(rt: HostRuntime) -> Result<(), Fail> {
-    let mut held = with_all_drives(rt.alloc())?;
-    for number in 1..16 {
-        visits(&rt, &mut held, number);
-    }
-    asks(&rt, &mut held, (1, 16), READY, b"", POWERED_ON);
-    asks(&rt, &mut held, (1, 16), READY, b"", GOOD);
-    is_answer(&rt, &held.move_medium(16, 1016), GOOD, 2);
-    assert_holds!(rt; held.slot(1016).is_some());
-    is_answer(&rt, &held.move_medium(1001, 16), GOOD, 3);
-    asks(&rt, &mut held, (1, 16), READY, b"", MEDIUM_CHANGED);
-    asks(&rt, &mut held, (1, 16), READY, b"", GOOD);
-    Ok(())
 }
 
 // Host 1 asks whether the drive is ready, and is answered so.

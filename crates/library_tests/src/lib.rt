@@ -12,8 +12,6 @@ mod lending;
 #[cfg(test)]
 mod moving;
 #[cfg(test)]
-mod running;
-#[cfg(test)]
 mod samples;
 #[cfg(test)]
 mod writing;

@@ -1,6 +1,6 @@
-//! Moves, and why they are refused.
-use crate::samples::{Answer, CONFLICT, Disk, GOOD, NEVER, asks, is_answer, library};
-use assertions::{assert_equal, assert_holds};
+//! A cartridge that is not loaded goes back where it was.
+use crate::samples::{Answer, Disk, GOOD, asks, is_answer, library};
+use assertions::assert_equal;
 use library::Held;
 use scsi_sense::Status;
 use std::alloc::Global;
@@ -10,11 +10,7 @@ use std::test::Fail;
 /// A move, and how it is answered.
 type Row = (u32, u32, Answer);
 
-const NO_ADDRESS: Answer = (Status::Check, 5, 0x21, 0x01);
-
 const NO_SOURCE: Answer = (Status::Check, 5, 0x3b, 0x0e);
-
-const NO_ROOM: Answer = (Status::Check, 5, 0x3b, 0x0d);
 
 const POWERED_ON: Answer = (Status::Check, 6, 0x29, 0);
 
@@ -33,89 +29,6 @@ fn moves(rt: &impl Abort, held: &mut Held<Disk>, rows: &[Row]) {
         let (from, to, wanted) = *row;
         is_answer(rt, &held.move_medium(from, to), wanted, at);
     }
-}
-
-// Moves over each kind of place, and each refusal.
-static MOVES: &'static [Row] = &[
-    (1002, 1, NO_SOURCE),
-    (1001, 1, GOOD),
-    (1, 1300, NO_ADDRESS),
-    (3, 1, NO_ADDRESS),
-    (0, 17, NO_ADDRESS),
-    (1000, 1257, NO_ADDRESS),
-    (66_537, 1, NO_ADDRESS),
-    (1, 1, NO_ROOM),
-    (2, 1, NO_SOURCE),
-    (2, 1001, NO_SOURCE),
-    (1, 2, GOOD),
-    (2, 1256, GOOD),
-    (1256, 1001, GOOD),
-    (1256, 1001, NO_SOURCE),
-    (1001, 1001, NO_ROOM),
-    (1001, 2, GOOD),
-];
-
-#[test]
-fn each_move_has_its_answer(rt: HostRuntime) -> Result<(), Fail> {
-    let mut held = library(rt.alloc(), NEVER)?;
-    moves(&rt, &mut held, MOVES);
-    assert_holds!(rt; held.slot(1001).is_none());
-    Ok(())
-}
-
-// A host, and what it is told by its next TEST UNIT READY.
-static TOLD: &'static [(u8, Answer)] = &[
-    (1, POWERED_ON),
-    (1, MEDIUM_CHANGED),
-    (1, GOOD),
-    (64, POWERED_ON),
-    (64, MEDIUM_CHANGED),
-    (64, GOOD),
-];
-
-#[test]
-fn each_host_is_told_of_a_loading(rt: HostRuntime) -> Result<(), Fail> {
-    let mut held = library(rt.alloc(), NEVER)?;
-    moves(&rt, &mut held, &[(1001, 1, GOOD)]);
-    for (host, wanted) in TOLD {
-        asks(&rt, &mut held, (*host, 1), READY, b"", *wanted);
-    }
-    Ok(())
-}
-
-// A command, what is sent with it, and the answer: a host registers the key a1 and reserves.
-static RESERVING: &'static [(&'static [u8], &'static [u8], Answer)] = &[
-    (READY, b"", POWERED_ON),
-    (
-        &[0x5f, 0, 0, 0, 0, 0, 0, 0, 24, 0],
-        b"\0\0\0\0\0\0\0\0\0\0\0\0\0\0\0\xa1\0\0\0\0\0\0\0\0",
-        GOOD,
-    ),
-    (
-        &[0x5f, 1, 5, 0, 0, 0, 0, 0, 24, 0],
-        b"\0\0\0\0\0\0\0\xa1\0\0\0\0\0\0\0\0\0\0\0\0\0\0\0\0",
-        GOOD,
-    ),
-];
-
-// Into and out of the reserved drive 2.
-static RESERVED: &'static [Row] = &[
-    (1, 2, CONFLICT),
-    (2, 1002, CONFLICT),
-    (2, 1300, NO_ADDRESS),
-    (1002, 2, CONFLICT),
-    (1, 1002, GOOD),
-];
-
-#[test]
-fn a_reservation_keeps_the_operator_out(rt: HostRuntime) -> Result<(), Fail> {
-    let mut held = library(rt.alloc(), NEVER)?;
-    moves(&rt, &mut held, &[(1001, 1, GOOD)]);
-    for (cdb, sent, wanted) in RESERVING {
-        asks(&rt, &mut held, (1, 2), cdb, sent, *wanted);
-    }
-    moves(&rt, &mut held, RESERVED);
-    Ok(())
 }
 
 // The first loading fails.

@@ -24,8 +24,6 @@ pub type Answer = (Status, u8, u8, u8);
 
 pub const GOOD: Answer = (Status::Good, 0, 0, 0);
 
-pub const CONFLICT: Answer = (Status::Conflict, 0, 0, 0);
-
 /// A new cartridge of this barcode and 4,096 bytes, on a disk whose call of this number fails. Its creation makes five.
 pub fn cartridge(alloc: Global, barcode: &[u8], fails: u64) -> Result<Shelved<Disk>, Fail>
     ensures { IfOk result (λ shelved. shelved.known ≡ true) }

@@ -16,9 +16,7 @@ macro_rules! register {
 
 mod keeping;
 mod orders;
-mod preemptions;
 mod reads;
-mod unregistering;
 
 use assertions::assert_equal;
 use pr_core::{PrAnswer, PrState, Reservations};
@@ -30,8 +28,6 @@ use vtl_base::Nexus;
 const A: u64 = 0xa1;
 
 const B: u64 = 0xb2;
-
-const C: u64 = 0xc3;
 
 static ONE_REGISTERS: &'static [(u8, PrOut)] = &[(1, register!(0, A))];
 

@@ -14,30 +14,6 @@ struct Answered {
     text: Vec<u8>,
 }
 
-// Adds so many bytes 5a in hex.
-fn add_data(text: &mut Vec<u8>, count: usize) -> Result<(), AllocError> {
-    for _ in 0..count {
-        text.extend_from_slice(b"5a")?;
-    }
-    Ok(())
-}
-
-// A phase with a command of host 1 for each of these counts of bytes: its answer has 24 characters, and two for each
-// byte.
-fn phase_of(alloc: Global, counts: &[usize]) -> Result<Answered, AllocError> {
-    let mut script = Vec::new(alloc);
-    let mut text = Vec::new(alloc);
-    for count in counts {
-        script.extend_from_slice(b"1 1 0a0000000100 77")?;
-        add_data(&mut script, *count)?;
-        script.push(b'\n')?;
-        text.extend_from_slice(b"GOOD 01010a000000010077")?;
-        add_data(&mut text, *count)?;
-        text.push(b'\n')?;
-    }
-    Ok(Answered { script, text })
-}
-
 // A phase of 3,000 commands in which the hosts take turns, host 2 first. Its answers have 126,000 bytes, those of
 // host 1 first.
 fn phase_of_two_hosts(alloc: Global) -> Result<Answered, AllocError> {
@@ -79,34 +55,6 @@ fn answers_of_more_than_64_kib(rt: HostRuntime) -> Result<(), Fail> {
         let outcome = answered(rt.alloc(), long.script.as_slice(), plan);
         assert_equal!(rt; outcome.end, DONE; taken);
         assert_holds!(rt; outcome.text.as_slice() == long.text.as_slice(); taken);
-    }
-    Ok(())
-}
-
-// Two answers of 65,534, 65,536 and 65,538 bytes in all, one of each of these, and one of more than twice 64 KiB:
-// with an answer behind them, and without.
-static COUNTS: &'static [(&'static [usize], usize)] = &[
-    (&[0, 32_743, 0], 65_558),
-    (&[0, 32_744, 0], 65_560),
-    (&[0, 32_745, 0], 65_562),
-    (&[32_755, 0], 65_558),
-    (&[32_756, 0], 65_560),
-    (&[32_757, 0], 65_562),
-    (&[70_000, 0], 140_048),
-];
-
-#[test]
-fn answers_of_64_kib(rt: HostRuntime) -> Result<(), Fail> {
-    for &(counts, length) in COUNTS {
-        let long = phase_of(rt.alloc(), counts)?;
-        assert_equal!(rt; long.text.len(), length);
-        for spared in 0..2 {
-            let count = counts.len().saturating_sub(spared);
-            let long = phase_of(rt.alloc(), &counts[..count])?;
-            let outcome = answered(rt.alloc(), long.script.as_slice(), Plan::whole());
-            assert_equal!(rt; outcome.end, DONE; (count, length));
-            assert_holds!(rt; outcome.text.as_slice() == long.text.as_slice(); (count, length));
-        }
     }
     Ok(())
 }

@@ -15,13 +15,7 @@ pub const DONE: Result<(), ScriptFault> = Ok(());
 /// Line 1 is refused.
 pub const BAD_1: Result<(), ScriptFault> = Err(ScriptFault::BadLine { line: 1 });
 
-pub const BAD_2: Result<(), ScriptFault> = Err(ScriptFault::BadLine { line: 2 });
-
 pub const BAD_3: Result<(), ScriptFault> = Err(ScriptFault::BadLine { line: 3 });
-
-pub const BAD_4: Result<(), ScriptFault> = Err(ScriptFault::BadLine { line: 4 });
-
-pub const BAD_7: Result<(), ScriptFault> = Err(ScriptFault::BadLine { line: 7 });
 
 /// What a script writes, how it ends, whether a read came while replies were not flushed, and how many
 /// reads and items there were.

@@ -1,13 +1,11 @@
-//! Motions against a plain program, by rows worked by hand, and by the objects that they look at.
+//! Motions by rows worked by hand, and by the objects that they look at.
 ghost use Rattle.std.specs.Prelude.{◌≡◌, true, IfOk};
 
 mod counting;
-mod plain;
 mod reports;
 
 use assertions::{assert_equal, assert_holds};
 use counting::Counting;
-use plain::stepped;
 use positioning::{Moved, Pos, SpaceCode, Stop, locate, space};
 use std::alloc::Global;
 use std::process::Abort;
@@ -59,46 +57,6 @@ fn ended(part: u8, obj: u32, stop: Stop, left: u32) -> Option<Moved> {
         stop,
         left,
     })
-}
-
-static CODES: &'static [SpaceCode] = &[
-    SpaceCode::Blocks,
-    SpaceCode::Filemarks,
-    SpaceCode::EndOfData,
-];
-
-static COUNTS: &'static [i32] = &[
-    -8_388_608, -9, -8, -7, -6, -5, -4, -3, -2, -1, 0, 1, 2, 3, 4, 5, 6, 7, 8, 9, 8_388_607,
-];
-
-// From each position of these objects, with each code, both ways.
-fn goes_as_the_plain_program(rt: &impl Abort, alloc: Global, objects: &str) -> Result<(), Fail> {
-    let medium = tape(alloc, objects)?;
-    let end = medium.count(0);
-    for obj in 0..end + 1 {
-        for &code in CODES {
-            for &count in COUNTS {
-                let (to, stop, left) = stepped(objects.as_bytes(), end, obj, code, count);
-                assert_equal!(rt;
-                    spaced(&medium, Pos { part: 0, obj }, code, count),
-                    ended(0, to, stop, left);
-                    (count, obj)
-                );
-            }
-        }
-    }
-    Ok(())
-}
-
-static TAPES: &'static [&'static str] = &["", "b", "m", "bbb", "mmm", "bbmbmmbb", "mbbmmbbm"];
-
-#[test]
-fn space_goes_as_the_plain_program(rt: HostRuntime) -> Result<(), Fail> {
-    let alloc = rt.alloc();
-    for objects in TAPES {
-        goes_as_the_plain_program(&rt, alloc, objects)?;
-    }
-    Ok(())
 }
 
 // An object, a code and a count, and where SPACE ends: the object, why, and what is left.

@@ -2,8 +2,6 @@
 mod answers;
 mod blocks;
 mod fields;
-mod modes;
-mod reservations;
 
 use assertions::assert_equal;
 use scsi_sense::Sense;

@@ -1,11 +1,9 @@
 //! Configurations that are taken, and each refusal once. What is expected was worked out by hand.
-use assertions::{assert_equal, assert_holds};
+use assertions::assert_equal;
 use std::alloc::Global;
 use std::process::Abort;
 use std::test::Fail;
-use vtl_config::{
-    Address, CartridgeEntry, Config, ConfigError, DriveEntry, Key, Place, Rule, read_config,
-};
+use vtl_config::{CartridgeEntry, Config, ConfigError, DriveEntry, Key, Place, Rule, read_config};
 
 const TWO_DRIVES: &str = r#"
 # two drives, four cartridges
@@ -52,26 +50,9 @@ pub fn broken(place: Place, rule: Rule) -> Option<ConfigError> {
     Some(ConfigError::Refused { place, rule })
 }
 
-/// The configuration of a text.
-pub fn read(alloc: Global, text: &str) -> Result<Config, ConfigError> {
+// The configuration of a text.
+fn read(alloc: Global, text: &str) -> Result<Config, ConfigError> {
     read_config(alloc, text.as_bytes())
-}
-
-// Texts that say nothing.
-static NOTHING: &'static [&'static str] = &[
-    "",
-    "\n# none\n",
-    "cartridge = []\ndrive = []\n",
-    "drive = []",
-];
-
-#[test]
-fn the_empty_configuration_has_nothing(rt: HostRuntime) -> Result<(), Fail> {
-    for &text in NOTHING {
-        let config = read(rt.alloc(), text)?;
-        assert_equal!(rt; (config.cartridges.len(), config.drives.len()), (0, 0); text);
-    }
-    Ok(())
 }
 
 // The drives of TWO_DRIVES: the number and the file.
@@ -90,20 +71,14 @@ static CARTRIDGES: &'static [(&'static str, &'static str, u16, &'static [u64])] 
     ("ZZZZZZZZ99999999", "./t1.tape", 1002, &[4096]),
 ];
 
-/// The drive has this number and this file.
-pub fn is_drive(rt: &impl Abort, drive: &DriveEntry, number: u16, file: &str) {
+// The drive has this number and this file.
+fn is_drive(rt: &impl Abort, drive: &DriveEntry, number: u16, file: &str) {
     assert_equal!(rt; drive.number.number() as u16, number);
     assert_equal!(rt; drive.reservations.as_str(), file);
 }
 
-/// The cartridge has this barcode, this file and this home.
-pub fn is_cartridge(
-    rt: &impl Abort,
-    cartridge: &CartridgeEntry,
-    barcode: &str,
-    file: &str,
-    home: u16,
-) {
+// The cartridge has this barcode, this file and this home.
+fn is_cartridge(rt: &impl Abort, cartridge: &CartridgeEntry, barcode: &str, file: &str, home: u16) {
     assert_equal!(rt; cartridge.barcode.as_bytes(), barcode.as_bytes());
     assert_equal!(rt; cartridge.file.as_str(), file);
     assert_equal!(rt; cartridge.home.number(), home);
@@ -129,25 +104,6 @@ fn two_drives_and_four_cartridges(rt: HostRuntime) -> Result<(), Fail> {
     let config = read(rt.alloc(), TWO_DRIVES)?;
     are_two_drives(&rt, config.drives.as_slice());
     are_four_cartridges(&rt, config.cartridges.as_slice());
-    Ok(())
-}
-
-fn is_in_drive_16(rt: &impl Abort, cartridge: &CartridgeEntry) {
-    assert_holds!(rt; matches!(cartridge.home, Address::Drive(_)));
-    assert_equal!(rt; cartridge.home.number(), 16);
-}
-
-#[test]
-fn inline_tables_are_tables(rt: HostRuntime) -> Result<(), Fail> {
-    let text = r#"
-cartridge = [{ barcode = "B1", file = "b", capacities = [4096], home = 16 }]
-drive = [{ number = 16, reservations = "r" }, { reservations = "s", number = 3 }]
-"#;
-    let config = read(rt.alloc(), text)?;
-    assert_equal!(rt; (config.cartridges.len(), config.drives.len()), (1, 2));
-    for cartridge in &config.cartridges {
-        is_in_drive_16(&rt, cartridge);
-    }
     Ok(())
 }
 

@@ -8,10 +8,6 @@ mod cartridges;
 #[cfg(test)]
 mod configs;
 #[cfg(test)]
-mod fullest;
-#[cfg(test)]
-mod helping;
-#[cfg(test)]
 mod orders;
 #[cfg(test)]
 mod words;

@@ -1,12 +1,12 @@
-//! Words that are taken, refused, or ask for help. What is expected was worked out by hand.
+//! Words that are taken or refused. What is expected was worked out by hand.
 use assertions::{assert_equal, assert_holds};
 use std::alloc::{AllocError, Global};
 use std::process::Abort;
 use std::test::Fail;
 use vtl_words::{Order, WordsError, read_words};
 
-/// The order of a line, whose words are parted by single spaces. The first is the program's name.
-pub fn asked(alloc: Global, line: &str) -> Result<Order, WordsError> {
+// The order of a line, whose words are parted by single spaces. The first is the program's name.
+fn asked(alloc: Global, line: &str) -> Result<Order, WordsError> {
     let mut words = Vec::new(alloc);
     for word in line.split(' ') {
         words.push(String::from_str(alloc, word)?)?;
@@ -53,44 +53,11 @@ fn run_has_a_flag_and_an_option(rt: HostRuntime) {
     }
 }
 
-// The configuration of an order that creates.
-fn created(answer: &Result<Order, WordsError>) -> Option<&str> {
-    match answer {
-        Ok(Order::Create { config }) => Some(config.as_str()),
-        _ => None,
-    }
-}
-
 // The file of an order that checks.
 fn checked(answer: &Result<Order, WordsError>) -> Option<&str> {
     match answer {
         Ok(Order::Check { file }) => Some(file.as_str()),
         _ => None,
-    }
-}
-
-// Lines that create lib.toml.
-static CREATES: &'static [&'static str] = &[
-    "vtl create --config lib.toml",
-    "vtl create --config=lib.toml",
-];
-
-// Lines that check, and the file.
-static CHECKS: &'static [(&'static str, &'static str)] = &[
-    ("vtl check t1.tape", "t1.tape"),
-    ("vtl check run", "run"),
-    ("vtl check -- --config", "--config"),
-];
-
-#[test]
-fn create_and_check_have_a_file(rt: HostRuntime) {
-    for &line in CREATES {
-        let answer = asked(rt.alloc(), line);
-        assert_equal!(rt; created(&answer), Some("lib.toml"); line);
-    }
-    for &(line, name) in CHECKS {
-        let answer = asked(rt.alloc(), line);
-        assert_equal!(rt; checked(&answer), Some(name); line);
     }
 }
 

@@ -1,8 +1,8 @@
 //! What PERSISTENT RESERVE IN reads, byte for byte; a keeper that keeps nothing.
-use super::{A, ONE_REGISTERS, TWO_REGISTER, host, reserved};
+use super::{A, ONE_REGISTERS, TWO_REGISTER, reserved};
 use assertions::{assert_equal, assert_holds};
 use pr_core::{Keeper, NoKeeper, Reservations};
-use scsi_lists::{PrOut, PrType};
+use scsi_lists::PrType;
 use std::alloc::Global;
 use std::process::Abort;
 use std::test::Fail;
@@ -40,20 +40,6 @@ fn keys_and_reservations_are_read(rt: HostRuntime) -> Result<(), Fail> {
     let all = PrType::ExclusiveAccessAllRegistrants;
     let two = reserved(&rt, TWO_REGISTER, 1, A, all);
     reads(&rt, alloc, two, KEYS_OF_BOTH, HELD_BY_BOTH)
-}
-
-#[test]
-fn all_hosts_register(rt: HostRuntime) -> Result<(), Fail> {
-    let alloc = rt.alloc();
-    let mut reservations = Reservations::empty();
-    let mut wanted = vec![in alloc; 0, 0, 0, 64, 0, 0, 2, 0]?;
-    for number in 1..=64u8 {
-        let key = 0x100 + u64::from(number);
-        let _ = reservations.pr_out(host(&rt, number), &register!(0, key));
-        wanted.extend_from_slice(&[0, 0, 0, 0, 0, 0, 1, number])?;
-    }
-    assert_equal!(rt; reservations.read_keys(alloc)?.as_slice(), wanted.as_slice());
-    Ok(())
 }
 
 #[test]

@@ -1,4 +1,4 @@
-//! READ POSITION: its bytes, and both edges of the early zone.
+//! READ POSITION: its bytes.
 ghost use Rattle.std.specs.Prelude.{◌≡◌, true, IfOk};
 
 use assertions::assert_equal;
@@ -6,8 +6,7 @@ use positioning::{Pos, report};
 use std::alloc::Global;
 use std::process::Abort;
 use std::test::Fail;
-use volume_core::{Catalog, Medium, PlainMedium, are_capacities};
-use vtl_base::Bytes;
+use volume_core::{Catalog, Medium, PlainMedium};
 
 pub(crate) fn reported<C: Catalog>(catalog: &C, pos: Pos) -> Option<[u8; 20]>
     requires { (C.state catalog.now).awake ≡ true }
@@ -50,45 +49,6 @@ fn reports_by_rows(rt: HostRuntime) -> Result<(), Fail> {
     let medium = marked(rt.alloc())?;
     for &(part, obj, bytes) in REPORTS {
         begins(&rt, &medium, Pos { part, obj }, &bytes);
-    }
-    Ok(())
-}
-
-// The first byte at an object of the second partition, which has this capacity, one block of this length
-// and a filemark.
-fn flags(alloc: Global, capacity: u64, length: usize, obj: u32) -> Result<Option<u8>, Fail> {
-    let capacities = [1_099_511_627_776, capacity];
-    if !are_capacities(&capacities) {
-        return Ok(None);
-    }
-    let mut medium = PlainMedium::new(alloc, &capacities)?;
-    medium.put(1, 0, Bytes::from_vec(vec![in alloc; 7u8; length]?))?;
-    medium.marks(1, 1, 1)?;
-    Ok(reported(&medium, Pos { part: 1, obj }).map(|bytes| bytes[0]))
-}
-
-// The capacity, the length of the block, an object, and the first byte of the report there.
-static FLAGS: &'static [(u64, usize, u32, u8)] = &[
-    (4_096, 3_824, 1, 0),
-    (4_096, 3_825, 1, 0x40),
-    (4_096, 3_825, 0, 0x80),
-    (4_096, 3_808, 2, 0),
-    (4_096, 3_809, 2, 0x40),
-    (4_096, 4_064, 2, 0x40),
-    (4_111, 3_839, 1, 0),
-    (4_111, 3_840, 1, 0x40),
-    (4_112, 3_839, 1, 0),
-    (4_112, 3_840, 1, 0x40),
-];
-
-#[test]
-fn near_the_end_from_the_edge_of_the_zone_on(rt: HostRuntime) -> Result<(), Fail> {
-    for &(capacity, length, obj, byte) in FLAGS {
-        assert_equal!(rt;
-            flags(rt.alloc(), capacity, length, obj)?,
-            Some(byte);
-            (length, capacity, obj)
-        );
     }
     Ok(())
 }
