@@ -13,7 +13,7 @@ LINES = {
     "When a move puts the cartridge back": [2], "Scripts": [3, 5], "The command line": [4, 3],
     "What created and kept mean": [2], "Exit status": [10], "The exit status at a damaged cartridge": [3],
     "The header": [7], "A cartridge's file": [6, 3], "A reservation store's file": [6, 5],
-    "The lines of vtl check": [5, 3], "What an opening writes": [4],
+    "The lines of vtl check": [5, 3], "What an opening writes": [6],
 }
 NO_CELLS = {"Formats", "The standards' terms", "Our terms"}
 # by limit of README, cells of both sides, or of the limit where one side has no line

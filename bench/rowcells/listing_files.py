@@ -124,7 +124,7 @@ def of_sides():
               ("missing", "a folder", "a second name of one file")]
     cells += [f"run | a store: {why}" for why in ("not a side", "damaged", "bad record")]
     cells += [f"create | {what}" for what in (
-        "created: a cartridge", "created: a store", "kept: a side", "kept: another file", "kept: a folder",
+        "created: a cartridge", "created: a store", "kept: a side", "kept: another file", "a folder under the name",
         "a file that cannot be made: the lines before it stand")]
     cells += [f"check | {what}" for what in ("no file", "a folder", "a cartridge that a run left",
                                            "a store that a run left")]

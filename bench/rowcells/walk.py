@@ -156,8 +156,11 @@ class Walk:
                 shown = entry["barcode"] if what == "cartridge" else f"DRIVE{entry['number']}"
                 at = os.path.normpath(os.fsencode(name))
                 if is_possible(name) and at in self.folder:
-                    kind = FOLDER if self.folder[at] is FOLDER else \
-                        "a side" if isinstance(self.folder[at], sides.Side) else "another file"
+                    if self.folder[at] is FOLDER:
+                        self.see("create | a folder under the name")
+                        failed = True
+                        break
+                    kind = "a side" if isinstance(self.folder[at], sides.Side) else "another file"
                     self.see(f"create | kept: {kind}")
                     lines.append(f"kept {shown}")
                     continue
