@@ -62,11 +62,17 @@ abbrev pub mark : SideKind → List ℕ
 mark Cartridge = codes "VTLCART1"
 mark Store = codes "VTLRESV1"
 
--- a heading in bytes: the open gate of the side, the mark of its kind, the closed pair gate, the count, the name, the
--- capacities (own)
+-- the ten bytes that a side of this kind begins with: the side gate, the mark of the kind, the pair gate (own)
+abbrev pub start : ℕ → SideKind → ℕ → List ℕ
+start side kind pair = side ∷ mark kind ++ pair ∷ []
+
+-- a heading in bytes, from place 10 on: the count, the name, the capacities. It holds no gate (own)
+abbrev pub spell_fields : Heading → List ℕ
+spell_fields h = length h.capacities ∷ h.name ++ flat_map (to_be_bytes w64) h.capacities
+
+-- what a side begins with, in bytes: its ten bytes with an open side gate and a closed pair gate, and its heading (own)
 abbrev pub spell_heading : Heading → List ℕ
-spell_heading h =
-    OPEN ∷ mark h.kind ++ CLOSED ∷ length h.capacities ∷ h.name ++ flat_map (to_be_bytes w64) h.capacities
+spell_heading h = start OPEN h.kind CLOSED ++ spell_fields h
 
 -- what a frame may hold (own)
 abbrev pub IsBody : List ℕ → Type 0

@@ -13,6 +13,9 @@
 //! | 27 on | N capacities in bytes, each a number of 8 bytes from 4,096 to 1,099,511,627,776 |
 //! | 27 + 8N | the gate of the first frame |
 //!
+//! The ten bytes up to the pair gate are the side's own. The heading stands behind them, from place
+//! 10 on, and holds no gate.
+//!
 //! A frame is its gate (1), the length of its body (4; 1 to 8,388,608) and its body, and is
 //! followed by the gate of the next frame. A side is read from the first gate on, and reading ends
 //! at the first closed one: what lies behind it counts for nothing. So a frame is added in four

@@ -10,7 +10,7 @@ use Rattle.vtl_base.specs.Barcode.{IsBarcode, is_symbol}
 use Rattle.vtl_base.specs.Limits.{is_capacity}
 use Rattle.gate_journal.specs.declared.header.SideKind.{SideKind}
 use Rattle.gate_journal.specs.declared.header.SideKind.TheVariants.{Cartridge, Store}
-use Rattle.gate_journal.specs.Side.{OPEN, Heading, padded, digits, drive_name, IsName, IsCount, IsHeading, mark, spell_heading}
+use Rattle.gate_journal.specs.Side.{CLOSED, OPEN, Heading, padded, digits, drive_name, IsName, IsCount, IsHeading, mark, spell_heading, spell_fields, start}
 use Rattle.gate_journal.specs.Inner.Reading.{numbers_of, heading_within}
 use Rattle.std.specs.Prelude.{slice_index}
 use Rattle.byteorder.specs.Numbers.{big_number-reads_back}
@@ -187,8 +187,9 @@ length_heading h ok =
       length_name h.kind h.name ok.name,
       length_capacities h.capacities,
       length_mark h.kind,
-      length-append (OPEN ∷ mark h.kind ++ 0 ∷ length h.capacities ∷ h.name) (flat_map (to_be_bytes w64) h.capacities),
-      length-append (OPEN ∷ mark h.kind) (0 ∷ length h.capacities ∷ h.name),
+      length-append (start OPEN h.kind CLOSED) (spell_fields h),
+      length-append (mark h.kind) (CLOSED ∷ []),
+      length-append h.name (flat_map (to_be_bytes w64) h.capacities),
     )
 
 told_count_at : (kind : SideKind) (name capacities rest : List ℕ) →
