@@ -62,8 +62,9 @@ CELLS = {
     "limits | PRGENERATION wraps at 2^32": ["the_generation_wraps"],
     "run | a file that is open in another process": [ENDINGS],
     "create | a file that could not be completed is taken away": [ENDINGS, "a_creation_takes_away_what_is_not_whole"],
-    "opening | what a run writes again": ["which_bytes_are_written_again", "a_file_is_written_again"],
-    "opening | after a failed sync": ["a_disk_makes_no_sync_after_one_that_failed"],
+    "opening | what the first sync writes again": ["an_opening_writes_one_byte", "what_stands_behind_the_end",
+                                                   "a_file_that_is_no_side", "a_gate_is_written_again"],
+    "opening | what the next sync writes after one that failed": ["a_sync_behind_one_that_failed"],
 }
 
 

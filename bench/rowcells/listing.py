@@ -119,8 +119,9 @@ def of_no_script():
               "order of checks | a deferred error is reported, once", "buffer | 64 changes, 4,194,304 bytes of blocks",
               "limits | a script of 2,147,483,648 bytes, and one of a byte more",
               "limits | a script of 4,294,967,296 reads, and one more", "limits | PRGENERATION wraps at 2^32",
-              "run | a file that is open in another process", "opening | what a run writes again",
-              "opening | after a failed sync", "create | a file that could not be completed is taken away"]
+              "run | a file that is open in another process", "opening | what the first sync writes again",
+              "opening | what the next sync writes after one that failed",
+              "create | a file that could not be completed is taken away"]
     return cells
 
 
