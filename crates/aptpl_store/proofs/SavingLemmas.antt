@@ -206,6 +206,7 @@ module _ {D : Type 0} (state : D → DiskState) (is_disk : (d : D) → (state d)
               (moves_broken state is_disk old.disk new.disk keeps old.heading notes.states saved shown cause);
           counted = cause;
           honesty = (keeps.stays_honest, keeps.was_honest);
+          hand = (λ h. h, λ h. h);
         }
 
         pub broken_kept : Broken (store_kept (store_on old notes)) saved (store_kept (store_on new notes'))
@@ -278,6 +279,7 @@ module _ {D : Type 0} (state : D → DiskState) (is_disk : (d : D) → (state d)
               (moves_saved state is_disk old.disk new.disk keeps old.heading notes.states saved shown given);
           counted = none;
           honesty = (keeps.stays_honest, keeps.was_honest);
+          hand = (λ h. h, λ h. h);
         }
 
         pub saved_kept : Stored (store_kept (store_on old notes)) saved (store_kept (store_on new notes'))

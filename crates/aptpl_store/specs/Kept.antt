@@ -75,5 +75,6 @@ module _ {D : Type 0} where
         record {
           failures = λ store. (state store.disk).failures;
           honest = λ store. (state store.disk).honest;
+          at_hand = λ store. Unit {0};
           moves = StoreMoves;
         }

@@ -123,3 +123,9 @@ loaded drive medium = record drive {
   position = start;
   attentions = established_for_all drive.attentions MediumChanged;
 }
+
+-- the device below what is in a bay is at hand: calls that may need it may be made (own)
+abbrev pub IsAtHand : {M : Type 0} → (M → Type 0) → Bay M → Type 0
+IsAtHand hand Empty = Unit {0}
+IsAtHand hand (Unloaded m) = hand m
+IsAtHand hand (Loaded m) = hand m

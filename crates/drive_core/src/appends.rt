@@ -29,6 +29,7 @@ pub fn append<M: Medium>(
     amount: Option<u32>,
     settles: bool,
 ) -> Result<Reply, Fault>
+    requires hand { M.below.at_hand medium.old }
     requires ready { IsReady (mounted (M.state medium.old) position.old) }
     requires at { IsAt position.old change }
     requires formed { is_well_formed change ≡ true }
@@ -83,6 +84,7 @@ fn finish<M: Medium>(
     warned: bool,
     settles: bool,
 ) -> Result<Reply, Fault>
+    requires hand { M.below.at_hand medium.old }
     requires awake { (M.state medium.old).awake ≡ true }
     requires works { (M.state medium.old).failed ≡ false }
     ensures answer { SettlesAfter settles warned (M.state medium.old) result (M.state medium.new) }

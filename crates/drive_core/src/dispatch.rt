@@ -33,6 +33,7 @@ pub fn carry_out<M: Medium>(
     command: Command,
     sent: &[u8],
 ) -> Result<Reply, Fault>
+    requires hand { M.below.at_hand medium.old }
     requires ready { IsReady (mounted (M.state medium.old) position.old) }
     requires needs { needs_medium (code_of command) ≡ true }
     requires part { HasPart (M.state medium.old) command }

@@ -1,7 +1,7 @@
 //! Drives.
-ghost use Rattle.std.specs.Prelude.{◌≡◌, ◌↔◌, IsTrue, IfOk, false, is_some, option_copied};
+ghost use Rattle.std.specs.Prelude.{◌≡◌, ◌↔◌, IsTrue, IfOk, IfSome, false, is_some, option_copied};
 ghost use Rattle.drive_core.specs.declared.bays.Bay.TheVariants as Bays;
-ghost use Rattle.drive_core.specs.State.{has_failed_in, machine_of, medium_in, left_of, IsBayPositioned};
+ghost use Rattle.drive_core.specs.State.{IsAtHand, has_failed_in, machine_of, medium_in, left_of, IsBayPositioned};
 ghost use Rattle.drive_core.specs.Conditions.{denial_reply, denied, without_condition};
 ghost use Rattle.drive_core.specs.Checks.{Executes};
 ghost use Rattle.drive_core.specs.Synchronize.{IsSynchronizing, Acknowledges, NothingPending};
@@ -74,6 +74,7 @@ impl<M: Medium, K: Keeper> Drive<M, K> {
         medium: Option<M>,
     ) -> Result<Self, (Option<M>, K, NoMemory)>
         requires left { reservations ≡ left_of (K.kept keeper).saved }
+        requires hand { IfSome medium (λ m. M.below.at_hand m) }
         ensures switched { SwitchesOn M.state M.below medium reservations keeper result }
         ensures step { IfOk result (λ drive.
             PowerOnSteps M.state M.below K.kept medium keeper drive) }
@@ -115,6 +116,7 @@ impl<M: Medium, K: Keeper> Drive<M, K> {
     /// opened comes back with the reply: 4, 44/00 where it has failed, 3, 11/00 where its side is
     /// refused or the device fails, Bh, 55/03 where memory runs out.
     pub fn load(&mut self, medium: M) -> Result<(), (M, Reply)>
+        requires hand { M.below.at_hand medium }
         requires empty { self.old.bay ≡ Bays.Empty }
         ensures taken { TakesIn M.state M.below self.old medium result self.new }
         ensures step { LoadSteps M.state M.below K.kept self.old medium result self.new }
@@ -154,6 +156,7 @@ impl<M: Medium, K: Keeper> Drive<M, K> {
     /// (2, 3A/00), or the device fails (3, 0C/00), nothing comes out, and the reply says so; in the
     /// second case the medium stays loaded, and has failed.
     pub fn unload(&mut self) -> Result<M, Reply>
+        requires hand { IsAtHand M.below.at_hand self.old.bay }
         ensures out { GoesOut M.state M.below self.old result self.new }
         ensures parked { IfOk result (λ medium.
             ((M.state medium).awake ≡ false) × (self.new.bay ≡ Bays.Empty)) }
@@ -165,6 +168,7 @@ impl<M: Medium, K: Keeper> Drive<M, K> {
     /// A flusher's turn: stores what is pending. A fault establishes a deferred error, which the
     /// next command that is not exempt reports, or REQUEST SENSE gives as data. It takes no memory.
     pub fn turn(&mut self) -> Turn
+        requires hand { IsAtHand M.below.at_hand self.old.bay }
         ensures { TakesTurn M.state M.below K.kept self.old result self.new }
     {
         let Bay::Loaded(medium) = &mut self.bay else {
@@ -183,6 +187,7 @@ impl<M: Medium, K: Keeper> Drive<M, K> {
     /// Answers a command: a command block of a host, and the data that were sent with it. Each
     /// refusal is a reply.
     pub fn execute(&mut self, nexus: Nexus, cdb: &[u8], sent: &[u8]) -> Reply
+        requires hand { IsAtHand M.below.at_hand self.old.bay }
         ensures step { Answers M.state M.below K.kept K.below
             self.old (asked nexus cdb.now sent.now) result self.new }
 
@@ -200,7 +205,8 @@ impl<M: Medium, K: Keeper> Drive<M, K> {
 
     // Opens a medium, and loads it.
     fn take_in(&mut self, medium: M) -> Result<(), (M, Reply)>
-        requires { self.old.bay ≡ Bays.Empty }
+        requires hand { M.below.at_hand medium }
+        requires empty { self.old.bay ≡ Bays.Empty }
         ensures { TakesIn M.state M.below self.old medium result self.new }
     {
         let mut medium = medium;
@@ -215,6 +221,7 @@ impl<M: Medium, K: Keeper> Drive<M, K> {
 
     // Parks what is loaded, and gives out what is in the drive.
     fn give_out(&mut self) -> Result<M, Reply>
+        requires hand { IsAtHand M.below.at_hand self.old.bay }
         ensures out { GoesOut M.state M.below self.old result self.new }
         ensures parked { IfOk result (λ medium.
             ((M.state medium).awake ≡ false) × (self.new.bay ≡ Bays.Empty)) }
@@ -234,6 +241,7 @@ impl<M: Medium, K: Keeper> Drive<M, K> {
 
     // Checks a command, and carries it out where it passes all checks.
     fn check(&mut self, nexus: Nexus, cdb: &[u8], sent: &[u8]) -> Result<Reply, Fault>
+        requires hand { IsAtHand M.below.at_hand self.old.bay }
         ensures { Takes M.state M.below K.kept K.below
             (Executes (HonestIn M.below (medium_in self.old.bay))
             (asked nexus cdb.now sent.now) (machine_of M.state K.kept self.old))
@@ -274,6 +282,7 @@ fn switch_on<M: Medium, K: Keeper>(
     reservations: Reservations,
     medium: Option<M>,
 ) -> Result<Drive<M, K>, (Option<M>, K, NoMemory)>
+    requires hand { IfSome medium (λ m. M.below.at_hand m) }
     ensures { SwitchesOn M.state M.below medium reservations keeper result }
 {
     let bay = match medium {

@@ -22,7 +22,8 @@ pub fn erase<M: Medium>(
     position: &mut Pos,
     buffered: bool,
 ) -> Result<Reply, Fault>
-    requires { IsReady (mounted (M.state medium.old) position.old) }
+    requires hand { M.below.at_hand medium.old }
+    requires ready { IsReady (mounted (M.state medium.old) position.old) }
     ensures carries { Carries M.state M.below
         (EraseWork buffered)
         medium.old position.old result medium.new position.new }

@@ -19,7 +19,8 @@ pub fn go_to_start<M: Medium>(
     medium: &mut M,
     position: &mut Pos,
 ) -> Result<Reply, Fault>
-    requires { IsReady (mounted (M.state medium.old) position.old) }
+    requires hand { M.below.at_hand medium.old }
+    requires ready { IsReady (mounted (M.state medium.old) position.old) }
     ensures carries { Carries M.state M.below
         (StoredFirst (GoesTo (λ m. start)))
         medium.old position.old result medium.new position.new }

@@ -22,6 +22,7 @@ pub fn locate<M: Medium>(
     object: ObjNo,
     part: Option<PartNo>,
 ) -> Result<Reply, Fault>
+    requires hand { M.below.at_hand medium.old }
     requires ready { IsReady (mounted (M.state medium.old) position.old) }
     requires part { IfSome part (λ number. number < length (volume_of (M.state medium.old))) }
     ensures carries { Carries M.state M.below

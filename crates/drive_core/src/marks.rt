@@ -22,7 +22,8 @@ pub fn write_marks<M: Medium>(
     count: u32,
     immediate: bool,
 ) -> Result<Reply, Fault>
-    requires { IsReady (mounted (M.state medium.old) position.old) }
+    requires hand { M.below.at_hand medium.old }
+    requires ready { IsReady (mounted (M.state medium.old) position.old) }
     ensures carries { Carries M.state M.below
         (MarksWork count immediate)
         medium.old position.old result medium.new position.new }
@@ -46,7 +47,8 @@ fn write_none<M: Medium>(
     position: &Pos,
     immediate: bool,
 ) -> Result<Reply, Fault>
-    requires { IsReady (mounted (M.state medium.old) position.now) }
+    requires hand { M.below.at_hand medium.old }
+    requires ready { IsReady (mounted (M.state medium.old) position.now) }
     ensures carries { Carries M.state M.below
         (MarksWork 0 immediate)
         medium.old position.now result medium.new position.now }

@@ -21,6 +21,7 @@ pub const START: Pos = Pos { part: 0, obj: 0 };
 /// Where a medium stands once the power is on: opened and loaded, or unloaded where its side is
 /// refused. It comes back where memory runs out.
 pub fn open<M: Medium>(medium: M) -> Result<Bay<M>, M>
+    requires hand { M.below.at_hand medium }
     ensures opens { OpensInto M.state M.below medium result }
     ensures on { IfOk result (λ bay. IsBayPositioned M.state bay start) }
 {

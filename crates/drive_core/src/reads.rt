@@ -29,7 +29,8 @@ pub fn read<M: Medium>(
     length: u32,
     suppress_length: bool,
 ) -> Result<Reply, Fault>
-    requires { IsReady (mounted (M.state medium.old) position.old) }
+    requires hand { M.below.at_hand medium.old }
+    requires ready { IsReady (mounted (M.state medium.old) position.old) }
     ensures carries { Carries M.state M.below
         (ReadWork (M.below.honest medium.old) suppress_length length)
         medium.old position.old result medium.new position.new }
@@ -50,7 +51,8 @@ fn give<M: Medium>(
     length: u32,
     suppress_length: bool,
 ) -> Result<Reply, Fault>
-    requires { IsReady (mounted (M.state medium.old) position.old) }
+    requires hand { M.below.at_hand medium.old }
+    requires ready { IsReady (mounted (M.state medium.old) position.old) }
     ensures carries { Carries M.state M.below
         (GivesObject (M.below.honest medium.old) suppress_length length)
         medium.old position.old result medium.new position.new }
@@ -80,6 +82,7 @@ fn fetch<M: Medium>(
     part: PartNo,
     at: ObjNo,
 ) -> Result<Vec<u8>, Fault>
+    requires hand { M.below.at_hand medium.old }
     requires awake { (M.state medium.old).awake ≡ true }
     requires works { (M.state medium.old).failed ≡ false }
     requires block { kind_at (volume_of (M.state medium.old)) part at ≡ Some Kinds.Block }

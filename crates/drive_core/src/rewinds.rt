@@ -14,7 +14,8 @@ use vtl_base::Bytes;
 
 /// Stores what is pending, and goes to object 0 of the partition (SSC-4, REWIND).
 pub fn rewind<M: Medium>(alloc: Global, medium: &mut M, position: &mut Pos) -> Result<Reply, Fault>
-    requires { IsReady (mounted (M.state medium.old) position.old) }
+    requires hand { M.below.at_hand medium.old }
+    requires ready { IsReady (mounted (M.state medium.old) position.old) }
     ensures carries { Carries M.state M.below
         RewindWork
         medium.old position.old result medium.new position.new }

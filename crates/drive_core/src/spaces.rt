@@ -21,7 +21,8 @@ pub fn space<M: Medium>(
     code: SpaceCode,
     count: i32,
 ) -> Result<Reply, Fault>
-    requires { IsReady (mounted (M.state medium.old) position.old) }
+    requires hand { M.below.at_hand medium.old }
+    requires ready { IsReady (mounted (M.state medium.old) position.old) }
     ensures carries { Carries M.state M.below
         (SpaceWork code count)
         medium.old position.old result medium.new position.new }

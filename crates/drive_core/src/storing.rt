@@ -10,6 +10,7 @@ use volume_core::{Medium, MediumError};
 
 /// Stores what is pending. It takes no memory.
 pub fn store_pending<M: Medium>(medium: &mut M) -> Result<(), Fault>
+    requires hand { M.below.at_hand medium.old }
     requires awake { (M.state medium.old).awake ≡ true }
     requires works { (M.state medium.old).failed ≡ false }
     ensures answer { StoresPending (M.state medium.old) result (M.state medium.new) }

@@ -28,7 +28,8 @@ pub fn read_position<M: Medium>(
     medium: &mut M,
     position: &Pos,
 ) -> Result<Reply, Fault>
-    requires { IsReady (mounted (M.state medium.old) position.now) }
+    requires hand { M.below.at_hand medium.old }
+    requires ready { IsReady (mounted (M.state medium.old) position.now) }
     ensures carries { Carries M.state M.below
         ReadPositionWork
         medium.old position.now result medium.new position.now }

@@ -27,6 +27,7 @@ pub fn write<M: Medium>(
     buffered: bool,
     sent: &[u8],
 ) -> Result<Reply, Fault>
+    requires hand { M.below.at_hand medium.old }
     requires ready { IsReady (mounted (M.state medium.old) position.old) }
     requires short { length sent.now ≤ MAX_BLOCK }
     ensures carries { Carries M.state M.below

@@ -81,5 +81,6 @@ abbrev pub nothing_below : {K : Type 0} → Below K PrState
 nothing_below {K} = record {
   failures = λ keeper. 0;
   honest = λ keeper. Unit {0};
+  at_hand = λ keeper. Unit {0};
   moves = λ old saved new. Unit {0};
 }

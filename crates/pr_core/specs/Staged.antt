@@ -83,7 +83,12 @@ pub record StagedSaves (old : StagedKept) (made : List PrState) (new : StagedKep
 -- its device's failure is counted, it is honest, and it saves as it moves (own)
 abbrev pub staged_keeper_below : Below StagedKept PrState
 staged_keeper_below =
-    record { failures = staged_faults; honest = λ keeper. Unit {0}; moves = StagedSaves }
+    record {
+      failures = staged_faults;
+      honest = λ keeper. Unit {0};
+      at_hand = λ keeper. Unit {0};
+      moves = StagedSaves;
+    }
 
 -- nothing done saves nothing
 pub staged_saves_nowhere : (keeper : StagedKept) → StagedSaves keeper [] keeper

@@ -187,7 +187,7 @@ module _ {D : Type 0} (c m c' : OpenCartridge D) (pending between pending' : Lis
         subst (λ (p : OpenCartridge D × List Change).
         Advances (buffer_below state) (open_buffer c pending) [] false (open_buffer p.0 p.1))
         (λ i. ((sym same) i, (sym is) i))
-        (record { moved = advances.moved; counted = advances.counted; honesty = advances.honesty })
+        (record { moved = advances.moved; counted = advances.counted; honesty = advances.honesty; hand = advances.hand })
 
     pub advances_more : IsPendingOver m between → refusal_of (volume_of (open_state m between)) change ≡ None
         → IsContents m.contents → m.failed ≡ false → pending' ≡ between ++ change ∷ []
@@ -208,6 +208,7 @@ module _ {D : Type 0} (c m c' : OpenCartridge D) (pending between pending' : Lis
               change (is_disk m.disk) (open_is_core m between over.torn) works refl (applies contents none));
           counted = refl;
           honesty = (λ h. h, λ h. h);
+          hand = (λ h. h, λ h. h);
         }))
       where
         with_change : open_core m (between ++ change ∷ []) ≡ with_item change (open_core m between)

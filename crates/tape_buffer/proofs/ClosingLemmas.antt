@@ -67,6 +67,7 @@ module _ {D : Type 0} (state : D → DiskState) (is_disk : (disk : D) → (state
               (is_disk c.disk) (open_is_core c pending torn) (may_stop at_rest));
           counted = refl;
           honesty = (λ h. h, λ h. h);
+          hand = (λ h. h, λ h. h);
         })
 
   module _ (c c' : OpenCartridge D) (pending pending' : List Change) where

@@ -233,6 +233,7 @@ module _ {D : Type 0} (c : OpenCartridge D) (pending : List Change) where
           moved = moves_stored (subst (λ (l : List Change). HasStored c l c') same_changes done.0) sure;
           counted = done.1;
           honesty = (keeps.stays_honest, keeps.was_honest);
+          hand = (λ h. h, λ h. h);
         })
 
     pub advances_broken : (changes : List Change) → changes ≡ pending → HasBroken c changes c'
@@ -243,6 +244,7 @@ module _ {D : Type 0} (c : OpenCartridge D) (pending : List Change) where
           moved = moves_broken (subst (λ (l : List Change). HasBroken c l c') same_changes broken) rose;
           counted = rose;
           honesty = (keeps.stays_honest, keeps.was_honest);
+          hand = (λ h. h, λ h. h);
         }
 
 -- nothing is done

@@ -106,6 +106,7 @@ module _ {D : Type 0} (state : D → DiskState) (is_disk : (disk : D) → (state
             (open_core c pending) (is_disk c'.disk) (one_keeps state c.disk c'.disk keeps) rests_so;
         counted = counted;
         honesty = (keeps.stays_honest, keeps.was_honest);
+        hand = (λ h. h, λ h. h);
       })
 
   -- the disk failed
@@ -121,6 +122,7 @@ module _ {D : Type 0} (state : D → DiskState) (is_disk : (disk : D) → (state
             (open_core c pending) (is_disk c'.disk) (one_keeps state c.disk c'.disk keeps) counted rests_so;
         counted = counted;
         honesty = (keeps.stays_honest, keeps.was_honest);
+        hand = (λ h. h, λ h. h);
       })
 
   pub fetched : (result : Result Unit MediumError) → IsFetched result c'.failed (state c.disk) (state c'.disk)

@@ -110,6 +110,7 @@ module _ {D : Type 0} (state : D → DiskState) (is_disk : (disk : D) → (state
             ));
         counted = same;
         honesty = (keeps.stays_honest, keeps.was_honest);
+        hand = (λ h. h, λ h. h);
       }
 
 -- contents with frames more: their changes come last

@@ -50,6 +50,7 @@ module _ {D : Type 0} (state : D → DiskState) where
       record {
         failures = λ buffer. failures_on (disk_in buffer.held);
         honest = λ buffer. HonestOn (disk_in buffer.held);
+        at_hand = λ buffer. Unit {0};
         moves = MediumMoves;
       }
 

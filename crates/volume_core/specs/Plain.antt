@@ -34,6 +34,7 @@ plain_below =
     record {
       failures = λ plain. 0;
       honest = λ plain. Unit {0};
+      at_hand = λ plain. Unit {0};
       moves = λ old changes new. MovesByChanges old.volume changes new.volume;
     }
 

@@ -51,7 +51,12 @@ pub record StagedMoves (old : Staged) (made : List Change) (new : Staged) : Type
 -- its device's faults are counted, it is honest, and it accepts as it moves (own)
 abbrev pub staged_below : Below Staged Change
 staged_below =
-    record { failures = λ medium. medium.faults; honest = λ medium. Unit {0}; moves = StagedMoves }
+    record {
+      failures = λ medium. medium.faults;
+      honest = λ medium. Unit {0};
+      at_hand = λ medium. Unit {0};
+      moves = StagedMoves;
+    }
 
 -- nothing done is the empty list
 pub staged_moves_nowhere : (medium : Staged) → StagedMoves medium [] medium

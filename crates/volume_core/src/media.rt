@@ -90,12 +90,14 @@ pub trait Catalog {
 /// parked: closed, so that it may be moved. Each call but `wake` needs it awake.
 pub trait Medium: Catalog {
     /// What a contract sees below it: the failures of its device, whether that keeps to what a disk
-    /// promises (always so in memory), and which changes it accepted from one value to another.
+    /// promises (always so in memory), whether it is at hand, so that calls that may need the device
+    /// may be made, and which changes it accepted from one value to another.
     ghost below: { Below Self Change };
 
     /// Carries a change out. What stood behind the objects that it keeps is gone.
     fn accept(&mut self, change: Change) -> Result<(), MediumError>
-        requires { (Self.state self.old).awake ≡ true }
+        requires awake { (Self.state self.old).awake ≡ true }
+        requires hand { below.at_hand self.old }
         ensures answer { Accepts (Self.state self.old) change result (Self.state self.new) }
         ensures stores { Stores (Self.state self.old) (accepted_by result change)
             (Self.state self.new) }
@@ -104,7 +106,8 @@ pub trait Medium: Catalog {
 
     /// Puts a block behind the first `at` objects of a partition. What stood there is gone.
     fn put(&mut self, part: PartNo, at: ObjNo, block: Bytes) -> Result<(), MediumError>
-        requires { (Self.state self.old).awake ≡ true }
+        requires awake { (Self.state self.old).awake ≡ true }
+        requires hand { below.at_hand self.old }
         ensures answer { Accepts (Self.state self.old) (Put part at block) result
             (Self.state self.new) }
         ensures stores { Stores (Self.state self.old) (accepted_by result (Put part at block))
@@ -117,7 +120,8 @@ pub trait Medium: Catalog {
 
     /// Puts this many marks behind the first `at` objects of a partition. What stood there is gone.
     fn marks(&mut self, part: PartNo, at: ObjNo, count: u32) -> Result<(), MediumError>
-        requires { (Self.state self.old).awake ≡ true }
+        requires awake { (Self.state self.old).awake ≡ true }
+        requires hand { below.at_hand self.old }
         ensures answer { Accepts (Self.state self.old) (Marks part at count) result
             (Self.state self.new) }
         ensures stores { Stores (Self.state self.old) (accepted_by result (Marks part at count))
@@ -130,7 +134,8 @@ pub trait Medium: Catalog {
 
     /// Erases what stands behind the first `at` objects of a partition.
     fn erase(&mut self, part: PartNo, at: ObjNo) -> Result<(), MediumError>
-        requires { (Self.state self.old).awake ≡ true }
+        requires awake { (Self.state self.old).awake ≡ true }
+        requires hand { below.at_hand self.old }
         ensures answer { Accepts (Self.state self.old) (Erase part at) result
             (Self.state self.new) }
         ensures stores { Stores (Self.state self.old) (accepted_by result (Erase part at))
@@ -145,6 +150,7 @@ pub trait Medium: Catalog {
     /// `Err` it may hold anything.
     fn fetch(&mut self, part: PartNo, at: ObjNo, into: &mut Vec<u8>) -> Result<(), MediumError>
         requires awake { (Self.state self.old).awake ≡ true }
+        requires hand { below.at_hand self.old }
         requires block { kind_at (volume_of (Self.state self.old)) part at ≡ Some Kinds.Block }
         ensures bytes { below.honest self.old → OnOk result
             (block_at (volume_of (Self.state self.old)) part at ≡ Some into.new.items) }
@@ -155,14 +161,16 @@ pub trait Medium: Catalog {
 
     /// Stores what is pending. It takes no memory.
     fn settle(&mut self) -> Result<(), MediumError>
-        requires { (Self.state self.old).awake ≡ true }
+        requires awake { (Self.state self.old).awake ≡ true }
+        requires hand { below.at_hand self.old }
         ensures answer { Settles (Self.state self.old) result (Self.state self.new) }
         ensures stores { Stores (Self.state self.old) [] (Self.state self.new) }
         ensures advances { Advances below self.old [] (met_fault result) self.new };
 
     /// Stores what is pending, in a flusher's turn. It takes no memory.
     fn flush_turn(&mut self) -> Turn
-        requires { (Self.state self.old).awake ≡ true }
+        requires awake { (Self.state self.old).awake ≡ true }
+        requires hand { below.at_hand self.old }
         ensures answer { Turns (Self.state self.old) result (Self.state self.new) }
         ensures stores { Stores (Self.state self.old) [] (Self.state self.new) }
         ensures advances { Advances below self.old [] (turn_met_fault result) self.new };
@@ -170,7 +178,8 @@ pub trait Medium: Catalog {
     /// Closes it, once what is pending is stored. One that has failed gives up what is pending.
     /// After a device fault it is awake still, and has failed.
     fn park(&mut self) -> Result<(), MediumError>
-        requires { (Self.state self.old).awake ≡ true }
+        requires awake { (Self.state self.old).awake ≡ true }
+        requires hand { below.at_hand self.old }
         ensures answer { Parks (below.honest self.old) (Self.state self.old) result
             (Self.state self.new) }
         ensures stores { OnErr result (Stores (Self.state self.old) [] (Self.state self.new)) }
@@ -178,6 +187,7 @@ pub trait Medium: Catalog {
 
     /// Opens it. One that is awake stays as it is, and answers whether it has failed.
     fn wake(&mut self) -> Result<(), MediumError>
+        requires { below.at_hand self.old }
         ensures answer { Wakes (below.honest self.old) (Self.state self.old) result
             (Self.state self.new) }
         ensures advances { Advances below self.old [] (met_fault result) self.new };

@@ -3,10 +3,12 @@ use Rattle.std.specs.Prelude.{◌≡◌, ◌<◌, ◌↔◌, ◌++◌, ℕ, Bool
 use Rattle.std.proofs.Common.{subst}
 
 -- What a contract sees below an M that takes Cs, as a medium takes changes: how often the device has failed; whether
--- it keeps to what a disk promises; and by accepting just which Cs, in order, one value became another (own).
+-- it keeps to what a disk promises; whether it is at hand, so that calls of it may be made (always so but where it
+-- stands behind a lock of its own); and by accepting just which Cs, in order, one value became another (own).
 pub record Below (M C : Type 0) : Type 1 where
   pub failures : M → ℕ
   pub honest : M → Type 0
+  pub at_hand : M → Type 0
   pub moves : M → List C → M → Type 0
 
 -- the count of failures rose where the device failed in a call, and else it stayed (own)
@@ -15,18 +17,24 @@ Counts true before now = before < now
 Counts false before now = now ≡ before
 
 -- What holds of a call, whatever it answers: just these were accepted, in order; the count of failures rose where the
--- device failed in it, and else stayed; honesty is as it was (own).
+-- device failed in it, and else stayed; honesty is as it was, and it is at hand if it was (own).
 pub record Advances {M C : Type 0} (below : Below M C) (old : M) (made : List C) (fault : Bool) (new : M) : Type 0 where
   pub moved : below.moves old made new
   pub counted : Counts fault (below.failures old) (below.failures new)
   pub honesty : below.honest old ↔ below.honest new
+  pub hand : below.at_hand old ↔ below.at_hand new
 
 module _ {M C : Type 0} (below : Below M C) where
   -- nothing done is the empty list, and no fault
   pub advances_nowhere :
       ((value : M) → below.moves value [] value) → (value : M) → Advances below value [] false value
   advances_nowhere nowhere value =
-      record { moved = nowhere value; counted = refl; honesty = (λ honest. honest, λ honest. honest) }
+      record {
+        moved = nowhere value;
+        counted = refl;
+        honesty = (λ honest. honest, λ honest. honest);
+        hand = (λ hand. hand, λ hand. hand);
+      }
 
   -- two calls in a row, the first without a fault, append what they accepted
   pub advances_on :
@@ -43,5 +51,9 @@ module _ {M C : Type 0} (below : Below M C) where
         honesty = (
           λ honest. two.honesty.0 (one.honesty.0 honest),
           λ honest. one.honesty.1 (two.honesty.1 honest),
+        );
+        hand = (
+          λ hand. two.hand.0 (one.hand.0 hand),
+          λ hand. one.hand.1 (two.hand.1 hand),
         );
       }

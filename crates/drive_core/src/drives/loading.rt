@@ -1,6 +1,6 @@
 //! LOAD UNLOAD, and a cartridge that goes out of the drive.
 ghost use Rattle.std.specs.Prelude.{◌≡◌, true, false};
-ghost use Rattle.drive_core.specs.State.{machine_of, medium_in};
+ghost use Rattle.drive_core.specs.State.{IsAtHand, machine_of, medium_in};
 ghost use Rattle.drive_core.specs.LoadUnload.{LoadsIn, LoadUnloadWork, UnloadsInto, unloaded};
 ghost use Rattle.drive_core.specs.Execute.{Takes, HonestIn};
 ghost use Rattle.drive_core.specs.Media.{ParksFrom};
@@ -22,6 +22,7 @@ use vtl_base::{Bytes, Nexus};
 impl<M: Medium, K: Keeper> Drive<M, K> {
     /// Loads or unloads what is in the drive (SSC-4, LOAD UNLOAD).
     pub(super) fn load_unload(&mut self, nexus: Nexus, load: bool) -> Result<Reply, Fault>
+        requires hand { IsAtHand M.below.at_hand self.old.bay }
         ensures { Takes M.state M.below K.kept K.below
             (LoadUnloadWork (HonestIn M.below (medium_in self.old.bay)) load nexus
             (machine_of M.state K.kept self.old))
@@ -36,6 +37,7 @@ impl<M: Medium, K: Keeper> Drive<M, K> {
 
     // UNLOAD: what is pending is stored, and the medium is parked.
     fn unload_here(&mut self) -> Result<Reply, Fault>
+        requires hand { IsAtHand M.below.at_hand self.old.bay }
         ensures { Takes M.state M.below K.kept K.below
             (UnloadsInto unloaded (HonestIn M.below (medium_in self.old.bay))
             (machine_of M.state K.kept self.old).bay (machine_of M.state K.kept self.old))
@@ -62,6 +64,7 @@ impl<M: Medium, K: Keeper> Drive<M, K> {
 
     // LOAD: a loaded medium goes to its start; one that is not loaded is opened.
     fn load_here(&mut self, nexus: Nexus) -> Result<Reply, Fault>
+        requires hand { IsAtHand M.below.at_hand self.old.bay }
         ensures { Takes M.state M.below K.kept K.below
             (LoadsIn (HonestIn M.below (medium_in self.old.bay))
             (machine_of M.state K.kept self.old).bay nexus (machine_of M.state K.kept self.old))
@@ -95,7 +98,8 @@ impl<M: Medium, K: Keeper> Drive<M, K> {
 
 /// A loaded medium is parked, once what is pending is stored, or comes back with a fault.
 pub(super) fn park<M: Medium>(medium: M) -> Result<M, M>
-    requires { (M.state medium).awake ≡ true }
+    requires awake { (M.state medium).awake ≡ true }
+    requires hand { M.below.at_hand medium }
     ensures { ParksFrom M.state M.below medium result }
 {
     let mut medium = medium;
@@ -108,7 +112,8 @@ pub(super) fn park<M: Medium>(medium: M) -> Result<M, M>
 
 // A parked medium is opened, or stays parked.
 fn wake<M: Medium>(medium: M) -> Result<M, (M, MediumError)>
-    requires { (M.state medium).awake ≡ false }
+    requires parked { (M.state medium).awake ≡ false }
+    requires hand { M.below.at_hand medium }
     ensures { WakesTo M.state M.below medium result }
 {
     let mut medium = medium;

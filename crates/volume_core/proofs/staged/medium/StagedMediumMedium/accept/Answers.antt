@@ -14,6 +14,6 @@ returns-in-Ok-clause-answer c =
     let room : sum_by frame_size old.rest + frame_size c.args.change ≤ old.room = search rules in (
       applies,
       works,
-      works_with old c.add.new.self c.args.change c.requires works (search rules),
-      fits_with old c.args.change c.requires room,
+      works_with old c.add.new.self c.args.change c.requires.awake works (search rules),
+      fits_with old c.args.change c.requires.awake room,
     )

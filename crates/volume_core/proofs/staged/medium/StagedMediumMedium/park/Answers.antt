@@ -6,4 +6,4 @@ use Rattle.volume_core.proofs.staged.medium.StagedMediumMedium.park.Goals as goa
 pub returns-clause-answer : goal.returns-clause-answer
 returns-clause-answer c =
     let works : c.args.self.now.failed ≡ false = search rules in
-    rw (c.close-2.ensures, c.in_ok-store.ensures) (parks_stored c.args.self.now c.requires works)
+    rw (c.close-2.ensures, c.in_ok-store.ensures) (parks_stored c.args.self.now c.requires.awake works)

@@ -4,7 +4,7 @@ use Rattle.volume_core.proofs.staged.medium.StagedMediumMedium.settle.Goals as g
 
 pub returns-clause-answer : goal.returns-clause-answer
 returns-clause-answer c =
-    settles_by c.args.self.now c.store.new.self c.store.result c.requires (search rules) c.store.ensures
+    settles_by c.args.self.now c.store.new.self c.store.result c.requires.awake (search rules) c.store.ensures
 
 pub returns-clause-stores : goal.returns-clause-stores
-returns-clause-stores c = stores_by c.args.self.now c.store.new.self c.store.result c.requires c.store.ensures
+returns-clause-stores c = stores_by c.args.self.now c.store.new.self c.store.result c.requires.awake c.store.ensures
