@@ -92,7 +92,7 @@ module _ (S : Type 0) where
       let same : refusal_of (contents_of old') (change_at old'.position) ≡ cause =
       λ i. refusal_of (sym (contents_alike S old old' e) i) (sym c i) in
       answers old old' reply reply' made made' m m' S e cause settles (change_at old.position) (change_at
-          old'.position) c h
+      old'.position) c h
       (subst (λ (r : Option Refusal). AppendAnswer r settles (change_at old'.position) old' reply' made' m') same k)
 
   -- WRITE
@@ -114,7 +114,7 @@ module _ (S : Type 0) where
       (sym e.positions i).obj in
       let k' : ReadAnswer (Unit {0}) (object_at old) suppress asked old'.position reply' m'.position =
       subst (λ (o : Option Object). ReadAnswer (Unit {0}) o suppress asked old'.position reply' m'.position) object
-          k.2 in
+      k.2 in
       let given = gives old old' reply reply' made made' m m' S e (object_at old) suppress asked h.2 k' in
       record {
         replies = given.0;

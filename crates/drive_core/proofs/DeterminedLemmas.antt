@@ -89,7 +89,7 @@ module _ (spaces : NoSpaceEndsTwice) (locates : NoLocateEndsTwice) (orders : NoO
   execute_determined request other (Answered (Ok reply)) (Answered (Ok reply')) opens asks calm calm' h k =
       let k' : Step (Unit {0}) beside (Execute request) (Answered (Ok reply')) made' new' = rw (sym asks) at k in
       requests spaces locates orders old beside reply reply' made made' new new' e (IsSureDrive (seen_of old) × Unit
-          {0})
+      {0})
       (λ known. known.0) request opens h k'
   execute_determined request other (Answered (Ok reply)) (Answered (Err fault)) opens asks calm calm' h k = absurd calm'
   execute_determined request other (Answered (Ok reply)) (Unanswered outcome) opens asks calm calm' h k = absurd k
@@ -116,7 +116,7 @@ module _ (spaces : NoSpaceEndsTwice) (locates : NoLocateEndsTwice) (orders : NoO
   power_on_determined medium other keeper keeper' (Unanswered outcome) (Unanswered outcome') opens asks kept calm
       calm' h k =
       powers_on (IsSureDrive (seen_of old) × IfSome medium IsSure) made made' new new' medium other keeper keeper'
-          outcome
+      outcome
       outcome' asks opens (λ known. known.1) kept calm calm' h k
   power_on_determined medium other keeper keeper' (Unanswered outcome) (Answered answer) opens asks kept calm calm' h
       k =

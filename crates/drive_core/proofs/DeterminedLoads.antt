@@ -265,7 +265,7 @@ module _ (S : Type 0) (made made' : Made) (new new' : Machine) where
   pub powers_on : (medium other : Option MediumState) (keeper keeper' : KeeperState)
       (outcome outcome' : Result Unit Fault)
       → AreSeenAlike medium other → IfSome medium OpensSurely → (S → IfSome medium IsSure) → without_room keeper ≡
-          without_room keeper'
+      without_room keeper'
       → IsCalm (Unanswered outcome) → IsCalm (Unanswered outcome')
       → PowersOn (Unit {0}) medium keeper outcome made new → PowersOn (Unit {0}) other keeper' outcome' made' new'
       → AreAlike S (Unanswered outcome) (Unanswered outcome') made made' new new'

@@ -125,18 +125,18 @@ untimed P old (FlushTurn ∷ is) (o ∷ os) made new calm h has =
     (untimed P h.0 is os h.2 new (All-tail IsCalm o os calm) h.4 has.1)
 untimed P old (Execute request ∷ is) (o ∷ os) made new calm h has =
     untimed_step P old h.0 new (Execute request) (without_turns is) o os made h.1 h.2 has.0 (All-head IsCalm o os
-        calm) h.3
+    calm) h.3
     h.5 (untimed P h.0 is os h.2 new (All-tail IsCalm o os calm) h.4 has.1)
 untimed P old (Load medium ∷ is) (o ∷ os) made new calm h has =
     untimed_step P old h.0 new (Load medium) (without_turns is) o os made h.1 h.2 has.0 (All-head IsCalm o os calm) h.3
     h.5 (untimed P h.0 is os h.2 new (All-tail IsCalm o os calm) h.4 has.1)
 untimed P old (Insert medium ∷ is) (o ∷ os) made new calm h has =
     untimed_step P old h.0 new (Insert medium) (without_turns is) o os made h.1 h.2 has.0 (All-head IsCalm o os calm)
-        h.3
+    h.3
     h.5 (untimed P h.0 is os h.2 new (All-tail IsCalm o os calm) h.4 has.1)
 untimed P old (PowerOn medium keeper ∷ is) (o ∷ os) made new calm h has =
     untimed_step P old h.0 new (PowerOn medium keeper) (without_turns is) o os made h.1 h.2 has.0 (All-head IsCalm o
-        os calm) h.3
+    os calm) h.3
     h.5 (untimed P h.0 is os h.2 new (All-tail IsCalm o os calm) h.4 has.1)
 untimed P old (Unload ∷ is) (o ∷ os) made new calm h has =
     untimed_step P old h.0 new Unload (without_turns is) o os made h.1 h.2 has.0 (All-head IsCalm o os calm) h.3 h.5
