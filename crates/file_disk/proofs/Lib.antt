@@ -1,5 +1,6 @@
+pub mod DoubtLemmas
+pub mod RestedLemmas
 pub mod RunLemmas
-pub mod SettlingLemmas
 pub mod SmearLemmas
 pub mod StagedLemmas
 pub mod TransferLemmas

@@ -1,8 +1,9 @@
 -- What a call of a staged file does, by what it does to the log of the disk below.
-use Rattle.std.proofs.Common.{◌≡◌, ℕ, ◌≤◌, List, length, take, drop, refl, sym, ap, ◌∙◌, subst, arith, Ok, Err, take-append-drop}
-use Rattle.std.proofs.lemmas.List.{length-take, take_all}
+use Rattle.std.proofs.Common.{◌≡◌, ◌⊎◌, inl, inr, ℕ, ◌+◌, ◌<◌, ◌≤◌, List, ◌++◌, length, length-append, take, drop, refl, sym, ap, ◌∙◌, subst, arith, Ok, Err, take-append-drop}
+use Rattle.std.proofs.lemmas.Bool.{cases_lt}
+use Rattle.std.proofs.lemmas.List.{length-drop, length-take, length-take-le, take_all}
 use Rattle.tape_disk.specs.CallLog.{CallLog, idled, logged, log_state}
-use Rattle.tape_disk.specs.Disk.{WriteAt}
+use Rattle.tape_disk.specs.Disk.{WriteAt, overwritten}
 use Rattle.file_disk.specs.declared.raw.CallFailed.{CallFailed}
 use Rattle.file_disk.specs.declared.raw.Stop.{Stop}
 use Rattle.file_disk.specs.RawFile.{CutsFile, WritesSomeBytes}
@@ -57,3 +58,23 @@ module _ (log mid new : CallLog) (same : mid ≡ log) where
         smeared = (drop len (log_state log 0).seen, sym (take-append-drop len (log_state log 0).seen));
         crash = λ image left. (image, left, (drop len image, sym (take-append-drop len image)));
       })
+
+-- a place of what was written over is an old one, or lies among the new bytes
+pub overwritten_within : (at : ℕ) (bytes old : List ℕ) (place : ℕ) → at ≤ length old
+    → place < length (overwritten at bytes old) → (place < length old) ⊎ ((at ≤ place) × (place < at + length bytes))
+overwritten_within at bytes old place inside lies = elim (cases_lt place (length old)) [
+  | inl before ↦ inl before
+  | inr behind ↦ inr (
+    omega (arith, inside, behind),
+    omega (
+      arith,
+      inside,
+      behind,
+      lies,
+      length-append (take at old ++ bytes) (drop (at + length bytes) old),
+      length-append (take at old) bytes,
+      length-take-le at old inside,
+      length-drop (at + length bytes) old,
+    ),
+  )
+]

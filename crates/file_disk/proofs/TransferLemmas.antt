@@ -3,7 +3,7 @@ use Rattle.std.proofs.Common.{◌≡◌, ℕ, ◌+◌, ◌-◌, ◌<◌, ◌≤�
 use Rattle.std.specs.Prelude.{slice_range, Result, OnErr}
 use Rattle.std.proofs.lemmas.List.{append-nil, drop-drop, drop-take, drop_at, length-drop, length-take, length-take-le, take-take, take_at}
 use Rattle.tape_disk.specs.CallLog.{smears}
-use Rattle.tape_disk.specs.Disk.{DiskState, Elapses, Follows, IsDisk, Same, Smeared, Writes, overwritten}
+use Rattle.tape_disk.specs.Disk.{Cuts, DiskState, Elapses, Follows, IsDisk, Same, Smeared, Writes, overwritten}
 use Rattle.vtl_base.specs.declared.faults.DevFault.{DevFault}
 use Rattle.file_disk.specs.Inner.Transfers.{HasRead, HasWritten}
 use Rattle.file_disk.proofs.RunLemmas.{ran_none, ran_on}
@@ -178,4 +178,12 @@ not_written old new same fault at bytes = record {
   smeared = subst (λ (l : List ℕ). Smeared at (length bytes) old.seen l) (sym same.seen)
       (smeared_same at (length bytes) old.seen);
   crash = λ image left. (image, same.crash image left, smeared_same at (length bytes) image);
+}
+
+-- a call that failed and changed nothing is a cut that failed
+pub not_cut : (old new : DiskState) → Same old new → (fault : DevFault) (len : ℕ) → Cuts len (Err fault) old new
+not_cut old new same fault len = record {
+  done = tt;
+  smeared = (drop len old.seen, same.seen ∙ sym (take-append-drop len old.seen));
+  crash = λ image left. (image, same.crash image left, (drop len image, sym (take-append-drop len image)));
 }

@@ -4,5 +4,4 @@ pub mod Inner
 pub mod OpenFile
 pub mod Opening
 pub mod RawFile
-pub mod Settling
 pub mod Staged

@@ -1,5 +1,5 @@
 -- What the calls of a file do to it, where the system is honest.
-use Rattle.std.specs.Prelude.{◌≡◌, ℕ, ◌≤◌, List, length, take, Result, IfOk, IfErr, OnOk, OnErr}
+use Rattle.std.specs.Prelude.{◌≡◌, ◌⊎◌, ℕ, ◌<◌, ◌≤◌, List, length, take, Result, IfOk, IfErr, OnOk, OnErr}
 use Rattle.tape_disk.specs.Disk.{DiskState, Follows, Smeared, Cut, Only, overwritten}
 use Rattle.file_disk.specs.declared.raw.CallFailed.{CallFailed}
 use Rattle.file_disk.specs.declared.raw.Stop.{Stop}
@@ -21,6 +21,23 @@ ReachesStill old new = (place : ℕ) → new place → old place
 -- a sync passes over no place from one to another, the second one not counted (own)
 abbrev pub ReachesRange : (from to : ℕ) → (ℕ → Type 0) → Type 0
 ReachesRange from to passed_over = (place : ℕ) → passed_over place → from ≤ place → to ≤ place
+
+-- there is none of these places (own)
+abbrev pub NoneOf : (ℕ → Type 0) → Type 0
+NoneOf places = (place : ℕ) → places place → ⊥
+
+-- the new places are old ones (own)
+abbrev pub AddsNone : (old new : ℕ → Type 0) → Type 0
+AddsNone old new = (place : ℕ) → new place → old place
+
+-- the new places are old ones, or lie from one to another, the second one not counted (own)
+abbrev pub AddsRange : (from to : ℕ) (old new : ℕ → Type 0) → Type 0
+AddsRange from to old new = (place : ℕ) → new place → old place ⊎ ((from ≤ place) × (place < to))
+
+-- after a sync that failed a later one passes over no other places than before, and those that were written since the
+-- last good one (own)
+abbrev pub LeavesBehind : (passed_over unsynced new : ℕ → Type 0) → Type 0
+LeavesBehind passed_over unsynced new = (place : ℕ) → new place → passed_over place ⊎ unsynced place
 
 -- A call that writes the first of the bytes, from a place on. What it wrote a read gives; a call that was
 -- interrupted wrote none. After an error a read may give any bytes in the range, and from the old end on; so may

@@ -1,5 +1,6 @@
 -- A file for tests, as its contracts see it.
-use Rattle.std.specs.Prelude.{ℕ, List}
+use Rattle.std.specs.Prelude.{◌⊎◌, ℕ, ◌<◌, List, length}
+use Rattle.std.proofs.Common.{⊎_elim}
 use Rattle.tape_disk.specs.CallLog.{CallLog, log_state}
 use Rattle.tape_disk.specs.Disk.{DiskState}
 use Rattle.tape_disk.specs.MemDisk.{mem_log}
@@ -26,3 +27,12 @@ staged_file_state file = log_state (staged_log file) 0
 -- Its sync passes over no place: one that failed did nothing, and the next one makes all sure (own).
 abbrev pub staged_passed_over : StagedFile → ℕ → Type 0
 staged_passed_over file place = ⊥
+
+-- No place is lost by a sync that fails, so none is counted as written since the last good one (own).
+abbrev pub staged_unsynced : StagedFile → ℕ → Type 0
+staged_unsynced file place = ⊥
+
+-- each such place lies in the file
+pub staged_within : (file : StagedFile) (place : ℕ) → staged_passed_over file place ⊎ staged_unsynced file place
+    → place < length (staged_file_state file).seen
+staged_within file place = ⊎_elim (λ never. absurd never) (λ never. absurd never)

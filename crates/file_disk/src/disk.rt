@@ -1,10 +1,17 @@
 //! A disk over an open file.
-ghost use Rattle.std.specs.Prelude.{◌≡◌, ◌↔◌, ◌+◌, ◌-◌, ◌<◌, ◌≤◌, ◌^◌, min, true, length, IsTrue};
+ghost use Rattle.std.specs.Prelude.{◌≡◌, ◌↔◌, ◌+◌, ◌-◌, ◌<◌, ◌≤◌, ◌^◌, min, true, length, IfSome, IsTrue};
 ghost use Rattle.tape_disk.specs.Disk.{Elapses, Same};
-ghost use Rattle.file_disk.specs.RawFile.{IsAsHonest, ReachesAll};
+ghost use Rattle.file_disk.specs.Opening.{IsLeftWell};
+ghost use Rattle.file_disk.specs.RawFile.{AddsNone, IsAsHonest, NoneOf, ReachesAll, ReachesStill};
+ghost use Rattle.file_disk.specs.Inner.Doubts.{IsInDoubt, IsLookedAt, LieIn};
+ghost use Rattle.file_disk.specs.Inner.Rested.{OnlyRead, Rested};
 
+use crate::doubt::{Doubt, begun, settled};
+use crate::looked::Looked;
 use crate::raw::RawFile;
 use crate::transfers::{read_all, write_all};
+use crate::written::Written;
+use std::alloc::Global;
 use std::marker::Model;
 use tape_disk::{Disk, Failures};
 use vtl_base::DevFault;
@@ -22,32 +29,35 @@ struct Size {
 /// A disk over an open file, honest where the file is. Short reads and writes are gone on with, an
 /// interrupted one is made again, and every other error of the system is a counted failure. After a
 /// write, a cut or a sync that failed the length is asked for anew; while the system does not tell
-/// it, each call fails. After a sync that failed each later one fails: what it would answer is not
-/// to be relied on before the file is opened again.
+/// it, each call fails. What a sync may pass over is written again as it stands before the next one:
+/// of a file that was just opened the last open gate and what stands behind the end gate; after a
+/// sync that failed what was written since the last good one. Where that is more than two ranges
+/// each later sync fails.
 #[derive(Drop)]
 pub struct DiskOver<F: RawFile> {
-    file: F,
+    looked: Looked<F>,
     size: Size,
     failures: Failures,
-    // a later sync then passes over places
-    sync_failed: bool,
+    doubt: Doubt,
+    written: Written,
 }
 
 impl<F: RawFile> Model for DiskOver<F> {
     ghost use Rattle.std.specs.Prelude.{◌≡◌, false, true, length};
     ghost use Rattle.tape_disk.specs.Failures.{failure_count};
     ghost use Rattle.file_disk.specs.OpenFile.{OpenFile, open_file_code};
-    ghost use Rattle.file_disk.specs.RawFile.{ReachesAll};
+    ghost use Rattle.file_disk.specs.Inner.Doubts.{IsInDoubt};
 
     ghost Value = { OpenFile F };
 
     ghost coded = { open_file_code F.code };
 
-    ghost view = { λ d. record { file = d.file; failures = failure_count d.failures } };
+    ghost view = { λ d. record { file = d.looked.file; failures = failure_count d.failures } };
 
-    ghost invariant = { λ d. (F.state d.file).honest →
-        (d.size.is_told ≡ true) × (d.size.bytes ≡ length (F.state d.file).seen)
-        × (d.sync_failed ≡ false → ReachesAll (F.passed_over d.file)) };
+    ghost invariant = { λ d. (F.state d.looked.file).honest →
+        (d.size.is_told ≡ true) × (d.size.bytes ≡ length (F.state d.looked.file).seen)
+        × IsInDoubt d.doubt d.written (F.state d.looked.file).seen
+        (F.passed_over d.looked.file) (F.unsynced d.looked.file) };
 }
 
 // What the system tells of a file's length, or else the length that it told last.
@@ -75,19 +85,40 @@ pub(crate) fn fits(at: u64, count: usize) -> bool
 }
 
 impl<F: RawFile> DiskOver<F> {
-    /// A disk over an open file, with no failure yet. No sync of the file has failed since its last
-    /// bytes were written again.
+    /// A disk over an open file, with no failure yet. No sync of the file has failed, and nothing was
+    /// written since the last one.
     pub fn new(file: F) -> DiskOver<F>
-        requires { (F.state file).honest → ReachesAll (F.passed_over file) }
+        requires reaches { (F.state file).honest → ReachesAll (F.passed_over file) }
+        requires synced { (F.state file).honest → NoneOf (F.unsynced file) }
         ensures file { result.file ≡ file }
         ensures failures { result.failures ≡ 0 }
     {
         let size = measured(&file, 0);
         DiskOver {
-            file,
+            looked: Looked::new(file),
             size,
             failures: Failures::none(),
-            sync_failed: false,
+            doubt: Doubt::Nothing,
+            written: Written::none(),
+        }
+    }
+
+    /// A disk over a file that was just opened for change, with no failure yet. Nothing is read or
+    /// written. Its first sync, or a write or a cut before it, looks for the last gates, which takes
+    /// memory, and where it runs out is a failure.
+    pub fn opened(alloc: Global, file: F) -> DiskOver<F>
+        requires { (F.state file).honest →
+            IsLeftWell (F.state file).seen (F.passed_over file) (F.unsynced file) }
+        ensures file { result.file ≡ file }
+        ensures failures { result.failures ≡ 0 }
+    {
+        let size = measured(&file, 0);
+        DiskOver {
+            looked: Looked::new(file),
+            size,
+            failures: Failures::none(),
+            doubt: Doubt::Opened(alloc),
+            written: Written::none(),
         }
     }
 
@@ -95,7 +126,7 @@ impl<F: RawFile> DiskOver<F> {
     pub fn file(&self) -> &F
         ensures { result.now ≡ self.now.file }
     {
-        &self.file
+        &self.looked.file
     }
 
     // Asks for the length where it is not known: whether it is.
@@ -104,7 +135,7 @@ impl<F: RawFile> DiskOver<F> {
         ensures known { (F.state self.old.file).honest → result ≡ true }
     {
         if !self.size.is_told {
-            self.size = measured(&self.file, self.size.bytes);
+            self.size = measured(&self.looked.file, self.size.bytes);
         }
         self.size.is_told
     }
@@ -119,8 +150,43 @@ impl<F: RawFile> DiskOver<F> {
         ensures count { self.new.failures ≡ self.old.failures + 1 }
         ensures told { result.failures ≡ min self.new.failures (2 ^ 64 - 1) }
     {
-        let _ = self.file.read_some(0, &mut []);
+        let _ = self.looked.file.read_some(0, &mut []);
         self.failures.rise()
+    }
+
+    // Looks at a file that was just opened, before a write or a cut: what is in doubt of it then, and
+    // what was written since its last good sync. None where that failed.
+    fn begin(&mut self) -> Option<(Doubt, Written)>
+        ensures failures { self.new.failures ≡ self.old.failures }
+        ensures rested { Rested F.state F.passed_over F.unsynced self.old.file self.new.file }
+        ensures known { (F.state self.old.file).honest → IfSome result (λ known. IsLookedAt known.0
+            × IsInDoubt known.0 known.1 (F.state self.new.file).seen
+            (F.passed_over self.new.file) (F.unsynced self.new.file)) }
+    {
+        let (doubt, written) = begun(&mut self.looked, self.doubt, self.written, self.size.bytes);
+        self.doubt = doubt;
+        self.written = written;
+        match doubt {
+            Doubt::Opened(_) => None,
+            _ => Some((doubt, written)),
+        }
+    }
+
+    // Writes again what is in doubt: what was written since the last good sync. None where that
+    // failed, or nobody knows what is in doubt.
+    fn heal(&mut self) -> Option<Written>
+        ensures failures { self.new.failures ≡ self.old.failures }
+        ensures rested { Rested F.state F.passed_over F.unsynced self.old.file self.new.file }
+        ensures healed { (F.state self.old.file).honest → IfSome result (λ written.
+            ReachesAll (F.passed_over self.new.file) × LieIn written (F.unsynced self.new.file)) }
+    {
+        let (doubt, written) = settled(&mut self.looked, self.doubt, self.written, self.size.bytes);
+        self.doubt = doubt;
+        self.written = written;
+        match doubt {
+            Doubt::Nothing => Some(written),
+            _ => None,
+        }
     }
 }
 
@@ -143,7 +209,7 @@ impl<F: RawFile> Disk for DiskOver<F> {
         if !self.is_measured() || !fits(at, buffer.len()) {
             return Err(self.refuse());
         }
-        match read_all(&mut self.file, at, buffer) {
+        match read_all(&mut self.looked.file, at, buffer) {
             Ok(()) => Ok(()),
             Err(_) => Err(self.failures.rise()),
         }
@@ -153,13 +219,18 @@ impl<F: RawFile> Disk for DiskOver<F> {
         if !self.is_measured() || !fits(at, bytes.len()) {
             return Err(self.refuse());
         }
-        match write_all(&mut self.file, at, bytes) {
+        let Some((doubt, written)) = self.begin() else {
+            return Err(self.refuse());
+        };
+        self.doubt = doubt;
+        self.written = written.noted(at, at + bytes.len() as u64);
+        match write_all(&mut self.looked.file, at, bytes) {
             Ok(()) => {
                 self.size.bytes = self.size.bytes.max(at + bytes.len() as u64);
                 Ok(())
             }
             Err(_) => {
-                self.size = measured(&self.file, self.size.bytes);
+                self.size = measured(&self.looked.file, self.size.bytes);
                 Err(self.failures.rise())
             }
         }
@@ -169,27 +240,40 @@ impl<F: RawFile> Disk for DiskOver<F> {
         if !self.is_measured() {
             return Err(self.refuse());
         }
-        match self.file.cut(len) {
+        let Some((doubt, written)) = self.begin() else {
+            return Err(self.refuse());
+        };
+        self.doubt = doubt;
+        self.written = written;
+        match self.looked.file.cut(len) {
             Ok(()) => {
                 self.size.bytes = len;
                 Ok(())
             }
             Err(_) => {
-                self.size = measured(&self.file, self.size.bytes);
+                self.size = measured(&self.looked.file, self.size.bytes);
                 Err(self.failures.rise())
             }
         }
     }
 
     fn sync(&mut self) -> Result<(), DevFault> {
-        if self.sync_failed || !self.is_measured() {
+        if !self.is_measured() {
             return Err(self.refuse());
         }
-        match self.file.sync() {
-            Ok(()) => Ok(()),
+        let Some(written) = self.heal() else {
+            return Err(self.refuse());
+        };
+        match self.looked.file.sync() {
+            Ok(()) => {
+                self.doubt = Doubt::Nothing;
+                self.written = Written::none();
+                Ok(())
+            }
             Err(_) => {
-                self.sync_failed = true;
-                self.size = measured(&self.file, self.size.bytes);
+                self.doubt = Doubt::SyncFailed;
+                self.written = written;
+                self.size = measured(&self.looked.file, self.size.bytes);
                 Err(self.failures.rise())
             }
         }

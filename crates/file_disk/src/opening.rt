@@ -9,8 +9,8 @@ use crate::FileDisk;
 use crate::disk::DiskOver;
 use crate::error::FileError;
 use crate::raw::RawFile;
-use crate::settling::settled;
 use crate::system::SystemFile;
+use std::alloc::Global;
 use std::fs::{File, OpenOptions, TryLockError};
 use std::io::ErrorKind;
 use std::os::fd::AsRawFd;
@@ -51,10 +51,11 @@ fn error_of_kind(kind: ErrorKind) -> FileError
     }
 }
 
-/// Makes a file of no bytes and opens it, for this process alone. At Ok the name is sure. A file
-/// that exists is not touched. The name is taken as it stands, from the working directory. Else
-/// `Exists`; `Missing`, of its folder; `NotAFile`, of a name that ends in `/`; `Device`; `InUse`
-/// where another process locked the new file first, which then stays.
+/// Makes a file of no bytes and opens it, for this process alone. At Ok the name is sure. What exists
+/// is not touched. The name is taken as it stands, from the working directory. Else `Exists`, of a
+/// regular file; `NotAFile`, of a folder, a pipe, a device or a link that leads nowhere, and of a name
+/// that ends in `/`; `Missing`, of its folder; `Device`; `InUse` where another process locked the new
+/// file first, which then stays.
 pub fn create(rt: &HostRuntime, path: &str) -> Result<FileDisk, FileError>
     ensures ok { IfOk result (λ disk. disk.failures ≡ 0) }
     ensures device { IfErr result IsOneFailure }
@@ -63,10 +64,10 @@ pub fn create(rt: &HostRuntime, path: &str) -> Result<FileDisk, FileError>
     options.read(true).write(true).create_new(true);
     let file = match options.open(rt, path) {
         Ok(file) => file,
-        Err(error) => return Err(error_of(&error)),
+        Err(error) => return Err(not_made(rt, path, &error)),
     };
-    let file = match locked(file) {
-        Ok(file) => file,
+    let mut file = match locked(file) {
+        Ok(file) => SystemFile::over(file),
         // Another process has opened it meanwhile.
         Err(FileError::InUse) => return Err(FileError::InUse),
         Err(error) => {
@@ -75,14 +76,12 @@ pub fn create(rt: &HostRuntime, path: &str) -> Result<FileDisk, FileError>
         }
     };
     // Where it fails the lock is held until the name is gone: nobody else opens the file before that.
-    let disk = match settled(SystemFile::over(file)) {
-        Ok(disk) => disk,
-        Err(file) => {
-            let _ = fs::remove_file(rt, path);
-            drop(file);
-            return Err(device());
-        }
-    };
+    if file.sync().is_err() {
+        let _ = fs::remove_file(rt, path);
+        drop(file);
+        return Err(device());
+    }
+    let disk = DiskOver::new(file);
     if let Err(error) = sync_folder(rt, path) {
         let _ = fs::remove_file(rt, path);
         drop(disk);
@@ -91,11 +90,31 @@ pub fn create(rt: &HostRuntime, path: &str) -> Result<FileDisk, FileError>
     Ok(disk)
 }
 
-/// Opens a file, for this process alone. Its last 8,388,672 bytes are written again where they are
-/// before its sync, from the start of their first page of 4,096 on, or all where it has fewer: where
-/// a sync failed before, an earlier process may have left bytes in the system's memory that never
-/// reached the device, and that a sync alone passes over. A fault in that is `Device`. What a crash
-/// in it leaves stands in docs/PREMISES.md. Else `Missing`, `NotAFile`, `InUse` or `Device`.
+// Why a file of this name was not made: what has the name may be no regular file.
+fn not_made(rt: &HostRuntime, path: &str, error: &io::Error) -> FileError
+    ensures { IsOneFailure result }
+{
+    match error_of(error) {
+        FileError::Exists => what_exists(rt, path),
+        other => other,
+    }
+}
+
+fn what_exists(rt: &HostRuntime, path: &str) -> FileError
+    ensures { IsOneFailure result }
+{
+    match fs::metadata(rt, path) {
+        Ok(found) if found.is_file() => FileError::Exists,
+        Ok(_) => FileError::NotAFile,
+        // A link that leads nowhere.
+        Err(error) if error.kind() == ErrorKind::NotFound => FileError::NotAFile,
+        Err(_) => device(),
+    }
+}
+
+/// Opens a file for change, for this process alone. Nothing is read, written or synced: what an
+/// earlier process may have left in doubt the first sync of the disk makes sure (`DiskOver::opened`).
+/// Else `Missing`, `NotAFile`, `InUse` or `Device`.
 pub fn open(rt: &HostRuntime, path: &str) -> Result<FileDisk, FileError>
     ensures ok { IfOk result (λ disk. disk.failures ≡ 0) }
     ensures device { IfErr result IsOneFailure }
@@ -103,9 +122,9 @@ pub fn open(rt: &HostRuntime, path: &str) -> Result<FileDisk, FileError>
     open_as(rt, path, Access::Change)
 }
 
-/// Opens a file to be read, for this process alone: each call that would change it fails. Nothing is
-/// written again, so where a sync failed before, what is read may not be on the device. Else
-/// `Missing`, `NotAFile`, `InUse` or `Device`.
+/// Opens a file to be read, for this process alone, and syncs it: each call that would change it
+/// fails. Nothing is written again, so where a sync failed before, what is read may not be on the
+/// device. Else `Missing`, `NotAFile`, `InUse` or `Device`.
 pub fn open_to_read(rt: &HostRuntime, path: &str) -> Result<FileDisk, FileError>
     ensures ok { IfOk result (λ disk. disk.failures ≡ 0) }
     ensures device { IfErr result IsOneFailure }
@@ -126,13 +145,13 @@ fn open_as(rt: &HostRuntime, path: &str, access: Access) -> Result<FileDisk, Fil
     let mut options = OpenOptions::new();
     options.read(true).write(access == Access::Change);
     match options.open(rt, path) {
-        Ok(file) => prepared(file, access),
+        Ok(file) => prepared(rt.alloc(), file, access),
         Err(error) => Err(error_of(&error)),
     }
 }
 
-// A disk over an open file, which is locked, and settled where it may be changed.
-fn prepared(file: File, access: Access) -> Result<FileDisk, FileError>
+// A disk over an open file, which is locked, and synced where it is only read.
+fn prepared(alloc: Global, file: File, access: Access) -> Result<FileDisk, FileError>
     ensures ok { IfOk result (λ disk. disk.failures ≡ 0) }
     ensures device { IfErr result IsOneFailure }
 {
@@ -141,10 +160,7 @@ fn prepared(file: File, access: Access) -> Result<FileDisk, FileError>
         Err(error) => return Err(error),
     };
     match access {
-        Access::Change => match settled(file) {
-            Ok(disk) => Ok(disk),
-            Err(_file) => Err(device()),
-        },
+        Access::Change => Ok(DiskOver::opened(alloc, file)),
         Access::Read => match file.sync() {
             Ok(()) => Ok(DiskOver::new(file)),
             Err(_) => Err(device()),

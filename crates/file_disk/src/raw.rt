@@ -1,7 +1,7 @@
 //! An open file by the calls that a system has for it, and what an honest system makes of each.
-ghost use Rattle.std.specs.Prelude.{◌≡◌, ◌≤◌, ◌+◌, ℕ, length, take, IfOk, OnOk, Result, Some, slice_range};
+ghost use Rattle.std.specs.Prelude.{◌≡◌, ◌⊎◌, ◌<◌, ◌≤◌, ◌+◌, ℕ, length, take, IfOk, OnErr, OnOk, Result, Some, slice_range};
 ghost use Rattle.tape_disk.specs.Disk.{DiskState, IsDisk, Elapses, Same};
-ghost use Rattle.file_disk.specs.RawFile.{IsAsHonest, ReachesRange, ReachesStill, WritesSomeBytes, CutsFile, SyncsFile};
+ghost use Rattle.file_disk.specs.RawFile.{AddsNone, AddsRange, CutsFile, IsAsHonest, LeavesBehind, NoneOf, ReachesRange, ReachesStill, SyncsFile, WritesSomeBytes};
 
 use std::fmt::Debug;
 
@@ -29,6 +29,9 @@ pub trait RawFile {
     // none, while no sync of the file has failed.
     ghost passed_over: { Self → ℕ → Type 0 };
 
+    // The places that were written since the last good sync, by whichever process.
+    ghost unsynced: { Self → ℕ → Type 0 };
+
     /// The bytes of the file, or nothing where the system does not tell.
     fn size(&self) -> Option<u64>
         ensures { (state self.now).honest → result ≡ Some (length (state self.now).seen) };
@@ -43,7 +46,8 @@ pub trait RawFile {
         ensures bytes { (state self.old).honest → IfOk result
             (λ count. take count buffer.new ≡ slice_range (state self.old).seen at (at + count)) }
         ensures reaches { (state self.old).honest →
-            ReachesStill (passed_over self.old) (passed_over self.new) };
+            ReachesStill (passed_over self.old) (passed_over self.new) }
+        ensures unsynced { (state self.old).honest → AddsNone (unsynced self.old) (unsynced self.new) };
 
     /// Writes the first of the bytes from a place on: how many. The place is the end at most.
     fn write_some(&mut self, at: u64, bytes: &[u8]) -> Result<usize, Stop>
@@ -56,7 +60,26 @@ pub trait RawFile {
         ensures reaches { (state self.old).honest →
             ReachesStill (passed_over self.old) (passed_over self.new) }
         ensures again { (state self.old).honest →
-            IfOk result (λ count. ReachesRange at (at + count) (passed_over self.new)) };
+            IfOk result (λ count. ReachesRange at (at + count) (passed_over self.new)) }
+        ensures unsynced { (state self.old).honest →
+            AddsRange at (at + length bytes.now) (unsynced self.old) (unsynced self.new) };
+
+    /// Writes the first of the bytes from a place on, where they stand already: how many. They stay,
+    /// whatever crash comes, and a sync no longer passes over those that were written.
+    fn write_again(&mut self, at: u64, bytes: &[u8]) -> Result<usize, Stop>
+        requires inside { (state self.old).honest → at + length bytes.now ≤ length (state self.old).seen }
+        requires there { (state self.old).honest →
+            bytes.now ≡ slice_range (state self.old).seen at (at + length bytes.now) }
+        ensures bound { IfOk result (λ count. count ≤ length bytes.now) }
+        ensures honesty { IsAsHonest (state self.old) (state self.new) }
+        ensures time { (state self.old).honest → Elapses (state self.old) (state self.new) }
+        ensures same { (state self.old).honest → Same (state self.old) (state self.new) }
+        ensures reaches { (state self.old).honest →
+            ReachesStill (passed_over self.old) (passed_over self.new) }
+        ensures again { (state self.old).honest →
+            IfOk result (λ count. ReachesRange at (at + count) (passed_over self.new)) }
+        ensures unsynced { (state self.old).honest →
+            AddsRange at (at + length bytes.now) (unsynced self.old) (unsynced self.new) };
 
     /// Takes away the bytes from a place on. The place is the end at most.
     fn cut(&mut self, len: u64) -> Result<(), CallFailed>
@@ -66,17 +89,26 @@ pub trait RawFile {
         ensures cuts { (state self.old).honest →
             CutsFile len result (state self.old) (state self.new) }
         ensures reaches { (state self.old).honest →
-            ReachesStill (passed_over self.old) (passed_over self.new) };
+            ReachesStill (passed_over self.old) (passed_over self.new) }
+        ensures unsynced { (state self.old).honest → AddsNone (unsynced self.old) (unsynced self.new) };
 
-    /// Makes bytes and length sure, but for the places that it passes over. Which these are after a
-    /// fault is not known.
+    /// Makes bytes and length sure, but for the places that it passes over. After a fault it may pass
+    /// over those too that were written since the last good one.
     fn sync(&mut self) -> Result<(), CallFailed>
         ensures honesty { IsAsHonest (state self.old) (state self.new) }
         ensures time { (state self.old).honest → Elapses (state self.old) (state self.new) }
         ensures syncs { (state self.old).honest →
             SyncsFile (passed_over self.old) result (state self.old) (state self.new) }
         ensures reaches { (state self.old).honest →
-            OnOk result (ReachesStill (passed_over self.old) (passed_over self.new)) };
+            OnOk result (ReachesStill (passed_over self.old) (passed_over self.new)) }
+        ensures synced { (state self.old).honest → OnOk result (NoneOf (unsynced self.new)) }
+        ensures left { (state self.old).honest → OnErr result
+            (LeavesBehind (passed_over self.old) (unsynced self.old) (passed_over self.new)) }
+        ensures unsynced { (state self.old).honest →
+            OnErr result (AddsNone (unsynced self.old) (unsynced self.new)) };
 
     ghost is_file: { (file : Self) → (state file).honest → IsDisk (state file) };
+
+    ghost within: { (file : Self) → (state file).honest → (place : ℕ) →
+        passed_over file place ⊎ unsynced file place → place < length (state file).seen };
 }

@@ -75,13 +75,17 @@ fn allowed(turn: Turn, count: usize) -> Result<usize, Stop>
 
 impl RawFile for StagedFile {
     ghost use Rattle.tape_disk.specs.CallLog.{is_disk};
-    ghost use Rattle.file_disk.specs.Staged.{staged_file_state, staged_log, staged_passed_over};
+    ghost use Rattle.file_disk.specs.Staged.{staged_file_state, staged_log, staged_passed_over, staged_unsynced, staged_within};
 
     ghost state = { staged_file_state };
 
     ghost passed_over = { staged_passed_over };
 
+    ghost unsynced = { staged_unsynced };
+
     ghost is_file = { λ file honest. is_disk (staged_log file) 0 };
+
+    ghost within = { λ file honest. staged_within file };
 
     fn size(&self) -> Option<u64> {
         Some(self.disk.len())
@@ -116,6 +120,13 @@ impl RawFile for StagedFile {
                 Err(stop)
             }
         }
+    }
+
+    // The bytes stand there: nothing changes.
+    fn write_again(&mut self, _at: u64, bytes: &[u8]) -> Result<usize, Stop> {
+        let turn = self.next_turn();
+        self.rest();
+        allowed(turn, bytes.len())
     }
 
     fn cut(&mut self, len: u64) -> Result<(), CallFailed> {

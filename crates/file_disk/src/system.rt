@@ -28,8 +28,9 @@ fn stop_of(kind: ErrorKind) -> Stop
 impl SystemFile {
     /// A file that is open, as it stands. It takes no lock and looks at nothing, so it has no error. That
     /// the file is a regular one, open for what is asked of it and not for appending, and opened
-    /// nowhere else, in this process or another, is the caller's; and that `settle` is called before a
-    /// disk over it is written. `create`, `open` and `open_to_read` see to all of this for theirs.
+    /// nowhere else, in this process or another, is the caller's; and that a disk over it is made by
+    /// `DiskOver::opened` where it was written before. `create`, `open` and `open_to_read` see to all of
+    /// this for theirs.
     pub fn over(file: File) -> SystemFile
         ensures { system_file result ≡ file }
     {
@@ -38,13 +39,17 @@ impl SystemFile {
 }
 
 impl RawFile for SystemFile {
-    ghost use Rattle.file_disk.specs.Inner.SystemFile.{system_state, system_passed_over, of_honest};
+    ghost use Rattle.file_disk.specs.Inner.SystemFile.{of_honest, system_passed_over, system_state, system_unsynced};
 
     ghost state = { system_state };
 
     ghost passed_over = { system_passed_over };
 
+    ghost unsynced = { system_unsynced };
+
     ghost is_file = { λ file honest. of_honest file honest };
+
+    ghost within = { λ file honest place lies. of_honest file honest };
 
     fn size(&self) -> Option<u64> {
         match self.file.metadata() {
@@ -61,6 +66,13 @@ impl RawFile for SystemFile {
     }
 
     fn write_some(&mut self, at: u64, bytes: &[u8]) -> Result<usize, Stop> {
+        match self.file.write_at(bytes, at) {
+            Ok(count) => Ok(count),
+            Err(error) => Err(stop_of(error.kind())),
+        }
+    }
+
+    fn write_again(&mut self, at: u64, bytes: &[u8]) -> Result<usize, Stop> {
         match self.file.write_at(bytes, at) {
             Ok(count) => Ok(count),
             Err(error) => Err(stop_of(error.kind())),

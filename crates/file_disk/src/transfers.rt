@@ -1,12 +1,12 @@
 //! Reads and writes that go on where a call moved fewer bytes than were asked for.
 ghost use Rattle.std.specs.Prelude.{◌≡◌, ◌+◌, ◌<◌, ◌≤◌, ◌^◌, ℕ, List, length, take, IfOk, OnOk, OnErr, slice_range};
 ghost use Rattle.tape_disk.specs.Disk.{Elapses, Follows, Same, Smeared, overwritten};
-ghost use Rattle.file_disk.specs.RawFile.{IsAsHonest, ReachesRange, ReachesStill};
+ghost use Rattle.file_disk.specs.RawFile.{AddsNone, AddsRange, IsAsHonest, ReachesRange, ReachesStill};
 
 use crate::raw::{CallFailed, RawFile, Stop};
 
 // How many calls one read or write makes at most: no run lives to see them all interrupted.
-const CALLS: u64 = u64::MAX;
+pub(crate) const CALLS: u64 = u64::MAX;
 
 // One call that reads behind the bytes that were read: how many are there then. An interrupted
 // one read none.
@@ -23,6 +23,8 @@ fn read_on<F: RawFile>(
     ensures same { (F.state file.old).honest → Same (F.state file.old) (F.state file.new) }
     ensures reaches { (F.state file.old).honest →
         ReachesStill (F.passed_over file.old) (F.passed_over file.new) }
+    ensures unsynced { (F.state file.old).honest →
+        AddsNone (F.unsynced file.old) (F.unsynced file.new) }
     ensures bound { IfOk result (λ count. (done ≤ count) × (count ≤ length buffer.new)) }
     ensures bytes { (F.state file.old).honest →
         take done buffer.old ≡ slice_range (F.state file.old).seen at (at + done) →
@@ -55,6 +57,8 @@ pub(crate) fn read_all<F: RawFile>(
         (buffer.new ≡ slice_range (F.state file.old).seen at (at + length buffer.old)) }
     ensures reaches { (F.state file.old).honest →
         ReachesStill (F.passed_over file.old) (F.passed_over file.new) }
+    ensures unsynced { (F.state file.old).honest →
+        AddsNone (F.unsynced file.old) (F.unsynced file.new) }
 {
     let mut done = 0;
     let mut left = CALLS;
@@ -94,6 +98,8 @@ fn write_on<F: RawFile>(
         ReachesStill (F.passed_over file.old) (F.passed_over file.new) }
     ensures again { (F.state file.old).honest →
         IfOk result (λ count. ReachesRange (at + done) (at + count) (F.passed_over file.new)) }
+    ensures unsynced { (F.state file.old).honest →
+        AddsRange at (at + length bytes.now) (F.unsynced file.old) (F.unsynced file.new) }
 {
     match file.write_some(at + done as u64, &bytes[done..]) {
         Ok(count) => {
@@ -123,6 +129,8 @@ pub(crate) fn write_all<F: RawFile>(file: &mut F, at: u64, bytes: &[u8]) -> Resu
         ReachesStill (F.passed_over file.old) (F.passed_over file.new) }
     ensures again { (F.state file.old).honest →
         OnOk result (ReachesRange at (at + length bytes.now) (F.passed_over file.new)) }
+    ensures unsynced { (F.state file.old).honest →
+        AddsRange at (at + length bytes.now) (F.unsynced file.old) (F.unsynced file.new) }
 {
     let mut done = 0;
     let mut left = CALLS;

@@ -21,6 +21,10 @@ system_state file = record {
 pub system_passed_over : SystemFile → ℕ → Type 0
 system_passed_over file place = ⊥
 
+-- the places of it that are not synced, of which nothing is known either
+pub system_unsynced : SystemFile → ℕ → Type 0
+system_unsynced file place = ⊥
+
 -- what follows from an empty proposition
 pub of_honest : {P : Type 0} (file : SystemFile) → (system_state file).honest → P
 unfolding system_state

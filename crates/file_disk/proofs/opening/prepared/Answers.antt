@@ -1,8 +1,11 @@
 use Rattle.file_disk.specs.Inner.SystemFile.{of_honest}
 use Rattle.file_disk.proofs.opening.prepared.Goals as goal
 
-pub settled-requires : goal.settled-requires
-settled-requires c = λ honest. of_honest _ honest
+pub opened-requires : goal.opened-requires
+opened-requires c = λ honest. of_honest _ honest
 
-pub new-requires : goal.new-requires
-new-requires c = λ honest. of_honest _ honest
+pub new-requires-clause-reaches : goal.new-requires-clause-reaches
+new-requires-clause-reaches c = λ honest. of_honest _ honest
+
+pub new-requires-clause-synced : goal.new-requires-clause-synced
+new-requires-clause-synced c = λ honest. of_honest _ honest

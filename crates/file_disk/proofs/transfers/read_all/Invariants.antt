@@ -1,5 +1,5 @@
 use Rattle.std.proofs.Common.{◌≡◌, ◌-◌, ◌≤◌, length}
-use Rattle.file_disk.specs.RawFile.{IsAsHonest, ReachesStill}
+use Rattle.file_disk.specs.RawFile.{AddsNone, IsAsHonest, ReachesStill}
 use Rattle.file_disk.specs.Inner.Transfers.{HasRead}
 use Rattle.file_disk.specs.declared.transfers.TheConstants.{CALLS}
 use Rattle.file_disk.proofs.transfers.read_all.Given as goal
@@ -13,6 +13,7 @@ invariant-loop-left g l =
     (g.F.RawFile.state l.fn.file) (g.F.RawFile.state l.file))
     × ((g.F.RawFile.state l.fn.file).honest →
     ReachesStill (g.F.RawFile.passed_over l.fn.file) (g.F.RawFile.passed_over l.file))
+    × ((g.F.RawFile.state l.fn.file).honest → AddsNone (g.F.RawFile.unsynced l.fn.file) (g.F.RawFile.unsynced l.file))
 
 abbrev pub decreases-loop-left : goal.decreases-loop-left
 decreases-loop-left g l = l.left

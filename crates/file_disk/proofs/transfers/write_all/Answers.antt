@@ -1,4 +1,4 @@
-use Rattle.std.proofs.Common.{ℕ, ◌-◌, ap, ◌∙◌, subst, arith}
+use Rattle.std.proofs.Common.{inl, inr, ⊎_elim, ℕ, ◌-◌, ap, ◌∙◌, subst, arith}
 use Rattle.std.proofs.lemmas.List.{take_all}
 use Rattle.tape_disk.specs.Disk.{overwritten}
 use Rattle.file_disk.specs.Inner.Transfers.{HasWritten}
@@ -15,6 +15,7 @@ loop-left-init g c = (
   λ honest. written_none c.args.at c.args.bytes.now (g.F.RawFile.state c.args.file.now),
   λ honest place passed. passed,
   λ honest place passed after. omega (arith, after),
+  λ honest place written. inl written,
 )
 
 pub returns-in_err-done-clause-smeared : goal.returns-in_err-done-clause-smeared
@@ -88,4 +89,6 @@ loop-left-preserved g c =
           let mid = so.0.stays_honest honest in
           c.in_ok-done.ensures.again mid place passed
           (so.5 honest place (c.write_on.ensures.reaches mid place passed) after),
+      λ honest place written.
+          ⊎_elim (so.6 honest place) inr (c.write_on.ensures.unsynced (so.0.stays_honest honest) place written),
     )

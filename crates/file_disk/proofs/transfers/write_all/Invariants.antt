@@ -1,5 +1,5 @@
 use Rattle.std.proofs.Common.{◌+◌, ◌-◌, ◌≤◌, length}
-use Rattle.file_disk.specs.RawFile.{IsAsHonest, ReachesRange, ReachesStill}
+use Rattle.file_disk.specs.RawFile.{AddsRange, IsAsHonest, ReachesRange, ReachesStill}
 use Rattle.file_disk.specs.Inner.Transfers.{HasWritten}
 use Rattle.file_disk.specs.declared.transfers.TheConstants.{CALLS}
 use Rattle.file_disk.proofs.transfers.write_all.Given as goal
@@ -14,6 +14,8 @@ invariant-loop-left g l =
     × ((g.F.RawFile.state l.fn.file).honest →
     ReachesStill (g.F.RawFile.passed_over l.fn.file) (g.F.RawFile.passed_over l.file))
     × ((g.F.RawFile.state l.fn.file).honest → ReachesRange l.at (l.at + l.done) (g.F.RawFile.passed_over l.file))
+    × ((g.F.RawFile.state l.fn.file).honest →
+    AddsRange l.at (l.at + length l.bytes) (g.F.RawFile.unsynced l.fn.file) (g.F.RawFile.unsynced l.file))
 
 abbrev pub decreases-loop-left : goal.decreases-loop-left
 decreases-loop-left g l = l.left

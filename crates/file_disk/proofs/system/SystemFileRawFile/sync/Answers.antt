@@ -12,3 +12,6 @@ returns-in-Err-clause-time c = λ honest. of_honest c.args.self.now honest
 
 pub returns-in-Err-clause-syncs : goal.returns-in-Err-clause-syncs
 returns-in-Err-clause-syncs c = λ honest. of_honest c.args.self.now honest
+
+pub returns-in-Ok-clause-synced : goal.returns-in-Ok-clause-synced
+returns-in-Ok-clause-synced c = λ honest. of_honest c.args.self.now honest

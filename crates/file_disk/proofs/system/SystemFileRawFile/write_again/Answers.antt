@@ -1,0 +1,11 @@
+use Rattle.file_disk.specs.Inner.SystemFile.{of_honest}
+use Rattle.file_disk.proofs.system.SystemFileRawFile.write_again.Goals as goal
+
+pub returns-in-Ok-clause-time : goal.returns-in-Ok-clause-time
+returns-in-Ok-clause-time c = λ honest. of_honest c.args.self.now honest
+
+pub returns-in-Ok-clause-again : goal.returns-in-Ok-clause-again
+returns-in-Ok-clause-again c = λ honest. of_honest c.args.self.now honest
+
+pub returns-in-Err-clause-time : goal.returns-in-Err-clause-time
+returns-in-Err-clause-time c = λ honest. of_honest c.args.self.now honest

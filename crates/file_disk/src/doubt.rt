@@ -1,0 +1,169 @@
+//! What of an open file is in doubt, and how it is made sure.
+ghost use Rattle.std.specs.Prelude.{◌≡◌, ◌⊎◌, ◌<◌, ◌≤◌, ◌^◌, ℕ, false, length, IfSome, OnOk};
+ghost use Rattle.file_disk.specs.Opening.{IsLeftWell};
+ghost use Rattle.file_disk.specs.RawFile.{ReachesAll};
+ghost use Rattle.file_disk.specs.Inner.Doubts.{Covers, IsInDoubt, IsLookedAt, LieIn};
+ghost use Rattle.file_disk.specs.Inner.Rested.{OnlyRead, Rested};
+
+use crate::again::write_again;
+use crate::disk::MAX_FILE;
+use crate::looked::Looked;
+use crate::raw::{CallFailed, RawFile};
+use crate::written::{Span, Written};
+use gate_journal::{Gates, last_gates};
+use std::alloc::Global;
+
+/// What a sync may pass over.
+#[derive(Clone, Copy)]
+pub(crate) enum Doubt {
+    /// No place.
+    Nothing,
+    /// What an earlier process left, of which nothing was looked at.
+    Opened(Global),
+    /// What was written since the last good sync, or what was found at the opening.
+    SyncFailed,
+}
+
+// What is in doubt of a side with these gates in so many bytes: the last open gate, and what stands
+// behind the end gate. None where the gates do not lie in the bytes.
+fn doubt_of(gates: Gates, bytes: u64) -> Option<Written>
+    ensures { IfSome result (λ written. (place : ℕ) →
+        (place ≡ gates.last) ⊎ ((gates.end < place) × (place < bytes)) → Covers written place) }
+{
+    if gates.last >= bytes || gates.end >= bytes {
+        return None;
+    }
+    Some(Written {
+        one: Span {
+            from: gates.last,
+            end: gates.last + 1,
+        },
+        other: Span {
+            from: gates.end + 1,
+            end: bytes,
+        },
+        is_apart: false,
+    })
+}
+
+// Looks at a file of so many bytes that was just opened. None where that failed.
+fn look<F: RawFile>(alloc: Global, looked: &mut Looked<F>, bytes: u64) -> Option<(Doubt, Written)>
+    ensures read { OnlyRead F.state F.passed_over F.unsynced looked.old.file looked.new.file }
+    ensures found { (F.state looked.old.file).honest → bytes ≡ length (F.state looked.old.file).seen →
+        IsLeftWell (F.state looked.old.file).seen (F.passed_over looked.old.file) (F.unsynced looked.old.file) →
+        IfSome result (λ found. IsInDoubt found.0 found.1 (F.state looked.new.file).seen
+        (F.passed_over looked.new.file) (F.unsynced looked.new.file)) }
+{
+    let Ok(found) = last_gates(alloc, looked) else {
+        return None;
+    };
+    let Some(gates) = found else {
+        return Some((Doubt::Nothing, Written::apart()));
+    };
+    let Some(written) = doubt_of(gates, bytes) else {
+        return None;
+    };
+    Some((Doubt::SyncFailed, written))
+}
+
+// Writes the ranges again, as far as they lie in so many bytes.
+fn write_ranges<F: RawFile>(file: &mut F, written: Written, bytes: u64) -> Result<(), CallFailed>
+    requires known { written.is_apart ≡ false }
+    requires length { (F.state file.old).honest → bytes ≡ length (F.state file.old).seen }
+    ensures rested { Rested F.state F.passed_over F.unsynced file.old file.new }
+    ensures again { (F.state file.old).honest →
+        LieIn written (F.passed_over file.old) → OnOk result (ReachesAll (F.passed_over file.new)) }
+    ensures unsynced { (F.state file.old).honest →
+        LieIn written (F.unsynced file.old) → LieIn written (F.unsynced file.new) }
+{
+    if bytes > MAX_FILE {
+        return Err(CallFailed);
+    }
+    write_again(file, written.one.from, written.one.end.min(bytes))?;
+    write_again(file, written.other.from, written.other.end.min(bytes))
+}
+
+// Looks at a file that was just opened; of another one that was done.
+fn looked_at<F: RawFile>(
+    looked: &mut Looked<F>,
+    doubt: Doubt,
+    written: Written,
+    bytes: u64,
+) -> (Doubt, Written)
+    ensures rested { Rested F.state F.passed_over F.unsynced looked.old.file looked.new.file }
+    ensures known { (F.state looked.old.file).honest → bytes ≡ length (F.state looked.old.file).seen →
+        IsInDoubt doubt written (F.state looked.old.file).seen
+        (F.passed_over looked.old.file) (F.unsynced looked.old.file) →
+        IsInDoubt result.0 result.1 (F.state looked.new.file).seen
+        (F.passed_over looked.new.file) (F.unsynced looked.new.file) }
+{
+    match doubt {
+        Doubt::Opened(alloc) => match look(alloc, looked, bytes) {
+            Some(found) => found,
+            None => (doubt, written),
+        },
+        _ => (doubt, written),
+    }
+}
+
+// Writes again what was written since the last good sync, where that is known.
+fn healed<F: RawFile>(looked: &mut Looked<F>, written: Written, bytes: u64) -> (Doubt, Written)
+    requires length { (F.state looked.old.file).honest → bytes ≡ length (F.state looked.old.file).seen }
+    ensures rested { Rested F.state F.passed_over F.unsynced looked.old.file looked.new.file }
+    ensures known { (F.state looked.old.file).honest →
+        LieIn written (F.passed_over looked.old.file) → LieIn written (F.unsynced looked.old.file) →
+        IsInDoubt result.0 result.1 (F.state looked.new.file).seen
+        (F.passed_over looked.new.file) (F.unsynced looked.new.file) }
+{
+    if written.is_apart {
+        return (Doubt::SyncFailed, written);
+    }
+    match write_ranges(&mut looked.file, written, bytes) {
+        Ok(()) => (Doubt::Nothing, written),
+        Err(_) => (Doubt::SyncFailed, written),
+    }
+}
+
+/// Writes again what is in doubt of a file of so many bytes: what is in doubt of it then, and what
+/// was written since its last good sync.
+pub(crate) fn settled<F: RawFile>(
+    looked: &mut Looked<F>,
+    doubt: Doubt,
+    written: Written,
+    bytes: u64,
+) -> (Doubt, Written)
+    requires length { (F.state looked.old.file).honest → bytes ≡ length (F.state looked.old.file).seen }
+    ensures rested { Rested F.state F.passed_over F.unsynced looked.old.file looked.new.file }
+    ensures known { (F.state looked.old.file).honest →
+        IsInDoubt doubt written (F.state looked.old.file).seen
+        (F.passed_over looked.old.file) (F.unsynced looked.old.file) →
+        IsInDoubt result.0 result.1 (F.state looked.new.file).seen
+        (F.passed_over looked.new.file) (F.unsynced looked.new.file) }
+{
+    let (found, ranges) = looked_at(looked, doubt, written, bytes);
+    match found {
+        Doubt::SyncFailed => healed(looked, ranges, bytes),
+        _ => (found, ranges),
+    }
+}
+
+/// The same before a write or a cut, of a file that was just opened alone.
+pub(crate) fn begun<F: RawFile>(
+    looked: &mut Looked<F>,
+    doubt: Doubt,
+    written: Written,
+    bytes: u64,
+) -> (Doubt, Written)
+    requires length { (F.state looked.old.file).honest → bytes ≡ length (F.state looked.old.file).seen }
+    ensures rested { Rested F.state F.passed_over F.unsynced looked.old.file looked.new.file }
+    ensures known { (F.state looked.old.file).honest →
+        IsInDoubt doubt written (F.state looked.old.file).seen
+        (F.passed_over looked.old.file) (F.unsynced looked.old.file) →
+        IsInDoubt result.0 result.1 (F.state looked.new.file).seen
+        (F.passed_over looked.new.file) (F.unsynced looked.new.file) }
+{
+    match doubt {
+        Doubt::Opened(_) => settled(looked, doubt, written, bytes),
+        _ => (doubt, written),
+    }
+}

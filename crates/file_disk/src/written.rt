@@ -1,0 +1,87 @@
+//! Which bytes of a file were written since its last good sync.
+ghost use Rattle.std.specs.Prelude.{◌≡◌, ◌⊎◌, ◌<◌, ◌≤◌, ℕ, false, IfSome};
+ghost use Rattle.file_disk.specs.Inner.Doubts.{Covers, InSpan};
+
+/// Bytes from a place to another, the second one not counted. None where it does not come later.
+#[derive(Clone, Copy)]
+pub(crate) struct Span {
+    pub from: u64,
+    pub end: u64,
+}
+
+const NO_BYTES: Span = Span { from: 0, end: 0 };
+
+impl Span {
+    // The range from the first byte of both to the last one, where they touch or overlap.
+    fn joined(self, at: u64, end: u64) -> Option<Span>
+        ensures covers { IfSome result (λ span. (place : ℕ) →
+            InSpan self place ⊎ ((at ≤ place) × (place < end)) → InSpan span place) }
+        ensures no_more { at ≤ end → IfSome result (λ span. (place : ℕ) →
+            InSpan span place → InSpan self place ⊎ ((at ≤ place) × (place < end))) }
+    {
+        if self.from >= self.end {
+            return Some(Span { from: at, end });
+        }
+        if end < self.from || self.end < at {
+            return None;
+        }
+        Some(Span {
+            from: self.from.min(at),
+            end: self.end.max(end),
+        })
+    }
+}
+
+/// The bytes that were written: two ranges at most, or more, of which nothing is kept.
+#[derive(Clone, Copy)]
+pub(crate) struct Written {
+    pub one: Span,
+    pub other: Span,
+    pub is_apart: bool,
+}
+
+impl Written {
+    /// No bytes.
+    pub fn none() -> Written
+        ensures apart { result.is_apart ≡ false }
+        ensures none { (place : ℕ) → Covers result place → ⊥ }
+    {
+        Written {
+            one: NO_BYTES,
+            other: NO_BYTES,
+            is_apart: false,
+        }
+    }
+
+    /// More ranges than are kept, or unknown ones.
+    pub fn apart() -> Written
+        ensures { (place : ℕ) → Covers result place }
+    {
+        Written {
+            one: NO_BYTES,
+            other: NO_BYTES,
+            is_apart: true,
+        }
+    }
+
+    /// These bytes too.
+    pub fn noted(self, at: u64, end: u64) -> Written
+        ensures covers { (place : ℕ) →
+            Covers self place ⊎ ((at ≤ place) × (place < end)) → Covers result place }
+    {
+        match self.one.joined(at, end) {
+            Some(one) => Written { one, ..self },
+            None => self.noted_beside(at, end),
+        }
+    }
+
+    fn noted_beside(self, at: u64, end: u64) -> Written
+        ensures covers { (place : ℕ) →
+            Covers self place ⊎ ((at ≤ place) × (place < end)) → Covers result place }
+    {
+        match self.other.joined(at, end) {
+            Some(other) => Written { other, ..self },
+            None => Written::apart(),
+        }
+    }
+}
