@@ -4,18 +4,20 @@
 The calls of a run, and of a creation, over real files are noted (faults.c, which takes `cc`). Behind each of them files
 are made which a loss of power might have left there, as docs/FORMATS.md models a disk: what a sync made safe stays;
 each range that was written since, and everything from the old end on, holds what stood there, what was written, the
-first bytes of it, or any bytes; behind a cut stands anything; bytes that are written over the same ones stay. A file is
-gone whose folder was not synced since it was made, or it is there. Over these files the program is started again. Each
+first bytes of it, or any bytes; behind a cut stands anything; one byte that is written over the same one stays, which
+is the premise of an opening. A file is gone whose folder was not synced since it was made, or it is there. Over these
+files the program is started again. Each
 cartridge must hold what a first part of the accepted changes leaves, with all up to the last acknowledged synchronizing
 command; the reservations must be those of a first part of the orders, with each acknowledged one; a file that was told
 as created must be new.
 
-So too random scripts of kill_script.py, with writing over, moves and reservations, three times behind each call.
+So too the opening and the check of files that hold something, with bytes behind their end gates; a run in which a
+sync fails, and the cartridge is unloaded and loaded again; and random scripts of kill_script.py, with writing over,
+moves and reservations, three times behind each call.
 
 --images N: files behind each call (30); --scripts N: such scripts (10); --seed S; --program PATH another program than
 the proved one; --selftest: syncs are forgotten, which must be found."""
 import argparse
-import collections
 import concurrent.futures
 import os
 import random
@@ -23,107 +25,19 @@ import subprocess
 import sys
 import tempfile
 
-from drive_model import Reservations
-from fault_script import SCRIPT
-from faults import FILES, NEW, Room, content, judged, made
+from drive_model import MARK, Reservations, good
+from fault_script import FIRST, MARKED, SCRIPT, write
+from faults import FILES, NEW, Room, brief, content, judged, made, read_back
 from kill_script import TAPES, Script
 from life import PROVED, TOP, Life
+from lost_power import World, noted
 
-Call = collections.namedtuple("Call", "letter name place bytes")
-FILLS = [b"\x00", b"\xa5", b"\xff"]
-
-
-def noted(path):
-    """The calls that were noted: those that did something to a file of the library, to its folder, or to standard
-    output."""
-    text, at, calls = content(path), 0, []
-    while at < len(text):
-        end = text.index(b"\n", at)
-        letter, name, place, count = text[at:end].decode().split()
-        calls.append(Call(letter, name, int(place), text[end + 1:end + 1 + int(count)]))
-        at = end + 1 + int(count)
-    return calls
-
-
-class Disk:
-    """A file, as a loss of power may leave it: what is safe, and the calls since."""
-
-    def __init__(self, safe):
-        self.safe, self.calls = safe, []
-
-    def seen(self):
-        image = bytearray(self.safe)
-        for call in self.calls:
-            if call.letter == "T":
-                del image[call.place:]
-            else:
-                image[call.place:call.place + len(call.bytes)] = call.bytes
-        return bytes(image)
-
-    def do(self, call):
-        if call.letter == "S":
-            self.safe, self.calls = self.seen(), []
-        # that bytes stay which are written over the same ones is a premise of its own
-        elif call.letter == "T" or self.seen()[call.place:call.place + len(call.bytes)] != call.bytes:
-            self.calls.append(call)
-
-    def image(self, chance):
-        """One of the images: all of it, none of it, or each call in its own way."""
-        whole = chance.random()
-        if whole < 0.1 or not self.calls:
-            return self.seen()
-        if whole < 0.2:
-            return self.safe
-        image = bytearray(self.safe)
-        for call in self.calls:
-            image = smeared(chance, image, call)
-        return bytes(image)
-
-
-def some(chance, count):
-    way = chance.randrange(5)
-    return FILLS[way] * count if way < 3 else chance.randbytes(count)
-
-
-def smeared(chance, old, call):
-    """What the call may have made of these bytes."""
-    if call.letter == "T":
-        return old[:call.place] + chance.choice([b"", old[call.place:], some(chance, chance.randrange(40))])
-    at, end = min(call.place, len(old)), min(call.place + len(call.bytes), len(old))
-    stood, wanted = bytes(old[at:end]), bytes(call.bytes)[:end - at]
-    landed = chance.randint(0, len(wanted))
-    within = chance.choice([stood, wanted, wanted[:landed] + stood[landed:],
-                            wanted[:landed] + some(chance, len(wanted) - landed), some(chance, len(wanted))])
-    beyond = bytes(call.bytes)[end - at:]
-    landed = chance.randint(0, len(beyond))
-    tail = chance.choice([b"", beyond, beyond[:landed], beyond[:landed] + some(chance, len(beyond) - landed),
-                          beyond + some(chance, chance.randrange(40)), some(chance, chance.randrange(40))])
-    if end != len(old):
-        tail = chance.choice([b"", some(chance, chance.randrange(40))])
-    return old[:at] + within + old[end:] + tail
-
-
-class World:
-    """The files of a library, their folder, and what was written to standard output."""
-
-    def __init__(self, sides, is_sync_forgotten):
-        self.disks = {file: Disk(side) for file, side in sides.items() if side is not None}
-        self.named, self.out, self.forgets = set(self.disks), "", is_sync_forgotten
-
-    def do(self, call):
-        if call.letter == "A":
-            self.out += call.bytes.decode()
-        elif call.letter == "C":
-            self.disks.setdefault(call.name, Disk(b""))
-        elif call.name in self.disks:
-            if call.letter != "S" or not self.forgets():
-                self.disks[call.name].do(call)
-        elif call.letter == "S":
-            self.named = set(self.disks)
-
-    def images(self, chance):
-        return {file: disk.image(chance) for file, disk in self.disks.items()
-                if file in self.named or chance.random() < 0.5}
+# a cartridge is written to, unloaded, loaded, and written to
+BODIES = b"before a fault", b"behind a fault"
+FRAMES = [[body, MARK] for body in BODIES]
+LOAD_SCRIPT = "".join(f"{line}\n" for line in [
+    "1 1 000000000000", write(BODIES[0]).text, MARKED.text, "1 1 1b0000000000", "1 1 1b0000000100",
+    write(BODIES[1]).text, MARKED.text])
 
 
 def calls_of(tools, folder, words, script):
@@ -149,6 +63,23 @@ def put(folder, files, images):
 
 def after_run(room, out):
     return judged(room, "memory", out.split("\n")[:-1], False)
+
+
+def after_opening(held):
+    def opened(room, out):
+        found = read_back(room)[0]
+        return [f"{name}: {brief(held[name])} was stored, and there is {brief(found[name])}" for name in held
+                if found[name] != held[name]]
+    return opened
+
+
+def after_load(room, out):
+    """The frame in flight is there or not; what was acknowledged is there."""
+    answers, found = out.split("\n")[:-1], read_back(room)[0][FIRST]
+    acknowledged = [answers[at:at + 1] == [good()] for at in (2, 6)]
+    # LOAD positions at the beginning, so the second block takes the place of the first one
+    ways = [FRAMES[1]] if acknowledged[1] else [*FRAMES, *[[]] * (not acknowledged[0])]
+    return [] if found in ways else [f"acknowledged {acknowledged}, and there is {brief(found)}"]
 
 
 def after_create(room, out):
@@ -192,6 +123,48 @@ def stop(tools, pristine, words, way, script, chance, images, forgets=lambda: Fa
     return looked_at(f"vtl {words[0]}", calls, list(left_behind(before, calls, chance, images, forgets)), look)
 
 
+def openings(tools, used, chance, images):
+    """Stops openings and checks of files that hold something, and bytes behind their ends."""
+    room = Room(tools, used)
+    with room.room:
+        held = read_back(room)[0]
+    for file in FILES.values():
+        with open(os.path.join(used, file), "ab") as out:
+            out.write(b"a frame that was cut off")
+    run = stop(tools, used, ["run", "--config", "lib.toml"], after_opening(held), "", chance, images)
+    return run + stop(tools, used, ["check", FILES[FIRST]], after_opening(held), "", chance, images)
+
+
+def healed(tools, pristine, chance, images):
+    """Stops a run behind each call in which a sync fails, and the cartridge is then unloaded and loaded."""
+    words, wrong = ["run", "--config", "lib.toml"], []
+    room = Room(tools, pristine)
+    with room.room:
+        before = {file: content(os.path.join(room.path, file)) for file in FILES.values()}
+        count = room.run(words, LOAD_SCRIPT, "fault", 0).calls
+    for at in range(1, count + 1):
+        room = Room(tools, pristine)
+        with room.room:
+            notes = os.path.join(room.room.name, "notes")
+            os.environ["FAULTS_NOTES"] = notes
+            try:
+                run = room.run(words, LOAD_SCRIPT, "fault", at)
+            finally:
+                del os.environ["FAULTS_NOTES"]
+            calls = noted(notes)
+        if run.name not in ("fsync", "fdatasync"):
+            continue
+
+        def look(out, files):
+            here = Room(tools, pristine)
+            with here.room:
+                put(here.path, FILES.values(), files)
+                return after_load(here, out)
+        tasks = list(left_behind(before, calls, chance, images))
+        wrong += looked_at(f"a run whose call {at} fails", calls, tasks, look)
+    return wrong
+
+
 def life(tools, chance, images, forgets=lambda: False):
     """Stops a random script of kill_script.py, over a library that holds nothing yet, behind each call."""
     files = [*(f"{name}.tape" for name in TAPES), "drive1.pr", "drive2.pr"]
@@ -230,7 +203,7 @@ def main():
         source = os.path.join(TOP, "bench", "faults.c")
         subprocess.run(["cc", "-O1", "-shared", "-fPIC", "-o", shim, source], check=True)
         tools = os.path.abspath(said.program), shim
-        bare, new, _ = made(tools, folder)
+        bare, new, used = made(tools, folder)
         run = (new, ["run", "--config", "lib.toml"], after_run, script)
         create = (bare, ["create", "--config", "lib.toml"], after_create, "")
         if said.selftest:
@@ -240,6 +213,7 @@ def main():
             print(f"self-test: where one sync in five is forgotten {counts} were found wrong")
             return 0 if all(found) else 1
         wrong = stop(tools, *run, chance, said.images) + stop(tools, *create, chance, said.images)
+        wrong += openings(tools, used, chance, said.images) + healed(tools, new, chance, 3)
         for _ in range(said.scripts):
             wrong += life(tools, chance, 3)
     print("\n".join([*wrong[:20], f"stops: {len(wrong)} wrong"]))
