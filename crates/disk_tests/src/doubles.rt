@@ -1,4 +1,6 @@
 //! Files of systems that are not honest.
+ghost use Rattle.std.specs.Prelude.{◌≤◌, length, IfOk};
+
 use file_disk::{CallFailed, RawFile, Stop};
 
 /// A file whose length the system tells only after a call that reads.
@@ -21,7 +23,11 @@ impl RawFile for Untold {
 
     ghost passed_over = { λ file place. ⊥ };
 
+    ghost unsynced = { λ file place. ⊥ };
+
     ghost is_file = { λ file honest. absurd honest };
+
+    ghost within = { λ file honest. absurd honest };
 
     fn size(&self) -> Option<u64> {
         if self.calls == 0 {
@@ -40,6 +46,10 @@ impl RawFile for Untold {
         Ok(bytes.len())
     }
 
+    fn write_again(&mut self, _at: u64, bytes: &[u8]) -> Result<usize, Stop> {
+        Ok(bytes.len())
+    }
+
     fn cut(&mut self, _len: u64) -> Result<(), CallFailed> {
         Ok(())
     }
@@ -49,26 +59,48 @@ impl RawFile for Untold {
     }
 }
 
-/// A file of any length, of which the places are noted that are written: in a row, each behind the
-/// last one and at the start of a page.
+/// Another file, of which the bytes are counted that are written, and the places noted from which on.
+/// Bytes that are written again are written: a test sees what the device has to do.
 #[derive(Drop)]
-pub struct Noted {
-    size: u64,
-    pub from: Option<u64>,
-    pub end: u64,
+pub struct Noted<F> {
+    file: F,
+    /// The bytes that were written.
+    pub bytes: u64,
+    /// The place of the last write.
+    pub last: u64,
+    /// The syncs that answered Ok.
+    pub syncs: u64,
 }
 
-impl Noted {
-    pub fn new(size: u64) -> Noted {
+impl<F: RawFile> Noted<F> {
+    pub fn new(file: F) -> Noted<F> {
         Noted {
-            size,
-            from: None,
-            end: 0,
+            file,
+            bytes: 0,
+            last: 0,
+            syncs: 0,
         }
+    }
+
+    pub fn file(&self) -> &F {
+        &self.file
+    }
+
+    fn write(&mut self, at: u64, bytes: &[u8]) -> Result<usize, Stop>
+        ensures { IfOk result (λ count. count ≤ length bytes.now) }
+    {
+        match self.file.size() {
+            Some(len) if at <= len => {}
+            _ => return Err(Stop::Failed),
+        }
+        let count = self.file.write_some(at, bytes)?;
+        self.bytes = self.bytes.saturating_add(count as u64);
+        self.last = at;
+        Ok(count)
     }
 }
 
-impl RawFile for Noted {
+impl<F: RawFile> RawFile for Noted<F> {
     ghost use Rattle.std.specs.Prelude.{[]};
 
     ghost state = { λ file. record {
@@ -82,32 +114,38 @@ impl RawFile for Noted {
 
     ghost passed_over = { λ file place. ⊥ };
 
+    ghost unsynced = { λ file place. ⊥ };
+
     ghost is_file = { λ file honest. absurd honest };
 
+    ghost within = { λ file honest. absurd honest };
+
     fn size(&self) -> Option<u64> {
-        Some(self.size)
+        self.file.size()
     }
 
-    fn read_some(&mut self, _at: u64, buffer: &mut [u8]) -> Result<usize, Stop> {
-        Ok(buffer.len())
+    fn read_some(&mut self, at: u64, buffer: &mut [u8]) -> Result<usize, Stop> {
+        self.file.read_some(at, buffer)
     }
 
     fn write_some(&mut self, at: u64, bytes: &[u8]) -> Result<usize, Stop> {
-        if at % 4096 != 0 || self.from.is_some() && self.end != at {
-            return Err(Stop::Failed);
-        }
-        if self.from.is_none() {
-            self.from = Some(at);
-        }
-        self.end = at.saturating_add(bytes.len() as u64);
-        Ok(bytes.len())
+        self.write(at, bytes)
     }
 
-    fn cut(&mut self, _len: u64) -> Result<(), CallFailed> {
-        Err(CallFailed)
+    fn write_again(&mut self, at: u64, bytes: &[u8]) -> Result<usize, Stop> {
+        self.write(at, bytes)
+    }
+
+    fn cut(&mut self, len: u64) -> Result<(), CallFailed> {
+        match self.file.size() {
+            Some(end) if len <= end => self.file.cut(len),
+            _ => Err(CallFailed),
+        }
     }
 
     fn sync(&mut self) -> Result<(), CallFailed> {
+        self.file.sync()?;
+        self.syncs = self.syncs.saturating_add(1);
         Ok(())
     }
 }

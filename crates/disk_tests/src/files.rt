@@ -1,5 +1,6 @@
 //! Disks over real files: what is written is read back, after another opening too.
 use crate::memory::written_elsewhere;
+use crate::openings::side_of;
 use crate::steps::{Step, act, forget_time, get, holds, is_written, new_folder, taken_away};
 use assertions::{assert_equal, assert_holds};
 use file_disk::{create, open, open_to_read};
@@ -59,27 +60,22 @@ fn a_file_in_another_thread(rt: HostRuntime) -> Result<(), Fail> {
     taken_away(&rt, &folder)
 }
 
-// The bytes of three pages, of which the last one is not whole.
-fn three_pages() -> [u8; 10_000] {
-    let mut bytes = [b'x'; 10_000];
-    bytes[4095] = b'y';
-    bytes[9_999] = b'z';
-    bytes
-}
-
+// An opening writes nothing, and the first sync the one byte that may be in doubt.
 fn written_again(abort: &impl Abort, rt: &HostRuntime, path: &str) -> Result<(), Fail> {
-    let bytes = three_pages();
-    fs::write(rt, path, bytes.as_slice())?;
+    let side = side_of(rt.alloc(), &[b"body"])?;
+    fs::write(rt, path, side.bytes())?;
     forget_time(rt, path)?;
     drop(open_to_read(rt, path)?);
+    let mut disk = open(rt, path)?;
     assert_holds!(abort; !is_written(rt, path)?);
-    drop(open(rt, path)?);
+    act(&mut disk, Step::Sync)?;
     assert_holds!(abort; is_written(rt, path)?);
-    holds(abort, rt, path, &bytes)
+    drop(disk);
+    holds(abort, rt, path, side.bytes())
 }
 
 #[test]
-fn a_file_is_written_again(rt: HostRuntime) -> Result<(), Fail> {
+fn a_gate_is_written_again(rt: HostRuntime) -> Result<(), Fail> {
     let folder = new_folder(&rt)?;
     written_again(&rt, &rt, &folder.path)?;
     taken_away(&rt, &folder)

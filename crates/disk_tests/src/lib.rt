@@ -10,9 +10,9 @@ mod files;
 #[cfg(test)]
 mod memory;
 #[cfg(test)]
-mod refusals;
+mod openings;
 #[cfg(test)]
-mod settling;
+mod refusals;
 #[cfg(test)]
 mod staged;
 #[cfg(test)]

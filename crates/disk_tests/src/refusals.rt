@@ -39,7 +39,8 @@ fn refused(abort: &impl Abort, rt: &HostRuntime, folder: &Folder) -> Result<(), 
     let kept = &folder.path;
     fs::write(rt, kept, b"kept".as_slice())?;
     are_answered(abort, rt, kept, EXISTS, None);
-    are_answered(abort, rt, &folder.name, EXISTS, NOT_A_FILE);
+    // A folder is nothing that a creation keeps. No test can make a pipe or a device.
+    are_answered(abort, rt, &folder.name, NOT_A_FILE, NOT_A_FILE);
     let nowhere = named(rt, &folder.name, "missing/t1.tape")?;
     are_answered(abort, rt, &nowhere, MISSING, MISSING);
     holds(abort, rt, kept, b"kept")

@@ -2,7 +2,7 @@
 use crate::doubles::Untold;
 use crate::steps::{Step, act, fails, failures, get, put};
 use assertions::assert_equal;
-use file_disk::{DiskOver, ForgetfulFile, RawFile, StagedFile, Stop, Turn};
+use file_disk::{DiskOver, RawFile, StagedFile, Stop, Turn};
 use std::alloc::Global;
 use std::collections::VecDeque;
 use std::test::Fail;
@@ -108,10 +108,10 @@ static COUNTED: &'static [(Step, u64, u64)] = &[
     (Step::Get(0), 3, 5),
     (Step::Cut(1), 4, 5),
     (Step::Sync, 5, 5),
-    // From then on no sync is relied on.
-    (Step::Sync, 6, 5),
+    // What was written is written again, and then made sure.
+    (Step::Sync, 0, 5),
     (Step::Cut(1), 0, 1),
-    (Step::Sync, 7, 1),
+    (Step::Sync, 0, 1),
 ];
 
 #[test]
@@ -120,7 +120,7 @@ fn each_error_is_counted(rt: HostRuntime) -> Result<(), Fail> {
     for &(step, failed, len) in COUNTED {
         assert_equal!(rt; (failures(act(&mut disk, step)), disk.len()), (failed, len));
     }
-    assert_equal!(rt; disk.file().disk().syncs(), 0);
+    assert_equal!(rt; disk.file().disk().syncs(), 2);
     assert_equal!(rt; disk.file().disk().bytes(), b"a".as_slice());
     Ok(())
 }
@@ -182,25 +182,5 @@ fn what_a_turn_moves(rt: HostRuntime) -> Result<(), Fail> {
         assert_equal!(rt; file.read_some(0, &mut [0; 4]), moved);
         assert_equal!(rt; file.write_some(0, b"wxyz"), moved);
     }
-    Ok(())
-}
-
-static FORGOTTEN: &'static [(Step, u64)] = &[
-    (Step::Put(0, b"new "), 0),
-    (Step::Sync, 1),
-    (Step::Sync, 2),
-    // Written again it would be made sure, but the disk does not know that all was.
-    (Step::Put(0, b"new "), 0),
-    (Step::Sync, 3),
-];
-
-#[test]
-fn a_disk_makes_no_sync_after_one_that_failed(rt: HostRuntime) -> Result<(), Fail> {
-    let file = ForgetfulFile::new(MemDisk::from_bytes(rt.alloc(), b"old ")?);
-    let mut disk = DiskOver::new(file);
-    fails(&rt, &mut disk, FORGOTTEN);
-    assert_equal!(rt; disk.file().disk().syncs(), 0);
-    let left = disk.file().disk().copy()?.crash(0, b'.')?;
-    assert_equal!(rt; left.bytes(), b"....".as_slice());
     Ok(())
 }

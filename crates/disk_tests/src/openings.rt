@@ -1,0 +1,293 @@
+//! What the first sync behind an opening writes again, and what one that follows a sync that failed.
+use crate::doubles::Noted;
+use crate::staged::staged;
+use crate::steps::{Step, act, fails, failures};
+use assertions::assert_equal;
+use file_disk::{CallFailed, DiskOver, ForgetfulFile, RawFile, StagedFile, Turn};
+use gate_journal::{Header, Journal, SideKind};
+use std::alloc::Global;
+use std::process::Abort;
+use std::test::Fail;
+use tape_disk::{Disk, MemDisk};
+
+/// A store of drive 1 with these bodies. Its gates stand at 0, at 27 and behind each body.
+pub fn side_of(alloc: Global, bodies: &[&[u8]]) -> Result<MemDisk, Fail> {
+    let header = Header {
+        kind: SideKind::Store,
+        name: *b"DRIVE1          ",
+        capacities: Vec::new(alloc),
+    };
+    let mut journal = Journal::create(alloc, MemDisk::new(alloc), header).map_err(
+        |refused| refused.error,
+    )?;
+    for body in bodies {
+        journal.append(body)?;
+    }
+    Ok(journal.close())
+}
+
+fn noted(alloc: Global, bytes: &[u8], turns: &[Turn]) -> Result<Noted<StagedFile>, Fail> {
+    Ok(Noted::new(staged(alloc, bytes, turns)?))
+}
+
+// A call, the failures that it tells, and what all calls have then done: the bytes that were written, the place of the
+// last write, and the good syncs.
+type Row = (Step, u64, u64, u64, u64);
+
+fn are_written(rt: &impl Abort, disk: &mut DiskOver<Noted<StagedFile>>, rows: &[Row]) {
+    for &(step, failed, bytes, last, syncs) in rows {
+        assert_equal!(rt; failures(act(disk, step)), failed);
+        let file = disk.file();
+        assert_equal!(rt; (file.bytes, file.last, file.syncs), (bytes, last, syncs));
+    }
+}
+
+fn opened(
+    rt: &impl Abort,
+    alloc: Global,
+    bytes: &[u8],
+    turns: &[Turn],
+    rows: &[Row],
+) -> Result<(), Fail> {
+    let mut disk = DiskOver::opened(alloc, noted(alloc, bytes, turns)?);
+    are_written(rt, &mut disk, rows);
+    assert_equal!(rt; disk.file().file().disk().len(), bytes.len() as u64);
+    Ok(())
+}
+
+// The last open gate alone, and only before the first good sync.
+static OF_A_SIDE: &'static [(&'static [&'static [u8]], &'static [Row])] = &[
+    (
+        &[],
+        &[
+            (Step::Read(0), 0, 0, 0, 0),
+            (Step::Sync, 0, 1, 0, 1),
+            (Step::Sync, 0, 1, 0, 2),
+        ],
+    ),
+    (
+        &[b"body"],
+        &[(Step::Sync, 0, 1, 27, 1), (Step::Sync, 0, 1, 27, 2)],
+    ),
+    (
+        &[b"body", b"b"],
+        &[
+            (Step::Sync, 0, 1, 36, 1),
+            (Step::Put(41, b"xy"), 0, 3, 41, 1),
+            (Step::Sync, 0, 3, 41, 2),
+        ],
+    ),
+];
+
+#[test]
+fn an_opening_writes_one_byte(rt: HostRuntime) -> Result<(), Fail> {
+    for &(bodies, rows) in OF_A_SIDE {
+        let side = side_of(rt.alloc(), bodies)?;
+        opened(&rt, rt.alloc(), side.bytes(), &[], rows)?;
+    }
+    Ok(())
+}
+
+// What a stop in an append left behind the end gate is written again, too.
+#[test]
+fn what_stands_behind_the_end(rt: HostRuntime) -> Result<(), Fail> {
+    let mut side = side_of(rt.alloc(), &[b"body"])?;
+    act(&mut side, Step::Put(37, b"0123456789"))?;
+    opened(
+        &rt,
+        rt.alloc(),
+        side.bytes(),
+        &[],
+        &[(Step::Sync, 0, 11, 37, 1)],
+    )
+}
+
+// No side, one that is damaged, and one whose last gate is behind a write that was not synced.
+#[test]
+fn a_file_that_is_no_side(rt: HostRuntime) -> Result<(), Fail> {
+    opened(&rt, rt.alloc(), b"", &[], &[(Step::Sync, 0, 0, 0, 1)])?;
+    opened(
+        &rt,
+        rt.alloc(),
+        b"no side",
+        &[],
+        &[(Step::Sync, 0, 0, 0, 1)],
+    )?;
+    let mut side = side_of(rt.alloc(), &[b"body"])?;
+    act(&mut side, Step::Cut(33))?;
+    opened(
+        &rt,
+        rt.alloc(),
+        side.bytes(),
+        &[],
+        &[(Step::Sync, 0, 0, 0, 1)],
+    )
+}
+
+// The calls of a first sync over a side with one body: four reads for header and gates, the byte that is read and
+// written again, and the sync.
+static CALLS: &'static [Turn] = &[
+    Turn::Whole,
+    Turn::Whole,
+    Turn::Whole,
+    Turn::Whole,
+    Turn::Whole,
+    Turn::Whole,
+    Turn::Failed,
+];
+
+// Each call of the first sync fails in turn. The second sync does what the first one did not.
+#[test]
+fn a_first_sync_that_fails(rt: HostRuntime) -> Result<(), Fail> {
+    let side = side_of(rt.alloc(), &[b"body"])?;
+    for first in 0..7 {
+        let rows: [Row; 2] = match first {
+            0 => [(Step::Sync, 1, 1, 27, 0), (Step::Sync, 0, 2, 27, 1)],
+            _ => [(Step::Sync, 1, 0, 0, 0), (Step::Sync, 0, 1, 27, 1)],
+        };
+        opened(&rt, rt.alloc(), side.bytes(), &CALLS[first..], &rows)?;
+    }
+    Ok(())
+}
+
+// A sync that fails behind writes into sixteen bytes. The good one behind it writes again what was written since the
+// last good one, and no more.
+static HEALED: &'static [(&'static [Turn], &'static [Row])] = &[
+    (
+        &[Turn::Whole, Turn::Failed],
+        &[
+            (Step::Put(3, b"abc"), 0, 3, 3, 0),
+            (Step::Sync, 1, 3, 3, 0),
+            (Step::Sync, 0, 6, 3, 1),
+        ],
+    ),
+    // Two writes that touch or overlap are one range, and two others two.
+    (
+        &[Turn::Whole, Turn::Whole, Turn::Failed],
+        &[
+            (Step::Put(3, b"abc"), 0, 3, 3, 0),
+            (Step::Put(5, b"def"), 0, 6, 5, 0),
+            (Step::Sync, 1, 6, 5, 0),
+            (Step::Sync, 0, 11, 3, 1),
+        ],
+    ),
+    (
+        &[Turn::Whole, Turn::Whole, Turn::Failed],
+        &[
+            (Step::Put(8, b"b"), 0, 1, 8, 0),
+            (Step::Put(0, b"a"), 0, 2, 0, 0),
+            (Step::Sync, 1, 2, 0, 0),
+            (Step::Sync, 0, 4, 0, 1),
+            (Step::Sync, 0, 4, 0, 2),
+        ],
+    ),
+    // What a good sync made sure is not written again.
+    (
+        &[Turn::Whole, Turn::Whole, Turn::Whole, Turn::Failed],
+        &[
+            (Step::Put(3, b"abc"), 0, 3, 3, 0),
+            (Step::Sync, 0, 3, 3, 1),
+            (Step::Put(9, b"z"), 0, 4, 9, 1),
+            (Step::Sync, 1, 4, 9, 1),
+            (Step::Sync, 0, 5, 9, 2),
+        ],
+    ),
+    // Bytes that were cut away are not written again.
+    (
+        &[Turn::Whole, Turn::Whole, Turn::Failed],
+        &[
+            (Step::Put(3, b"abc"), 0, 3, 3, 0),
+            (Step::Cut(4), 0, 3, 3, 0),
+            (Step::Sync, 1, 3, 3, 0),
+            (Step::Sync, 0, 4, 3, 1),
+        ],
+    ),
+    // A second fault is a fault again; the file is then asked for no bytes.
+    (
+        &[
+            Turn::Whole,
+            Turn::Failed,
+            Turn::Whole,
+            Turn::Failed,
+            Turn::Whole,
+            Turn::Whole,
+            Turn::Whole,
+            Turn::Failed,
+        ],
+        &[
+            (Step::Put(3, b"abc"), 0, 3, 3, 0),
+            (Step::Sync, 1, 3, 3, 0),
+            (Step::Sync, 2, 3, 3, 0),
+            (Step::Sync, 3, 6, 3, 0),
+            (Step::Sync, 0, 9, 3, 1),
+        ],
+    ),
+    // More ranges are not kept: each later sync fails, and asks the file for no bytes.
+    (
+        &[Turn::Whole, Turn::Whole, Turn::Whole, Turn::Failed],
+        &[
+            (Step::Put(0, b"a"), 0, 1, 0, 0),
+            (Step::Put(8, b"b"), 0, 2, 8, 0),
+            (Step::Put(14, b"c"), 0, 3, 14, 0),
+            (Step::Sync, 1, 3, 14, 0),
+            (Step::Sync, 2, 3, 14, 0),
+            (Step::Put(0, b"a"), 0, 4, 0, 0),
+            (Step::Sync, 3, 4, 0, 0),
+        ],
+    ),
+];
+
+#[test]
+fn a_sync_behind_one_that_failed(rt: HostRuntime) -> Result<(), Fail> {
+    for &(turns, rows) in HEALED {
+        let mut disk = DiskOver::new(noted(rt.alloc(), b"0123456789abcdef", turns)?);
+        are_written(&rt, &mut disk, rows);
+    }
+    Ok(())
+}
+
+// What a crash leaves at worst.
+fn leaves(rt: &impl Abort, disk: &MemDisk, bytes: &[u8]) -> Result<(), Fail> {
+    let left = disk.copy()?.crash(0, b'.')?;
+    assert_equal!(rt; left.bytes(), bytes);
+    Ok(())
+}
+
+static FORGOTTEN: &'static [(Step, u64)] = &[
+    (Step::Put(0, b"new "), 0),
+    (Step::Sync, 1),
+    (Step::Sync, 0),
+];
+
+// Over a system that forgets what failed, too.
+#[test]
+fn what_a_system_forgets(rt: HostRuntime) -> Result<(), Fail> {
+    let file = ForgetfulFile::new(MemDisk::from_bytes(rt.alloc(), b"old ")?);
+    let mut disk = DiskOver::new(file);
+    fails(&rt, &mut disk, FORGOTTEN);
+    leaves(&rt, disk.file().disk(), b"new ")
+}
+
+// An earlier process opened the last gate, and its sync failed: a later one passes over it.
+fn gate_in_doubt(rt: &impl Abort, alloc: Global, side: &[u8]) -> Result<ForgetfulFile, Fail> {
+    let mut before = MemDisk::from_bytes(alloc, side)?;
+    act(&mut before, Step::Put(27, b"\0"))?;
+    act(&mut before, Step::Sync)?;
+    let mut file = ForgetfulFile::new(before);
+    assert_equal!(rt; file.write_some(27, &[0xa5]), Ok(1));
+    assert_equal!(rt; file.sync(), Err(CallFailed));
+    assert_equal!(rt; file.sync(), Ok(()));
+    assert_equal!(rt; file.disk().copy()?.crash(0, b'.')?.bytes()[27], b'.');
+    Ok(file)
+}
+
+// The next opening makes it sure.
+#[test]
+fn a_gate_in_doubt(rt: HostRuntime) -> Result<(), Fail> {
+    let side = side_of(rt.alloc(), &[b"body"])?;
+    let file = Noted::new(gate_in_doubt(&rt, rt.alloc(), side.bytes())?);
+    let mut disk = DiskOver::opened(rt.alloc(), file);
+    assert_equal!(rt; failures(disk.sync()), 0);
+    assert_equal!(rt; (disk.file().bytes, disk.file().last), (1, 27));
+    leaves(&rt, disk.file().file().disk(), side.bytes())
+}
