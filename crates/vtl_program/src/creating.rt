@@ -24,7 +24,7 @@ pub enum Fate {
     Kept,
 }
 
-// A disk over a new file of this name, or nothing where something has the name.
+// A disk over a new file of this name, or nothing where a file has the name.
 fn new_file<D, F: MakeFiles<D>>(files: &F, name: &str) -> Result<Option<D>, VtlFault>
     ensures { IsNewFile F.makes name.now result }
 {

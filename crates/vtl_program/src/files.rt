@@ -81,7 +81,7 @@ pub trait MakeFiles<D> {
 
     ghost takes_away: { List ℕ → D → Type 0 };
 
-    /// A disk over a new file of this name; `Exists` where something has the name, which is not touched.
+    /// A disk over a new file of this name; `Exists` where a file has the name, which is not touched.
     fn make(&self, name: &str) -> Result<D, FileError>
         ensures { makes name.now result };
 
