@@ -86,4 +86,5 @@ stored_first S W determined old old' reply reply' made made' m m' e h k =
     let sights : sight_of h.0 ≡ sight_of k.0 =
     works_alike (contents_of old) (contents_of old') h.0 k.0 (contents_alike S old old' e) h.1.works k.1.works in
     determined (mounted h.0 old.position) (mounted k.0 old'.position) reply reply' made made' m m'
-    (record { sights = sights; positions = e.positions; sure = λ s. works_sure (contents_of old) h.0 h.1.works }) h.2 k.2
+    (record { sights = sights; positions = e.positions; sure = λ s. works_sure (contents_of old) h.0 h.1.works }) h.2
+        k.2

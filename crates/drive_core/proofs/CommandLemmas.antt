@@ -91,7 +91,8 @@ module _ (S : Type 0) where
       let cause = refusal_of (contents_of old) (change_at old.position) in
       let same : refusal_of (contents_of old') (change_at old'.position) ≡ cause =
       λ i. refusal_of (sym (contents_alike S old old' e) i) (sym c i) in
-      answers old old' reply reply' made made' m m' S e cause settles (change_at old.position) (change_at old'.position) c h
+      answers old old' reply reply' made made' m m' S e cause settles (change_at old.position) (change_at
+          old'.position) c h
       (subst (λ (r : Option Refusal). AppendAnswer r settles (change_at old'.position) old' reply' made' m') same k)
 
   -- WRITE
@@ -112,7 +113,8 @@ module _ (S : Type 0) where
       λ i. slice_get (objects_of (sym (contents_alike S old old' e) i) (sym e.positions i).part)
       (sym e.positions i).obj in
       let k' : ReadAnswer (Unit {0}) (object_at old) suppress asked old'.position reply' m'.position =
-      subst (λ (o : Option Object). ReadAnswer (Unit {0}) o suppress asked old'.position reply' m'.position) object k.2 in
+      subst (λ (o : Option Object). ReadAnswer (Unit {0}) o suppress asked old'.position reply' m'.position) object
+          k.2 in
       let given = gives old old' reply reply' made made' m m' S e (object_at old) suppress asked h.2 k' in
       record {
         replies = given.0;

@@ -53,7 +53,8 @@ module _ (spaces : NoSpaceEndsTwice) (locates : NoLocateEndsTwice) (orders : NoO
       work_alike (needs_medium (code_of command)) command request.nexus request.sent opens h k
 
   -- a request has one answer
-  pub requests : (request : Request) → IsSureInput old (Execute request) → Executes (Unit {0}) request old (Ok reply) made new
+  pub requests : (request : Request) → IsSureInput old (Execute request) → Executes (Unit {0}) request old (Ok reply)
+      made new
       → Executes (Unit {0}) request beside (Ok reply') made' new' → Alike
   requests request opens h k =
       judged_alike (verdict old request) request opens h

@@ -88,7 +88,8 @@ module _ (spaces : NoSpaceEndsTwice) (locates : NoLocateEndsTwice) (orders : NoO
       → Step (Unit {0}) beside (Execute other) output' made' new' → Alike (Execute request) output output'
   execute_determined request other (Answered (Ok reply)) (Answered (Ok reply')) opens asks calm calm' h k =
       let k' : Step (Unit {0}) beside (Execute request) (Answered (Ok reply')) made' new' = rw (sym asks) at k in
-      requests spaces locates orders old beside reply reply' made made' new new' e (IsSureDrive (seen_of old) × Unit {0})
+      requests spaces locates orders old beside reply reply' made made' new new' e (IsSureDrive (seen_of old) × Unit
+          {0})
       (λ known. known.0) request opens h k'
   execute_determined request other (Answered (Ok reply)) (Answered (Err fault)) opens asks calm calm' h k = absurd calm'
   execute_determined request other (Answered (Ok reply)) (Unanswered outcome) opens asks calm calm' h k = absurd k
@@ -112,10 +113,13 @@ module _ (spaces : NoSpaceEndsTwice) (locates : NoLocateEndsTwice) (orders : NoO
       → IsCalm output → IsCalm output' → Step (Unit {0}) old (PowerOn medium keeper) output made new
       → Step (Unit {0}) beside (PowerOn other keeper') output' made' new'
       → Alike (PowerOn medium keeper) output output'
-  power_on_determined medium other keeper keeper' (Unanswered outcome) (Unanswered outcome') opens asks kept calm calm' h k =
-      powers_on (IsSureDrive (seen_of old) × IfSome medium IsSure) made made' new new' medium other keeper keeper' outcome
+  power_on_determined medium other keeper keeper' (Unanswered outcome) (Unanswered outcome') opens asks kept calm
+      calm' h k =
+      powers_on (IsSureDrive (seen_of old) × IfSome medium IsSure) made made' new new' medium other keeper keeper'
+          outcome
       outcome' asks opens (λ known. known.1) kept calm calm' h k
-  power_on_determined medium other keeper keeper' (Unanswered outcome) (Answered answer) opens asks kept calm calm' h k =
+  power_on_determined medium other keeper keeper' (Unanswered outcome) (Answered answer) opens asks kept calm calm' h
+      k =
       absurd k
   power_on_determined medium other keeper keeper' (Answered answer) output' opens asks kept calm calm' h k = absurd h
 
@@ -187,7 +191,8 @@ steps_determined spaces locates orders old beside (Execute request) (Load other)
     c c'
     h k =
     absurd asks
-steps_determined spaces locates orders old beside (Execute request) (PowerOn other kept) o o' made made' new new' e opens
+steps_determined spaces locates orders old beside (Execute request) (PowerOn other kept) o o' made made' new new' e
+    opens
     asks c c' h k =
     absurd asks
 steps_determined spaces locates orders old beside (Execute request) FlushTurn o o' made made' new new' e opens asks c
@@ -218,7 +223,8 @@ steps_determined spaces locates orders old beside (PowerOn medium kept) FlushTur
 steps_determined spaces locates orders old beside FlushTurn (Execute other) o o' made made' new new' e opens asks c c'
     h k =
     absurd asks
-steps_determined spaces locates orders old beside FlushTurn (Load other) o o' made made' new new' e opens asks c c' h k =
+steps_determined spaces locates orders old beside FlushTurn (Load other) o o' made made' new new' e opens asks c c' h
+    k =
     absurd asks
 steps_determined spaces locates orders old beside FlushTurn (PowerOn other kept) o o' made made' new new' e opens asks
     c c'
@@ -237,7 +243,8 @@ steps_determined spaces locates orders old beside (PowerOn medium kept) Unload o
     absurd asks
 steps_determined spaces locates orders old beside FlushTurn Unload o o' made made' new new' e opens asks c c' h k =
     absurd asks
-steps_determined spaces locates orders old beside Unload (Execute other) o o' made made' new new' e opens asks c c' h k =
+steps_determined spaces locates orders old beside Unload (Execute other) o o' made made' new new' e opens asks c c' h
+    k =
     absurd asks
 steps_determined spaces locates orders old beside Unload (Load other) o o' made made' new new' e opens asks c c' h k =
     absurd asks
@@ -246,17 +253,20 @@ steps_determined spaces locates orders old beside Unload (PowerOn other kept) o 
     absurd asks
 steps_determined spaces locates orders old beside Unload FlushTurn o o' made made' new new' e opens asks c c' h k =
     absurd asks
-steps_determined spaces locates orders old beside (Insert medium) (Insert other) output output' made made' new new' e opens asks calm calm' h k =
+steps_determined spaces locates orders old beside (Insert medium) (Insert other) output output' made made' new new' e
+    opens asks calm calm' h k =
     insert_determined spaces locates orders old beside made made' new new' e medium other output output' asks h k
 steps_determined spaces locates orders old beside (Execute request) (Insert inserted) o o' made made' new new' e opens
     asks c c' h
     k =
     absurd asks
-steps_determined spaces locates orders old beside (Load medium) (Insert inserted) o o' made made' new new' e opens asks c
+steps_determined spaces locates orders old beside (Load medium) (Insert inserted) o o' made made' new new' e opens
+    asks c
     c' h
     k =
     absurd asks
-steps_determined spaces locates orders old beside (PowerOn medium kept) (Insert inserted) o o' made made' new new' e opens asks c c' h
+steps_determined spaces locates orders old beside (PowerOn medium kept) (Insert inserted) o o' made made' new new' e
+    opens asks c c' h
     k =
     absurd asks
 steps_determined spaces locates orders old beside FlushTurn (Insert inserted) o o' made made' new new' e opens asks c c'
@@ -266,10 +276,12 @@ steps_determined spaces locates orders old beside FlushTurn (Insert inserted) o 
 steps_determined spaces locates orders old beside Unload (Insert inserted) o o' made made' new new' e opens asks c c' h
     k =
     absurd asks
-steps_determined spaces locates orders old beside (Insert medium) (Execute other) o o' made made' new new' e opens asks c
+steps_determined spaces locates orders old beside (Insert medium) (Execute other) o o' made made' new new' e opens
+    asks c
     c' h k =
     absurd asks
-steps_determined spaces locates orders old beside (Insert medium) (Load other) o o' made made' new new' e opens asks c c'
+steps_determined spaces locates orders old beside (Insert medium) (Load other) o o' made made' new new' e opens asks c
+    c'
     h k =
     absurd asks
 steps_determined spaces locates orders old beside (Insert medium) (PowerOn other kept) o o' made made' new new' e opens
@@ -278,5 +290,6 @@ steps_determined spaces locates orders old beside (Insert medium) (PowerOn other
 steps_determined spaces locates orders old beside (Insert medium) FlushTurn o o' made made' new new' e opens asks c c' h
     k =
     absurd asks
-steps_determined spaces locates orders old beside (Insert medium) Unload o o' made made' new new' e opens asks c c' h k =
+steps_determined spaces locates orders old beside (Insert medium) Unload o o' made made' new new' e opens asks c c' h
+    k =
     absurd asks

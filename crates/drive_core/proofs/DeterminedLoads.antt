@@ -46,7 +46,8 @@ record WokeAs (S : Type 0) (woke answer : Result Unit MediumError) (opened : Med
   pub sure : S → IsSureSight sight
 
 -- a medium that is awake answers by whether it has failed, and stays
-wakes_awake : (S : Type 0) (failed : Bool) (medium : MediumState) (woke : Result Unit MediumError) (opened : MediumState)
+wakes_awake : (S : Type 0) (failed : Bool) (medium : MediumState) (woke : Result Unit MediumError) (opened :
+    MediumState)
     → medium.failed ≡ failed → (S → IsSure medium) → WakesFrom (Unit {0}) true medium woke opened
     → WokeAs S woke (awake_answer failed) opened (sight_of medium)
 wakes_awake S false medium (Ok done) opened f sure h =
@@ -263,7 +264,8 @@ module _ (S : Type 0) (made made' : Made) (new new' : Machine) where
   -- a power on leaves one drive
   pub powers_on : (medium other : Option MediumState) (keeper keeper' : KeeperState)
       (outcome outcome' : Result Unit Fault)
-      → AreSeenAlike medium other → IfSome medium OpensSurely → (S → IfSome medium IsSure) → without_room keeper ≡ without_room keeper'
+      → AreSeenAlike medium other → IfSome medium OpensSurely → (S → IfSome medium IsSure) → without_room keeper ≡
+          without_room keeper'
       → IsCalm (Unanswered outcome) → IsCalm (Unanswered outcome')
       → PowersOn (Unit {0}) medium keeper outcome made new → PowersOn (Unit {0}) other keeper' outcome' made' new'
       → AreAlike S (Unanswered outcome) (Unanswered outcome') made made' new new'

@@ -117,7 +117,8 @@ module _ (S : Type 0) (made made' : Made) (new new' : Machine) where
       subst (λ (w : Result Unit MediumError). ReloadsAs w k.1 nexus beside (Ok reply') new') (sym woke.answers) k.3 in
       reloads_as old beside nexus h.0 h.1 k.1 reply reply' e woke.sights woke.sure (h.4 ∙ sym k.4) h.3 k'
 
-module _ (S : Type 0) (made made' : Made) (new new' : Machine) (leave : Machine → MediumState → Machine) (old beside : Machine)
+module _ (S : Type 0) (made made' : Made) (new new' : Machine) (leave : Machine → MediumState → Machine) (old beside :
+    Machine)
     (leaves : (m m' : MediumState) → sight_of m ≡ sight_of m'
     → (seen_of (leave old m) ≡ seen_of (leave beside m'))
     × (IsSureSight (sight_of m) → IsSureDrive (seen_of (leave old m))))

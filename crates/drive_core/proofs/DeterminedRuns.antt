@@ -85,7 +85,8 @@ record Untimed (P : Machine → Input → Type 0) (old : Machine) (inputs : List
   pub run : SeenRun P old inputs outputs made new
 
 -- a step stands before such a run
-untimed_step : (P : Machine → Input → Type 0) (old mid new : Machine) (input : Input) (inputs : List Input) (output : Output) (outputs : List Output)
+untimed_step : (P : Machine → Input → Type 0) (old mid new : Machine) (input : Input) (inputs : List Input) (output :
+    Output) (outputs : List Output)
     (made first rest : Made) → P old input → IsCalm output → Step (Unit {0}) old input output first mid
     → made ≡ made_after first rest → Untimed P mid inputs (replies_of outputs) rest new
     → Untimed P old (input ∷ inputs) (replies_of (output ∷ outputs)) made new
@@ -96,7 +97,8 @@ untimed_step P old mid new input inputs output outputs made first rest has calm 
 }
 
 -- a turn before such a run leaves it as it is
-untimed_turn : (P : Machine → Input → Type 0) (old mid new : Machine) (inputs : List Input) (output : Output) (outputs : List Output)
+untimed_turn : (P : Machine → Input → Type 0) (old mid new : Machine) (inputs : List Input) (output : Output) (outputs
+    : List Output)
     (made first rest : Made) → IsCalm output → Step (Unit {0}) old FlushTurn output first mid
     → made ≡ made_after first rest → Untimed P mid inputs (replies_of outputs) rest new
     → Untimed P old inputs (replies_of (output ∷ outputs)) made new
@@ -122,16 +124,19 @@ untimed P old (FlushTurn ∷ is) (o ∷ os) made new calm h has =
     untimed_turn P old h.0 new (without_turns is) o os made h.1 h.2 (All-head IsCalm o os calm) h.3 h.5
     (untimed P h.0 is os h.2 new (All-tail IsCalm o os calm) h.4 has.1)
 untimed P old (Execute request ∷ is) (o ∷ os) made new calm h has =
-    untimed_step P old h.0 new (Execute request) (without_turns is) o os made h.1 h.2 has.0 (All-head IsCalm o os calm) h.3
+    untimed_step P old h.0 new (Execute request) (without_turns is) o os made h.1 h.2 has.0 (All-head IsCalm o os
+        calm) h.3
     h.5 (untimed P h.0 is os h.2 new (All-tail IsCalm o os calm) h.4 has.1)
 untimed P old (Load medium ∷ is) (o ∷ os) made new calm h has =
     untimed_step P old h.0 new (Load medium) (without_turns is) o os made h.1 h.2 has.0 (All-head IsCalm o os calm) h.3
     h.5 (untimed P h.0 is os h.2 new (All-tail IsCalm o os calm) h.4 has.1)
 untimed P old (Insert medium ∷ is) (o ∷ os) made new calm h has =
-    untimed_step P old h.0 new (Insert medium) (without_turns is) o os made h.1 h.2 has.0 (All-head IsCalm o os calm) h.3
+    untimed_step P old h.0 new (Insert medium) (without_turns is) o os made h.1 h.2 has.0 (All-head IsCalm o os calm)
+        h.3
     h.5 (untimed P h.0 is os h.2 new (All-tail IsCalm o os calm) h.4 has.1)
 untimed P old (PowerOn medium keeper ∷ is) (o ∷ os) made new calm h has =
-    untimed_step P old h.0 new (PowerOn medium keeper) (without_turns is) o os made h.1 h.2 has.0 (All-head IsCalm o os calm) h.3
+    untimed_step P old h.0 new (PowerOn medium keeper) (without_turns is) o os made h.1 h.2 has.0 (All-head IsCalm o
+        os calm) h.3
     h.5 (untimed P h.0 is os h.2 new (All-tail IsCalm o os calm) h.4 has.1)
 untimed P old (Unload ∷ is) (o ∷ os) made new calm h has =
     untimed_step P old h.0 new Unload (without_turns is) o os made h.1 h.2 has.0 (All-head IsCalm o os calm) h.3 h.5

@@ -164,7 +164,8 @@ module _ (spaces : NoSpaceEndsTwice) (locates : NoLocateEndsTwice) (orders : NoO
   loads_in (Loaded m) (Unloaded m') nexus same surely opens h k = cc same
 
   -- what unloads leaves drives that are seen alike
-  load_unload : (load : Bool) (nexus : ℕ) → IsSureCommand (LoadUnload load) old.bay → LoadUnloadWork (Unit {0}) load nexus old (Ok reply) made new
+  load_unload : (load : Bool) (nexus : ℕ) → IsSureCommand (LoadUnload load) old.bay → LoadUnloadWork (Unit {0}) load
+      nexus old (Ok reply) made new
       → LoadUnloadWork (Unit {0}) load nexus beside (Ok reply') made' new' → Alike
   load_unload true nexus opens h k = loads_in old.bay beside.bay nexus (ap (λ (x : Seen). x.bay) e) sure opens h k
   load_unload false nexus opens h k =
@@ -172,7 +173,8 @@ module _ (spaces : NoSpaceEndsTwice) (locates : NoLocateEndsTwice) (orders : NoO
       (λ m m' same. ((λ i. record (e i) { bay = Unloaded (same i) }), λ surely. surely))
       reply reply' e sure old.bay beside.bay (ap (λ (x : Seen). x.bay) e) sure h k
 
-  pub on_drive : (command : Command) (nexus : ℕ) (sent : List ℕ) → IsSureCommand command old.bay → DriveWork (Unit {0}) command nexus sent old (Ok
+  pub on_drive : (command : Command) (nexus : ℕ) (sent : List ℕ) → IsSureCommand command old.bay → DriveWork (Unit
+      {0}) command nexus sent old (Ok
       reply) made new
       → DriveWork (Unit {0}) command nexus sent beside (Ok reply') made' new' → Alike
   on_drive (RequestSense room) nexus sent opens h k = senses room nexus h k

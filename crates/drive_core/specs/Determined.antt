@@ -177,8 +177,8 @@ StepsAreDetermined =
     → AreAlike (IsSureDrive (seen_of old) × BringsSure input) output output' made made' new new'
 
 -- Two runs of which none of these came, by inputs that ask alike but for flusher's turns, which may stand at different
--- places, from drives that are seen alike: the replies are the same, and they come out alike. Again the inputs of one of
--- them that open a medium are asked that it be sure how that is opened, in the drives that they come to (own).
+-- places, from drives that are seen alike: the replies are the same, and they come out alike. Again the inputs of one
+-- run that open a medium are asked that it be sure how that is opened, in the drives that they come to (own).
 abbrev pub RunsAreDetermined : Type 0
 RunsAreDetermined =
     (old beside : Machine) (inputs others : List Input) (outputs outputs' : List Output) (made made' : Made)

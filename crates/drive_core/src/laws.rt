@@ -15,8 +15,8 @@ pub fn honest_steps<M: Medium>()
 /// Where no fault, want of memory or full side came, an input has one answer, makes one list of
 /// changes and leaves one drive, however its volume is split into what is stored and what is
 /// pending; and so have the inputs of a run, wherever flusher's turns stand in it. Only of an input
-/// that opens a medium it is asked that it be sure how that is opened. In a run in which no frame
-/// is under way as a device fails, that is sure of each medium that it was sure of at the start.
+/// that opens a medium it is asked that it be sure how that is opened. That is so in each run of
+/// which none of these came, if it was sure at the start what the side of each medium gives.
 pub fn answers_are_determined()
     ensures step { StepsAreDetermined }
     ensures run { RunsAreDetermined }

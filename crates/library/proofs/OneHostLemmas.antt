@@ -108,11 +108,13 @@ module _ {D : Type 0} (state : D → DiskState) (laws : Laws state) where
       (subst (λ (xs : List Input). AllAskAlike xs own) (sym (no_turns requests)) (ask_alike requests)) in
       let answered = map Answered (map Ok silent) in
       let taken : Run (Unit {0}) (machine_in state bay) own answered made end =
-      run_in (buffer_below state) laws.steps (medium_in bay.bay) honest (machine_in state bay) own answered made end run in
+      run_in (buffer_below state) laws.steps (medium_in bay.bay) honest (machine_in state bay) own answered made end
+          run in
       let opens : InRun IsSureInput (machine_in state bay) own answered made end taken =
       laws.stay (machine_in state bay) own answered made end sure (bring_nothing requests) (all_calm silent) taken in
       let same =
-      laws.determined (machine_in state bay) (machine_in state bay) own may.inputs answered may.outputs made may.made end
+      laws.determined (machine_in state bay) (machine_in state bay) own may.inputs answered may.outputs made may.made
+          end
       may.end refl alike (all_calm silent) may.calm taken opens may.run in
       sym (replies_among silent) ∙ same.outputs ∙ sym may.replied
 
