@@ -1,5 +1,5 @@
 -- Where the sides of a library come from: out of files, or made in memory (own).
-use Rattle.std.specs.Prelude.{◌≡◌, ◌⊎◌, ◌<◌, ℕ, [], true, false, List, None, Result, Ok, Err, string_bytes}
+use Rattle.std.specs.Prelude.{◌≡◌, ◌⊎◌, ℕ, [], true, false, List, None, Result, Ok, Err, string_bytes}
 use Rattle.tape_disk.specs.CallLog.{log_state}
 use Rattle.tape_disk.specs.Disk.{DiskState, Keeps, Only}
 use Rattle.tape_disk.specs.Moments.{LeavesOnly}
@@ -36,6 +36,14 @@ module _ {D : Type 0} where
     pub torn : shelved.torn ≡ []
     pub contents : shelved.contents ≡ contents_from (heading_with barcode capacities) []
 
+  -- a closed cartridge over this disk, as the disk was opened: no call of it was made since, and nothing is known of what
+  -- it gives (own)
+  pub record IsUnreadOver (disk : D) (cartridge : BufferState D) : Type 0 where
+    pub shelved : ClosedCartridge D
+    pub closed : cartridge ≡ closed_buffer shelved
+    pub unread : shelved.known ≡ false
+    pub same : shelved.disk ≡ disk
+
   -- a store of a drive that works, with no save under way (own)
   abbrev pub IsFoundStore : OpenStore D → Type 0
   IsFoundStore store = (store.torn ≡ None) × (store.failed ≡ false)
@@ -47,19 +55,6 @@ module _ {D : Type 0} where
     pub works : IsFoundStore store
 
   module _ (state : D → DiskState) where
-    -- the cartridge that was found on a disk: closed, and what its side gives is not known yet; no call failed, a read
-    -- of its disk gives what one gave before, that is sure, and at no moment a crash left anything new (own)
-    pub record IsFoundOn (disk : D) (cartridge : BufferState D) : Type 0 where
-      pub shelved : ClosedCartridge D
-      pub closed : cartridge ≡ closed_buffer shelved
-      pub known : shelved.known ≡ false
-      pub keeps : Keeps (state disk) (state shelved.disk)
-      pub none_failed : NoneFailed (state disk) (state shelved.disk)
-      pub same : (state disk).honest → (state shelved.disk).seen ≡ (state disk).seen
-      pub sure : (state disk).honest → Only (state disk).seen (state shelved.disk).may_leave
-      pub any_moment : (state disk).honest
-          → LeavesOnly (state disk) (state shelved.disk) (state disk).may_leave
-
     -- the store that was found on a disk: it works, and its states are those that the disk's bytes give; no call
     -- failed, the bytes are sure, and at no moment a crash left anything new (own)
     pub record IsStoreOn (disk : D) (store : OpenStore D) : Type 0 where
@@ -69,13 +64,6 @@ module _ {D : Type 0} where
       pub gives : (state disk).honest → GivesStates store.heading store.states (state disk).seen
       pub sure : (state disk).honest → Only (state disk).seen (state store.disk).may_leave
       pub any_moment : (state disk).honest → LeavesOnly (state disk) (state store.disk) (state disk).may_leave
-
-    -- a disk was not taken for a cartridge, since a call of it failed, and this is what it is last: at no moment since
-    -- it was opened a crash left anything new (own)
-    pub record IsNoCartridgeOn (disk last : D) : Type 0 where
-      pub failed : (state disk).failures < (state last).failures
-      pub keeps : Keeps (state disk) (state last)
-      pub any_moment : (state disk).honest → LeavesOnly (state disk) (state last) (state disk).may_leave
 
     -- A disk gives no store, for such a fault, and this is what it is last: a call of it failed, it holds none, or
     -- memory ran out. But for a failed call a read of it gives what one gave before; and at no moment since it was
@@ -91,16 +79,15 @@ module _ {D : Type 0} where
 
     module _ (opens : List ℕ → Result D FileError → Type 0) (hands_back : List ℕ → D → Type 0) where
       -- the sides that files hold, by what an opening of a file may answer and which disks may be handed back: a
-      -- cartridge or a store that was found on the disk that the opening of its entry's file gave; or the file was not
-      -- opened, or the disk gives none, and it was handed back for this file (own)
+      -- cartridge over the disk that the opening of its entry's file gave, as it was opened, or a store that was found
+      -- on such a disk; or the file was not opened, or the disk gives no store, and it was handed back for this file
+      -- (own)
       abbrev pub file_sides : SidesGiven D
       file_sides = record {
         gives_cartridge = λ entry cartridge.
-            (disk : D) × opens (string_bytes entry.file) (Ok disk) × IsFoundOn disk cartridge;
-        refuses_cartridge = λ entry fault. (fault ≡ Device)
-            × (((error : FileError) × opens (string_bytes entry.file) (Err error))
-            ⊎ ((disk : D) × opens (string_bytes entry.file) (Ok disk)
-            × ((last : D) × hands_back (string_bytes entry.file) last × IsNoCartridgeOn disk last)));
+            (disk : D) × opens (string_bytes entry.file) (Ok disk) × IsUnreadOver disk cartridge;
+        refuses_cartridge = λ entry fault.
+            (fault ≡ Device) × ((error : FileError) × opens (string_bytes entry.file) (Err error));
         gives_store = λ entry store.
             (disk : D) × opens (string_bytes entry.reservations) (Ok disk) × IsStoreOn disk store;
         refuses_store = λ entry fault.

@@ -3,7 +3,7 @@ ghost use Rattle.std.specs.Prelude.{◌≡◌, IfOk, IfErr};
 ghost use Rattle.aptpl_store.specs.Kept.{store_kept};
 ghost use Rattle.drive_core.specs.State.{left_of};
 ghost use Rattle.vtl_program.specs.Faults.{IsFailure, fault_of_store};
-ghost use Rattle.vtl_program.specs.Sides.{IsFoundOn, IsNoCartridgeOn, IsNoStoreOn, IsStoreOn, SidesGiven};
+ghost use Rattle.vtl_program.specs.Sides.{IsNoStoreOn, IsStoreOn, SidesGiven};
 
 use crate::files::{ChangeFiles, TakesBack};
 use crate::programs::VtlFault;
@@ -56,17 +56,6 @@ pub struct FileSides<'a, F> {
 #[derive(Clone, Copy)]
 pub struct NewSides;
 
-// A closed cartridge of which nothing is known but what the disk holds; or the disk, where it failed.
-fn settled<D: Disk>(alloc: Global, mut disk: D) -> Result<Parked<D>, D>
-    ensures ok { IfOk result (IsFoundOn D.state disk) }
-    ensures err { IfErr result (IsNoCartridgeOn D.state disk) }
-{
-    match disk.sync() {
-        Ok(()) => Ok(Parked::of(alloc, Shelved::of(disk))),
-        Err(_) => Err(disk),
-    }
-}
-
 // A disk that gives no store, and the fault for it.
 #[derive(Drop)]
 struct NoStore<D> {
@@ -101,22 +90,16 @@ fn opened<D: Disk>(alloc: Global, disk: D) -> Result<DriveStore<D>, NoStore<D>>
     }
 }
 
-// No disk can be dropped here, and in the next block: each that was opened is in a side, or handed back.
+// No disk can be dropped here, and in the next block: each that was opened is in a side, or handed back. A cartridge's
+// disk is not called.
 impl<'a, D: Disk, F: ChangeFiles<D>> Sides<D> for FileSides<'a, F> {
     ghost use Rattle.vtl_program.specs.Sides.{file_sides};
 
     ghost given = { file_sides D.state F.opens F.hands_back };
 
     fn cartridge(&self, alloc: Global, entry: &CartridgeEntry) -> Result<Parked<D>, VtlFault> {
-        let name = entry.file.as_str();
-        match self.files.open(name) {
-            Ok(disk) => match settled(alloc, disk) {
-                Ok(cartridge) => Ok(cartridge),
-                Err(disk) => {
-                    self.files.hand_back(name, disk);
-                    Err(VtlFault::Device)
-                }
-            },
+        match self.files.open(entry.file.as_str()) {
+            Ok(disk) => Ok(Parked::of(alloc, Shelved::of(disk))),
             Err(_) => Err(VtlFault::Device),
         }
     }

@@ -111,6 +111,11 @@ static RUNS: &'static [Row<'static>] = &[
     (Failing::Call(4, FileError::Missing), RUN, THREE, "", FAILED),
     (Failing::Call(5, FileError::Missing), RUN, FOUR, "", FAILED),
     (Failing::Memory, RUN, "read c;", "", NO_MEMORY),
+    // The first call of a cartridge's disk would fail, in a slot and in a drive, or the file is no cartridge's.
+    (Failing::Disk("t", 0), RUN, ALL, "", DONE),
+    (Failing::Disk("u", 0), RUN, ALL, "", DONE),
+    (Failing::Side("t", b"mine"), RUN, ALL, "", DONE),
+    (Failing::Side("u", b"mine"), RUN, ALL, "", DONE),
 ];
 
 #[test]

@@ -14,22 +14,8 @@ const THREE: &str = "read c;open t;open u;open 1;back 1;give up;";
 
 const FOUR: &str = "read c;open t;open u;open 1;open 2;back 2;give up;";
 
-// A cartridge whose sync fails, stores whose first and second call fails, and stores that are refused.
+// Stores whose first and second call fails, and stores that are refused.
 static HANDED_BACK: &'static [Row<'static>] = &[
-    (
-        Failing::Disk("t", 0),
-        NOTED,
-        "read c;open t;back t;give up;",
-        "",
-        FAILED,
-    ),
-    (
-        Failing::Disk("u", 0),
-        NOTED,
-        "read c;open t;open u;back u;give up;",
-        "",
-        FAILED,
-    ),
     (Failing::Disk("1", 0), NOTED, THREE, "", FAILED),
     (Failing::Disk("2", 1), NOTED, FOUR, "", FAILED),
     (Failing::Side("1", DAMAGED), NOTED, THREE, "", FAILED),
