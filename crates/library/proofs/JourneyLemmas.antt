@@ -19,7 +19,7 @@ use Rattle.library.specs.Doings.{Turned}
 use Rattle.library.specs.Elements.{BayState, HeldState, bay_at, cartridge_at, cartridge_in}
 use Rattle.library.specs.Finish.{TurnsAt}
 use Rattle.library.specs.Journeys.{Deed, Finishing, GoesWith, GoesWithAll, InDrive, IsThen, KeepsWhatIsSafe, Moving, StopsKeepWhatIsMoved}
-use Rattle.library.specs.Moves.{IsSameAt, KeepsCartridges}
+use Rattle.library.specs.Moves.{IsSameAt, KeepsCartridges, StaysAt}
 use Rattle.library.proofs.CartridgeLemmas.{Moved, honest_in, keep_media, moved_as, moved_by, moved_doing, moved_nowhere, moved_on, safe_in}
 use Rattle.library.proofs.PlaceLemmas.{bay_elsewhere, bay_here, in_bay, same_or_not}
 
@@ -37,6 +37,12 @@ module _ {D : Type 0} (state : D → DiskState) (is_disk : (disk : D) → (state
   same_moved None (Some b) same = absurd same
   same_moved (Some a) None same = absurd same
   same_moved (Some a) (Some b) same = same.moves
+
+  stays_moved : (a b : Option (BufferState D)) → StaysAt state a b → Moved state is_disk a b []
+  stays_moved None None stays = refl
+  stays_moved None (Some b) stays = absurd stays
+  stays_moved (Some a) None stays = absurd stays
+  stays_moved (Some a) (Some b) stays = stays.moves
 
   unmoved : (a b : Option (BufferState D)) → b ≡ a → Moved state is_disk a b []
   unmoved a b same =
@@ -77,7 +83,7 @@ module _ {D : Type 0} (state : D → DiskState) (is_disk : (disk : D) → (state
       by (inl here) =
           between (cartridge_at old from) (cartridge_at old place) (cartridge_at new from) (cartridge_at new after) []
           (ap (λ (n : ℕ). cartridge_at old n) here) (ap (λ (n : ℕ). cartridge_at new n) (is ∙ here))
-          (same_moved (cartridge_at old from) (cartridge_at new from) stays.there)
+          (stays_moved (cartridge_at old from) (cartridge_at new from) stays.there)
       by (inr off) =
           unmoved (cartridge_at old place) (cartridge_at new after)
           (ap (λ (n : ℕ). cartridge_at new n) is ∙ stays.others place off)

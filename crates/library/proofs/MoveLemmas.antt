@@ -12,9 +12,9 @@ use Rattle.tape_buffer.specs.Moves.{buffer_below, medium_moves_nowhere}
 use Rattle.tape_buffer.specs.State.{BufferState, state_of}
 use Rattle.library.specs.Elements.{BayState, HeldState, bay_at, cartridge_at, is_element, is_reserved_at}
 use Rattle.library.specs.Inner.Going.{IsAwakeAt, IsAwakeBay, IsAwakeIn}
-use Rattle.library.specs.Moves.{AnswersMove, Carries, GoesBackTo, GoesInAt, GoesOutAt, IsSameAt, IsSameCartridge, KeepsBays, KeepsCartridges, MovesMedium, refusal_of_move}
+use Rattle.library.specs.Moves.{AnswersMove, Carries, GoesBackTo, GoesInAt, GoesOutAt, IsSameAt, IsSameCartridge, StaysAt, StaysCartridge, KeepsBays, KeepsCartridges, MovesMedium, refusal_of_move}
 use Rattle.library.proofs.PlaceLemmas.{all_passed, bay_elsewhere, bay_here, bay_stays, check_is_not_good, conflict_is_not_good, in_bay, in_slot, none_of, one_failed, same_or_not, slot_elsewhere, slot_here, slot_stays, some_of, the_same, wake_is_not_good}
-use Rattle.library.proofs.SameLemmas.{Keeps, breaks_from, comes_back, opens_as, parks_from, then_same}
+use Rattle.library.proofs.SameLemmas.{Keeps, breaks_from, comes_back, opens_as, parks_from, same_stays, then_same, then_stays}
 
 module _ {D : Type 0} (state : D → DiskState) where
   module _ (is_disk : (disk : D) → (state disk).honest → IsDisk (state disk)) where
@@ -22,6 +22,8 @@ module _ {D : Type 0} (state : D → DiskState) where
     keeps_self medium = record {
       moves = medium_moves_nowhere state is_disk medium;
       honest = λ honest. honest;
+      read = λ read. read;
+      count = refl;
       gives = λ honest works sure. (works, sure, refl);
     }
 
@@ -32,14 +34,25 @@ module _ {D : Type 0} (state : D → DiskState) where
       gives = λ honest works sure. refl;
     }
 
-    same_when : (old new : Option (BufferState D)) → new ≡ old → IsSameAt state old new
-    same_when old new is = subst (λ (found : Option (BufferState D)). IsSameAt state old found) (sym is) (same_self old)
+    stays_self : (found : Option (BufferState D)) → StaysAt state found found
+    stays_self None = tt
+    stays_self (Some medium) = same_stays state medium medium (same_self (Some medium))
+
+    stays_when : (old new : Option (BufferState D)) → new ≡ old → StaysAt state old new
+    stays_when old new is =
+        subst (λ (found : Option (BufferState D)). StaysAt state old found) (sym is) (stays_self old)
 
     same_there : (old new : Option (BufferState D)) (given later : BufferState D) → old ≡ Some given
         → new ≡ Some later → IsSameCartridge state given later → IsSameAt state old new
     same_there old new given later old_is new_is same =
         subst (λ (found : Option (BufferState D)). IsSameAt state found new) (sym old_is)
         (subst (λ (found : Option (BufferState D)). IsSameAt state (Some given) found) (sym new_is) same)
+
+    stays_there : (old new : Option (BufferState D)) (given later : BufferState D) → old ≡ Some given
+        → new ≡ Some later → StaysCartridge state given later → StaysAt state old new
+    stays_there old new given later old_is new_is stays =
+        subst (λ (found : Option (BufferState D)). StaysAt state found new) (sym old_is)
+        (subst (λ (found : Option (BufferState D)). StaysAt state (Some given) found) (sym new_is) stays)
 
     -- what goes out of a drive
     goes_out : (b : Bay (BufferState D)) (bay left : BayState D) (given out : BufferState D)
@@ -131,7 +144,7 @@ module _ {D : Type 0} (state : D → DiskState) where
     -- a cartridge came back from a drive, which is as it was
     record ComesBack (mid : HeldState D) (to : ℕ) (out back : BufferState D) (reply : Reply) (left : HeldState D) :
         Type 0 where
-      same : IsSameCartridge state out back
+      same : StaysCartridge state out back
       reply_is : reply ≢ good_with []
       all : (address : ℕ) → cartridge_at left address ≡ cartridge_at mid address
 
@@ -175,8 +188,8 @@ module _ {D : Type 0} (state : D → DiskState) where
           so.0,
           record {
             there =
-                same_there (cartridge_at old from) (cartridge_at new from) given so.1.0 is
-                (bay_here from left old new slot now ∙ so.1.1) so.1.2;
+                stays_there (cartridge_at old from) (cartridge_at new from) given so.1.0 is
+                (bay_here from left old new slot now ∙ so.1.1) (same_stays state given so.1.0 so.1.2);
             others = bay_elsewhere from left old new now;
           },
         )
@@ -206,8 +219,8 @@ module _ {D : Type 0} (state : D → DiskState) where
           came.reply_is,
           record {
             there =
-                same_there (cartridge_at old from) (cartridge_at new from) given back is put.0
-                (then_same state given out back taken.keeps came.same);
+                stays_there (cartridge_at old from) (cartridge_at new from) given back is put.0
+                (then_stays state given out back taken.keeps came.same);
             others = λ other off. put.1 other off ∙ came.all other ∙ taken.others other off;
           },
         )
@@ -229,7 +242,7 @@ module _ {D : Type 0} (state : D → DiskState) where
               (check_is_not_good destination_full []) is (sym answers.0 ∙ good)),
           record {
             there =
-                same_when (cartridge_at old from) (cartridge_at new from)
+                stays_when (cartridge_at old from) (cartridge_at new from)
                 (ap (λ (h : HeldState D). cartridge_at h from) answers.1);
             others = λ other off. ap (λ (h : HeldState D). cartridge_at h other) answers.1;
           },

@@ -114,6 +114,22 @@ module _ {D : Type 0} where
           → ((state_of state old).awake ≡ false → (state_of state old).torn ≡ [])
           → volume_given (state_of state new) ≡ volume_given (state_of state old)
 
+    -- The same cartridge, which did not go where it was to: one that was not opened before gives the volume that its
+    -- side gave unless its device failed now; then it may give another, or none (own).
+    pub record StaysCartridge (old new : BufferState D) : Type 0 where
+      pub moves : (buffer_below state).moves old [] new
+      pub gives : (buffer_below state).honest old → (state_of state old).failed ≡ false
+          → ((state_of state old).awake ≡ false → (state_of state old).torn ≡ [])
+          → ((state_of state old).unread ≡ false)
+          ⊎ ((buffer_below state).failures new ≡ (buffer_below state).failures old)
+          → volume_given (state_of state new) ≡ volume_given (state_of state old)
+
+    -- the cartridge at an address did not go, or there is none (own)
+    abbrev pub StaysAt : Option (BufferState D) → Option (BufferState D) → Type 0
+    StaysAt None None = Unit {0}
+    StaysAt (Some old) (Some new) = StaysCartridge old new
+    StaysAt _ _ = ⊥
+
     -- the same cartridge is at an address, or none (own)
     abbrev pub IsSameAt : Option (BufferState D) → Option (BufferState D) → Type 0
     IsSameAt None None = Unit {0}
@@ -133,7 +149,7 @@ module _ {D : Type 0} where
     -- no cartridge is at another address: the source has the one that it had, or none, and each other address has what
     -- it had (SMC-3, MOVE MEDIUM)
     pub record MovesNothing (from : ℕ) (old new : HeldState D) : Type 0 where
-      pub there : IsSameAt (cartridge_at old from) (cartridge_at new from)
+      pub there : StaysAt (cartridge_at old from) (cartridge_at new from)
       pub others : (other : ℕ) → other ≢ from → cartridge_at new other ≡ cartridge_at old other
 
     -- no cartridge is ever lost: at GOOD that of the source is at the destination, at any other answer none has moved

@@ -1,6 +1,6 @@
 //! A cartridge that is closed: in a slot, or on its way.
 ghost use Rattle.std.specs.Prelude.{◌≡◌, false};
-ghost use Rattle.tape_buffer.specs.State.{IsSettledOn, closed_buffer, state_of};
+ghost use Rattle.tape_buffer.specs.State.{closed_buffer, state_of};
 ghost use Rattle.tape_buffer.specs.declared.holding.Holding.TheVariants as Holdings;
 
 use cartridge::Shelved;
@@ -27,10 +27,9 @@ impl<D: Disk> Model for Parked<D> {
 }
 
 impl<D: Disk> Parked<D> {
-    /// A closed cartridge. Of a disk that was only taken for a cartridge nothing may be unsure: a sync of it has made
-    /// that so.
+    /// A closed cartridge. Over a disk that was only taken for a cartridge it is unread: nothing is known of it until a
+    /// drive opens it.
     pub fn of(alloc: Global, shelved: Shelved<D>) -> Parked<D>
-        requires { IsSettledOn D.state shelved }
         ensures { result ≡ closed_buffer shelved }
     {
         Parked {
@@ -54,10 +53,9 @@ impl<D: Disk> Parked<D> {
         self.medium
     }
 
-    /// The closed cartridge, of which nothing is unsure.
+    /// The closed cartridge.
     pub fn into_shelved(self) -> Shelved<D>
-        ensures held { self.held ≡ Holdings.Closed result }
-        ensures settled { IsSettledOn D.state result }
+        ensures { self.held ≡ Holdings.Closed result }
     {
         self.medium.into_shelved()
     }
