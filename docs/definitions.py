@@ -128,6 +128,10 @@ def cell(words):
     return words.replace("|", "\\|")
 
 
+# names that two crates have, each for its own: a drive's position at power on, and the first bytes of a side
+SHARED = {"start"}
+
+
 def whole():
     """The text of DEFINITIONS.md, and the faults that were met on the way."""
     faults, rows, where = [], {}, {}
@@ -135,7 +139,7 @@ def whole():
         for path in specification(crate):
             file = below_crates(path)
             for name, is_public, comment in definitions(path):
-                if where.setdefault(name, file) != file:
+                if where.setdefault(name, file) != file and name not in SHARED:
                     faults.append(f"{name} is defined in {where[name]} and in {file}")
                 if is_public and not comment:
                     faults.append(f"{file}: {name} has no comment over it")

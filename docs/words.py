@@ -139,7 +139,7 @@ WORDS = {
     "status of the program": ["status_of", "EndsProgram"],
     "stored": ["Stores", "StoredFirst", "stored_after"],
     "sync": ["Syncs", "syncs_of"],
-    "sync, what it passes over": ["SyncsFile", "ReachesAll", "PassesOverOnly"],
+    "sync, what it passes over": ["SyncsFile", "ReachesAll", "IsLeftWell"],
     "synchronize": ["synchronizes", "StoredFirst"],
     "torn": ["Breaks", "Opens", "in_flight"],
     "TRANSFER LENGTH": ["transfer_length"],

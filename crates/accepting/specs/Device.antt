@@ -48,6 +48,7 @@ module _ {D : Type 0} (state : D → DiskState) where
     leaves = λ old new P. LeavesOnly (state old) (state new) P;
   }
 
+  -- one disk is a device (own)
   pub one_is_device : IsDevice one_disk
   one_is_device = record {
     no_call = λ now P is_disk here. Moments.no_call (state now) P is_disk here;

@@ -28,7 +28,7 @@ use Rattle.drive_core.specs.State.{DriveState, IsBayPositioned, machine_of, medi
 use Rattle.drive_core.specs.Relations.{Made}
 use Rattle.drive_core.specs.Execute.{AdvancesIn, HonestIn, is_device_fault}
 use Rattle.drive_core.specs.Synchronize.{NothingPending}
-use Rattle.library.specs.Cartridges.{GivesAcknowledged, IsKnown, KeepsIn, StopsKeepChanges}
+use Rattle.library.specs.Cartridges.{GivesWhatWasAcknowledged, IsKnown, KeepsIn, StopsKeepChanges}
 use Rattle.library.specs.Doings.{Commanded, Does, Doing, DoesAll, Turned}
 
 module _ {D : Type 0} (state : D → DiskState) (is_disk : (disk : D) → (state disk).honest → IsDisk (state disk)) where
@@ -139,7 +139,7 @@ module _ {D : Type 0} (state : D → DiskState) (is_disk : (disk : D) → (state
       (begins : KeptBegins medium_rules) where
     -- what all is carried out from never changes, so what was acknowledged begins what is given
     gives_acknowledged : (old : Core Heading Change) (steps : List (CoreStep Change)) (image : List ℕ)
-        → Events.GivesAcknowledged medium_rules old steps image → GivesAcknowledged old steps image
+        → Events.GivesAcknowledged medium_rules old steps image → GivesWhatWasAcknowledged old steps image
     gives_acknowledged old steps image given =
         let is = begins (λ base base' items never. never) old.base given.between.base old.accepted
         (take given.kept given.between.accepted) given.acknowledged in
@@ -160,7 +160,7 @@ module _ {D : Type 0} (state : D → DiskState) (is_disk : (disk : D) → (state
         → MovesOn state x y first second made → MovesOn state y z second third more → CanAcknowledge second
         → (before : D) × (y ≡ Some before) × (after : D) × (z ≡ Some after)
         × (event : IsEvent medium_rules (one_disk state) before after second third more)
-        × LeavesOnly (state before) (state after) (GivesAcknowledged second event.steps)
+        × LeavesOnly (state before) (state after) (GivesWhatWasAcknowledged second event.steps)
     keep_on None y z first second third made more disk is honest core shows one two safe = absurd (cc)
     keep_on (Some x) None z first second third made more disk is honest core shows one two safe = absurd one
     keep_on (Some x) (Some y) None first second third made more disk is honest core shows one two safe = absurd two
@@ -177,7 +177,7 @@ module _ {D : Type 0} (state : D → DiskState) (is_disk : (disk : D) → (state
           refl,
           found.0,
           weakened (state y) (state z) (Events.GivesAcknowledged medium_rules second found.0.steps)
-              (GivesAcknowledged second found.0.steps) found.1 (gives_acknowledged second found.0.steps),
+              (GivesWhatWasAcknowledged second found.0.steps) found.1 (gives_acknowledged second found.0.steps),
         )
 
     pub keep_media : (a b c : Option (BufferState D)) (medium : BufferState D) (made more : List Change)

@@ -23,7 +23,7 @@ use Rattle.library.specs.Doings.{Doing, DoesAll}
 
 -- An image gives all that was acknowledged in the old core: the first so many changes that were accepted in a core
 -- between, which some of the steps lead to, and what was acknowledged begins these (own).
-pub record GivesAcknowledged (old : Core Heading Change) (steps : List (CoreStep Change)) (image : List ℕ)
+pub record GivesWhatWasAcknowledged (old : Core Heading Change) (steps : List (CoreStep Change)) (image : List ℕ)
     : Type 0 where
   pub count : ℕ
   pub between : Core Heading Change
@@ -54,7 +54,7 @@ module _ {D : Type 0} (state : D → DiskState) where
     pub event : IsEvent medium_rules (one_disk state) before after (medium_core state acked) (medium_core state last)
         made
     pub moments :
-        LeavesOnly (state before) (state after) (GivesAcknowledged (medium_core state acked) event.steps)
+        LeavesOnly (state before) (state after) (GivesWhatWasAcknowledged (medium_core state acked) event.steps)
 
   -- the same of the media in two bays (own)
   abbrev pub KeepsIn : Option (BufferState D) → Option (BufferState D) → List Change → Type 0

@@ -187,7 +187,12 @@ module _ {D : Type 0} (c m c' : OpenCartridge D) (pending between pending' : Lis
         subst (λ (p : OpenCartridge D × List Change).
         Advances (buffer_below state) (open_buffer c pending) [] false (open_buffer p.0 p.1))
         (λ i. ((sym same) i, (sym is) i))
-        (record { moved = advances.moved; counted = advances.counted; honesty = advances.honesty; hand = advances.hand })
+        (record {
+          moved = advances.moved;
+          counted = advances.counted;
+          honesty = advances.honesty;
+          hand = advances.hand;
+        })
 
     pub advances_more : IsPendingOver m between → refusal_of (volume_of (open_state m between)) change ≡ None
         → IsContents m.contents → m.failed ≡ false → pending' ≡ between ++ change ∷ []

@@ -193,7 +193,12 @@ module _ {D : Type 0} (state : D → DiskState) (is_disk : (disk : D) → (state
           λ honest. gives_none honest
               (λ contents gives. no_cause.ours (state old.disk).seen contents gives (refused.1 honest).0),
         ),
-        record { moved = moves_closed; counted = refused.0; honesty = (keeps.stays_honest, keeps.was_honest); hand = (λ h. h, λ h. h) },
+        record {
+          moved = moves_closed;
+          counted = refused.0;
+          honesty = (keeps.stays_honest, keeps.was_honest);
+          hand = (λ h. h, λ h. h);
+        },
       )
       stays_closed (Damaged at) refused = (
         λ other. settled_now (λ honest. (refused.1 honest).1),
@@ -202,7 +207,12 @@ module _ {D : Type 0} (state : D → DiskState) (is_disk : (disk : D) → (state
           λ honest. gives_none honest
               (λ contents gives. no_cause.whole (state old.disk).seen contents at gives (refused.1 honest).0),
         ),
-        record { moved = moves_closed; counted = refused.0; honesty = (keeps.stays_honest, keeps.was_honest); hand = (λ h. h, λ h. h) },
+        record {
+          moved = moves_closed;
+          counted = refused.0;
+          honesty = (keeps.stays_honest, keeps.was_honest);
+          hand = (λ h. h, λ h. h);
+        },
       )
       stays_closed (BadRecord at) refused = (
         λ other. settled_now (λ honest. (refused.1 honest).1),
@@ -211,17 +221,32 @@ module _ {D : Type 0} (state : D → DiskState) (is_disk : (disk : D) → (state
           λ honest. gives_none honest
               (λ contents gives. no_cause.bad (state old.disk).seen contents at gives (refused.1 honest).0),
         ),
-        record { moved = moves_closed; counted = refused.0; honesty = (keeps.stays_honest, keeps.was_honest); hand = (λ h. h, λ h. h) },
+        record {
+          moved = moves_closed;
+          counted = refused.0;
+          honesty = (keeps.stays_honest, keeps.was_honest);
+          hand = (λ h. h, λ h. h);
+        },
       )
       stays_closed (Device fault) refused = (
         λ other. absurd (other refl),
         record { stays = known_stays; torn = λ honest. refl },
-        record { moved = moves_closed; counted = refused.cause; honesty = (keeps.stays_honest, keeps.was_honest); hand = (λ h. h, λ h. h) },
+        record {
+          moved = moves_closed;
+          counted = refused.cause;
+          honesty = (keeps.stays_honest, keeps.was_honest);
+          hand = (λ h. h, λ h. h);
+        },
       )
       stays_closed NoMemory refused = (
         λ other. settled_now (λ honest. (refused.1 honest).1),
         stays_as_found (λ honest. (refused.1 honest).1),
-        record { moved = moves_closed; counted = refused.0; honesty = (keeps.stays_honest, keeps.was_honest); hand = (λ h. h, λ h. h) },
+        record {
+          moved = moves_closed;
+          counted = refused.0;
+          honesty = (keeps.stays_honest, keeps.was_honest);
+          hand = (λ h. h, λ h. h);
+        },
       )
       stays_closed SideFull refused = absurd refused
       stays_closed Failed refused = absurd refused

@@ -49,8 +49,8 @@ impl<D: Disk> Accepting for Buffered<D> {
 }
 
 impl<D: Disk> Buffered<D> {
-    /// A parked medium over a closed cartridge. Over a disk that was only taken for a cartridge it is unread: nothing is
-    /// known of it until it is woken.
+    /// A parked medium over a closed cartridge. Over a disk that was only taken for a cartridge it is unread: nothing
+    /// is known of it until it is woken.
     pub fn parked(alloc: Global, shelved: Shelved<D>) -> Buffered<D>
         ensures { result ≡ closed_buffer shelved }
     {

@@ -36,8 +36,8 @@ module _ {D : Type 0} where
     pub torn : shelved.torn ≡ []
     pub contents : shelved.contents ≡ contents_from (heading_with barcode capacities) []
 
-  -- a closed cartridge over this disk, as the disk was opened: no call of it was made since, and nothing is known of what
-  -- it gives (own)
+  -- a closed cartridge over this disk, as the disk was opened: no call of it was made since, and nothing is known of
+  -- what it gives (own)
   pub record IsUnreadOver (disk : D) (cartridge : BufferState D) : Type 0 where
     pub shelved : ClosedCartridge D
     pub closed : cartridge ≡ closed_buffer shelved
