@@ -1,5 +1,5 @@
 -- What is taken breaks no rule.
-use Rattle.std.proofs.Common.{◌≡◌, ◌⊎◌, ◌+◌, ◌<◌, ℕ, zero, suc, true, false, Option, Some, None, List, [], ◌∷◌, ◌++◌, length, get_or, map, string_bytes, MatchOption, inl, inr, arith, refl, sym, ap, subst, ◌∙◌, append_assoc}
+use Rattle.std.proofs.Common.{◌≡◌, ◌⊎◌, ◌+◌, ◌<◌, ℕ, zero, suc, true, false, Option, Some, None, List, [], ◌∷◌, ◌++◌, length, get_or, map, MatchOption, inl, inr, arith, refl, sym, ap, subst, ◌∙◌, append_assoc}
 use Rattle.std.proofs.lemmas.List.{map-append}
 use Rattle.std.proofs.lemmas.List.Elements.{All-contains, Contains-append_right}
 use Rattle.std.specs.List.{Contains}
@@ -80,16 +80,16 @@ no_drive_broken entries drives place rule are broken =
     (ap numbers_of split.all
     ∙ map-append (λ (d : DriveEntry). d.number) split.before (split.entry ∷ split.behind)) are.numbers in
     let files : AreDistinct
-    (drive_files split.before ++ string_bytes split.entry.reservations ∷ drive_files split.behind) =
+    (drive_files split.before ++ split.entry.reservations ∷ drive_files split.behind) =
     subst (λ (fs : List (List ℕ)). AreDistinct fs)
     (ap drive_files split.all
-    ∙ map-append (λ (d : DriveEntry). string_bytes d.reservations) split.before (split.entry ∷ split.behind))
+    ∙ map-append (λ (d : DriveEntry). d.reservations) split.before (split.entry ∷ split.behind))
     are.files in
     entry_right (DriveTableBreaks broken.before) broken.value here.0 here.1
-    (drive_right broken.before here.0 split.entry.number (string_bytes split.entry.reservations) here.2
+    (drive_right broken.before here.0 split.entry.number split.entry.reservations here.2
     (rw same.numbers (distinct_split (numbers_of split.before) split.entry.number (numbers_of split.behind) numbers))
     (rw same.files
-    (distinct_split (drive_files split.before) (string_bytes split.entry.reservations) (drive_files split.behind)
+    (distinct_split (drive_files split.before) split.entry.reservations (drive_files split.behind)
     files)))
     rule broken.broken
 
@@ -109,13 +109,13 @@ no_cartridge_broken drives others entries cartridges place rule one are broken =
     ∙ map-append (λ (c : CartridgeEntry). c.barcode) split.before (split.entry ∷ split.behind)) are.barcodes in
     let files : AreDistinct
     ((drive_files drives ++ cartridge_files split.before)
-    ++ string_bytes split.entry.file ∷ cartridge_files split.behind) =
+    ++ split.entry.file ∷ cartridge_files split.behind) =
     subst (λ (fs : List (List ℕ)). AreDistinct fs)
     (ap (λ (fs : List (List ℕ)). drive_files drives ++ fs)
     (ap cartridge_files split.all
-    ∙ map-append (λ (c : CartridgeEntry). string_bytes c.file) split.before (split.entry ∷ split.behind))
+    ∙ map-append (λ (c : CartridgeEntry). c.file) split.before (split.entry ∷ split.behind))
     ∙ sym (append_assoc (drive_files drives) (cartridge_files split.before)
-    (string_bytes split.entry.file ∷ cartridge_files split.behind)))
+    (split.entry.file ∷ cartridge_files split.behind)))
     are.files in
     let homes_are : homes_of cartridges ≡ homes_of split.before ++ address_of split.entry.home ∷ homes_of split.behind =
     ap homes_of split.all
@@ -130,7 +130,7 @@ no_cartridge_broken drives others entries cartridges place rule one are broken =
     All-contains (IsAtHome (numbers_of drives)) (homes_of cartridges) (address_of split.entry.home) are.listed
     has_home in
     entry_right (CartridgeTableBreaks others broken.before) broken.value here.0 here.1
-    (cartridge_right others broken.before here.0 split.entry.barcode (string_bytes split.entry.file)
+    (cartridge_right others broken.before here.0 split.entry.barcode split.entry.file
     split.entry.capacities (address_of split.entry.home)
     (record {
       is_table = here.2;
@@ -139,7 +139,7 @@ no_cartridge_broken drives others entries cartridges place rule one are broken =
           (distinct_split (barcodes_of split.before) split.entry.barcode (barcodes_of split.behind) barcodes);
       new_file =
           rw (one.files, same.files)
-          (distinct_split (drive_files drives ++ cartridge_files split.before) (string_bytes split.entry.file)
+          (distinct_split (drive_files drives ++ cartridge_files split.before) split.entry.file
           (cartridge_files split.behind) files);
       new_home =
           rw same.homes

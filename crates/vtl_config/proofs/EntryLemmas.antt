@@ -1,5 +1,5 @@
 -- One more entry, and the first that is wrong.
-use Rattle.std.proofs.Common.{◌≡◌, ℕ, ◌+◌, ◌<◌, Some, List, [], ◌∷◌, ◌++◌, length, get_or, take, map, string_bytes, refl, ap, sym, ◌∙◌, arith, append_assoc}
+use Rattle.std.proofs.Common.{◌≡◌, ℕ, ◌+◌, ◌<◌, Some, List, [], ◌∷◌, ◌++◌, length, get_or, take, map, refl, ap, sym, ◌∙◌, arith, append_assoc}
 use Rattle.std.proofs.lemmas.List.{map-append}
 use Rattle.std.proofs.lemmas.List.Elements.{All-push}
 use Rattle.std.specs.Prelude.{IsUtf8}
@@ -54,18 +54,18 @@ fits_table before (table x) number file fits = (x, refl, fits)
 -- one drive more
 pub drives_push :
     (entries : List Data) (drives : List DriveEntry) (value : Data) (drive : DriveEntry) → AreDrives entries drives
-    → FitsDrive drives value drive.number (string_bytes drive.reservations)
+    → FitsDrive drives value drive.number drive.reservations
     → AreDrives (entries ++ value ∷ []) (drives ++ drive ∷ [])
 drives_push entries drives value drive are fits =
-    let found = fits_table drives value drive.number (string_bytes drive.reservations) fits in
+    let found = fits_table drives value drive.number drive.reservations fits in
     let here : IsDrive value drive = rw found.1 found.2.is_table in record {
       each = each_push IsDrive entries drives value drive are.each here;
       numbers =
           rw (map-append (λ (d : DriveEntry). d.number) drives (drive ∷ []))
           (distinct_push (numbers_of drives) drive.number are.numbers found.2.new_number);
       files =
-          rw (map-append (λ (d : DriveEntry). string_bytes d.reservations) drives (drive ∷ []))
-          (distinct_push (drive_files drives) (string_bytes drive.reservations) are.files found.2.new_file);
+          rw (map-append (λ (d : DriveEntry). d.reservations) drives (drive ∷ []))
+          (distinct_push (drive_files drives) drive.reservations are.files found.2.new_file);
     }
 
 -- what is found of a cartridge is found in a table
@@ -87,12 +87,12 @@ fits_cartridge_table drives before (table x) barcode file capacities home fits =
 pub cartridges_push :
     (drives : List DriveEntry) (entries : List Data) (cartridges : List CartridgeEntry) (value : Data)
     (cartridge : CartridgeEntry) → AreCartridges drives entries cartridges
-    → FitsCartridge drives cartridges value cartridge.barcode (string_bytes cartridge.file) cartridge.capacities
+    → FitsCartridge drives cartridges value cartridge.barcode cartridge.file cartridge.capacities
     (address_of cartridge.home)
     → AreCartridges drives (entries ++ value ∷ []) (cartridges ++ cartridge ∷ [])
 cartridges_push drives entries cartridges value cartridge are fits =
     let found =
-    fits_cartridge_table drives cartridges value cartridge.barcode (string_bytes cartridge.file)
+    fits_cartridge_table drives cartridges value cartridge.barcode cartridge.file
     cartridge.capacities (address_of cartridge.home) fits in
     let here : IsCartridge value cartridge = rw found.1 found.2.is_table in record {
       each = each_push IsCartridge entries cartridges value cartridge are.each here;
@@ -101,10 +101,10 @@ cartridges_push drives entries cartridges value cartridge are fits =
           (distinct_push (barcodes_of cartridges) cartridge.barcode are.barcodes found.2.new_barcode);
       files =
           rw (
-            map-append (λ (c : CartridgeEntry). string_bytes c.file) cartridges (cartridge ∷ []),
-            ← append_assoc (drive_files drives) (cartridge_files cartridges) (string_bytes cartridge.file ∷ []),
+            map-append (λ (c : CartridgeEntry). c.file) cartridges (cartridge ∷ []),
+            ← append_assoc (drive_files drives) (cartridge_files cartridges) (cartridge.file ∷ []),
           )
-          (distinct_push (drive_files drives ++ cartridge_files cartridges) (string_bytes cartridge.file) are.files
+          (distinct_push (drive_files drives ++ cartridge_files cartridges) cartridge.file are.files
           found.2.new_file);
       homes =
           rw (map-append (λ (c : CartridgeEntry). address_of c.home) cartridges (cartridge ∷ []))

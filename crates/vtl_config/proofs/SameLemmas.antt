@@ -1,5 +1,5 @@
 -- A table says one configuration: what its entries are is determined.
-use Rattle.std.proofs.Common.{◌≡◌, ℕ, zero, suc, ◌<◌, Option, Some, None, List, [], ◌∷◌, ◌++◌, length, get_or, map, string_bytes, MatchOption, arith, refl, sym, ap, ap₂, subst, ◌∙◌}
+use Rattle.std.proofs.Common.{◌≡◌, ℕ, zero, suc, ◌<◌, Option, Some, None, List, [], ◌∷◌, ◌++◌, length, get_or, map, MatchOption, arith, refl, sym, ap, ap₂, subst, ◌∙◌}
 use Rattle.std.proofs.lemmas.Option.{same_Some}
 use Rattle.std.proofs.lemmas.List.Elements.{Contains-append_right}
 use Rattle.std.specs.List.{Contains}
@@ -83,7 +83,7 @@ distinct_split xs x ys distinct = λ has. distinct_go xs x ys distinct has.0 has
 
 pub is_drive_table :
     (value : Data) (drive : DriveEntry) → IsDrive value drive
-    → (entry : Members) × (value ≡ table entry) × IsDriveTable entry drive.number (string_bytes drive.reservations)
+    → (entry : Members) × (value ≡ table entry) × IsDriveTable entry drive.number drive.reservations
 is_drive_table (string x) drive is = absurd is
 is_drive_table (integer x) drive is = absurd is
 is_drive_table (float x) drive is = absurd is
@@ -95,7 +95,7 @@ is_drive_table (table x) drive is = (x, refl, is)
 pub is_cartridge_table :
     (value : Data) (cartridge : CartridgeEntry) → IsCartridge value cartridge
     → (entry : Members) × (value ≡ table entry)
-    × IsCartridgeTable entry cartridge.barcode (string_bytes cartridge.file) cartridge.capacities
+    × IsCartridgeTable entry cartridge.barcode cartridge.file cartridge.capacities
     (address_of cartridge.home)
 is_cartridge_table (string x) cartridge is = absurd is
 is_cartridge_table (integer x) cartridge is = absurd is
@@ -124,13 +124,13 @@ pub record SameDrives (xs ys : List DriveEntry) : Type 0 where
 
 drive_same :
     (value : Data) (x y : DriveEntry) → IsDrive value x → IsDrive value y
-    → (x.number ≡ y.number) × (string_bytes x.reservations ≡ string_bytes y.reservations)
+    → (x.number ≡ y.number) × (x.reservations ≡ y.reservations)
 drive_same value x y left right =
     let l = is_drive_table value x left in
     let r = is_drive_table value y right in
     let one : l.0 ≡ r.0 = same_table value l.0 r.0 l.1 r.1 in
-    let moved : IsDriveTable r.0 x.number (string_bytes x.reservations) =
-    subst (λ (m : Members). IsDriveTable m x.number (string_bytes x.reservations)) one l.2 in (
+    let moved : IsDriveTable r.0 x.number x.reservations =
+    subst (λ (m : Members). IsDriveTable m x.number x.reservations) one l.2 in (
       same_whole _ _ _ moved.number_value r.2.number_value,
       same_text _ _ _ moved.file_value r.2.file_value,
     )
@@ -158,15 +158,15 @@ pub record SameCartridges (xs ys : List CartridgeEntry) : Type 0 where
 
 cartridge_same :
     (value : Data) (x y : CartridgeEntry) → IsCartridge value x → IsCartridge value y
-    → (x.barcode ≡ y.barcode) × (string_bytes x.file ≡ string_bytes y.file)
+    → (x.barcode ≡ y.barcode) × (x.file ≡ y.file)
     × (address_of x.home ≡ address_of y.home)
 cartridge_same value x y left right =
     let l = is_cartridge_table value x left in
     let r = is_cartridge_table value y right in
     let one : l.0 ≡ r.0 = same_table value l.0 r.0 l.1 r.1 in
-    let moved : IsCartridgeTable r.0 x.barcode (string_bytes x.file) x.capacities (address_of x.home) =
+    let moved : IsCartridgeTable r.0 x.barcode x.file x.capacities (address_of x.home) =
     subst
-    (λ (m : Members). IsCartridgeTable m x.barcode (string_bytes x.file) x.capacities (address_of x.home))
+    (λ (m : Members). IsCartridgeTable m x.barcode x.file x.capacities (address_of x.home))
     one l.2 in (
       same_text _ _ _ moved.barcode_value r.2.barcode_value,
       same_text _ _ _ moved.file_value r.2.file_value,

@@ -1,5 +1,5 @@
 -- What a configuration has, and what its text says of it.
-use Rattle.std.specs.Prelude.{◌≡◌, ℕ, true, Some, List, [], ◌∷◌, map, string_bytes, ⊤}
+use Rattle.std.specs.Prelude.{◌≡◌, ℕ, true, Some, List, [], ◌∷◌, map, ⊤}
 use Rattle.std.specs.List.{Contains}
 use Rattle.toml.specs.Data.{Data, string, array, table, Members}
 use Rattle.toml.specs.View.{items_of}
@@ -24,7 +24,7 @@ numbers_of drives = map (λ drive. drive.number) drives
 
 -- the files of drives
 abbrev pub drive_files : List DriveEntry → List (List ℕ)
-drive_files drives = map (λ drive. string_bytes drive.reservations) drives
+drive_files drives = map (λ drive. drive.reservations) drives
 
 -- the barcodes of cartridges
 abbrev pub barcodes_of : List CartridgeEntry → List (List ℕ)
@@ -32,7 +32,7 @@ barcodes_of cartridges = map (λ cartridge. cartridge.barcode) cartridges
 
 -- the files of cartridges
 abbrev pub cartridge_files : List CartridgeEntry → List (List ℕ)
-cartridge_files cartridges = map (λ cartridge. string_bytes cartridge.file) cartridges
+cartridge_files cartridges = map (λ cartridge. cartridge.file) cartridges
 
 -- the homes of cartridges
 abbrev pub homes_of : List CartridgeEntry → List ℕ
@@ -58,13 +58,13 @@ pub record IsCartridgeTable (entry : Members) (barcode file capacities : List �
 
 -- the value is a drive's table
 abbrev pub IsDrive : Data → DriveEntry → Type 0
-IsDrive (table entry) drive = IsDriveTable entry drive.number (string_bytes drive.reservations)
+IsDrive (table entry) drive = IsDriveTable entry drive.number drive.reservations
 IsDrive _ drive = ⊥
 
 -- the value is a cartridge's table
 abbrev pub IsCartridge : Data → CartridgeEntry → Type 0
 IsCartridge (table entry) cartridge =
-    IsCartridgeTable entry cartridge.barcode (string_bytes cartridge.file) cartridge.capacities
+    IsCartridgeTable entry cartridge.barcode cartridge.file cartridge.capacities
     (address_of cartridge.home)
 IsCartridge _ cartridge = ⊥
 

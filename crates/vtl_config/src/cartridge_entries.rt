@@ -12,6 +12,7 @@ ghost use Rattle.vtl_config.specs.Inner.Found.{FitsCartridgeTable, FitsCartridge
 use crate::capacities::{Capacities, capacities_at};
 use crate::doubles::{has_barcode, has_cartridge_file, has_drive_file, has_home, has_number};
 use crate::entries::{Address, CartridgeEntry, DriveEntry};
+use crate::file_names::FileName;
 use crate::keys::{Key, has_only};
 use crate::rules::{ConfigError, Place, Rule};
 use crate::values::{barcode_at, home_at, text_at};
@@ -141,7 +142,7 @@ pub(crate) fn read_cartridges(
         let file = String::from_str(alloc, found.file)?;
         cartridges.push(CartridgeEntry {
             barcode: found.barcode,
-            file,
+            file: FileName::of(file),
             capacities: found.capacities,
             home: found.home,
         })?;

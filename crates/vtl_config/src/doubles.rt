@@ -1,5 +1,5 @@
 //! Whether what an entry has stands at an entry before.
-ghost use Rattle.std.specs.Prelude.{◌≡◌, ◌==◌, ◌↔◌, IsTrue, string_bytes};
+ghost use Rattle.std.specs.Prelude.{◌≡◌, ◌==◌, ◌↔◌, IsTrue};
 ghost use Rattle.std.specs.List.{Contains, list_any};
 ghost use Rattle.std.specs.Str.{bytes_eq};
 ghost use Rattle.vtl_config.specs.Entries.{address_of, numbers_of, drive_files, barcodes_of, cartridge_files, homes_of};
@@ -26,13 +26,13 @@ pub(crate) fn has_number(drives: &[DriveEntry], number: DriveNo) -> bool
 }
 
 fn is_drive_file_of(drive: &DriveEntry, file: &str) -> bool
-    ensures { result ≡ bytes_eq (string_bytes drive.now.reservations) file.now }
+    ensures { result ≡ bytes_eq drive.now.reservations file.now }
 {
     drive.reservations.as_str() == file
 }
 
 fn any_has_drive_file(drives: &[DriveEntry], file: &str) -> bool
-    ensures { result ≡ list_any (λ drive. bytes_eq (string_bytes drive.reservations) file.now) drives.now }
+    ensures { result ≡ list_any (λ drive. bytes_eq drive.reservations file.now) drives.now }
 {
     drives.iter().any(|drive| is_drive_file_of(drive, file))
 }
@@ -64,13 +64,13 @@ pub(crate) fn has_barcode(cartridges: &[CartridgeEntry], barcode: &Barcode) -> b
 }
 
 fn is_cartridge_file_of(cartridge: &CartridgeEntry, file: &str) -> bool
-    ensures { result ≡ bytes_eq (string_bytes cartridge.now.file) file.now }
+    ensures { result ≡ bytes_eq cartridge.now.file file.now }
 {
     cartridge.file.as_str() == file
 }
 
 fn any_has_cartridge_file(cartridges: &[CartridgeEntry], file: &str) -> bool
-    ensures { result ≡ list_any (λ cartridge. bytes_eq (string_bytes cartridge.file) file.now) cartridges.now }
+    ensures { result ≡ list_any (λ cartridge. bytes_eq cartridge.file file.now) cartridges.now }
 {
     cartridges
         .iter()

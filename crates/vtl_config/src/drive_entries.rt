@@ -7,6 +7,7 @@ ghost use Rattle.vtl_config.specs.Inner.Found.{FitsDriveTable, FitsDrive, Drives
 
 use crate::doubles::{has_drive_file, has_number};
 use crate::entries::DriveEntry;
+use crate::file_names::FileName;
 use crate::keys::{Key, has_only};
 use crate::rules::{ConfigError, Place, Rule};
 use crate::values::{drive_number_at, text_at};
@@ -75,7 +76,7 @@ pub(crate) fn read_drives(alloc: Global, entries: &[Value]) -> Result<Vec<DriveE
         let reservations = String::from_str(alloc, found.file)?;
         drives.push(DriveEntry {
             number: found.number,
-            reservations,
+            reservations: FileName::of(reservations),
         })?;
     }
     Ok(drives)

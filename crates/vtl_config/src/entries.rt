@@ -3,6 +3,7 @@ ghost use Rattle.std.specs.Prelude.{◌≡◌};
 ghost use Rattle.vtl_config.specs.Entries.{address_of};
 
 use crate::capacities::Capacities;
+use crate::file_names::FileName;
 use vtl_base::{Barcode, DriveNo, SlotNo};
 
 /// An element address (own; SMC-3 has the word): a slot's, or a drive's.
@@ -30,7 +31,7 @@ pub struct CartridgeEntry {
     /// Its name.
     pub barcode: Barcode,
     /// The name of its file, as it stands.
-    pub file: String,
+    pub file: FileName,
     /// The capacities of its partitions, in bytes.
     pub capacities: Capacities,
     /// Where it is at power on.
@@ -43,7 +44,7 @@ pub struct DriveEntry {
     /// Its number, which is its element address too.
     pub number: DriveNo,
     /// The name of the file of its reservations, as it stands.
-    pub reservations: String,
+    pub reservations: FileName,
 }
 
 /// A configuration: what a library has, in the order of the text.

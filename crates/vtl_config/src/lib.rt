@@ -6,6 +6,7 @@ mod cartridge_entries;
 mod doubles;
 mod drive_entries;
 pub mod entries;
+pub mod file_names;
 pub mod keys;
 pub mod laws;
 mod reading;
@@ -14,6 +15,7 @@ mod values;
 
 pub use capacities::Capacities;
 pub use entries::{Address, CartridgeEntry, Config, DriveEntry};
+pub use file_names::{FileName, UsedName};
 pub use keys::Key;
 pub use reading::read_config;
 pub use rules::{ConfigError, Place, Rule};

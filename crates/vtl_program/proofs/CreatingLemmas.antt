@@ -135,21 +135,18 @@ module _ {D : Type 0} (state : D → DiskState) (makes : List ℕ → Result D F
       part_told file known known NoMemory [] (inr (fate, became, inl (refl, refl))) (Appends-nil known)
 
   -- the files of the first of some entries, one more, and all
-  module _ {A : Type 0} (file : A → SideFile) (entries : List A) (at : ℕ) where
+  module _ {A : Type 0} (file : A → SideFile) (taken : List A) where
     pub files_more : (entry : A) (before mid now : Option (List ℕ)) (result : Result (Unit {0}) VtlFault)
-        → at < length entries → entry ≡ get_or entries at entry
-        → TellsFiles state makes leaves takes_away (map file (take at entries)) before mid (Ok tt)
+        → TellsFiles state makes leaves takes_away (map file taken) before mid (Ok tt)
         → TellsFiles state makes leaves takes_away (file entry ∷ []) mid now result
-        → TellsFiles state makes leaves takes_away (map file (take (at + 1) entries)) before now result
-    files_more entry before mid now result within is told more =
-        let one : take (at + 1) entries ≡ take at entries ++ entry ∷ [] =
-        take_more entries at entry within ∙ ap (λ (x : A). take at entries ++ x ∷ []) (sym is) in
-        rw (one, map-append file (take at entries) (entry ∷ []))
-        (files_on (map file (take at entries)) (file entry ∷ []) before mid now result told more)
+        → TellsFiles state makes leaves takes_away (map file (taken ++ entry ∷ [])) before now result
+    files_more entry before mid now result told more =
+        rw (map-append file taken (entry ∷ []))
+        (files_on (map file taken) (file entry ∷ []) before mid now result told more)
 
-    pub files_first : (before now : Option (List ℕ)) (fault : VtlFault)
-        → TellsFiles state makes leaves takes_away (map file (take at entries)) before now (Err fault)
+    pub files_first : (entries behind : List A) (before now : Option (List ℕ)) (fault : VtlFault)
+        → entries ≡ taken ++ behind
+        → TellsFiles state makes leaves takes_away (map file taken) before now (Err fault)
         → TellsFiles state makes leaves takes_away (map file entries) before now (Err fault)
-    files_first before now fault told =
-        let some = files_of (map file (take at entries)) (map file (drop at entries)) before now fault told in
-        rw (← map-append file (take at entries) (drop at entries), take-append-drop at entries) at some
+    files_first entries behind before now fault are told =
+        rw (are, map-append file taken behind) (files_of (map file taken) (map file behind) before now fault told)

@@ -8,3 +8,4 @@ pub mod SideTextLemmas
 mod SidesLemmas
 mod StartingLemmas
 mod WaitingLemmas
+mod TakenLemmas

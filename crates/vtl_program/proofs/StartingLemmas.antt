@@ -226,49 +226,33 @@ module _ {D : Type 0} (gives : CartridgeEntry → BufferState D → Type 0) wher
         → IsStarted gives state gives_store entries drives starting.held
     all_on entries drives starting on = record { slots = on.slots; bays = on.bays }
 
--- an entry, those before it and those behind it
-pub parted : {A : Type 0} (entries : List A) (at : ℕ) (entry : A) → at < length entries
-    → entry ≡ get_or entries at entry → take at entries ++ entry ∷ drop (at + 1) entries ≡ entries
-parted {A = A} entries at entry below is =
-    sym (append_assoc (take at entries) (entry ∷ []) (drop (at + 1) entries))
-    ∙ ap (λ (xs : List A). xs ++ drop (at + 1) entries)
-    (ap (λ (x : A). take at entries ++ x ∷ []) is ∙ sym (take_more entries at entry below))
-    ∙ take-append-drop (at + 1) entries
-
 -- an entry was refused, and those before it were given something
-refused_at : {E G : Type 0} (gives : E → G → Type 0) (refuses : E → Type 0) (entries : List E) (at : ℕ) (entry : E)
-    → at < length entries → entry ≡ get_or entries at entry → AreGiven gives (take at entries) → refuses entry
-    → (refused : IsRefusedIn gives refuses entries) × (refused.before ≡ take at entries)
-refused_at gives refuses entries at entry below is given refused = (
-  record {
-    before = take at entries;
-    entry = entry;
-    behind = drop (at + 1) entries;
-    are = sym (parted entries at entry below is);
-    given = given;
-    refused = refused;
-  },
+refused_at : {E G : Type 0} (gives : E → G → Type 0) (refuses : E → Type 0) (entries before behind : List E) (entry : E)
+    → entries ≡ before ++ entry ∷ behind → AreGiven gives before → refuses entry
+    → (refused : IsRefusedIn gives refuses entries) × (refused.before ≡ before)
+refused_at gives refuses entries before behind entry are given refused = (
+  record { before = before; entry = entry; behind = behind; are = are; given = given; refused = refused },
   refl,
 )
 
 module _ {D : Type 0} (state : D → DiskState) (sides : SidesGiven D) (gives_up : StartingState D → Type 0)
     (entries : List CartridgeEntry) where
   -- why not all cartridges are at their homes: the one at a place was refused, and those before it were given up
-  pub refused_home : (fault : VtlFault) (at : ℕ) (entry : CartridgeEntry) (starting : StartingState D)
-      → at < length entries → entry ≡ get_or entries at entry → IsFailure fault
-      → AreHome sides.gives_cartridge (take at entries) starting → sides.refuses_cartridge entry fault
+  pub refused_home : (fault : VtlFault) (before behind : List CartridgeEntry) (entry : CartridgeEntry)
+      (starting : StartingState D) → entries ≡ before ++ entry ∷ behind → IsFailure fault
+      → AreHome sides.gives_cartridge before starting → sides.refuses_cartridge entry fault
       → gives_up starting → IsNotHome state sides gives_up entries fault
-  refused_home Device at entry starting below is failure home refused up =
-      let found = refused_at sides.gives_cartridge (λ (e : CartridgeEntry). sides.refuses_cartridge e Device) entries at
-      entry below is home.given refused in (
+  refused_home Device before behind entry starting are failure home refused up =
+      let found = refused_at sides.gives_cartridge (λ (e : CartridgeEntry). sides.refuses_cartridge e Device) entries
+      before behind entry are home.given refused in (
         found.0,
         subst (λ (before : List CartridgeEntry). IsGivenUp state sides gives_up before []) (sym found.1)
-            (starting, up, on_yet sides.gives_cartridge state sides.gives_store (take at entries) starting home),
+            (starting, up, on_yet sides.gives_cartridge state sides.gives_store before starting home),
       )
-  refused_home NoMemory at entry starting below is failure home refused up = tt
-  refused_home Config at entry starting below is failure home refused up = absurd failure
-  refused_home Words at entry starting below is failure home refused up = absurd failure
-  refused_home (Script line) at entry starting below is failure home refused up = absurd failure
+  refused_home NoMemory before behind entry starting are failure home refused up = tt
+  refused_home Config before behind entry starting are failure home refused up = absurd failure
+  refused_home Words before behind entry starting are failure home refused up = absurd failure
+  refused_home (Script line) before behind entry starting are failure home refused up = absurd failure
 
   pub not_home : (fault : VtlFault) (taken : Bool) → (fault ≡ Config) × (taken ≡ true)
       → (taken ≡ true → ¬ AreDistinct (homes_of entries)) → IsNotHome state sides gives_up entries fault
@@ -289,23 +273,23 @@ module _ {D : Type 0} (state : D → DiskState) (sides : SidesGiven D) (gives_up
     off_of (Script line) why = why
 
     -- the store of the drive at a place was refused, and all before it was given up
-    pub refused_on : (fault : VtlFault) (at : ℕ) (entry : DriveEntry) (starting : StartingState D)
-        → at < length drives → entry ≡ get_or drives at entry → IsFailure fault
-        → AreOn sides.gives_cartridge state sides.gives_store entries (take at drives) starting
+    pub refused_on : (fault : VtlFault) (before behind : List DriveEntry) (entry : DriveEntry)
+        (starting : StartingState D) → drives ≡ before ++ entry ∷ behind → IsFailure fault
+        → AreOn sides.gives_cartridge state sides.gives_store entries before starting
         → sides.refuses_store entry fault → gives_up starting
         → IsNotStarted state sides gives_up entries drives fault
-    refused_on Device at entry starting below is failure on refused up =
-        let found = refused_at sides.gives_store (λ (e : DriveEntry). sides.refuses_store e Device) drives at entry
-        below is on.stores refused in
+    refused_on Device before behind entry starting are failure on refused up =
+        let found = refused_at sides.gives_store (λ (e : DriveEntry). sides.refuses_store e Device) drives before
+        behind entry are on.stores refused in
         inr (
           found.0,
           subst (λ (before : List DriveEntry). IsGivenUp state sides gives_up entries before) (sym found.1)
               (starting, up, on),
         )
-    refused_on NoMemory at entry starting below is failure on refused up = tt
-    refused_on Config at entry starting below is failure on refused up = absurd failure
-    refused_on Words at entry starting below is failure on refused up = absurd failure
-    refused_on (Script line) at entry starting below is failure on refused up = absurd failure
+    refused_on NoMemory before behind entry starting are failure on refused up = tt
+    refused_on Config before behind entry starting are failure on refused up = absurd failure
+    refused_on Words before behind entry starting are failure on refused up = absurd failure
+    refused_on (Script line) before behind entry starting are failure on refused up = absurd failure
 
     pub not_on : (fault : VtlFault) (taken : Bool) → (fault ≡ NoMemory) ⊎ (fault ≡ Config) × (taken ≡ true)
         → (taken ≡ true → ¬ AreDistinct (numbers_of drives)) → IsNotStarted state sides gives_up entries drives fault

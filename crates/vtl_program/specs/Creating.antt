@@ -1,5 +1,5 @@
 -- What `vtl create` makes of the files of a configuration, and what it tells (own).
-use Rattle.std.specs.Prelude.{◌≡◌, ◌≢◌, ◌⊎◌, ◌<◌, ℕ, List, [], ◌∷◌, ◌++◌, map, codes, decimal, string_bytes, Option, None, Some, Result, Ok, Err}
+use Rattle.std.specs.Prelude.{◌≡◌, ◌≢◌, ◌⊎◌, ◌<◌, ℕ, List, [], ◌∷◌, ◌++◌, map, codes, decimal, Option, None, Some, Result, Ok, Err}
 use Rattle.std.specs.Io.{StartsWith}
 use Rattle.std.specs.Io.KnownBytes.{Appends, Keeps}
 use Rattle.tape_disk.specs.Disk.{DiskState, Each}
@@ -34,8 +34,8 @@ label_of (StoreFile entry) = codes "DRIVE" ++ decimal entry.number
 
 -- the name of a file, as the configuration says it (own)
 abbrev pub path_of : SideFile → List ℕ
-path_of (CartridgeFile entry) = string_bytes entry.file
-path_of (StoreFile entry) = string_bytes entry.reservations
+path_of (CartridgeFile entry) = entry.file
+path_of (StoreFile entry) = entry.reservations
 
 -- an image is a new side of this file: a cartridge of its barcode and its capacities with no object, or the store of
 -- its drive, where nothing was saved (own)
@@ -75,8 +75,8 @@ IsNotOut line before now (Faults.Script number) = ⊥
 
 -- a file of this name was made, or something has the name, or the system refused it otherwise (own)
 abbrev pub IsNewFile : {D : Type 0} → (List ℕ → Result D FileError → Type 0) → List ℕ
-    → Result (Option D) VtlFault → Type 0
-IsNewFile makes name (Ok (Some disk)) = makes name (Ok disk)
+    → Result (Option (List ℕ × D)) VtlFault → Type 0
+IsNewFile makes name (Ok (Some made)) = (made.0 ≡ name) × makes name (Ok made.1)
 IsNewFile makes name (Ok None) = makes name (Err Exists)
 IsNewFile makes name (Err fault) =
     (fault ≡ Faults.Device) × ((error : FileError) × (error ≢ Exists) × makes name (Err error))

@@ -1,5 +1,5 @@
 -- Where the sides of a library come from: out of files, or made in memory (own).
-use Rattle.std.specs.Prelude.{◌≡◌, ◌⊎◌, ℕ, [], true, false, List, None, Result, Ok, Err, string_bytes}
+use Rattle.std.specs.Prelude.{◌≡◌, ◌⊎◌, ℕ, [], true, false, List, None, Result, Ok, Err}
 use Rattle.tape_disk.specs.CallLog.{log_state}
 use Rattle.tape_disk.specs.Disk.{DiskState, Keeps, Only}
 use Rattle.tape_disk.specs.Moments.{LeavesOnly}
@@ -85,15 +85,15 @@ module _ {D : Type 0} where
       abbrev pub file_sides : SidesGiven D
       file_sides = record {
         gives_cartridge = λ entry cartridge.
-            (disk : D) × opens (string_bytes entry.file) (Ok disk) × IsUnreadOver disk cartridge;
+            (disk : D) × opens entry.file (Ok disk) × IsUnreadOver disk cartridge;
         refuses_cartridge = λ entry fault.
-            (fault ≡ Device) × ((error : FileError) × opens (string_bytes entry.file) (Err error));
+            (fault ≡ Device) × ((error : FileError) × opens entry.file (Err error));
         gives_store = λ entry store.
-            (disk : D) × opens (string_bytes entry.reservations) (Ok disk) × IsStoreOn disk store;
+            (disk : D) × opens entry.reservations (Ok disk) × IsStoreOn disk store;
         refuses_store = λ entry fault.
-            ((fault ≡ Device) × ((error : FileError) × opens (string_bytes entry.reservations) (Err error)))
-            ⊎ ((disk : D) × opens (string_bytes entry.reservations) (Ok disk)
-            × ((last : D) × hands_back (string_bytes entry.reservations) last × IsNoStoreOn disk last fault));
+            ((fault ≡ Device) × ((error : FileError) × opens entry.reservations (Err error)))
+            ⊎ ((disk : D) × opens entry.reservations (Ok disk)
+            × ((last : D) × hands_back entry.reservations last × IsNoStoreOn disk last fault));
       }
 
 -- new sides, made as their entries say: only memory may run out (own)

@@ -1,6 +1,7 @@
 //! The missing files of a configuration are made.
-ghost use Rattle.std.specs.Prelude.{◌≡◌, ◌++◌, ◌∷◌, [], IfOk, IfErr, OnOk, map, codes, decimal, string_bytes};
+ghost use Rattle.std.specs.Prelude.{◌≡◌, ◌++◌, ◌∷◌, [], IsTrue, IfOk, IfErr, OnOk, map, codes, decimal, string_bytes};
 ghost use Rattle.std.specs.Io.KnownBytes.{Appends};
+ghost use Rattle.volume_core.specs.Volume.{are_capacities};
 ghost use Rattle.vtl_program.specs.Creating.{CartridgeFile, IsMadeOrKept, IsNewFile, IsNotMade, IsNotOut, StoreFile, TellsFiles, fate_line, fate_word, files_of};
 
 use crate::files::MakeFiles;
@@ -12,8 +13,8 @@ use file_disk::FileError;
 use std::alloc::{AllocError, Global};
 use std::io::Write;
 use tape_disk::Disk;
-use vtl_base::DriveNo;
-use vtl_config::{CartridgeEntry, Config, DriveEntry};
+use vtl_base::{Barcode, DriveNo};
+use vtl_config::{Capacities, CartridgeEntry, Config, DriveEntry, FileName, UsedName};
 
 /// What became of a file.
 #[derive(Clone, Copy, PartialEq, Eq, Debug)]
@@ -25,33 +26,51 @@ pub enum Fate {
 }
 
 // A disk over a new file of this name, or nothing where a file has the name.
-fn new_file<D, F: MakeFiles<D>>(files: &F, name: &str) -> Result<Option<D>, VtlFault>
-    ensures { IsNewFile F.makes name.now result }
+fn new_file<D, F: MakeFiles<D>>(
+    files: &F,
+    name: FileName,
+) -> Result<Option<(UsedName, D)>, VtlFault>
+    ensures { IsNewFile F.makes name result }
 {
-    match files.make(name) {
-        Ok(disk) => Ok(Some(disk)),
+    let (name, made) = files.make(name);
+    match made {
+        Ok(disk) => Ok(Some((name, disk))),
         Err(FileError::Exists) => Ok(None),
         Err(_) => Err(VtlFault::Device),
     }
 }
 
-// Makes the file of a cartridge, where it is missing.
+// The capacities of a cartridge's partitions, which a volume can have.
+pub(crate) fn slice_of(capacities: &Capacities) -> &[u64]
+    ensures value { result.now ≡ capacities.now }
+    ensures valid { IsTrue (are_capacities result.now) }
+{
+    capacities.as_slice()
+}
+
+// Makes the file of a cartridge, where it is missing: what became of it, and the barcode.
 fn create_cartridge<D: Disk + Drop, F: MakeFiles<D>>(
     alloc: Global,
     files: &F,
-    entry: &CartridgeEntry,
-) -> Result<Fate, VtlFault>
-    ensures ok { IfOk result (IsMadeOrKept D.state F.makes F.leaves (CartridgeFile entry.now)) }
-    ensures err { IfErr result (IsNotMade D.state F.makes F.takes_away (CartridgeFile entry.now)) }
+    entry: CartridgeEntry,
+) -> Result<(Fate, Barcode), VtlFault>
+    ensures ok { IfOk result (λ made. IsMadeOrKept D.state F.makes F.leaves (CartridgeFile entry) made.0) }
+    ensures label { IfOk result (λ made. made.1 ≡ entry.barcode) }
+    ensures err { IfErr result (IsNotMade D.state F.makes F.takes_away (CartridgeFile entry)) }
 {
-    let name = entry.file.as_str();
-    let Some(disk) = new_file::<D, F>(files, name)? else {
-        return Ok(Fate::Kept);
+    let CartridgeEntry {
+        barcode,
+        file,
+        capacities,
+        ..
+    } = entry;
+    let Some((name, disk)) = new_file::<D, F>(files, file)? else {
+        return Ok((Fate::Kept, barcode));
     };
-    match Cartridge::create(alloc, disk, &entry.barcode, entry.capacities.as_slice()) {
+    match Cartridge::create(alloc, disk, &barcode, slice_of(&capacities)) {
         Ok(shelved) => {
             files.leave(name, shelved.into_disk());
-            Ok(Fate::Created)
+            Ok((Fate::Created, barcode))
         }
         Err(refused) => {
             let NotCreated { error, disk } = refused;
@@ -68,16 +87,19 @@ fn create_cartridge<D: Disk + Drop, F: MakeFiles<D>>(
 fn create_store<D: Disk + Drop, F: MakeFiles<D>>(
     alloc: Global,
     files: &F,
-    entry: &DriveEntry,
+    entry: DriveEntry,
 ) -> Result<Fate, VtlFault>
-    ensures ok { IfOk result (IsMadeOrKept D.state F.makes F.leaves (StoreFile entry.now)) }
-    ensures err { IfErr result (IsNotMade D.state F.makes F.takes_away (StoreFile entry.now)) }
+    ensures ok { IfOk result (IsMadeOrKept D.state F.makes F.leaves (StoreFile entry)) }
+    ensures err { IfErr result (IsNotMade D.state F.makes F.takes_away (StoreFile entry)) }
 {
-    let name = entry.reservations.as_str();
-    let Some(disk) = new_file::<D, F>(files, name)? else {
+    let DriveEntry {
+        number,
+        reservations,
+    } = entry;
+    let Some((name, disk)) = new_file::<D, F>(files, reservations)? else {
         return Ok(Fate::Kept);
     };
-    match AptplStore::create(alloc, disk, entry.number) {
+    match AptplStore::create(alloc, disk, number) {
         Ok(store) => {
             files.leave(name, store.close());
             Ok(Fate::Created)
@@ -144,14 +166,14 @@ fn label_of(alloc: Global, number: DriveNo) -> Result<String, AllocError>
 fn make_cartridge<D: Disk + Drop, F: MakeFiles<D>, W: Write>(
     alloc: Global,
     files: &F,
-    entry: &CartridgeEntry,
+    entry: CartridgeEntry,
     writer: &mut W,
 ) -> Result<(), VtlFault>
-    ensures { TellsFiles D.state F.makes F.leaves F.takes_away (CartridgeFile entry.now ∷ [])
+    ensures { TellsFiles D.state F.makes F.leaves F.takes_away (CartridgeFile entry ∷ [])
         (W.contents writer.old) (W.contents writer.new) result }
 {
     match create_cartridge::<D, F>(alloc, files, entry) {
-        Ok(fate) => tell_fate(alloc, writer, fate, entry.barcode.as_bytes()),
+        Ok((fate, barcode)) => tell_fate(alloc, writer, fate, barcode.as_bytes()),
         Err(fault) => Err(fault),
     }
 }
@@ -160,10 +182,10 @@ fn make_cartridge<D: Disk + Drop, F: MakeFiles<D>, W: Write>(
 fn make_cartridges<D: Disk + Drop, F: MakeFiles<D>, W: Write>(
     alloc: Global,
     files: &F,
-    entries: &[CartridgeEntry],
+    entries: Vec<CartridgeEntry>,
     writer: &mut W,
 ) -> Result<(), VtlFault>
-    ensures { TellsFiles D.state F.makes F.leaves F.takes_away (map CartridgeFile entries.now)
+    ensures { TellsFiles D.state F.makes F.leaves F.takes_away (map CartridgeFile entries.items)
         (W.contents writer.old) (W.contents writer.new) result }
 {
     for entry in entries {
@@ -178,14 +200,15 @@ fn make_cartridges<D: Disk + Drop, F: MakeFiles<D>, W: Write>(
 fn make_store<D: Disk + Drop, F: MakeFiles<D>, W: Write>(
     alloc: Global,
     files: &F,
-    entry: &DriveEntry,
+    entry: DriveEntry,
     writer: &mut W,
 ) -> Result<(), VtlFault>
-    ensures { TellsFiles D.state F.makes F.leaves F.takes_away (StoreFile entry.now ∷ [])
+    ensures { TellsFiles D.state F.makes F.leaves F.takes_away (StoreFile entry ∷ [])
         (W.contents writer.old) (W.contents writer.new) result }
 {
+    let number = entry.number;
     match create_store::<D, F>(alloc, files, entry) {
-        Ok(fate) => match label_of(alloc, entry.number) {
+        Ok(fate) => match label_of(alloc, number) {
             Ok(label) => tell_fate(alloc, writer, fate, label.as_bytes()),
             Err(_) => Err(VtlFault::NoMemory),
         },
@@ -197,10 +220,10 @@ fn make_store<D: Disk + Drop, F: MakeFiles<D>, W: Write>(
 fn make_stores<D: Disk + Drop, F: MakeFiles<D>, W: Write>(
     alloc: Global,
     files: &F,
-    entries: &[DriveEntry],
+    entries: Vec<DriveEntry>,
     writer: &mut W,
 ) -> Result<(), VtlFault>
-    ensures { TellsFiles D.state F.makes F.leaves F.takes_away (map StoreFile entries.now)
+    ensures { TellsFiles D.state F.makes F.leaves F.takes_away (map StoreFile entries.items)
         (W.contents writer.old) (W.contents writer.new) result }
 {
     for entry in entries {
@@ -219,15 +242,15 @@ fn make_stores<D: Disk + Drop, F: MakeFiles<D>, W: Write>(
 pub fn create_missing<D: Disk + Drop, F: MakeFiles<D>, W: Write>(
     alloc: Global,
     files: &F,
-    config: &Config,
+    config: Config,
     writer: &mut W,
 ) -> Result<(), VtlFault>
-    ensures { TellsFiles D.state F.makes F.leaves F.takes_away (files_of config.now)
+    ensures { TellsFiles D.state F.makes F.leaves F.takes_away (files_of config)
         (W.contents writer.old) (W.contents writer.new) result }
 {
-    let cartridges = config.cartridges.as_slice();
+    let Config { cartridges, drives } = config;
     if let Err(fault) = make_cartridges::<D, F, W>(alloc, files, cartridges, writer) {
         return Err(fault);
     }
-    make_stores::<D, F, W>(alloc, files, config.drives.as_slice(), writer)
+    make_stores::<D, F, W>(alloc, files, drives, writer)
 }

@@ -1,5 +1,6 @@
 //! The calls for files that the program makes, by the files' names. The traits say what a function may do with files:
-//! each order's function has just those that it needs.
+//! each order's function has just those that it needs. A file that is changed or made is so once at most, since its name
+//! is given up for that.
 ghost use Rattle.std.specs.Prelude.{◌≡◌, ℕ, List, Result, Ok, Vec};
 ghost use Rattle.std.specs.declared.alloc.Global.{Global};
 ghost use Rattle.std.specs.declared.io.Error.{Error};
@@ -9,6 +10,7 @@ use crate::starting::Starting;
 use file_disk::{FileDisk, FileError};
 use library::Held;
 use std::{fs, io};
+use vtl_config::{FileName, UsedName};
 
 /// Files whose bytes are read.
 pub trait TextFiles {
@@ -45,13 +47,14 @@ pub trait ChangeFiles<D> {
     // The disk that was handed back for a name: no side was found on it.
     ghost hands_back: { List ℕ → D → Type 0 };
 
-    /// A disk over the file of this name.
-    fn open(&self, name: &str) -> Result<D, FileError>
-        ensures { opens name.now result };
+    /// A disk over the file of this name, which is used up.
+    fn open(&self, name: FileName) -> (UsedName, Result<D, FileError>)
+        ensures used { result.0 ≡ name }
+        ensures answer { opens name result.1 };
 
     /// Takes back a disk on which no side was found, as it is.
-    fn hand_back(&self, name: &str, disk: D)
-        ensures { hands_back name.now disk };
+    fn hand_back(&self, name: UsedName, disk: D)
+        ensures { hands_back name disk };
 }
 
 /// What takes back the disks of a library that is no longer used: of an `L` that was run, or of an `S` that was not
@@ -81,18 +84,20 @@ pub trait MakeFiles<D> {
 
     ghost takes_away: { List ℕ → D → Type 0 };
 
-    /// A disk over a new file of this name; `Exists` where a file has the name, which is not touched.
-    fn make(&self, name: &str) -> Result<D, FileError>
-        ensures { makes name.now result };
+    /// A disk over a new file of this name, which is used up; `Exists` where a file has the name, which is not
+    /// touched.
+    fn make(&self, name: FileName) -> (UsedName, Result<D, FileError>)
+        ensures used { result.0 ≡ name }
+        ensures answer { makes name result.1 };
 
     /// Takes a disk back, as it is. Its file stays.
-    fn leave(&self, name: &str, disk: D)
-        ensures { leaves name.now disk };
+    fn leave(&self, name: UsedName, disk: D)
+        ensures { leaves name disk };
 
     /// Takes a disk back, and its file away, where the system can: one that a call of `make` gave.
-    fn take_away(&self, name: &str, disk: D)
-        requires { (made : D) × makes name.now (Ok made) }
-        ensures { takes_away name.now disk };
+    fn take_away(&self, name: UsedName, disk: D)
+        requires { (made : D) × makes name (Ok made) }
+        ensures { takes_away name disk };
 }
 
 /// The files of the operating system. What they hold no contract of its calls says, so any answer is taken as it comes.
@@ -129,11 +134,13 @@ impl<'a> ChangeFiles<FileDisk> for SystemFiles<'a> {
 
     ghost hands_back = { λ name disk. Unit {0} };
 
-    fn open(&self, name: &str) -> Result<FileDisk, FileError> {
-        file_disk::open(self.rt, name)
+    fn open(&self, name: FileName) -> (UsedName, Result<FileDisk, FileError>) {
+        let name = name.use_up();
+        let opened = file_disk::open(self.rt, name.as_str());
+        (name, opened)
     }
 
-    fn hand_back(&self, _: &str, disk: FileDisk) {
+    fn hand_back(&self, _: UsedName, disk: FileDisk) {
         drop(disk);
     }
 }
@@ -159,17 +166,19 @@ impl<'a> MakeFiles<FileDisk> for SystemFiles<'a> {
 
     ghost takes_away = { λ name disk. Unit {0} };
 
-    fn make(&self, name: &str) -> Result<FileDisk, FileError> {
-        file_disk::create(self.rt, name)
+    fn make(&self, name: FileName) -> (UsedName, Result<FileDisk, FileError>) {
+        let name = name.use_up();
+        let made = file_disk::create(self.rt, name.as_str());
+        (name, made)
     }
 
-    fn leave(&self, _: &str, disk: FileDisk) {
+    fn leave(&self, _: UsedName, disk: FileDisk) {
         drop(disk);
     }
 
     // The disk has the lock, until the file is gone.
-    fn take_away(&self, name: &str, disk: FileDisk) {
-        let _ = fs::remove_file(self.rt, name);
+    fn take_away(&self, name: UsedName, disk: FileDisk) {
+        let _ = fs::remove_file(self.rt, name.as_str());
         drop(disk);
     }
 }

@@ -58,16 +58,16 @@ pub fn run_started<D: Disk + Drop, S: TakesBack<Held<D>, Starting<D>>, R: Read, 
 fn run_config<D: Disk + Drop, S: Sides<D> + TakesBack<Held<D>, Starting<D>>, R: Read, W: Write>(
     alloc: Global,
     sides: &S,
-    config: &Config,
+    config: Config,
     reader: &mut R,
     writer: &mut W,
 ) -> Result<(), VtlFault>
-    requires { (text : List ℕ) × Says text config.now }
-    ensures { RunsConfig D.state S.given S.closes_all S.gives_up config.now
+    requires { (text : List ℕ) × Says text config }
+    ensures { RunsConfig D.state S.given S.closes_all S.gives_up config
         (R.remaining reader.old) (R.remaining reader.new)
         (W.contents writer.old) (W.contents writer.new) result }
 {
-    let (cartridges, drives) = (config.cartridges.as_slice(), config.drives.as_slice());
+    let Config { cartridges, drives } = config;
     let held = start(alloc, sides, cartridges, drives);
     run_started(alloc, sides, held, reader, writer)
 }
@@ -96,9 +96,9 @@ fn run_order<
     };
     let config = config_in(alloc, files, name.as_str())?;
     if memory {
-        run_config(alloc, &NewSides, &config, reader, writer)
+        run_config(alloc, &NewSides, config, reader, writer)
     } else {
-        run_config::<D, FileSides<F>, R, W>(alloc, &FileSides { files }, &config, reader, writer)
+        run_config::<D, FileSides<F>, R, W>(alloc, &FileSides { files }, config, reader, writer)
     }
 }
 
@@ -113,7 +113,7 @@ fn create_order<D: Disk + Drop, F: TextFiles + MakeFiles<D>, W: Write>(
         (W.contents writer.old) (W.contents writer.new) result }
 {
     let config = config_in(alloc, files, name)?;
-    create_missing::<D, F, W>(alloc, files, &config, writer)
+    create_missing::<D, F, W>(alloc, files, config, writer)
 }
 
 // Tells what the side in a file holds.

@@ -5,6 +5,7 @@ ghost use Rattle.drive_core.specs.State.{left_of};
 ghost use Rattle.vtl_program.specs.Faults.{IsFailure, fault_of_store};
 ghost use Rattle.vtl_program.specs.Sides.{IsNoStoreOn, IsStoreOn, SidesGiven};
 
+use crate::creating::slice_of;
 use crate::files::{ChangeFiles, TakesBack};
 use crate::programs::VtlFault;
 use crate::starting::Starting;
@@ -31,17 +32,17 @@ pub trait Sides<D: Disk> {
     ghost given: { SidesGiven D };
 
     /// The cartridge of this entry, closed.
-    fn cartridge(&self, alloc: Global, entry: &CartridgeEntry) -> Result<Parked<D>, VtlFault>
-        ensures ok { IfOk result (given.gives_cartridge entry.now) }
-        ensures err { IfErr result (given.refuses_cartridge entry.now) }
+    fn cartridge(&self, alloc: Global, entry: CartridgeEntry) -> Result<Parked<D>, VtlFault>
+        ensures ok { IfOk result (given.gives_cartridge entry) }
+        ensures err { IfErr result (given.refuses_cartridge entry) }
         ensures failure { IfErr result IsFailure };
 
     /// The store of this entry, and what a loss of power leaves of the state that it saved last.
-    fn store(&self, alloc: Global, entry: &DriveEntry) -> Result<DriveStore<D>, VtlFault>
-        ensures ok { IfOk result (λ opened. given.gives_store entry.now opened.store) }
+    fn store(&self, alloc: Global, entry: DriveEntry) -> Result<DriveStore<D>, VtlFault>
+        ensures ok { IfOk result (λ opened. given.gives_store entry opened.store) }
         ensures left { IfOk result (λ opened.
             opened.left ≡ left_of (store_kept opened.store).saved) }
-        ensures err { IfErr result (given.refuses_store entry.now) }
+        ensures err { IfErr result (given.refuses_store entry) }
         ensures failure { IfErr result IsFailure };
 }
 
@@ -97,16 +98,17 @@ impl<'a, D: Disk, F: ChangeFiles<D>> Sides<D> for FileSides<'a, F> {
 
     ghost given = { file_sides D.state F.opens F.hands_back };
 
-    fn cartridge(&self, alloc: Global, entry: &CartridgeEntry) -> Result<Parked<D>, VtlFault> {
-        match self.files.open(entry.file.as_str()) {
+    fn cartridge(&self, alloc: Global, entry: CartridgeEntry) -> Result<Parked<D>, VtlFault> {
+        let (_name, opened) = self.files.open(entry.file);
+        match opened {
             Ok(disk) => Ok(Parked::of(alloc, Shelved::of(disk))),
             Err(_) => Err(VtlFault::Device),
         }
     }
 
-    fn store(&self, alloc: Global, entry: &DriveEntry) -> Result<DriveStore<D>, VtlFault> {
-        let name = entry.reservations.as_str();
-        match self.files.open(name) {
+    fn store(&self, alloc: Global, entry: DriveEntry) -> Result<DriveStore<D>, VtlFault> {
+        let (name, found) = self.files.open(entry.reservations);
+        match found {
             Ok(disk) => match opened(alloc, disk) {
                 Ok(store) => Ok(store),
                 Err(none) => {
@@ -141,19 +143,15 @@ impl Sides<MemDisk> for NewSides {
     ghost given = { new_sides };
 
     // The one failure of a disk in memory is a growth that was refused.
-    fn cartridge(
-        &self,
-        alloc: Global,
-        entry: &CartridgeEntry,
-    ) -> Result<Parked<MemDisk>, VtlFault> {
+    fn cartridge(&self, alloc: Global, entry: CartridgeEntry) -> Result<Parked<MemDisk>, VtlFault> {
         let disk = MemDisk::new(alloc);
-        match Cartridge::create(alloc, disk, &entry.barcode, entry.capacities.as_slice()) {
+        match Cartridge::create(alloc, disk, &entry.barcode, slice_of(&entry.capacities)) {
             Ok(shelved) => Ok(Parked::of(alloc, shelved)),
             Err(_) => Err(VtlFault::NoMemory),
         }
     }
 
-    fn store(&self, alloc: Global, entry: &DriveEntry) -> Result<DriveStore<MemDisk>, VtlFault> {
+    fn store(&self, alloc: Global, entry: DriveEntry) -> Result<DriveStore<MemDisk>, VtlFault> {
         match AptplStore::create(alloc, MemDisk::new(alloc), entry.number) {
             Ok(store) => Ok(DriveStore {
                 store,

@@ -138,13 +138,14 @@ impl<D: Disk + Drop> Starting<D> {
 fn place_all<D: Disk + Drop, S: Sides<D> + TakesBack<Held<D>, Starting<D>>>(
     alloc: Global,
     sides: &S,
-    cartridges: &[CartridgeEntry],
+    cartridges: Vec<CartridgeEntry>,
 ) -> Result<Starting<D>, VtlFault>
-    ensures ok { IfOk result (AreHome S.given.gives_cartridge cartridges.now) }
-    ensures err { IfErr result (IsNotHome D.state S.given S.gives_up cartridges.now) }
+    ensures ok { IfOk result (AreHome S.given.gives_cartridge cartridges.items) }
+    ensures err { IfErr result (IsNotHome D.state S.given S.gives_up cartridges.items) }
 {
     let mut starting = Starting::new(alloc)?;
     for entry in cartridges {
+        let home = entry.home;
         let cartridge = match sides.cartridge(alloc, entry) {
             Ok(cartridge) => cartridge,
             Err(fault) => {
@@ -152,7 +153,7 @@ fn place_all<D: Disk + Drop, S: Sides<D> + TakesBack<Held<D>, Starting<D>>>(
                 return Err(fault);
             }
         };
-        if let Err(fault) = starting.put(entry.home, cartridge) {
+        if let Err(fault) = starting.put(home, cartridge) {
             sides.give_up(starting);
             return Err(fault);
         }
@@ -166,15 +167,16 @@ fn place_all<D: Disk + Drop, S: Sides<D> + TakesBack<Held<D>, Starting<D>>>(
 pub fn start<D: Disk + Drop, S: Sides<D> + TakesBack<Held<D>, Starting<D>>>(
     alloc: Global,
     sides: &S,
-    cartridges: &[CartridgeEntry],
-    drives: &[DriveEntry],
+    cartridges: Vec<CartridgeEntry>,
+    drives: Vec<DriveEntry>,
 ) -> Result<Held<D>, VtlFault>
     ensures ok { IfOk result
-        (IsStarted S.given.gives_cartridge D.state S.given.gives_store cartridges.now drives.now) }
-    ensures err { IfErr result (IsNotStarted D.state S.given S.gives_up cartridges.now drives.now) }
+        (IsStarted S.given.gives_cartridge D.state S.given.gives_store cartridges.items drives.items) }
+    ensures err { IfErr result (IsNotStarted D.state S.given S.gives_up cartridges.items drives.items) }
 {
     let mut starting = place_all(alloc, sides, cartridges)?;
     for entry in drives {
+        let number = entry.number;
         let opened = match sides.store(alloc, entry) {
             Ok(opened) => opened,
             Err(fault) => {
@@ -182,7 +184,7 @@ pub fn start<D: Disk + Drop, S: Sides<D> + TakesBack<Held<D>, Starting<D>>>(
                 return Err(fault);
             }
         };
-        if let Err(fault) = starting.switch_on(alloc, entry.number, opened) {
+        if let Err(fault) = starting.switch_on(alloc, number, opened) {
             sides.give_up(starting);
             return Err(fault);
         }

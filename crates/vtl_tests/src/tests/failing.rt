@@ -8,7 +8,7 @@ use pr_core::Reservations;
 use std::alloc::Global;
 use std::test::Fail;
 use tape_disk::{MemDisk, OnceDisk};
-use vtl_config::{CartridgeEntry, DriveEntry, read_config};
+use vtl_config::{CartridgeEntry, Config, DriveEntry, read_config};
 use vtl_program::files::TakesBack;
 use vtl_program::orders::run_started;
 use vtl_program::programs::VtlFault;
@@ -19,6 +19,19 @@ use vtl_program::starting::{Starting, start};
 #[derive(Clone, Copy)]
 struct FailingSides {
     calls: u64,
+}
+
+// A new cartridge on a disk that fails at the call after this many.
+fn failing_cartridge(
+    alloc: Global,
+    calls: u64,
+    entry: &CartridgeEntry,
+) -> Result<Parked<OnceDisk<MemDisk>>, VtlFault> {
+    let disk = OnceDisk::new(MemDisk::new(alloc), calls);
+    match Cartridge::create(alloc, disk, &entry.barcode, entry.capacities.as_slice()) {
+        Ok(shelved) => Ok(Parked::of(alloc, shelved)),
+        Err(_) => Err(VtlFault::Device),
+    }
 }
 
 impl Sides<OnceDisk<MemDisk>> for FailingSides {
@@ -32,19 +45,15 @@ impl Sides<OnceDisk<MemDisk>> for FailingSides {
     fn cartridge(
         &self,
         alloc: Global,
-        entry: &CartridgeEntry,
+        entry: CartridgeEntry,
     ) -> Result<Parked<OnceDisk<MemDisk>>, VtlFault> {
-        let disk = OnceDisk::new(MemDisk::new(alloc), self.calls);
-        match Cartridge::create(alloc, disk, &entry.barcode, entry.capacities.as_slice()) {
-            Ok(shelved) => Ok(Parked::of(alloc, shelved)),
-            Err(_) => Err(VtlFault::Device),
-        }
+        failing_cartridge(alloc, self.calls, &entry)
     }
 
     fn store(
         &self,
         alloc: Global,
-        entry: &DriveEntry,
+        entry: DriveEntry,
     ) -> Result<DriveStore<OnceDisk<MemDisk>>, VtlFault> {
         let disk = OnceDisk::new(MemDisk::new(alloc), u64::MAX);
         match AptplStore::create(alloc, disk, entry.number) {
@@ -81,7 +90,7 @@ fn ran(alloc: Global, script: &[u8], calls: u64) -> Result<(Vec<u8>, Result<(), 
         Ok(config) => config,
         Err(_) => return Err(Fail::from("no configuration")),
     };
-    let (cartridges, drives) = (config.cartridges.as_slice(), config.drives.as_slice());
+    let Config { cartridges, drives } = config;
     let sides = FailingSides { calls };
     let held = start(alloc, &sides, cartridges, drives);
     let mut reader = BadReader::new(script, None);

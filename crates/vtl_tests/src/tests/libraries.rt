@@ -3,7 +3,7 @@ use library::Held;
 use std::alloc::Global;
 use std::test::Fail;
 use tape_disk::MemDisk;
-use vtl_config::read_config;
+use vtl_config::{Config, read_config};
 use vtl_program::sides::NewSides;
 use vtl_program::starting::start;
 
@@ -13,7 +13,7 @@ pub fn in_memory(alloc: Global, text: &[u8]) -> Result<Held<MemDisk>, Fail> {
         Ok(config) => config,
         Err(_) => return Err(Fail::from("no configuration")),
     };
-    let (cartridges, drives) = (config.cartridges.as_slice(), config.drives.as_slice());
+    let Config { cartridges, drives } = config;
     match start(alloc, &NewSides, cartridges, drives) {
         Ok(held) => Ok(held),
         Err(_) => Err(Fail::from("not started")),

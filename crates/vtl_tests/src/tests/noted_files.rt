@@ -6,6 +6,7 @@ use std::cell::{Cell, RefCell};
 use std::io::{self, ErrorKind};
 use tape_disk::{MemDisk, OnceDisk};
 use vtl_base::DevFault;
+use vtl_config::{FileName, UsedName};
 use vtl_program::files::{ChangeFiles, MakeFiles, ReadFiles, TakesBack, TextFiles};
 use vtl_program::starting::Starting;
 
@@ -141,17 +142,31 @@ impl ReadFiles<OnceDisk<MemDisk>> for NotedFiles {
     }
 }
 
+impl NotedFiles {
+    fn opened(&self, name: &str) -> Result<OnceDisk<MemDisk>, FileError> {
+        self.call("open", name)?;
+        self.disk(name, self.side(name))
+    }
+
+    fn made(&self, name: &str) -> Result<OnceDisk<MemDisk>, FileError> {
+        self.call("make", name)?;
+        self.disk(name, b"")
+    }
+}
+
 impl ChangeFiles<OnceDisk<MemDisk>> for NotedFiles {
     ghost opens = { λ name answer. Unit {0} };
 
     ghost hands_back = { λ name disk. Unit {0} };
 
-    fn open(&self, name: &str) -> Result<OnceDisk<MemDisk>, FileError> {
-        self.call("open", name)?;
-        self.disk(name, self.side(name))
+    fn open(&self, name: FileName) -> (UsedName, Result<OnceDisk<MemDisk>, FileError>) {
+        let name = name.use_up();
+        let opened = self.opened(name.as_str());
+        (name, opened)
     }
 
-    fn hand_back(&self, name: &str, disk: OnceDisk<MemDisk>) {
+    fn hand_back(&self, name: UsedName, disk: OnceDisk<MemDisk>) {
+        let name = name.as_str();
         let _ = self.noted(self.word_of(&disk, name), name);
         drop(disk);
     }
@@ -180,18 +195,19 @@ impl MakeFiles<OnceDisk<MemDisk>> for NotedFiles {
 
     ghost takes_away = { λ name disk. Unit {0} };
 
-    fn make(&self, name: &str) -> Result<OnceDisk<MemDisk>, FileError> {
-        self.call("make", name)?;
-        self.disk(name, b"")
+    fn make(&self, name: FileName) -> (UsedName, Result<OnceDisk<MemDisk>, FileError>) {
+        let name = name.use_up();
+        let made = self.made(name.as_str());
+        (name, made)
     }
 
-    fn leave(&self, name: &str, disk: OnceDisk<MemDisk>) {
-        let _ = self.noted("leave", name);
+    fn leave(&self, name: UsedName, disk: OnceDisk<MemDisk>) {
+        let _ = self.noted("leave", name.as_str());
         drop(disk);
     }
 
-    fn take_away(&self, name: &str, disk: OnceDisk<MemDisk>) {
-        let _ = self.noted("take", name);
+    fn take_away(&self, name: UsedName, disk: OnceDisk<MemDisk>) {
+        let _ = self.noted("take", name.as_str());
         drop(disk);
     }
 }

@@ -1,4 +1,4 @@
-use Rattle.std.proofs.Common.{◌≡◌, ◌+◌, [], ◌∷◌, ◌++◌, map, take, string_bytes, sym, ap, ◌∙◌, arith, rules}
+use Rattle.std.proofs.Common.{◌≡◌, ◌+◌, [], ◌∷◌, ◌++◌, map, take, sym, ap, ◌∙◌, arith, rules}
 use Rattle.std.proofs.lemmas.List.{take_all}
 use Rattle.toml.specs.View.{view}
 use Rattle.toml.specs.declared.value.Value.{Value}
@@ -27,10 +27,10 @@ loop-place-preserved c =
     let taken : map view (take (place + 1) values) ≡ map view (take place values) ++ view here ∷ [] =
     taken_more view values place here c.loop-place-test.true
     ∙ ap (λ (v : Value). map view (take place values) ++ view v ∷ []) (sym c.index-entries-place.is) in
-    let text : string_bytes c.in_ok-reservations.reservations ≡ c.in-Ok.found.file.now =
-    search (rules, c.in_ok-reservations.ensures.ok) in
+    let text : c.of.result ≡ c.in-Ok.found.file.now =
+    search (rules, c.of.ensures, c.in_ok-reservations.ensures.ok) in
     let fits : FitsDrive c.loop-place.drives.items (view here) c.in-Ok.found.number
-    (string_bytes c.in_ok-reservations.reservations) =
+    c.of.result =
     rw (← c.as_slice.ensures.value, text) c.in-Ok.ensures.ok in
     rw (taken, c.in_ok-push.ensures.items) (drives_push _ _ _ _ c.loop-place.invariant fits)
 

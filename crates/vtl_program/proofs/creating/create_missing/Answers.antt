@@ -5,17 +5,14 @@ use Rattle.vtl_program.proofs.creating.create_missing.Goals as goal
 
 pub returns-in-Err : goal.returns-in-Err
 returns-in-Err g c =
-    let config = c.args.config.now in
+    let config = c.args.config in
     let makes = g.F.MakeFiles in
     files_of g.D.Disk.state makes.makes makes.leaves makes.takes_away (map CartridgeFile config.cartridges.items)
-    (map StoreFile config.drives.items) _ _ c.in-Err.fault
-    (rw c.as_slice-cartridges.ensures.value at c.in-Err.ensures)
+    (map StoreFile config.drives.items) _ _ c.in-Err.fault c.in-Err.ensures
 
 pub returns : goal.returns
 returns g c =
-    let config = c.args.config.now in
+    let config = c.args.config in
     let makes = g.F.MakeFiles in
     files_on g.D.Disk.state makes.makes makes.leaves makes.takes_away (map CartridgeFile config.cartridges.items)
-    (map StoreFile config.drives.items) _ _ _ c.make_stores.result
-    (rw c.as_slice-cartridges.ensures.value at c.in_default.ensures)
-    (rw c.as_slice.ensures.value at c.make_stores.ensures)
+    (map StoreFile config.drives.items) _ _ _ c.make_stores.result c.in_default.ensures c.make_stores.ensures

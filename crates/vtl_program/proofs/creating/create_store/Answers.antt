@@ -4,20 +4,21 @@ use Rattle.aptpl_store.specs.Contents.{GivesStates}
 use Rattle.vtl_program.proofs.creating.create_store.Goals as goal
 
 pub returns-in-Ok-clause-ok : goal.returns-in-Ok-clause-ok
-returns-in-Ok-clause-ok g c = (
-  c.in-Some.disk,
-  rw c.as_str-name.ensures.value at (rw c.in-Some.is at c.in_ok-disk.ensures),
-  (
-    c.in-Ok.store.disk,
-    rw (c.as_str-name.ensures.value, c.close.ensures) at c.leave.ensures,
-    record {
-      none_failed = c.in-Ok.ensures.ok.5;
-      bytes = λ honest.
-          c.in-Ok.ensures.bytes honest
-          ∙ ap (λ (h : Heading). spell h [] ++ CLOSED ∷ []) c.in-Ok.ensures.ok.0;
-      sure = λ honest image left.
-          subst (λ (h : Heading). GivesStates h [] image) c.in-Ok.ensures.ok.0
-          (c.in-Ok.ensures.sure honest image left);
-    },
-  ),
-)
+returns-in-Ok-clause-ok g c =
+    let made = rw c.in-Some.is at c.in_ok-name.ensures in (
+      c.in-Some.disk,
+      made.1,
+      (
+        c.in-Ok.store.disk,
+        rw (made.0, c.close.ensures) at c.leave.ensures,
+        record {
+          none_failed = c.in-Ok.ensures.ok.5;
+          bytes = λ honest.
+              c.in-Ok.ensures.bytes honest
+              ∙ ap (λ (h : Heading). spell h [] ++ CLOSED ∷ []) c.in-Ok.ensures.ok.0;
+          sure = λ honest image left.
+              subst (λ (h : Heading). GivesStates h [] image) c.in-Ok.ensures.ok.0
+              (c.in-Ok.ensures.sure honest image left);
+        },
+      ),
+    )

@@ -7,16 +7,16 @@ pub returns-in-Ok-label_of : goal.returns-in-Ok-label_of
 returns-in-Ok-label_of g c =
     let is = c.as_bytes.ensures.value ∙ c.in-Ok-label_of.ensures in
     file_result g.D.Disk.state g.F.MakeFiles.makes g.F.MakeFiles.leaves g.F.MakeFiles.takes_away
-    (StoreFile c.args.entry.now) c.in-Ok.fate
+    (StoreFile c.args.entry) c.in-Ok.fate
     (g.W.Write.contents c.args.writer.now) (g.W.Write.contents c.tell_fate.new.writer) c.tell_fate.result
     c.in-Ok.ensures.ok (rw is at c.tell_fate.ensures.ok) (rw is at c.tell_fate.ensures.err)
 
 pub returns-in-Err-label_of : goal.returns-in-Err-label_of
 returns-in-Err-label_of g c =
     none_told g.D.Disk.state g.F.MakeFiles.makes g.F.MakeFiles.leaves g.F.MakeFiles.takes_away
-    (StoreFile c.args.entry.now) c.in-Ok.fate _ c.in-Ok.ensures.ok
+    (StoreFile c.args.entry) c.in-Ok.fate _ c.in-Ok.ensures.ok
 
 pub returns-in-Err : goal.returns-in-Err
 returns-in-Err g c =
     none_made g.D.Disk.state g.F.MakeFiles.makes g.F.MakeFiles.leaves g.F.MakeFiles.takes_away
-    (StoreFile c.args.entry.now) _ c.in-Err.fault c.in-Err.ensures.err
+    (StoreFile c.args.entry) _ c.in-Err.fault c.in-Err.ensures.err

@@ -1,10 +1,12 @@
-use Rattle.std.proofs.Common.{take, map, Ok}
+use Rattle.std.proofs.Common.{◌≡◌, ◌++◌, length, map, Ok}
+use Rattle.std.specs.Vec.Iter.{into_iter_items, into_iter_len}
 use Rattle.vtl_program.specs.Creating.{StoreFile, TellsFiles}
 use Rattle.vtl_program.proofs.creating.make_stores.Given as goal
 
 -- the files so far are told of
 abbrev pub invariant-loop-entry : goal.invariant-loop-entry
 invariant-loop-entry g l =
-    TellsFiles g.D.Disk.state g.F.MakeFiles.makes g.F.MakeFiles.leaves g.F.MakeFiles.takes_away
-    (map StoreFile (take l.entry-index l.entries)) (g.W.Write.contents l.fn.writer)
-    (g.W.Write.contents l.writer) (Ok tt)
+    (l.yielded ++ into_iter_items l.entry-iterator ≡ into_iter_items l.initial.entry-iterator)
+    × TellsFiles g.D.Disk.state g.F.MakeFiles.makes g.F.MakeFiles.leaves g.F.MakeFiles.takes_away
+    (map StoreFile l.yielded) (g.W.Write.contents l.fn.writer) (g.W.Write.contents l.writer) (Ok tt)
+    × (into_iter_len l.entry-iterator ≡ length (into_iter_items l.entry-iterator))

@@ -1,46 +1,59 @@
-use Rattle.std.proofs.Common.{◌≡◌, ◌∙◌, ◌∷◌, ◌++◌, ◌+◌, [], List, ap, sym, subst, take, drop, is_some}
-use Rattle.std.proofs.lemmas.List.{take_all, take_more}
+use Rattle.std.proofs.Common.{rules, ◌≡◌, ◌∙◌, ◌∷◌, ◌++◌, List, length, ap, refl, sym, subst, is_some, arith}
+use Rattle.std.specs.Vec.Iter.{into_iter_items}
 use Rattle.vtl_config.specs.Entries.{AreDistinct, address_of, homes_of}
 use Rattle.vtl_config.specs.declared.entries.CartridgeEntry.{CartridgeEntry}
 use Rattle.vtl_program.specs.Inner.Waiting.{AreHome, home_at}
-use Rattle.vtl_program.proofs.StartingLemmas.{double_home, home_on, home_yet, not_home, parted, refused_home}
+use Rattle.vtl_program.proofs.StartingLemmas.{double_home, home_on, home_yet, not_home, refused_home}
+use Rattle.vtl_program.proofs.TakenLemmas.{all_taken, one_more, parted}
 use Rattle.vtl_program.proofs.starting.place_all.Goals as goal
 
 pub loop-entry-init : goal.loop-entry-init
-loop-entry-init g c = home_yet g.S.Sides.given.gives_cartridge c.in_ok-starting.starting c.in_ok-starting.ensures
+loop-entry-init g c = (
+  refl,
+  home_yet g.S.Sides.given.gives_cartridge c.in_ok-starting.starting c.in_ok-starting.ensures,
+  search (rules, c.into_iter-entry-iterator.ensures.into_iter_gives),
+)
 
 pub returns-in-Err-clause-err : goal.returns-in-Err-clause-err
 returns-in-Err-clause-err g c =
-    let at = c.loop-entry.entry-index in
-    let entry = c.entry-item.result in
-    refused_home g.D.Disk.state g.S.Sides.given g.S.TakesBack.gives_up c.args.cartridges.now c.in-Err.fault at entry
-    c.loop-entry.starting c.loop-entry-test.true c.entry-item.is c.in-Err.ensures.failure c.loop-entry.invariant
-    c.in-Err.ensures.err c.give_up.ensures
+    let at = c.loop-entry in
+    let entry = c.in-Some.entry in
+    refused_home g.D.Disk.state g.S.Sides.given g.S.TakesBack.gives_up c.args.cartridges.items c.in-Err.fault
+    at.yielded (into_iter_items c.next.new.self) entry at.starting
+    (parted into_iter_items c.args.cartridges.items at.yielded entry at.entry-iterator c.next.new.self
+    (at.invariant.0 ∙ c.into_iter-entry-iterator.ensures.into_iter_gives.0) c.in-Some.ensures.steps.0)
+    c.in-Err.ensures.failure at.invariant.1 c.in-Err.ensures.err c.give_up.ensures
 
 pub returns-in-Err-put-clause-err : goal.returns-in-Err-put-clause-err
 returns-in-Err-put-clause-err g c =
-    let entries = c.args.cartridges.now in
-    let at = c.loop-entry.entry-index in
-    let entry = c.entry-item.result in
+    let at = c.loop-entry in
+    let entry = c.in-Some.entry in
+    let entries = c.args.cartridges.items in
     not_home g.D.Disk.state g.S.Sides.given g.S.TakesBack.gives_up entries c.in-Err-put.fault
-    (is_some (home_at c.loop-entry.starting (address_of entry.home))) c.in-Err-put.ensures.err (λ taken.
-    subst (λ (xs : List CartridgeEntry). ¬ AreDistinct (homes_of xs))
-    (parted entries at entry c.loop-entry-test.true c.entry-item.is)
-    (double_home g.S.Sides.given.gives_cartridge (take at entries) (drop (at + 1) entries) entry c.loop-entry.starting
-    c.loop-entry.invariant taken))
+    (is_some (home_at at.starting (address_of entry.home))) c.in-Err-put.ensures.err (λ taken.
+    rw (parted into_iter_items entries at.yielded entry at.entry-iterator c.next.new.self
+    (at.invariant.0 ∙ c.into_iter-entry-iterator.ensures.into_iter_gives.0) c.in-Some.ensures.steps.0)
+    (double_home g.S.Sides.given.gives_cartridge at.yielded (into_iter_items c.next.new.self) entry at.starting
+    at.invariant.1 taken))
 
 pub loop-entry-preserved : goal.loop-entry-preserved
 loop-entry-preserved g c =
-    let entries = c.args.cartridges.now in
-    let at = c.loop-entry.entry-index in
-    let entry = c.entry-item.result in
-    let one : take (at + 1) entries ≡ take at entries ++ entry ∷ [] =
-    take_more entries at entry c.loop-entry-test.true
-    ∙ ap (λ (x : CartridgeEntry). take at entries ++ x ∷ []) (sym c.entry-item.is) in
-    rw one (home_on g.S.Sides.given.gives_cartridge (take at entries) entry c.in-Ok.cartridge c.loop-entry.starting
-    c.put.new.self c.loop-entry.invariant c.in-Ok.ensures.ok c.in_default.ensures.ok)
+    let at = c.loop-entry in
+    let entry = c.in-Some.entry in (
+      one_more into_iter_items _ at.yielded entry at.entry-iterator c.next.new.self at.invariant.0
+          c.in-Some.ensures.steps.0,
+      home_on g.S.Sides.given.gives_cartridge at.yielded entry c.in-Ok.cartridge at.starting c.put.new.self
+          at.invariant.1 c.in-Ok.ensures.ok c.in_default.ensures.ok,
+      let was = at.invariant.2 in
+          let gone = c.in-Some.ensures.steps.1 in
+          let short = ap length c.in-Some.ensures.steps.0 in
+          omega arith,
+    )
 
 pub returns-clause-ok : goal.returns-clause-ok
 returns-clause-ok g c =
-    subst (λ (xs : List CartridgeEntry). AreHome g.S.Sides.given.gives_cartridge xs c.loop-entry.starting)
-    (take_all c.loop-entry.entry-index c.args.cartridges.now c.loop-entry-test.false) c.loop-entry.invariant
+    let at = c.loop-entry in
+    subst (λ (xs : List CartridgeEntry). AreHome g.S.Sides.given.gives_cartridge xs at.starting)
+    (all_taken (into_iter_items at.entry-iterator) c.args.cartridges.items at.yielded
+    (at.invariant.0 ∙ c.into_iter-entry-iterator.ensures.into_iter_gives.0)
+    (sym at.invariant.2 ∙ c.in-None.ensures.steps.0)) at.invariant.1

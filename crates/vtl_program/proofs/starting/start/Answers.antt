@@ -1,57 +1,69 @@
-use Rattle.std.proofs.Common.{◌≡◌, ◌∙◌, ◌∷◌, ◌++◌, ◌+◌, [], List, ap, sym, subst, take, drop, is_some}
-use Rattle.std.proofs.lemmas.List.{take_all, take_more}
+use Rattle.std.proofs.Common.{rules, ◌≡◌, ◌∙◌, ◌∷◌, ◌++◌, List, length, ap, refl, sym, subst, is_some, arith}
+use Rattle.std.specs.Vec.Iter.{into_iter_items}
 use Rattle.library.specs.Elements.{bay_at}
 use Rattle.vtl_config.specs.Entries.{AreDistinct, numbers_of}
 use Rattle.vtl_config.specs.declared.entries.DriveEntry.{DriveEntry}
 use Rattle.vtl_program.specs.Starting.{AreOn, IsStarted}
 use Rattle.vtl_program.specs.Unfinished.{StartingState}
-use Rattle.vtl_program.proofs.StartingLemmas.{all_on, double_number, not_on, on_more, on_yet, parted, refused_on}
+use Rattle.vtl_program.proofs.StartingLemmas.{all_on, double_number, not_on, on_more, on_yet, refused_on}
+use Rattle.vtl_program.proofs.TakenLemmas.{all_taken, one_more, parted}
 use Rattle.vtl_program.proofs.starting.start.Goals as goal
 
 pub loop-entry-init : goal.loop-entry-init
-loop-entry-init g c =
-    on_yet g.S.Sides.given.gives_cartridge g.D.Disk.state g.S.Sides.given.gives_store c.args.cartridges.now
-    c.in_ok-starting.starting c.in_ok-starting.ensures.ok
+loop-entry-init g c = (
+  refl,
+  on_yet g.S.Sides.given.gives_cartridge g.D.Disk.state g.S.Sides.given.gives_store c.args.cartridges.items
+      c.in_ok-starting.starting c.in_ok-starting.ensures.ok,
+  search (rules, c.into_iter-entry-iterator.ensures.into_iter_gives),
+)
 
 pub returns-in-Err-clause-err : goal.returns-in-Err-clause-err
 returns-in-Err-clause-err g c =
-    let entries = c.args.cartridges.now in
-    let fault = c.in-Err.fault in
-    refused_on g.D.Disk.state g.S.Sides.given g.S.TakesBack.gives_up entries c.args.drives.now fault
-    c.loop-entry.entry-index c.entry-item.result c.loop-entry.starting c.loop-entry-test.true c.entry-item.is
-    c.in-Err.ensures.failure c.loop-entry.invariant c.in-Err.ensures.err c.give_up.ensures
+    let at = c.loop-entry in
+    let entry = c.in-Some.entry in
+    refused_on g.D.Disk.state g.S.Sides.given g.S.TakesBack.gives_up c.args.cartridges.items c.args.drives.items
+    c.in-Err.fault at.yielded (into_iter_items c.next.new.self) entry at.starting
+    (parted into_iter_items c.args.drives.items at.yielded entry at.entry-iterator c.next.new.self
+    (at.invariant.0 ∙ c.into_iter-entry-iterator.ensures.into_iter_gives.0) c.in-Some.ensures.steps.0)
+    c.in-Err.ensures.failure at.invariant.1 c.in-Err.ensures.err c.give_up.ensures
 
 pub returns-in-Err-switch_on-clause-err : goal.returns-in-Err-switch_on-clause-err
 returns-in-Err-switch_on-clause-err g c =
-    let drives = c.args.drives.now in
-    let at = c.loop-entry.entry-index in
-    let entry = c.entry-item.result in
-    not_on g.D.Disk.state g.S.Sides.given g.S.TakesBack.gives_up c.args.cartridges.now drives c.in-Err-switch_on.fault
-    (is_some (bay_at c.loop-entry.starting.held.bays entry.number)) c.in-Err-switch_on.ensures.err (λ taken.
-    subst (λ (xs : List DriveEntry). ¬ AreDistinct (numbers_of xs))
-    (parted drives at entry c.loop-entry-test.true c.entry-item.is)
-    (double_number g.S.Sides.given.gives_cartridge g.D.Disk.state g.S.Sides.given.gives_store c.args.cartridges.now
-    (take at drives) (drop (at + 1) drives) entry c.loop-entry.starting c.loop-entry.invariant taken))
+    let at = c.loop-entry in
+    let entry = c.in-Some.entry in
+    let drives = c.args.drives.items in
+    not_on g.D.Disk.state g.S.Sides.given g.S.TakesBack.gives_up c.args.cartridges.items drives
+    c.in-Err-switch_on.fault (is_some (bay_at at.starting.held.bays entry.number)) c.in-Err-switch_on.ensures.err
+    (λ taken. rw (parted into_iter_items drives at.yielded entry at.entry-iterator c.next.new.self
+    (at.invariant.0 ∙ c.into_iter-entry-iterator.ensures.into_iter_gives.0) c.in-Some.ensures.steps.0)
+    (double_number g.S.Sides.given.gives_cartridge g.D.Disk.state g.S.Sides.given.gives_store c.args.cartridges.items
+    at.yielded (into_iter_items c.next.new.self) entry at.starting at.invariant.1 taken))
 
 pub loop-entry-preserved : goal.loop-entry-preserved
 loop-entry-preserved g c =
-    let drives = c.args.drives.now in
-    let at = c.loop-entry.entry-index in
-    let entry = c.entry-item.result in
-    let one : take (at + 1) drives ≡ take at drives ++ entry ∷ [] =
-    take_more drives at entry c.loop-entry-test.true
-    ∙ ap (λ (x : DriveEntry). take at drives ++ x ∷ []) (sym c.entry-item.is) in
-    rw one (on_more g.S.Sides.given.gives_cartridge g.D.Disk.state g.S.Sides.given.gives_store c.args.cartridges.now
-    (take at drives) entry c.in-Ok.opened.store c.loop-entry.starting c.switch_on.new.self
-    c.loop-entry.invariant c.in-Ok.ensures.ok c.in_default.ensures.ok)
+    let at = c.loop-entry in
+    let entry = c.in-Some.entry in (
+      one_more into_iter_items _ at.yielded entry at.entry-iterator c.next.new.self at.invariant.0
+          c.in-Some.ensures.steps.0,
+      on_more g.S.Sides.given.gives_cartridge g.D.Disk.state g.S.Sides.given.gives_store c.args.cartridges.items
+          at.yielded entry c.in-Ok.opened.store at.starting c.switch_on.new.self at.invariant.1 c.in-Ok.ensures.ok
+          c.in_default.ensures.ok,
+      let was = at.invariant.2 in
+          let gone = c.in-Some.ensures.steps.1 in
+          let short = ap length c.in-Some.ensures.steps.0 in
+          omega arith,
+    )
 
 pub returns-clause-ok : goal.returns-clause-ok
 returns-clause-ok g c =
     let gives = g.S.Sides.given.gives_cartridge in
     let state = g.D.Disk.state in
     let stores = g.S.Sides.given.gives_store in
-    let on = subst (λ (xs : List DriveEntry). AreOn gives state stores c.args.cartridges.now xs c.loop-entry.starting)
-    (take_all c.loop-entry.entry-index c.args.drives.now c.loop-entry-test.false) c.loop-entry.invariant in
-    subst (λ (s : StartingState g.row.D.Denot). IsStarted gives state stores c.args.cartridges.now c.args.drives.now
-    s.held) (sym c.starting.view_is)
-    (all_on gives state stores c.args.cartridges.now c.args.drives.now c.loop-entry.starting on)
+    let at = c.loop-entry in
+    let on = subst (λ (xs : List DriveEntry). AreOn gives state stores c.args.cartridges.items xs at.starting)
+    (all_taken (into_iter_items at.entry-iterator) c.args.drives.items at.yielded
+    (at.invariant.0 ∙ c.into_iter-entry-iterator.ensures.into_iter_gives.0)
+    (sym at.invariant.2 ∙ c.in-None.ensures.steps.0)) at.invariant.1 in
+    subst (λ (s : StartingState g.row.D.Denot). IsStarted gives state stores c.args.cartridges.items
+    c.args.drives.items s.held) (sym c.starting.view_is)
+    (all_on gives state stores c.args.cartridges.items c.args.drives.items at.starting on)

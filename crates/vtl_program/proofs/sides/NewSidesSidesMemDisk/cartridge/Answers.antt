@@ -10,6 +10,6 @@ returns-in-Ok-clause-ok c = record {
   torn = c.in-Ok.ensures.ok.1;
   contents =
       c.in-Ok.ensures.ok.2
-      ∙ ap (λ (capacities : List ℕ). contents_from (heading_with c.args.entry.now.barcode capacities) [])
-      c.as_slice.ensures.value;
+      ∙ ap (λ (capacities : List ℕ). contents_from (heading_with c.args.entry.barcode capacities) [])
+      c.slice_of.ensures.value;
 }

@@ -1,0 +1,67 @@
+//! The names of the files of a configuration.
+ghost use Rattle.std.specs.Prelude.{◌≡◌, string_bytes};
+
+use std::marker::Model;
+
+/// The name of a file, as a configuration has it (own). Only the reading of a configuration makes one, once for each
+/// entry, and it is not copied. Who makes or opens the file gives the name up for a `UsedName`: so what is given a
+/// configuration makes or opens each of its files once at most. To a contract it is its bytes.
+#[derive(Drop, Debug)]
+pub struct FileName {
+    text: String,
+}
+
+/// The name of a file that was made or opened: its disk is returned under it. To a contract it is its bytes.
+#[derive(Drop, Debug)]
+pub struct UsedName {
+    text: String,
+}
+
+impl Model for FileName {
+    ghost use Rattle.std.specs.Prelude.{ℕ, List, string_bytes};
+
+    ghost Value = { List ℕ };
+
+    ghost view = { λ n. string_bytes n.text };
+}
+
+impl Model for UsedName {
+    ghost use Rattle.std.specs.Prelude.{ℕ, List, string_bytes};
+
+    ghost Value = { List ℕ };
+
+    ghost view = { λ n. string_bytes n.text };
+}
+
+impl FileName {
+    // The name that a configuration has.
+    pub(crate) fn of(text: String) -> FileName
+        ensures { result ≡ string_bytes text }
+    {
+        FileName { text }
+    }
+
+    /// The name, to be compared.
+    pub fn as_str(&self) -> &str
+        ensures { result.now ≡ self.now }
+    {
+        self.text.as_str()
+    }
+
+    /// Gives the name up: its file is made or opened now.
+    pub fn use_up(self) -> UsedName
+        ensures { result ≡ self }
+    {
+        let FileName { text } = self;
+        UsedName { text }
+    }
+}
+
+impl UsedName {
+    /// The name, as the system is given it.
+    pub fn as_str(&self) -> &str
+        ensures { result.now ≡ self.now }
+    {
+        self.text.as_str()
+    }
+}
