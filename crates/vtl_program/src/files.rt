@@ -1,6 +1,6 @@
 //! The calls for files that the program makes, by the files' names. The traits say what a function may do with files:
-//! each order's function has just those that it needs. A file that is changed or made is so once at most, since its name
-//! is given up for that.
+//! each order's function has just those that it needs. A file is made or opened to be changed once at most, since its
+//! name is given up for that.
 ghost use Rattle.std.specs.Prelude.{◌≡◌, ℕ, List, Result, Ok, Vec};
 ghost use Rattle.std.specs.declared.alloc.Global.{Global};
 ghost use Rattle.std.specs.declared.io.Error.{Error};

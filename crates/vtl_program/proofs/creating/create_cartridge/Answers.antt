@@ -10,7 +10,7 @@ returns-in-Ok-clause-ok g c =
     let shelved = c.in-Ok.shelved in
     let contents : shelved.contents ≡ contents_from (heading_with entry.barcode entry.capacities) [] =
     c.in-Ok.ensures.ok.2
-    ∙ ap (λ (capacities : List ℕ). contents_from (heading_with entry.barcode capacities) []) c.slice_of.ensures.value in (
+    ∙ ap (λ (all : List ℕ). contents_from (heading_with entry.barcode all) []) c.slice_of.ensures.value in (
       c.in-Some.disk,
       made.1,
       (
