@@ -47,7 +47,8 @@ fn as_answer(returned: Result<(), MediumError>) -> Answer {
 
 #[tactic(auto, using(crate::proofs::AwakeLemmas::accepts_awake))]
 fn take<M: Medium>(alloc: Global, medium: &mut M, ask: Ask) -> Result<Answer, Fail>
-    requires { (M.state medium.old).awake ≡ true }
+    requires awake { (M.state medium.old).awake ≡ true }
+    requires hand { (m : M) → M.below.at_hand m }
     ensures { OnOk result ((M.state medium.new).awake ≡ true) }
 {
     Ok(as_answer(match ask {
@@ -67,7 +68,8 @@ fn fetch<M: Medium>(
     at: ObjNo,
     length: usize,
 ) -> Result<Answer, Fail>
-    requires { (M.state medium.old).awake ≡ true }
+    requires awake { (M.state medium.old).awake ≡ true }
+    requires hand { (m : M) → M.below.at_hand m }
     ensures { OnOk result ((M.state medium.new).awake ≡ true) }
 {
     let mut bytes = vec![in alloc; 1u8, 2, 3]?;
@@ -85,7 +87,8 @@ fn fetch<M: Medium>(
 
 #[tactic(auto, using(crate::proofs::AwakeLemmas::parks_awake, crate::proofs::AwakeLemmas::wakes_awake))]
 fn reopen<M: Medium>(medium: &mut M) -> Result<Answer, Fail>
-    requires { (M.state medium.old).awake ≡ true }
+    requires awake { (M.state medium.old).awake ≡ true }
+    requires hand { (m : M) → M.below.at_hand m }
     ensures { OnOk result ((M.state medium.new).awake ≡ true) }
 {
     if let Err(error) = medium.park() {
@@ -97,7 +100,8 @@ fn reopen<M: Medium>(medium: &mut M) -> Result<Answer, Fail>
 
 #[tactic(auto, using(crate::proofs::AwakeLemmas::stays_awake))]
 fn wake<M: Medium>(medium: &mut M) -> Result<Answer, Fail>
-    requires { (M.state medium.old).awake ≡ true }
+    requires awake { (M.state medium.old).awake ≡ true }
+    requires hand { (m : M) → M.below.at_hand m }
     ensures { OnOk result ((M.state medium.new).awake ≡ true) }
 {
     Ok(as_answer(medium.wake()))
@@ -110,7 +114,8 @@ fn answered<M: Medium>(
     medium: &mut M,
     ask: Ask,
 ) -> Result<Answer, Fail>
-    requires { (M.state medium.old).awake ≡ true }
+    requires awake { (M.state medium.old).awake ≡ true }
+    requires hand { (m : M) → M.below.at_hand m }
     ensures { OnOk result ((M.state medium.new).awake ≡ true) }
 {
     match ask {
@@ -134,7 +139,8 @@ pub fn assert_rows<M: Medium>(
     medium: &mut M,
     rows: &[Row],
 ) -> Result<(), Fail>
-    requires { (M.state medium.old).awake ≡ true }
+    requires awake { (M.state medium.old).awake ≡ true }
+    requires hand { (m : M) → M.below.at_hand m }
     ensures { OnOk result ((M.state medium.new).awake ≡ true) }
 {
     for (ask, wanted, pending, failed, count) in rows {
