@@ -21,16 +21,16 @@ struct FailingSides {
     calls: u64,
 }
 
-// A new cartridge on a disk that fails at the call after this many.
+// A new cartridge on a disk that fails at the call after this many; None where that was in its making.
 fn failing_cartridge(
     alloc: Global,
     calls: u64,
     entry: &CartridgeEntry,
-) -> Result<Parked<OnceDisk<MemDisk>>, VtlFault> {
+) -> Option<Parked<OnceDisk<MemDisk>>> {
     let disk = OnceDisk::new(MemDisk::new(alloc), calls);
     match Cartridge::create(alloc, disk, &entry.barcode, entry.capacities.as_slice()) {
-        Ok(shelved) => Ok(Parked::of(alloc, shelved)),
-        Err(_) => Err(VtlFault::Device),
+        Ok(shelved) => Some(Parked::of(alloc, shelved)),
+        Err(_) => None,
     }
 }
 
@@ -47,7 +47,10 @@ impl Sides<OnceDisk<MemDisk>> for FailingSides {
         alloc: Global,
         entry: CartridgeEntry,
     ) -> Result<Parked<OnceDisk<MemDisk>>, VtlFault> {
-        failing_cartridge(alloc, self.calls, &entry)
+        match failing_cartridge(alloc, self.calls, &entry) {
+            Some(cartridge) => Ok(cartridge),
+            None => Err(VtlFault::Device),
+        }
     }
 
     fn store(
