@@ -77,10 +77,13 @@ fn are_tape(rt: &impl Abort, some: &Bytes) {
 #[test]
 fn bytes_come_back_as_they_went_in(rt: HostRuntime) -> Result<(), Fail> {
     assert_holds!(rt; Bytes::new(rt.alloc()).is_empty());
-    let some = Bytes::from_slice(rt.alloc(), b"tape")?;
+    let mut some = Bytes::from_slice(rt.alloc(), b"tape")?;
     are_tape(&rt, &some);
-    let again = Bytes::from_vec(some.into_vec());
-    assert_equal!(rt; again.as_slice(), b"tape".as_slice());
+    let mut again = some.take();
+    assert_holds!(rt; some.is_empty());
+    are_tape(&rt, &again);
+    again.truncate(2);
+    assert_equal!(rt; again.as_slice(), b"ta".as_slice());
     Ok(())
 }
 

@@ -1,15 +1,22 @@
 //! Bytes that a contract sees as a list.
-ghost use Rattle.std.specs.Prelude.{◌≡◌, ◌==◌, ◌<◌, ◌^◌, [], length, IfOk};
+ghost use Rattle.std.specs.Prelude.{◌≡◌, ◌==◌, ◌<◌, ◌≤◌, ◌^◌, [], length, take, IfOk, IsOk};
+ghost use Rattle.vtl_base.specs.declared.bytes.TheConstants.{INLINE_BYTES};
 
 use crate::faults::NoMemory;
+use smallvec::SmallVec;
 use std::alloc::Global;
 use std::marker::Model;
+use std::mem;
+
+/// So many bytes stand in the value itself, and take no memory: a command block of any known length, sense data, the
+/// list of PERSISTENT RESERVE OUT, what READ POSITION gives (own).
+pub const INLINE_BYTES: usize = 24;
 
 /// Bytes, as a block, a command block or data. To a contract they are a list, with no word of how
 /// they are kept.
 #[derive(Drop)]
 pub struct Bytes {
-    buffer: Vec<u8>,
+    buffer: SmallVec<u8, INLINE_BYTES>,
 }
 
 impl Model for Bytes {
@@ -26,7 +33,7 @@ impl Bytes {
         ensures { result ≡ [] }
     {
         Bytes {
-            buffer: Vec::new(alloc),
+            buffer: SmallVec::new(alloc),
         }
     }
 
@@ -34,14 +41,17 @@ impl Bytes {
     pub fn from_vec(buffer: Vec<u8>) -> Self
         ensures { result ≡ buffer.items }
     {
-        Bytes { buffer }
+        Bytes {
+            buffer: SmallVec::from_vec(buffer),
+        }
     }
 
-    /// A copy of these bytes.
+    /// A copy of these bytes. One of 24 bytes at most takes no memory.
     pub fn from_slice(alloc: Global, bytes: &[u8]) -> Result<Self, NoMemory>
-        ensures { IfOk result (λ b. b ≡ bytes.now) }
+        ensures copy { IfOk result (λ b. b ≡ bytes.now) }
+        ensures few { length bytes.now ≤ INLINE_BYTES → IsOk result }
     {
-        match Vec::from_slice(alloc, bytes) {
+        match SmallVec::from_slice(alloc, bytes) {
             Ok(buffer) => Ok(Bytes { buffer }),
             Err(_) => Err(NoMemory),
         }
@@ -59,7 +69,7 @@ impl Bytes {
         ensures len { result ≡ length self.now }
         ensures bound { result < 2 ^ 63 }
     {
-        self.buffer.len()
+        self.buffer.as_slice().len()
     }
 
     /// Whether there is none.
@@ -69,10 +79,19 @@ impl Bytes {
         self.buffer.is_empty()
     }
 
-    /// Gives the `Vec` back, which takes no memory.
-    pub fn into_vec(self) -> Vec<u8>
-        ensures { result.items ≡ self }
+    /// Keeps the first so many bytes, and all where there are fewer.
+    pub fn truncate(&mut self, count: usize)
+        ensures { self.new ≡ take count self.old }
     {
-        self.buffer
+        self.buffer.truncate(count);
+    }
+
+    /// Takes the bytes out: none are left. It takes no memory, and copies 24 bytes at most.
+    pub fn take(&mut self) -> Self
+        ensures taken { result ≡ self.old }
+        ensures left { self.new ≡ [] }
+    {
+        let none = Bytes::new(*self.buffer.allocator());
+        mem::replace(self, none)
     }
 }

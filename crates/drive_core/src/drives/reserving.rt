@@ -90,13 +90,12 @@ fn read(
     if room == 0 {
         return Ok(Reply::good(Bytes::new(alloc)));
     }
-    let data = match action {
+    let mut data = match action {
         PrRead::ReadKeys => reservations.read_keys(alloc)?,
         PrRead::ReadReservation => reservations.read_reservation(alloc)?,
     };
-    let mut bytes = data.into_vec();
-    bytes.truncate(room as usize);
-    Ok(Reply::good(Bytes::from_vec(bytes)))
+    data.truncate(room as usize);
+    Ok(Reply::good(data))
 }
 
 // What a host is told of how its order was answered. It takes no memory.
