@@ -1,8 +1,10 @@
-// Stands before the C library (LD_PRELOAD), for faults.py and stops.py. It lets one call of a program end otherwise: of
+// Stands before the C library (LD_PRELOAD), for faults.py, stops.py and asked.py. It lets one call of a program end
+// otherwise: of
 // the kind that FAULTS names the FAULTS_AT-th. "memory": no memory is given. "fault": a call for a file or a stream
 // fails (EIO). "interrupted": it fails once (EINTR). "short": of several bytes one is read or written. "lost": a write
 // at a place is said to be done, and is not. Without FAULTS_AT none does.
-// The file that FAULTS_TOLD names is told how many calls of the kind there were, and the name of the one. To the file
+// The file that FAULTS_TOLD names gets how many calls of the kind there were, and the name of the one. The file that
+// FAULTS_ASKED names gets a line for each call of malloc and realloc: how many bytes were asked for. To the file
 // that FAULTS_NOTES names each call is added that did something to a file or to standard output: a letter, the last
 // part of the file's name, a place, how many bytes; then the bytes.
 #define _GNU_SOURCE
@@ -22,15 +24,20 @@ extern void *__libc_realloc(void *, size_t);
 static char kind;
 static long at, seen;
 static const char *name = "none";
-static int notes = -1;
+static int notes = -1, asked = -1;
+
+// The file that a variable names, for writing behind its end, or -1.
+static int to_write(const char *variable) {
+    const char *path = getenv(variable);
+    return path ? syscall(SYS_openat, AT_FDCWD, path, O_WRONLY | O_CREAT | O_TRUNC | O_APPEND, 0600) : -1;
+}
 
 __attribute__((constructor)) static void begin(void) {
     const char *said = getenv("FAULTS"), *number = getenv("FAULTS_AT");
     at = number ? atol(number) : 0;
     kind = said ? said[0] : 0;
-    const char *path = getenv("FAULTS_NOTES");
-    if (path)
-        notes = syscall(SYS_openat, AT_FDCWD, path, O_WRONLY | O_CREAT | O_TRUNC | O_APPEND, 0600);
+    notes = to_write("FAULTS_NOTES");
+    asked = to_write("FAULTS_ASKED");
 }
 
 __attribute__((destructor)) static void end(void) {
@@ -82,8 +89,16 @@ static long noted(long done, char letter, int file, const void *bytes, long plac
     return done;
 }
 
-void *malloc(size_t size) { return kind == 'm' && is_it("malloc") ? NULL : __libc_malloc(size); }
-void *realloc(void *from, size_t size) { return kind == 'm' && is_it("realloc") ? NULL : __libc_realloc(from, size); }
+// Whether a growth to so many bytes is refused, which is noted.
+static int is_too_much(const char *call, size_t size) {
+    char line[32];
+    if (asked >= 0)
+        syscall(SYS_write, asked, line, (size_t)snprintf(line, sizeof line, "%zu\n", size));
+    return kind == 'm' && is_it(call);
+}
+
+void *malloc(size_t size) { return is_too_much("malloc", size) ? NULL : __libc_malloc(size); }
+void *realloc(void *from, size_t size) { return is_too_much("realloc", size) ? NULL : __libc_realloc(from, size); }
 
 #define CALL(call, ...) is_refused(#call) ? -1 : syscall(SYS_##call, __VA_ARGS__)
 // A call that the system never interrupts.

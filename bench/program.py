@@ -1,14 +1,16 @@
 #!/usr/bin/env python3
-"""Speed of the built program over files, beside the raw file in one run; each time is the best of three, taken in
-turns.
+"""Speed of the built program over files, beside the raw file in one run; of five times, taken in turns, the best and
+the median.
 
 Appending blocks of 256 KiB with a filemark each 64 MiB, through a script and by a program that calls the library with
-no script between, beside the same bytes written with a sync each 64 MiB; a filemark that is stored before its answer,
-beside a sync; reading back, beside a read of the file; opening a cartridge of 100,000 blocks of 1 KiB, and its memory.
+no script between, beside the same bytes written with a sync each 64 MiB, beside as many syncs as the library makes, and
+beside cat of the script; a filemark that is stored before its answer, beside a sync; reading back, beside a read of the
+file, both cached and not; opening a cartridge of 100,000 blocks of 1 KiB, and its memory.
 
 The files lie in a new folder beside the repository's own, or in the one that a word names: a disk that keeps nothing
 over a loss of power, as one in memory, measures no sync."""
 import os
+import statistics
 import subprocess
 import sys
 import tempfile
@@ -91,12 +93,20 @@ def raw_syncs(folder, count):
     return seconds
 
 
-def raw_read(folder):
+def raw_read(folder, count=COUNT):
     start = time.perf_counter()
     with open(os.path.join(folder, "raw"), "rb", buffering=0) as file:
-        while file.read(BLOCK):
-            pass
+        for _ in range(count):
+            file.read(BLOCK)
     return time.perf_counter() - start
+
+
+def dropped(folder, name):
+    """What the system keeps of a file in memory goes."""
+    file = os.open(os.path.join(folder, name), os.O_RDONLY)
+    os.fsync(file)
+    os.posix_fadvise(file, 0, 0, os.POSIX_FADV_DONTNEED)
+    os.close(file)
 
 
 def by_library(folder):
@@ -115,16 +125,27 @@ def by_script(folder, script, wanted):
     return seconds
 
 
+class Times:
+    """The seconds of a work, of several rounds."""
+
+    def __init__(self, seconds):
+        self.best, self.median = min(seconds), statistics.median(seconds)
+
+    def beside(self, other):
+        """How fast this is as a part of the other, by the best times and by the medians."""
+        return f"{other.best / self.best:.2f} ({other.median / self.median:.2f})"
+
+
 def best(works):
-    """The least seconds of each work, taken in turns."""
-    rounds = [[work() for work in works] for _ in range(3)]
-    return [min(times) for times in zip(*rounds)]
+    """The times of each work, taken in turns."""
+    rounds = [[work() for work in works] for _ in range(5)]
+    return [Times(times) for times in zip(*rounds)]
 
 
-def speed(name, seconds, raw=None):
-    size = COUNT * BLOCK
-    beside = f", {raw / seconds:.2f} of the raw file" if raw else ""
-    print(f"{name}: {seconds:.3f} s, {size / 1e6 / seconds:.0f} MB/s{beside}", flush=True)
+def speed(name, times, others=(), size=COUNT * BLOCK):
+    beside = "".join(f"; {times.beside(other)} of {what}" for what, other in others)
+    print(f"{name}: {times.best:.3f} s (median {times.median:.3f}), {size / 1e6 / times.best:.0f} MB/s{beside}",
+          flush=True)
 
 
 def blocks(folder):
@@ -133,24 +154,37 @@ def blocks(folder):
     group = [(write, GROUP), (mark, 1), (b"--\n", 1)]
     script = scripted(folder, "blocks", [(READY, 1), *group * (COUNT // GROUP)])
     wanted = [(ATTENTION, 1), (b"GOOD\n", COUNT + COUNT // GROUP)]
-    raw, often, library, through = best([lambda: raw_append(folder), lambda: raw_append(folder, WAIT, 2),
-                                         lambda: by_library(folder), lambda: by_script(folder, script, wanted)])
+    raw, often, cat, library, through = best([
+        lambda: raw_append(folder), lambda: raw_append(folder, WAIT, 2), lambda: run(folder, ["cat"], script)[0],
+        lambda: by_library(folder), lambda: by_script(folder, script, wanted)])
     speed(f"{COUNT:,} blocks of {BLOCK:,} bytes, a sync each {GROUP}, to a raw file", raw)
-    speed(f"the same with two syncs each {WAIT}, as many as wait at most and make a frame", often, raw)
-    speed("the same, a filemark each, by a program that calls the library", library, raw)
-    speed("the same through vtl run", through, raw)
-    # an operation code that no drive knows
-    parse = scripted(folder, "parse", [(b"1 1 a50000000000 " + b"5a" * BLOCK + b"\n", COUNT)])
-    text = min(run(folder, [PROGRAM, "run"], parse)[0] for _ in range(3))
-    print(f"the text of as many lines alone, over no file: {text:.3f} s", flush=True)
+    speed(f"the same with two syncs each {WAIT}, as many as wait at most and make a frame", often)
+    raws = [("the raw file", raw), ("that with as many syncs", often)]
+    speed("the same, a filemark each, by a program that calls the library", library, raws)
+    speed("the same through vtl run", through, [*raws, ("cat of the script", cat)])
+    speed("cat of the script", cat, size=os.path.getsize(script))
+
+
+def reading(folder):
     reads = scripted(folder, "reads", [(READY, 1), (b"1 1 080004000000\n--\n", GROUP)])
     wanted = [(ATTENTION, 1), (b"GOOD " + b"5a" * BLOCK + b"\n", GROUP)]
-    raw, back = best([lambda: raw_read(folder),
-                      lambda: run(folder, [PROGRAM, "run", "--config", "lib.toml"], reads)[0]])
-    answered(folder, wanted)
-    part = GROUP * BLOCK
-    print(f"{GROUP} blocks read back through vtl run: {back:.3f} s, {part / 1e6 / back:.0f} MB/s; a read of the raw "
-          f"file {COUNT * BLOCK / 1e6 / raw:.0f} MB/s", flush=True)
+
+    def back(is_cold):
+        if is_cold:
+            dropped(folder, "t1.tape")
+        return run(folder, [PROGRAM, "run", "--config", "lib.toml"], reads)[0]
+
+    def raw(is_cold):
+        if is_cold:
+            dropped(folder, "raw")
+        return raw_read(folder, GROUP)
+
+    for name, is_cold in (("cached", False), ("not cached", True)):
+        file, blocks_back = best([lambda: raw(is_cold), lambda: back(is_cold)])
+        answered(folder, wanted)
+        speed(f"{GROUP} blocks of a raw file, {name}", file, size=GROUP * BLOCK)
+        speed(f"{GROUP} blocks read back through vtl run, {name}, the opening included", blocks_back,
+              [("the raw file", file)], GROUP * BLOCK)
 
 
 def marks(folder):
@@ -159,8 +193,9 @@ def marks(folder):
     wanted = [(ATTENTION, 1), (b"GOOD\n", 2 * MARKS)]
     raw, through, start = best([lambda: raw_syncs(folder, MARKS), lambda: by_script(folder, script, wanted),
                                 lambda: by_script(folder, none, [(ATTENTION, 1)])])
-    print(f"a byte and a filemark that is stored before its answer: {(through - start) / MARKS * 1e6:.0f} us, of which "
-          f"a sync of the raw file behind a byte is {raw / MARKS * 1e6:.0f} us; each takes two syncs", flush=True)
+    pair = (through.best - start.best) / MARKS
+    print(f"a byte and a filemark that is stored before its answer: {pair * 1e6:.0f} us, of which a sync of the raw file "
+          f"behind a byte is {raw.best / MARKS * 1e6:.0f} us; each takes two syncs", flush=True)
 
 
 def opening(folder):
@@ -185,6 +220,7 @@ def main(words):
         with open(os.path.join(folder, "lib.toml"), "w", encoding="utf-8") as file:
             file.write(CONFIG)
         blocks(folder)
+        reading(folder)
         marks(folder)
         opening(folder)
 

@@ -1,9 +1,11 @@
 #!/usr/bin/env python3
 """Speed and memory of the built program on scripts, beside cat of the same text; the time of a motion over long and
-short tapes, and of commands with and without reservations. Best of five runs.
+short tapes, and of commands with and without reservations. Best of five runs. --beside PATH: how many times as fast it
+runs short lines as another program, in turns, and nothing else.
 
 Texts are rows of (piece, times), so that this process stays small: the memory of a child counts from its parent's."""
 import os
+import statistics
 import subprocess
 import sys
 import tempfile
@@ -179,14 +181,28 @@ def reservations(folder):
         sys.exit(f"{' and '.join(seen)} takes longer under a reservation")
 
 
-def main():
+def beside(folder, other):
+    """Short lines by the other program and by this one, in turns."""
+    source, sink = os.path.join(folder, "in"), os.path.join(folder, "out")
+    written(source, [(READY, 1), (READY * 10_000 + BREAK, 300)])
+    rounds = [[run([program, "run"], source, sink)[0] for program in (other, PROGRAM)] for _ in range(5)]
+    before, now = zip(*rounds)
+    print(f"3,000,000 TEST UNIT READY in phases of 10,000: {3 / min(now):.1f} million lines a second, "
+          f"{min(before) / min(now):.2f} times those of the other program (medians: "
+          f"{statistics.median(before) / statistics.median(now):.2f})")
+
+
+def main(words):
     if not os.path.exists(PROGRAM):
         sys.exit("build the program first: make vtl")
     with tempfile.TemporaryDirectory() as folder:
+        if words[:1] == ["--beside"] and len(words) == 2:
+            return beside(folder, os.path.abspath(words[1]))
         commands(folder)
         transfers(folder)
         motions(folder)
         reservations(folder)
 
 
-main()
+if __name__ == "__main__":
+    main(sys.argv[1:])

@@ -1,0 +1,91 @@
+#!/usr/bin/env python3
+"""How many bytes of memory the proved program asks for, and that they stay within these limits: by a file that stands
+before the C library and notes each call of malloc and realloc (faults.c, which takes `cc`).
+
+A block of 1,048,576 bytes that is written to a file through a script: once for its data, once for its frame, and for the
+line. Later such blocks and frames ask for no more than that, and their lines for nothing. Lines without data, of which a
+phase has more: nothing for each. A library of 16 drives, each with a cartridge and a store, at rest.
+
+--program PATH: another program than the proved one; --tell: prints the figures alone."""
+import argparse
+import os
+import subprocess
+import sys
+import tempfile
+
+TOP = os.path.dirname(os.path.dirname(os.path.abspath(__file__)))
+PROVED = os.path.join(TOP, "crates", "vtl", "out", "vtl")
+BLOCK = 1_048_576
+# gate and length of a frame, the next gate, and what stands before a block in its record
+FRAME = BLOCK + 4 + 10 + 1
+# the longest line, and the byte that shows that one is longer
+LINE = 2_200_001
+WRITE = f"1 1 0a{BLOCK:06x}00 " + "5a" * BLOCK + "\n1 1 100000000000\n--\n"
+READY = "1 1 000000000000\n"
+# what is less than this is not looked at one by one: replies, names, words of the command line
+SMALL = 4_096
+
+
+def config(drives):
+    cartridges = "".join(f'[[cartridge]]\nbarcode = "T{i:05}L6"\nfile = "{i}.tape"\ncapacities = [1_099_511_627_776]\n'
+                         f"home = {i}\n" for i in range(1, drives + 1))
+    return cartridges + "".join(f'[[drive]]\nnumber = {i}\nreservations = "{i}.pr"\n' for i in range(1, drives + 1))
+
+
+def asked(program, shim, folder, words, script):
+    """The bytes of each call of malloc and realloc."""
+    notes = os.path.join(folder, "asked")
+    done = subprocess.run([program, *words], cwd=folder, input=script.encode(), stdout=subprocess.PIPE, check=False,
+                          env={**os.environ, "LD_PRELOAD": shim, "FAULTS_ASKED": notes})
+    if done.returncode:
+        sys.exit(f"vtl {' '.join(words)} ended with status {done.returncode}")
+    with open(notes, encoding="ascii") as lines:
+        return [int(line) for line in lines]
+
+
+def large(sizes):
+    return sorted((size for size in sizes if size >= SMALL), reverse=True)
+
+
+def more_than(sizes, others):
+    """What was asked for beside the others."""
+    left = list(others)
+    return [size for size in sizes if not (size in left and not left.remove(size))]
+
+
+def figures(program, shim, folder):
+    """Names, figures and limits in bytes."""
+    run = lambda script, drives="one.toml": asked(program, shim, folder, ["run", "--config", drives], script)
+    for name, drives in (("one.toml", 1), ("all.toml", 16)):
+        with open(os.path.join(folder, name), "w", encoding="utf-8") as file:
+            file.write(config(drives))
+        subprocess.run([program, "create", "--config", name], cwd=folder, check=True, stdout=subprocess.DEVNULL)
+    rest, one, many = run(READY), run(READY + WRITE), run(READY + WRITE * 9)
+    block = large(more_than(one, rest))
+    yield "a WRITE of a block of 1,048,576 bytes, in all", sum(block), BLOCK + FRAME + LINE
+    yield "its largest growth, of its line", block[0], LINE
+    yield "eight such WRITEs more, in all", sum(large(more_than(many, one))), 8 * (BLOCK + FRAME)
+    few, lines = run(READY * 1_001), run(READY * 10_001)
+    yield "growths of a phase's lines, 10,000 and not 1,000 of them, in calls", len(lines) - len(few), 20
+    yield "a library of 16 drives at rest, in all", sum(run(READY, "all.toml")), 16_000_000
+
+
+def main():
+    parser = argparse.ArgumentParser()
+    parser.add_argument("--program", default=PROVED)
+    parser.add_argument("--tell", action="store_true")
+    given = parser.parse_args()
+    program, wrong = os.path.abspath(given.program), 0
+    with tempfile.TemporaryDirectory(prefix="vtl-asked-") as folder:
+        shim = os.path.join(folder, "shim.so")
+        source = os.path.join(TOP, "bench", "faults.c")
+        subprocess.run(["cc", "-shared", "-fPIC", "-O2", "-o", shim, source], check=True)
+        for name, figure, limit in figures(program, shim, folder):
+            wrong += figure > limit
+            print(f"{name}: {figure:,}; at most {limit:,}{' is allowed' if figure > limit else ''}", flush=True)
+    print(f"{wrong} too large")
+    sys.exit(1 if wrong and not given.tell else 0)
+
+
+if __name__ == "__main__":
+    main()
