@@ -14,7 +14,7 @@ rest_is : (body : List ℕ) (from : ℕ) → take (length body - from) (drop fro
 rest_is body from = take_all (length body - from) (drop from body) (omega (arith, length-drop from body))
 
 pub loop-from-init : goal.loop-from-init
-loop-from-init g c =
+loop-from-init c =
     let body = c.args.body.now in
     record {
       within = omega arith;
@@ -27,7 +27,7 @@ loop-from-init g c =
     }
 
 pub returns-in_default : goal.returns-in_default
-returns-in_default g c = λ volume bodies extents same lies.
+returns-in_default c = λ volume bodies extents same lies.
     let body = c.args.body.now in
     let from = c.loop-from.from in
     walk_bad body volume (LiesIn (bodies ++ body ∷ []) (extents ++ (c.args.place, length body) ∷ [])) from
@@ -35,7 +35,7 @@ returns-in_default g c = λ volume bodies extents same lies.
     (subst (λ (l : List ℕ). BeginsWithRecord l → ⊥) (rest_is body from) c.in_default.ensures.none)
 
 pub place_of-requires : goal.place_of-requires
-place_of-requires g c =
+place_of-requires c =
     let body = c.args.body.now in
     let from = c.loop-from.from in
     let item = c.in-Some.item in
@@ -46,10 +46,10 @@ place_of-requires g c =
     }
 
 pub apply-requires : goal.apply-requires
-apply-requires g c = c.place_of.ensures.fits
+apply-requires c = c.place_of.ensures.fits
 
 pub returns-in-Err-Refused : goal.returns-in-Err-Refused
-returns-in-Err-Refused g c = λ volume bodies extents same lies.
+returns-in-Err-Refused c = λ volume bodies extents same lies.
     let body = c.args.body.now in
     let from = c.loop-from.from in
     let item = c.in-Some.item in
@@ -60,7 +60,7 @@ returns-in-Err-Refused g c = λ volume bodies extents same lies.
     (rw c.in-Err-Refused.field-0-is at c.in-Err-Refused.ensures.answer).0
 
 pub loop-from-preserved : goal.loop-from-preserved
-loop-from-preserved g c =
+loop-from-preserved c =
     let body = c.args.body.now in
     let from = c.loop-from.from in
     let item = c.in-Some.item in
@@ -80,7 +80,7 @@ loop-from-preserved g c =
     }
 
 pub returns : goal.returns
-returns g c = λ volume bodies extents same lies.
+returns c = λ volume bodies extents same lies.
     let body = c.args.body.now in
     walk_end body volume (LiesIn (bodies ++ body ∷ []) (extents ++ (c.args.place, length body) ∷ [])) c.loop-from.from
     c.loop-from.index (c.loop-from.invariant.walked volume bodies extents same lies) c.loop-from-test.false

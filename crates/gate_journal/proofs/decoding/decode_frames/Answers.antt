@@ -1,4 +1,4 @@
-use Rattle.std.proofs.Common.{rules, ◌≡◌, ◌<◌, ◌+◌, ℕ, List, [], length, true, sym, ◌∙◌, ap, arith}
+use Rattle.std.proofs.Common.{◌≡◌, ◌<◌, ℕ, List, [], length, sym, ◌∙◌, ap, arith}
 use Rattle.std.specs.Prelude.{slice_index_or}
 use Rattle.std.proofs.lemmas.List.{get_or_default}
 use Rattle.gate_journal.specs.State.{OpenSide}
@@ -34,7 +34,6 @@ loop-frame-preserved g c =
     ∙ sym (c.body_at-at.ensures.value
     ∙ get_or_default c.loop-frame.journal.extents frame extent (0, 0)
     (omega (arith, inside, ap (λ (e : List (ℕ × ℕ)). length e) inv.extents))) in
-    let good : c.in_ok-take.field-0 ≡ true = search rules in
     record {
       fine = c.in_ok-body.ensures.ok.0;
       heading = c.read_frame.ensures.same.1 ∙ inv.heading;
@@ -48,7 +47,7 @@ loop-frame-preserved g c =
       none_failed = c.in_ok-body.ensures.ok.1 ∙ inv.none_failed;
       read =
           decoded_next g.T.Decodes.has_read g.T.Decodes.refuses c.loop-frame.decoder start.heading start.extents
-          start.bodies old.honest frame inv.read c.take.new.self c.in_ok-take.field-0 extent.0 body good inside
+          start.bodies old.honest frame inv.read c.take.new.self c.in_ok-take.field-0 extent.0 body c.if-not-branch.false inside
           (extent_is ∙ (λ i. (extent.0, size_is i))) c.in_ok-take.ensures
           (λ h. (
             omega (
