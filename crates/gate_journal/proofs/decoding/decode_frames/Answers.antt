@@ -47,8 +47,8 @@ loop-frame-preserved g c =
       none_failed = c.in_ok-body.ensures.ok.1 ∙ inv.none_failed;
       read =
           decoded_next g.T.Decodes.has_read g.T.Decodes.refuses c.loop-frame.decoder start.heading start.extents
-          start.bodies old.honest frame inv.read c.take.new.self c.in_ok-take.field-0 extent.0 body c.if-not-branch.false inside
-          (extent_is ∙ (λ i. (extent.0, size_is i))) c.in_ok-take.ensures
+          start.bodies old.honest frame inv.read c.take.new.self c.in_ok-take.field-0 extent.0 body
+          c.if-not-branch.false inside (extent_is ∙ (λ i. (extent.0, size_is i))) c.in_ok-take.ensures
           (λ h. (
             omega (
               arith,
