@@ -100,10 +100,7 @@ pub(crate) fn make_body(alloc: Global) -> Result<Vec<u8>, NoMemory>
 }
 
 // Makes room in memory for later saves: a buffer for the longest body, and the frames.
-fn make_room<D: Disk>(
-    alloc: Global,
-    journal: &mut Journal<D>,
-) -> Result<Vec<u8>, NoMemory>
+fn make_room<D: Disk>(alloc: Global, journal: &mut Journal<D>) -> Result<Vec<u8>, NoMemory>
     ensures same { journal.new ≡ record journal.old { reserved = journal.new.reserved } }
     ensures ok { IfOk result (λ body. (STATE_BYTES ≤ vec_capacity body)
         × (RESERVED_SAVES ≤ journal.new.reserved)) }

@@ -1,7 +1,6 @@
 -- What an opening comes to.
 use Rattle.std.proofs.Common.{◌≡◌, inl, inr, ℕ, List, refl, sym, ◌∙◌, subst}
-use Rattle.tape_disk.specs.Disk.{DiskState, Each, IsDisk, Only}
-use Rattle.tape_disk.specs.Moments.{LeavesOnly, holds_now}
+use Rattle.tape_disk.specs.Disk.{DiskState}
 use Rattle.gate_journal.specs.declared.header.SideKind.TheVariants as SideKinds
 use Rattle.gate_journal.specs.Side.{Heading, IsNotOf, StandsFor}
 use Rattle.record_index.specs.Places.{PlacedPart}
@@ -12,27 +11,18 @@ use Rattle.cartridge.specs.Answers.{IsNotOpened}
 use Rattle.cartridge.specs.Contents.{GivesContents, IsNoCartridge, volume_made}
 use Rattle.cartridge.specs.Notes.{Notes, noted_contents}
 use Rattle.cartridge.specs.Inner.Causes.{cartridge_error}
-use Rattle.cartridge.specs.Inner.Open.{StoresContents}
 use Rattle.cartridge.specs.Inner.Reading.{HasRead, IsBadBody}
 use Rattle.cartridge.proofs.OpeningLemmas.{bad_frame}
 
--- a side that was opened and read without a word written
-module _ (old new : DiskState) (heading : Heading) (bodies read : List (List ℕ))
-    (stands : StandsFor heading bodies old.seen) (only : Only old.seen new.may_leave) (is : read ≡ bodies)
-    (extents : List (ℕ × ℕ)) (index : List PlacedPart) (notes : Notes)
-    (found : HasRead index notes heading extents read) where
-  pub opened_gives : GivesContents (noted_contents notes) old.seen
-  opened_gives = (
-    found.is_open.contents,
-    subst (λ (x : Heading × List (List ℕ)). StandsFor x.0 x.1 old.seen)
-        (λ i. (found.is_open.heading_is i, (sym is ∙ found.spelled) i)) stands,
-  )
-
-  pub opened_stores : StoresContents new bodies notes
-  opened_stores = record {
-    bodies_are = sym is ∙ found.spelled;
-    shows = λ image may. inl (subst (GivesContents (noted_contents notes)) (sym (only image may)) opened_gives);
-  }
+-- what was read of a side is what its image gives
+pub opened_gives : (image : List ℕ) (heading : Heading) (bodies read : List (List ℕ)) (extents : List (ℕ × ℕ))
+    (index : List PlacedPart) (notes : Notes) → StandsFor heading bodies image → read ≡ bodies
+    → HasRead index notes heading extents read → GivesContents (noted_contents notes) image
+opened_gives image heading bodies read extents index notes stands is found = (
+  found.is_open.contents,
+  subst (λ (x : Heading × List (List ℕ)). StandsFor x.0 x.1 image)
+      (λ i. (found.is_open.heading_is i, (sym is ∙ found.spelled) i)) stands,
+)
 
 -- what begins with a header of another kind begins with a store's
 pub no_cartridge : (image : List ℕ) → IsNotOf SideKinds.Cartridge image → IsNoCartridge image
@@ -67,8 +57,3 @@ module _ {T : Type 0} (index : T → List PlacedPart) (notes : T → Notes) wher
   )
   not_opened (Device fault) old new why = why
   not_opened NoMemory old new why = why
-
--- a closed cartridge still shows what it showed
-pub still_shows : (old new : DiskState) (P : List ℕ → Type 0) → IsDisk new → LeavesOnly old new old.may_leave
-    → Each old P → Each new P
-still_shows old new P is run shows image may = shows image (holds_now old new old.may_leave is run image may)

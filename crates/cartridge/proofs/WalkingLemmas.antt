@@ -196,10 +196,11 @@ pub lies_next : (bodies : List (List ℕ)) (body : List ℕ) (extents : List (�
     (at : ℕ) → length extents ≡ length bodies → IsAtFront item (drop from body) → IsPlaceOf item (place + from) at
     → LiesAt (LiesIn (bodies ++ body ∷ []) (extents ++ (place, length body) ∷ [])) (change_in item (drop from body)) at
 lies_next bodies body extents place from item at same front place_is =
-    let extent_is : slice_index_or (extents ++ (place, length body) ∷ []) (length bodies) (0, 0) ≡ (place, length body) =
-    ap (λ (n : ℕ). slice_index_or (extents ++ (place, length body) ∷ []) n (0, 0)) (sym same)
+    let more = extents ++ (place, length body) ∷ [] in
+    let extent_is : slice_index_or more (length bodies) (0, 0) ≡ (place, length body) =
+    ap (λ (n : ℕ). slice_index_or more n (0, 0)) (sym same)
     ∙ get_or-append_seam extents (place, length body) [] (0, 0) in
-    lies_here bodies body (extents ++ (place, length body) ∷ []) (length bodies) from item at refl
+    lies_here bodies body more (length bodies) from item at refl
     (omega (arith, same, length-append extents ((place, length body) ∷ [])))
     (ap (λ (e : ℕ × ℕ). e.1) (sym extent_is)) front
     (subst (λ (e : ℕ × ℕ). IsPlaceOf item (e.0 + from) at) (sym extent_is) place_is)

@@ -3,7 +3,7 @@ use Rattle.std.proofs.Common.{◌≡◌, ℕ, ◌<◌, ◌+◌, List, [], ◌∷
 use Rattle.std.specs.Prelude.{slice_index_or}
 use Rattle.std.proofs.Math.Numerals.{add-one}
 use Rattle.std.proofs.Math.Seq.{take-suc}
-use Rattle.gate_journal.specs.Decoding.{HasDecoded, Takes}
+use Rattle.gate_journal.specs.Decoding.{HasDecoded, TakesBody}
 use Rattle.gate_journal.specs.Side.{Heading}
 
 -- one element more
@@ -20,7 +20,7 @@ module _ {T : Type 0} (has_read : T → Heading → List (ℕ × ℕ) → List (
     pub decoded_next : (decoder' : T) (good : Bool) (at : ℕ) (body : List ℕ) → good ≡ true → k < length extents
         → slice_index_or extents k (0, 0) ≡ (at, length body)
         → ((h : Heading) (e : List (ℕ × ℕ)) (b : List (List ℕ)) → has_read decoder h e b
-        → Takes has_read refuses good decoder decoder' h e b at body)
+        → TakesBody has_read refuses good decoder decoder' h e b at body)
         → (honest → (k < length bodies) × (body ≡ slice_index_or bodies k []))
         → HasDecoded has_read decoder' heading (take (k + 1) extents) (take (k + 1) bodies) honest
     decoded_next decoder' good at body is_good inside extent_is takes is = (
@@ -29,7 +29,7 @@ module _ {T : Type 0} (has_read : T → Heading → List (ℕ × ℕ) → List (
           (ap (λ (x : ℕ × ℕ). take k extents ++ x ∷ []) (sym extent_is) ∙ sym (take_more extents (0, 0) k inside))
           (subst
           (λ (b : Bool).
-          Takes has_read refuses b decoder decoder' heading (take k extents) so_far.0 at body)
+          TakesBody has_read refuses b decoder decoder' heading (take k extents) so_far.0 at body)
           is_good (takes heading (take k extents) so_far.0 so_far.1)),
       λ h. (λ i. so_far.2 h i ++ (is h).1 i ∷ []) ∙ sym (take_more bodies [] k (is h).0),
     )

@@ -19,10 +19,10 @@ module _ {T : Type 0} (has_read : T → Heading → List (ℕ × ℕ) → List (
     (refuses : T → List ℕ → Type 0) where
   -- what a decoder makes of the next body, which lies at that place: it has read it behind the others, or it is bad
   -- (own)
-  abbrev pub Takes : Bool → T → T → Heading → List (ℕ × ℕ) → List (List ℕ) → ℕ → List ℕ → Type 0
-  Takes true old new heading extents bodies at body =
+  abbrev pub TakesBody : Bool → T → T → Heading → List (ℕ × ℕ) → List (List ℕ) → ℕ → List ℕ → Type 0
+  TakesBody true old new heading extents bodies at body =
       has_read new heading (extents ++ (at, length body) ∷ []) (bodies ++ body ∷ [])
-  Takes false old new heading extents bodies at body = refuses old body
+  TakesBody false old new heading extents bodies at body = refuses old body
 
   -- a decoder has read the first so many bodies and refuses the next, whose frame has its gate at that place (own)
   pub record IsRefused (decoder : T) (good : ℕ) (extents : List (ℕ × ℕ)) (heading : Heading)

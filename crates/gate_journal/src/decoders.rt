@@ -1,6 +1,6 @@
 //! What decodes the bodies of a side while it is opened.
 ghost use Rattle.std.specs.Prelude.{◌≡◌, ◌+◌, ◌<◌, ◌^◌, ℕ, List, [], length, false, IfOk};
-ghost use Rattle.gate_journal.specs.Decoding.{Takes};
+ghost use Rattle.gate_journal.specs.Decoding.{TakesBody};
 ghost use Rattle.gate_journal.specs.Side.{Heading, IsHeading, heading_of};
 ghost use Rattle.gate_journal.specs.declared.header.SideKind.{SideKind};
 
@@ -41,5 +41,5 @@ pub trait Decodes: Drop {
         ensures { IfOk result (λ good.
             (heading : Heading) (extents : List (ℕ × ℕ)) (bodies : List (List ℕ)) →
             has_read self.old heading extents bodies →
-            Takes has_read refuses good self.old self.new heading extents bodies at body.now) };
+            TakesBody has_read refuses good self.old self.new heading extents bodies at body.now) };
 }
