@@ -1,45 +1,26 @@
--- A side is read frame by frame.
-use Rattle.std.proofs.Common.{◌≡◌, inl, inr, ℕ, ◌≤◌, ◌<◌, ◌+◌, ◌-◌, List, [], ◌∷◌, ◌++◌, length, take, Bool, false, Option, is_some, refl, sym, ◌∙◌, ap, subst, arith, length-append}
+-- A side is read, a body after the other.
+use Rattle.std.proofs.Common.{◌≡◌, inl, inr, ℕ, ◌≤◌, ◌<◌, List, [], ◌∷◌, ◌++◌, length, take, Bool, false, Option, is_some, refl, sym, ◌∙◌, ap, subst, arith, length-append}
 use Rattle.std.specs.Prelude.{slice_index_or}
-use Rattle.std.specs.List.{flat_map}
-use Rattle.std.proofs.Math.Numerals.{add-one}
-use Rattle.std.proofs.Math.Seq.{take-suc}
-use Rattle.std.proofs.lemmas.List.Elements.{All-push}
-use Rattle.tape_disk.specs.Disk.{DiskState, IsDisk, Only}
-use Rattle.tape_disk.specs.Moments.{LeavesOnly, holds_now, in_sequence, no_call, weakened}
-use Rattle.gate_journal.specs.declared.header.SideKind.TheVariants.{Cartridge, Store}
+use Rattle.std.proofs.lemmas.List.{length-map, length-take-le}
+use Rattle.std.proofs.lemmas.List.Elements.{All-nil, All-push}
+use Rattle.tape_disk.specs.Disk.{DiskState, Only}
+use Rattle.gate_journal.specs.declared.error.OpenError.{OpenError}
+use Rattle.gate_journal.specs.declared.error.OpenError.TheVariants.{NotOurs, Damaged, BadRecord, Device, NoMemory}
+use Rattle.gate_journal.specs.declared.header.SideKind.TheVariants.{Store}
 use Rattle.gate_journal.specs.declared.header.SideKind.TheVariants as SideKinds
-use Rattle.gate_journal.specs.Answers.{NoneFailed}
-use Rattle.gate_journal.specs.Crash.{Unwritten}
-use Rattle.gate_journal.specs.Inner.Headings.{length_heading}
-use Rattle.gate_journal.specs.Side.{Heading, IsNotOf, StandsFor, frame, spell, spell_heading}
+use Rattle.gate_journal.specs.Decoding.{IsNotDecoded}
+use Rattle.gate_journal.specs.Side.{Heading, IsNotOf, StandsFor, spell}
 use Rattle.pr_core.specs.declared.states.PrState.{PrState}
-use Rattle.aptpl_store.specs.declared.error.StoreError.{StoreError}
-use Rattle.aptpl_store.specs.declared.error.StoreError.TheVariants.{NotOurs, Damaged, BadRecord, Device, NoMemory}
+use Rattle.pr_core.specs.States.{empty_state}
 use Rattle.aptpl_store.specs.Answers.{IsStoreNotOpened}
-use Rattle.aptpl_store.specs.Contents.{GivesStates, IsBadState, IsNoStore, state_bodies}
+use Rattle.aptpl_store.specs.Contents.{GivesStates, IsBadState, IsNoStore}
+use Rattle.aptpl_store.specs.Inner.Causes.{store_error}
 use Rattle.aptpl_store.specs.Inner.Open.{IsOpen, StoresStates}
-use Rattle.aptpl_store.specs.Inner.Reading.{IsReadUpTo, NotRecovered}
-use Rattle.aptpl_store.specs.NotedStates.{NotedStates, with_state}
-use Rattle.aptpl_store.specs.Spelling.{IsSavable, SpellsState}
+use Rattle.aptpl_store.specs.Inner.Reading.{HasRead, IsNoState}
+use Rattle.aptpl_store.specs.NotedStates.{NotedStates, no_notes, with_state}
+use Rattle.aptpl_store.specs.Spelling.{IsSavable, SpellsState, spell_state}
 use Rattle.aptpl_store.proofs.ContentsLemmas.{bodies_more, latest_more}
 use Rattle.aptpl_store.proofs.SpellingLemmas.{spelling_short}
-
-pub unwritten_none : (disk : DiskState) → IsDisk disk → Unwritten disk disk
-unwritten_none disk is = record {
-  seen = refl;
-  images = λ image may. may;
-  moments = no_call disk disk.may_leave is (λ image may. may);
-}
-
-pub unwritten_then : (a b c : DiskState) → Unwritten a b → Unwritten b c → Unwritten a c
-unwritten_then a b c one two = record {
-  seen = two.seen ∙ one.seen;
-  images = λ image may. one.images image (two.images image may);
-  moments =
-      in_sequence a b c a.may_leave one.moments
-      (weakened b c b.may_leave a.may_leave two.moments one.images);
-}
 
 -- a body that is too long spells nothing
 pub too_long : (body : List ℕ) → 580 < length body → (state : PrState) → SpellsState state body → ⊥
@@ -51,85 +32,67 @@ too_long body long state spells =
       spelling_short state spells.savable.sound.all,
     )
 
-module _ (frame : ℕ) (notes : NotedStates) (last : PrState) (so_far : IsReadUpTo frame notes last)
-    (bodies : List (List ℕ))
-    (inside : frame < length bodies) (spelled : state_bodies notes.states ≡ take frame bodies) where
-  -- a body that spells no state is bad
-  pub bad_frame : (heading : Heading) (at : ℕ) → heading.kind ≡ Store
-      → at ≡ length (spell heading (take frame bodies)) + 5
-      → ((state : PrState) → SpellsState state (slice_index_or bodies frame []) → ⊥)
-      → IsBadState heading bodies notes.states (at - 5)
-  bad_frame heading at kind at_is never = record {
-    kind = kind;
-    inside = omega (arith, inside, so_far.counted);
-    before = so_far.states;
-    spelled = spelled ∙ ap (λ (n : ℕ). take n bodies) (sym so_far.counted);
-    gate =
-        omega (arith, at_is, ap (λ (b : List (List ℕ)). length (spell heading b)) spelled);
-    bad = λ state spells.
-        never state (subst (λ (n : ℕ). SpellsState state (slice_index_or bodies n [])) so_far.counted spells);
-  }
-
-  -- one that spells a state comes next
-  pub spelled_next : (state : PrState) (body : List ℕ) → SpellsState state body → (notes' : NotedStates)
-      → notes' ≡ with_state notes state → body ≡ slice_index_or bodies frame []
-      → state_bodies notes'.states ≡ take (frame + 1) bodies
-  spelled_next state body spells notes' notes_are is =
-      ap (λ (n : NotedStates). state_bodies n.states) notes_are
-      ∙ bodies_more notes.states state
-      ∙ (λ i. spelled i ++ (sym spells.bytes ∙ is) i ∷ [])
-      ∙ sym (ap (λ (n : ℕ). take n bodies) (add-one frame) ∙ take-suc bodies frame [] inside)
-
--- one that spells a state is noted
-pub read_next : (frame : ℕ) (notes : NotedStates) (last : PrState) → IsReadUpTo frame notes last
-    → (state : PrState) (body : List ℕ) → SpellsState state body → (notes' : NotedStates)
-    → notes' ≡ with_state notes state
-    → IsReadUpTo (frame + 1) notes' state
-read_next frame notes last so_far state body spells notes' notes_are =
-    subst (λ (n : NotedStates). IsReadUpTo (frame + 1) n state) (sym notes_are) (record {
-      states = All-push IsSavable notes.states state so_far.states spells.savable;
-      none_torn = so_far.none_torn;
-      counted = omega (arith, so_far.counted, length-append notes.states (state ∷ []));
-      last_is = sym (latest_more notes.states state);
+-- no body was read
+pub read_none : (notes : NotedStates) (last : PrState) (heading : Heading) → heading.kind ≡ Store → notes ≡ no_notes
+    → last ≡ empty_state → HasRead notes last heading [] []
+read_none notes last heading kind notes_are last_is =
+    subst (λ (n : NotedStates). HasRead n last heading [] []) (sym notes_are) (record {
+      kind = kind;
+      states = All-nil IsSavable;
+      none_torn = refl;
+      counted = refl;
+      last_is = last_is;
+      spelled = refl;
     })
 
--- a side has the 27 bytes of each heading
-long_enough : (heading : Heading) (bodies : List (List ℕ)) (image : List ℕ) → StandsFor heading bodies image
-    → 27 ≤ length image
-long_enough heading bodies image s =
-    omega (
-      arith,
-      ap length s.1.3,
-      length-append (spell_heading heading ++ flat_map frame bodies) (s.1.0 ∷ s.1.1),
-      length-append (spell_heading heading) (flat_map frame bodies),
-      length_heading heading s.0.begins,
-    )
+module _ (notes : NotedStates) (last : PrState) (heading : Heading) (extents : List (ℕ × ℕ)) (bodies : List (List ℕ))
+    (so_far : HasRead notes last heading extents bodies) where
+  -- one that spells a state is read behind the others, and noted
+  pub read_behind : (notes' : NotedStates) (state : PrState) (place : ℕ) (body : List ℕ) → SpellsState state body
+      → notes' ≡ with_state notes state
+      → HasRead notes' state heading (extents ++ (place, length body) ∷ []) (bodies ++ body ∷ [])
+  read_behind notes' state place body spells notes_are =
+      subst
+      (λ (n : NotedStates). HasRead n state heading (extents ++ (place, length body) ∷ []) (bodies ++ body ∷ []))
+      (sym notes_are) (record {
+        kind = so_far.kind;
+        states = All-push IsSavable notes.states state so_far.states spells.savable;
+        none_torn = so_far.none_torn;
+        counted =
+            omega (
+              arith,
+              so_far.counted,
+              length-append extents ((place, length body) ∷ []),
+              length-append notes.states (state ∷ []),
+            );
+        last_is = sym (latest_more notes.states state);
+        spelled =
+            (λ i. so_far.spelled i ++ spells.bytes i ∷ []) ∙ sym (bodies_more notes.states state);
+      })
 
--- what was found on the old bytes is why the store is not opened
-pub not_opened : (old mid new : DiskState) (error : StoreError) (heading : Heading) (bodies : List (List ℕ))
-    → (old.honest → mid.honest)
-    → NoneFailed old mid
-    → (old.honest → StandsFor heading bodies old.seen × Only old.seen mid.may_leave)
-    → (old.honest → Unwritten mid new)
-    → NotRecovered error heading bodies mid new → IsStoreNotOpened error old new
-not_opened old mid new NotOurs heading bodies honest none found unwritten why = absurd why
-not_opened old mid new (BadRecord at) heading bodies honest none found unwritten why = (
-  why.0 ∙ none,
-  λ h. (
-    let bad = why.1 (honest h) in (heading, bodies, bad.0, (found h).0, bad.1),
-    λ image may. (found h).1 image ((unwritten h).images image may),
-  ),
-)
-not_opened old mid new (Device fault) heading bodies honest none found unwritten why =
-    record { cause = omega (arith, none, why.cause); told = why.told }
-not_opened old mid new NoMemory heading bodies honest none found unwritten why = (
-  why ∙ none,
-  λ h. (
-    long_enough heading bodies old.seen (found h).0,
-    λ image may. (found h).1 image ((unwritten h).images image may),
-  ),
-)
-not_opened old mid new (Damaged at) heading bodies honest none found unwritten why = absurd why
+  -- the body behind those that were read is the first bad one of a side that has it
+  pub bad_frame : (all : List (List ℕ)) (good at : ℕ) → bodies ≡ take good all → good < length all
+      → at ≡ length (spell heading (take good all)) → IsNoState (slice_index_or all good [])
+      → IsBadState heading all notes.states at
+  bad_frame all good at read inside at_is never = record {
+    kind = so_far.kind;
+    inside = omega (arith, inside, counted);
+    before = so_far.states;
+    spelled = sym so_far.spelled ∙ read ∙ ap (λ (n : ℕ). take n all) (sym counted);
+    gate = at_is ∙ ap (λ (b : List (List ℕ)). length (spell heading b)) (sym read ∙ so_far.spelled);
+    bad = λ state spells.
+        never state (subst (λ (n : ℕ). SpellsState state (slice_index_or all n [])) counted spells);
+  }
+    where
+      counted : length notes.states ≡ good
+      counted =
+          omega (
+            arith,
+            inside,
+            length-map notes.states spell_state,
+            ap (λ (b : List (List ℕ)). length b) (sym so_far.spelled ∙ read),
+            length-take-le good all (omega (arith, inside)),
+          )
 
 -- what begins with a header of another kind begins with a cartridge's
 pub no_store : (image : List ℕ) → IsNotOf SideKinds.Store image → IsNoStore image
@@ -137,45 +100,59 @@ no_store image (inl never) = inl never
 no_store image (inr (SideKinds.Cartridge, other, begins)) = inr begins
 no_store image (inr (SideKinds.Store, other, begins)) = absurd (other refl)
 
--- each moment's images are old ones, also of what comes behind
-pub old_images : (old mid new : DiskState) → IsDisk mid → LeavesOnly old mid old.may_leave → Unwritten mid new
-    → LeavesOnly old new old.may_leave
-old_images old mid new is run unwritten =
-    in_sequence old mid new old.may_leave run
-    (weakened mid new mid.may_leave old.may_leave unwritten.moments (holds_now old mid old.may_leave is run))
+-- why its side is not decoded is why a store is not opened, by what is noted of a decoder
+module _ {T : Type 0} (notes : T → NotedStates) (last : T → PrState) where
+  pub not_opened : (cause : OpenError) (old new : DiskState)
+      → IsNotDecoded (λ (d : T). HasRead (notes d) (last d)) (λ (d : T). IsNoState) SideKinds.Store cause old new
+      → IsStoreNotOpened (store_error cause) old new
+  not_opened NotOurs old new why = (why.0, λ h. (no_store old.seen (why.1 h).0, (why.1 h).1))
+  not_opened (Damaged at) old new why = why
+  not_opened (BadRecord at) old new why = (
+    why.0,
+    λ h.
+        let side = (why.1 h).0 in
+        let found = side.4 in
+        let bad = found.3 in (
+          (
+            side.0,
+            side.1,
+            (notes found.0).states,
+            side.3,
+            bad_frame (notes found.0) (last found.0) side.0 found.2 _ bad.before side.1 found.1 at refl bad.inside
+                bad.gate bad.bad,
+          ),
+          (why.1 h).1,
+        ),
+  )
+  not_opened (Device fault) old new why = why
+  not_opened NoMemory old new why = why
 
 -- what was read is what the store gives
-module _ (old mid new : DiskState) (heading : Heading) (bodies : List (List ℕ)) (kind : heading.kind ≡ Store)
-    (stands : StandsFor heading bodies old.seen) (only : Only old.seen mid.may_leave) (unwritten : Unwritten mid new)
-    (frame : ℕ) (notes : NotedStates) (last : PrState) (read : IsReadUpTo frame notes last)
-    (spelled : bodies ≡ state_bodies notes.states) where
-  pub only_still : Only old.seen new.may_leave
-  only_still image may = only image (unwritten.images image may)
-
+module _ (old new : DiskState) (heading : Heading) (bodies read : List (List ℕ))
+    (stands : StandsFor heading bodies old.seen) (only : Only old.seen new.may_leave) (is : read ≡ bodies)
+    (extents : List (ℕ × ℕ)) (notes : NotedStates) (last : PrState)
+    (found : HasRead notes last heading extents read) where
   pub opened_gives : GivesStates heading notes.states old.seen
-  opened_gives = (kind, read.states, subst (λ (b : List (List ℕ)). StandsFor heading b old.seen) spelled stands)
+  opened_gives = (
+    found.kind,
+    found.states,
+    subst (λ (b : List (List ℕ)). StandsFor heading b old.seen) (sym is ∙ found.spelled) stands,
+  )
 
-  pub opened_stores : (heading' : Heading) (bodies' : List (List ℕ)) → heading' ≡ heading → bodies' ≡ bodies
-      → StoresStates new heading' bodies' notes
-  opened_stores heading' bodies' heading_is bodies_are = record {
-    bodies_are = bodies_are ∙ spelled;
-    shows = λ image may.
-        inl (subst (λ (x : Heading × List ℕ). GivesStates x.0 notes.states x.1)
-        (λ i. (sym heading_is i, sym (only_still image may) i)) opened_gives);
+  pub opened_stores : StoresStates new heading bodies notes
+  opened_stores = record {
+    bodies_are = sym is ∙ found.spelled;
+    shows = λ image may. inl (subst (GivesStates heading notes.states) (sym (only image may)) opened_gives);
   }
 
 -- all frames were read
-pub read_all : (heading : Heading) (extents extents' : List (ℕ × ℕ)) (capacity : ℕ) (notes : NotedStates)
-    (last : PrState)
-    (heading' : Heading) (failed : Bool)
-    → heading.kind ≡ Store → heading' ≡ heading → extents' ≡ extents → failed ≡ false
-    → IsReadUpTo (length extents) notes last
-    → 580 ≤ capacity → IsOpen heading' extents' failed capacity notes
-read_all heading extents extents' capacity notes last heading' failed kind heading_is extents_are fine so_far room =
-    record {
-      kind = ap (λ (h : Heading). h.kind) heading_is ∙ kind;
-      states = so_far.states;
-      at_rest = fine ∙ sym (ap (λ (t : Option PrState). is_some t) so_far.none_torn);
-      counted = ap (λ (l : List (ℕ × ℕ)). length l) extents_are ∙ sym so_far.counted;
-      body = room;
-    }
+pub read_all : (notes : NotedStates) (last : PrState) (heading : Heading) (extents : List (ℕ × ℕ))
+    (bodies : List (List ℕ)) (failed : Bool) (capacity : ℕ) → HasRead notes last heading extents bodies
+    → failed ≡ false → 580 ≤ capacity → IsOpen heading extents failed capacity notes
+read_all notes last heading extents bodies failed capacity found fine room = record {
+  kind = found.kind;
+  states = found.states;
+  at_rest = fine ∙ sym (ap (λ (t : Option PrState). is_some t) found.none_torn);
+  counted = found.counted;
+  body = room;
+}

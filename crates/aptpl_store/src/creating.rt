@@ -90,17 +90,22 @@ fn name_of(drive: DriveNo) -> [u8; NAME_BYTES]
     name
 }
 
+// Makes a buffer for the longest body.
+pub(crate) fn make_body(alloc: Global) -> Result<Vec<u8>, NoMemory>
+    ensures { IfOk result (λ body. STATE_BYTES ≤ vec_capacity body) }
+{
+    let mut body = Vec::new(alloc);
+    body.reserve(STATE_BYTES)?;
+    Ok(body)
+}
+
 // Makes room in memory for later saves: a buffer for the longest body, and the frames.
-pub(crate) fn make_room<D: Disk>(
-    alloc: Global,
-    journal: &mut Journal<D>,
-) -> Result<Vec<u8>, NoMemory>
+fn make_room<D: Disk>(alloc: Global, journal: &mut Journal<D>) -> Result<Vec<u8>, NoMemory>
     ensures same { journal.new ≡ record journal.old { reserved = journal.new.reserved } }
     ensures ok { IfOk result (λ body. (STATE_BYTES ≤ vec_capacity body)
         × (RESERVED_SAVES ≤ journal.new.reserved)) }
 {
-    let mut body = Vec::new(alloc);
-    body.reserve(STATE_BYTES)?;
+    let body = make_body(alloc)?;
     let Ok(()) = journal.reserve(RESERVED_SAVES) else {
         return Err(NoMemory);
     };

@@ -2,6 +2,7 @@
 ghost use Rattle.std.specs.Prelude.{◌≡◌};
 ghost use Rattle.aptpl_store.specs.declared.error.StoreError.TheVariants as Errors;
 
+use gate_journal::OpenError;
 use std::alloc::AllocError;
 use thiserror::Error;
 use vtl_base::{DevFault, NoMemory};
@@ -37,6 +38,22 @@ impl From<AllocError> for StoreError {
 
     fn from(_: AllocError) -> Self {
         StoreError::NoMemory
+    }
+}
+
+impl From<OpenError> for StoreError {
+    ghost use Rattle.aptpl_store.specs.Inner.Causes.{store_error};
+
+    ghost from_gives = { λ cause e. e ≡ store_error cause };
+
+    fn from(cause: OpenError) -> Self {
+        match cause {
+            OpenError::NotOurs => StoreError::NotOurs,
+            OpenError::Damaged { at } => StoreError::Damaged { at },
+            OpenError::BadRecord { at } => StoreError::BadRecord { at },
+            OpenError::Device(fault) => StoreError::Device(fault),
+            OpenError::NoMemory => StoreError::NoMemory,
+        }
     }
 }
 

@@ -6,6 +6,7 @@ pub mod error;
 pub mod laws;
 mod noted;
 mod opening;
+mod recovering;
 mod saving;
 mod spelling;
 pub mod stores;

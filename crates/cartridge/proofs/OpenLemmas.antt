@@ -43,21 +43,6 @@ lies_in_more bodies extents body extent same block place lies =
       omega (arith, lies.6, length-append bodies (body ∷ [])),
     )
 
--- the body of a frame more, whose extent is known
-pub lies_in_next : (bodies : List (List ℕ)) (extents : List (ℕ × ℕ)) (body : List ℕ) (block : List ℕ) (place : ℕ)
-    → LiesIn bodies extents block place → LiesIn (bodies ++ body ∷ []) extents block place
-lies_in_next bodies extents body block place lies =
-    let body_is : slice_index_or (bodies ++ body ∷ []) lies.0 [] ≡ slice_index_or bodies lies.0 [] =
-    get_or_append_left bodies (body ∷ []) [] lies.0 lies.6 in (
-      lies.0,
-      lies.1,
-      lies.2,
-      lies.3,
-      lies.4,
-      lies.5 ∙ ap (λ (l : List ℕ). slice_range l lies.1 (lies.1 + length block)) (sym body_is),
-      omega (arith, lies.6, length-append bodies (body ∷ [])),
-    )
-
 module _ (heading : Heading) (extents : List (ℕ × ℕ)) (failed : Bool) (index : List PlacedPart) (notes : Notes)
     (is : IsOpen heading extents failed index notes) where
   pub open_shape : IsIndexOf index (volume_made (noted_contents notes))

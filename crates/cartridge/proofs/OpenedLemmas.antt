@@ -1,84 +1,28 @@
 -- What an opening comes to.
-use Rattle.std.proofs.Common.{◌≡◌, inl, inr, ℕ, ◌≤◌, List, ◌∷◌, ◌++◌, length, Bool, refl, sym, ◌∙◌, ap, subst, arith, length-append}
-use Rattle.std.specs.List.{flat_map}
-use Rattle.tape_disk.specs.Disk.{DiskState, Each, IsDisk, Only}
-use Rattle.tape_disk.specs.Moments.{LeavesOnly, holds_now, in_sequence, weakened}
+use Rattle.std.proofs.Common.{◌≡◌, inl, inr, ℕ, List, refl, sym, ◌∙◌, subst}
+use Rattle.tape_disk.specs.Disk.{DiskState}
 use Rattle.gate_journal.specs.declared.header.SideKind.TheVariants as SideKinds
-use Rattle.gate_journal.specs.Side.{Heading, IsNotOf, StandsFor, frame, spell_heading}
-use Rattle.gate_journal.specs.Answers.{NoneFailed}
-use Rattle.gate_journal.specs.Crash.{Unwritten}
-use Rattle.gate_journal.specs.Inner.Headings.{length_heading}
+use Rattle.gate_journal.specs.Side.{Heading, IsNotOf, StandsFor}
 use Rattle.record_index.specs.Places.{PlacedPart}
-use Rattle.cartridge.specs.declared.error.CartridgeError.{CartridgeError}
-use Rattle.cartridge.specs.declared.error.CartridgeError.TheVariants.{NotOurs, Damaged, BadRecord, SideFull, Device, Failed, NoMemory}
+use Rattle.gate_journal.specs.declared.error.OpenError.{OpenError}
+use Rattle.gate_journal.specs.declared.error.OpenError.TheVariants.{NotOurs, Damaged, BadRecord, Device, NoMemory}
+use Rattle.gate_journal.specs.Decoding.{IsNotDecoded}
 use Rattle.cartridge.specs.Answers.{IsNotOpened}
-use Rattle.cartridge.specs.Contents.{GivesContents, IsNoCartridge, bodies_of}
+use Rattle.cartridge.specs.Contents.{GivesContents, IsNoCartridge, volume_made}
 use Rattle.cartridge.specs.Notes.{Notes, noted_contents}
-use Rattle.cartridge.specs.Inner.Open.{IsOpen, StoresContents}
-use Rattle.cartridge.specs.Inner.Reading.{NotRecovered}
+use Rattle.cartridge.specs.Inner.Causes.{cartridge_error}
+use Rattle.cartridge.specs.Inner.Reading.{HasRead, IsBadBody}
+use Rattle.cartridge.proofs.OpeningLemmas.{bad_frame}
 
--- a side has the 27 bytes of each heading
-pub long_enough : (heading : Heading) (bodies : List (List ℕ)) (image : List ℕ) → StandsFor heading bodies image
-    → 27 ≤ length image
-long_enough heading bodies image s =
-    omega (
-      arith,
-      ap length s.1.3,
-      length-append (spell_heading heading ++ flat_map frame bodies) (s.1.0 ∷ s.1.1),
-      length-append (spell_heading heading) (flat_map frame bodies),
-      length_heading heading s.0.begins,
-    )
-
--- the side that was opened, read without a word written
-module _ (old mid new : DiskState) (heading : Heading) (bodies : List (List ℕ))
-    (stands : StandsFor heading bodies old.seen) (only : Only old.seen mid.may_leave) (unwritten : Unwritten mid new)
-  where
-    pub only_still : Only old.seen new.may_leave
-    only_still image may = only image (unwritten.images image may)
-
-    pub opened_gives : (extents : List (ℕ × ℕ)) (failed : Bool) (index : List PlacedPart) (notes : Notes)
-        (heading' : Heading) → IsOpen heading' extents failed index notes → heading' ≡ heading
-        → bodies ≡ bodies_of notes.frames → GivesContents (noted_contents notes) old.seen
-    opened_gives extents failed index notes heading' is same spelled = (
-      is.contents,
-      subst (λ (x : Heading × List (List ℕ)). StandsFor x.0 x.1 old.seen)
-          (λ i. ((sym same ∙ is.heading_is) i, spelled i)) stands,
-    )
-
-    pub opened_stores : (notes : Notes) (bodies' : List (List ℕ)) → GivesContents (noted_contents notes) old.seen
-        → bodies' ≡ bodies → bodies ≡ bodies_of notes.frames → StoresContents new bodies' notes
-    opened_stores notes bodies' gives same spelled = record {
-      bodies_are = same ∙ spelled;
-      shows = λ image may. inl (subst (GivesContents (noted_contents notes)) (sym (only_still image may)) gives);
-    }
-
--- what was found on the old bytes is why the cartridge is not opened
-pub not_opened : (old mid new : DiskState) (error : CartridgeError) (heading : Heading) (bodies : List (List ℕ))
-    → (old.honest → mid.honest)
-    → NoneFailed old mid
-    → (old.honest → StandsFor heading bodies old.seen × Only old.seen mid.may_leave)
-    → (old.honest → Unwritten mid new)
-    → NotRecovered error heading bodies mid new → IsNotOpened error old new
-not_opened old mid new NotOurs heading bodies honest none found unwritten why = absurd why
-not_opened old mid new (BadRecord at) heading bodies honest none found unwritten why = (
-  why.0 ∙ none,
-  λ h. (
-    let bad = why.1 (honest h) in (heading, bodies, bad.0, (found h).0, bad.1),
-    λ image may. (found h).1 image ((unwritten h).images image may),
-  ),
+-- what was read of a side is what its image gives
+pub opened_gives : (image : List ℕ) (heading : Heading) (bodies read : List (List ℕ)) (extents : List (ℕ × ℕ))
+    (index : List PlacedPart) (notes : Notes) → StandsFor heading bodies image → read ≡ bodies
+    → HasRead index notes heading extents read → GivesContents (noted_contents notes) image
+opened_gives image heading bodies read extents index notes stands is found = (
+  found.is_open.contents,
+  subst (λ (x : Heading × List (List ℕ)). StandsFor x.0 x.1 image)
+      (λ i. (found.is_open.heading_is i, (sym is ∙ found.spelled) i)) stands,
 )
-not_opened old mid new (Device fault) heading bodies honest none found unwritten why =
-    record { cause = omega (arith, none, why.cause); told = why.told }
-not_opened old mid new NoMemory heading bodies honest none found unwritten why = (
-  why ∙ none,
-  λ h. (
-    long_enough heading bodies old.seen (found h).0,
-    λ image may. (found h).1 image ((unwritten h).images image may),
-  ),
-)
-not_opened old mid new (Damaged at) heading bodies honest none found unwritten why = absurd why
-not_opened old mid new SideFull heading bodies honest none found unwritten why = absurd why
-not_opened old mid new Failed heading bodies honest none found unwritten why = absurd why
 
 -- what begins with a header of another kind begins with a store's
 pub no_cartridge : (image : List ℕ) → IsNotOf SideKinds.Cartridge image → IsNoCartridge image
@@ -86,14 +30,30 @@ no_cartridge image (inl never) = inl never
 no_cartridge image (inr (SideKinds.Store, other, begins)) = inr begins
 no_cartridge image (inr (SideKinds.Cartridge, other, begins)) = absurd (other refl)
 
--- each moment's images are old ones, also of what comes behind
-pub old_images : (old mid new : DiskState) → IsDisk mid → LeavesOnly old mid old.may_leave → Unwritten mid new
-    → LeavesOnly old new old.may_leave
-old_images old mid new is run unwritten =
-    in_sequence old mid new old.may_leave run
-    (weakened mid new mid.may_leave old.may_leave unwritten.moments (holds_now old mid old.may_leave is run))
-
--- a closed cartridge still shows what it showed
-pub still_shows : (old new : DiskState) (P : List ℕ → Type 0) → IsDisk new → LeavesOnly old new old.may_leave
-    → Each old P → Each new P
-still_shows old new P is run shows image may = shows image (holds_now old new old.may_leave is run image may)
+-- why its side is not decoded is why a cartridge is not opened, by what is indexed and noted of a decoder
+module _ {T : Type 0} (index : T → List PlacedPart) (notes : T → Notes) where
+  pub not_opened : (cause : OpenError) (old new : DiskState)
+      → IsNotDecoded (λ (d : T). HasRead (index d) (notes d))
+      (λ (d : T). IsBadBody (volume_made (noted_contents (notes d)))) SideKinds.Cartridge cause old new
+      → IsNotOpened (cartridge_error cause) old new
+  not_opened NotOurs old new why = (why.0, λ h. (no_cartridge old.seen (why.1 h).0, (why.1 h).1))
+  not_opened (Damaged at) old new why = why
+  not_opened (BadRecord at) old new why = (
+    why.0,
+    λ h.
+        let side = (why.1 h).0 in
+        let found = side.4 in
+        let bad = found.3 in (
+          (
+            side.0,
+            side.1,
+            (notes found.0).frames,
+            side.3,
+            bad_frame (index found.0) (notes found.0) side.0 found.2 _ bad.before side.1 found.1 at refl bad.inside
+                bad.gate bad.bad,
+          ),
+          (why.1 h).1,
+        ),
+  )
+  not_opened (Device fault) old new why = why
+  not_opened NoMemory old new why = why

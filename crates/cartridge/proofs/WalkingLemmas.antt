@@ -191,6 +191,20 @@ lies_here bodies body extents frame from (Records.Put part at count) place is in
       omega (arith, is, length-append bodies (body ∷ [])),
     )
 
+-- the body that comes next lies behind the others
+pub lies_next : (bodies : List (List ℕ)) (body : List ℕ) (extents : List (ℕ × ℕ)) (place from : ℕ) (item : Record)
+    (at : ℕ) → length extents ≡ length bodies → IsAtFront item (drop from body) → IsPlaceOf item (place + from) at
+    → LiesAt (LiesIn (bodies ++ body ∷ []) (extents ++ (place, length body) ∷ [])) (change_in item (drop from body)) at
+lies_next bodies body extents place from item at same front place_is =
+    let more = extents ++ (place, length body) ∷ [] in
+    let extent_is : slice_index_or more (length bodies) (0, 0) ≡ (place, length body) =
+    ap (λ (n : ℕ). slice_index_or more n (0, 0)) (sym same)
+    ∙ get_or-append_seam extents (place, length body) [] (0, 0) in
+    lies_here bodies body more (length bodies) from item at refl
+    (omega (arith, same, length-append extents ((place, length body) ∷ [])))
+    (ap (λ (e : ℕ × ℕ). e.1) (sym extent_is)) front
+    (subst (λ (e : ℕ × ℕ). IsPlaceOf item (e.0 + from) at) (sym extent_is) place_is)
+
 -- a record at the front of bytes has a byte of its block, where it has one
 pub has_block : (item : Record) (bytes : List ℕ) → IsAtFront item bytes → HasBlock item
 has_block (Records.Put part at count) bytes front =

@@ -1,5 +1,6 @@
 -- What only private contracts and invariants use.
 pub mod Answered
+pub mod Causes
 pub mod Growing
 pub mod Open
 pub mod Reading

@@ -3,6 +3,7 @@ ghost use Rattle.std.specs.Prelude.{◌≡◌};
 ghost use Rattle.cartridge.specs.declared.error.CartridgeError.TheVariants as Errors;
 
 use crate::shelved::Shelved;
+use gate_journal::OpenError;
 use std::alloc::AllocError;
 use tape_disk::Disk;
 use thiserror::Error;
@@ -46,6 +47,22 @@ impl From<AllocError> for CartridgeError {
 
     fn from(_: AllocError) -> Self {
         CartridgeError::NoMemory
+    }
+}
+
+impl From<OpenError> for CartridgeError {
+    ghost use Rattle.cartridge.specs.Inner.Causes.{cartridge_error};
+
+    ghost from_gives = { λ cause e. e ≡ cartridge_error cause };
+
+    fn from(cause: OpenError) -> Self {
+        match cause {
+            OpenError::NotOurs => CartridgeError::NotOurs,
+            OpenError::Damaged { at } => CartridgeError::Damaged { at },
+            OpenError::BadRecord { at } => CartridgeError::BadRecord { at },
+            OpenError::Device(fault) => CartridgeError::Device(fault),
+            OpenError::NoMemory => CartridgeError::NoMemory,
+        }
     }
 }
 

@@ -10,6 +10,7 @@ pub mod laws;
 mod noted;
 mod opening;
 mod placing;
+mod recovering;
 pub mod shelved;
 mod storing;
 mod walking;

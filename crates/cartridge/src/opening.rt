@@ -1,21 +1,16 @@
 //! A closed cartridge is opened: each frame's body is read whole, once.
-ghost use Rattle.std.specs.Prelude.{◌≡◌, ◌<◌, [], length, slice_index_or, IfOk, IfErr, true, false};
+ghost use Rattle.std.specs.Prelude.{◌≡◌, [], IfOk, IfErr, false};
 ghost use Rattle.tape_disk.specs.Disk.{Keeps, Only};
 ghost use Rattle.tape_disk.specs.Moments.{LeavesOnly};
 ghost use Rattle.gate_journal.specs.Answers.{NoneFailed};
-ghost use Rattle.gate_journal.specs.Crash.{Unwritten};
 ghost use Rattle.cartridge.specs.Answers.{IsNotOpened, disk_opened};
-ghost use Rattle.cartridge.specs.Contents.{GivesContents, bodies_of};
-ghost use Rattle.cartridge.specs.Inner.Open.{IsOpen};
-ghost use Rattle.cartridge.specs.Inner.Reading.{IsNotRead, NotRecovered};
+ghost use Rattle.cartridge.specs.Contents.{GivesContents};
 
 use crate::cartridges::Cartridge;
 use crate::error::{CartridgeError, NotOpened};
-use crate::noted::Noted;
+use crate::recovering::Recovered;
 use crate::shelved::Shelved;
-use crate::walking::walk_body;
-use gate_journal::{Journal, JournalError, Refused, SideKind};
-use record_index::Index;
+use gate_journal::{Journal, NotDecoded};
 use std::alloc::Global;
 use tape_disk::Disk;
 
@@ -40,110 +35,19 @@ impl<D: Disk> Cartridge<D> {
             (D.state shelved.disk).may_leave }
     {
         let Shelved { disk, known, noted } = shelved;
-        match Journal::open_as(alloc, disk, SideKind::Cartridge) {
-            Ok(journal) => {
-                let mut journal = journal;
-                match recover(alloc, &mut journal) {
-                    Ok((index, found)) => Ok(Cartridge {
-                        journal,
-                        index,
-                        body: Vec::new(alloc),
-                        noted: found,
-                    }),
-                    Err(error) => {
-                        let disk = journal.close();
-                        let shelved = Shelved { disk, known, noted };
-                        Err(NotOpened { error, shelved })
-                    }
-                }
-            }
+        match Journal::open_decoded::<Recovered>(alloc, disk, 0) {
+            Ok((journal, recovered)) => Ok(Cartridge {
+                journal,
+                index: recovered.index,
+                body: Vec::new(alloc),
+                noted: recovered.noted,
+            }),
             Err(refused) => {
-                let Refused { error, disk } = refused;
-                let error = match error {
-                    JournalError::NotOurs => CartridgeError::NotOurs,
-                    JournalError::Damaged { at } => CartridgeError::Damaged { at },
-                    JournalError::Device(fault) => CartridgeError::Device(fault),
-                    JournalError::NoMemory => CartridgeError::NoMemory,
-                    JournalError::SideFull => unreachable!(),
-                    JournalError::Failed => unreachable!(),
-                };
+                let NotDecoded { error, disk } = refused;
+                let error = CartridgeError::from(error);
                 let shelved = Shelved { disk, known, noted };
                 Err(NotOpened { error, shelved })
             }
         }
-    }
-}
-
-// Where the objects of a cartridge's side lie that was just opened, and what its frames spell.
-fn recover<D: Disk>(
-    alloc: Global,
-    journal: &mut Journal<D>,
-) -> Result<(Index, Noted), CartridgeError>
-    requires fine { journal.old.failed ≡ false }
-    requires kind { journal.old.heading.kind ≡ SideKind.Cartridge }
-    ensures disk { Keeps (D.state journal.old.disk) (D.state journal.new.disk) }
-    ensures unwritten { (D.state journal.old.disk).honest →
-        Unwritten (D.state journal.old.disk) (D.state journal.new.disk) }
-    ensures same { (journal.new.heading ≡ journal.old.heading)
-        × ((D.state journal.old.disk).honest → journal.new.bodies ≡ journal.old.bodies) }
-    ensures ok { IfOk result (λ found. (journal.new.failed ≡ false)
-        × NoneFailed (D.state journal.old.disk) (D.state journal.new.disk)
-        × IsOpen journal.new.heading journal.new.extents false found.0 found.1.notes) }
-    ensures spelled { IfOk result (λ found. (D.state journal.old.disk).honest →
-        journal.old.bodies ≡ bodies_of found.1.notes.frames) }
-    ensures refused { IfErr result (λ error. NotRecovered error journal.old.heading
-        journal.old.bodies (D.state journal.old.disk) (D.state journal.new.disk)) }
-{
-    let mut index = Index::new(alloc, &journal.header().capacities)?;
-    let mut noted = Noted::new(journal.header());
-    for frame in 0..journal.frames() {
-        let (at, size) = journal.body_at(frame);
-        // An honest disk has the body: asked for the sake of any other.
-        let len = journal.disk().len();
-        if at > len || u64::from(size) > len - at {
-            return Err(CartridgeError::BadRecord { at: at - 5 });
-        }
-        let body = read_frame(alloc, journal, frame)?;
-        match walk_body(&mut index, journal, &noted, frame, &body) {
-            Ok(true) => noted = noted.with_body(&body),
-            Ok(false) => return Err(CartridgeError::BadRecord { at: at - 5 }),
-            Err(_) => return Err(CartridgeError::NoMemory),
-        }
-    }
-    Ok((index, noted))
-}
-
-// The body of a frame.
-fn read_frame<D: Disk>(
-    alloc: Global,
-    journal: &mut Journal<D>,
-    frame: usize,
-) -> Result<Vec<u8>, CartridgeError>
-    requires fine { journal.old.failed ≡ false }
-    requires frame { frame < length journal.old.extents }
-    ensures disk { Keeps (D.state journal.old.disk) (D.state journal.new.disk) }
-    ensures same { (journal.new.extents ≡ journal.old.extents)
-        × (journal.new.heading ≡ journal.old.heading) }
-    ensures unwritten { (D.state journal.old.disk).honest →
-        Unwritten (D.state journal.old.disk) (D.state journal.new.disk)
-        × (journal.new.bodies ≡ journal.old.bodies) }
-    ensures ok { IfOk result (λ body. (journal.new.failed ≡ false)
-        × NoneFailed (D.state journal.old.disk) (D.state journal.new.disk)
-        × (length body.items ≡ (slice_index_or journal.old.extents frame (0, 0)).1)) }
-    ensures body { (D.state journal.old.disk).honest → IfOk result (λ body.
-        body.items ≡ slice_index_or journal.old.bodies frame []) }
-    ensures refused { IfErr result (λ error.
-        IsNotRead error (D.state journal.old.disk) (D.state journal.new.disk)) }
-{
-    let (at, size) = journal.body_at(frame);
-    let mut body = vec![in alloc; 0; size as usize]?;
-    match journal.read_body(at, &mut body) {
-        Ok(()) => Ok(body),
-        Err(JournalError::Device(fault)) => Err(CartridgeError::Device(fault)),
-        Err(JournalError::Failed) => unreachable!(),
-        Err(JournalError::NoMemory) => unreachable!(),
-        Err(JournalError::SideFull) => unreachable!(),
-        Err(JournalError::NotOurs) => unreachable!(),
-        Err(JournalError::Damaged { .. }) => unreachable!(),
     }
 }

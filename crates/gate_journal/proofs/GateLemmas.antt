@@ -1,5 +1,5 @@
 -- The last gates of a side, by where its bodies lie.
-use Rattle.std.proofs.Common.{◌≡◌, ℕ, zero, suc, ◌+◌, ◌-◌, ◌*◌, ◌<◌, ◌≤◌, List, [], ◌∷◌, ◌++◌, length, get_or, take, refl, sym, ◌∙◌, ap, subst, arith, length-append, Ok, Err, Option, None, Some, Bool, false}
+use Rattle.std.proofs.Common.{◌≡◌, ℕ, suc, ◌+◌, ◌-◌, ◌*◌, List, [], ◌∷◌, ◌++◌, length, get_or, take, refl, sym, ◌∙◌, ap, subst, arith, length-append, Ok, Err, Option, Bool, false}
 use Rattle.std.specs.Prelude.{Result, ◌==◌, if◌then◌else◌}
 use Rattle.std.proofs.Math.Dec.{eqb-suc-zero}
 use Rattle.std.specs.List.{flat_map}
@@ -11,10 +11,10 @@ use Rattle.gate_journal.specs.declared.reading.Frames.{Frames}
 use Rattle.gate_journal.specs.Answers.{NoneFailed}
 use Rattle.gate_journal.specs.Crash.{Unwritten}
 use Rattle.gate_journal.specs.Gates.{FindsGates, last_gate}
-use Rattle.gate_journal.specs.Inner.Found.{FindsFrames, NotRead}
+use Rattle.gate_journal.specs.Inner.Found.{FindsFrames}
 use Rattle.gate_journal.specs.Inner.Gates.{FindsWhole, HasNoGates, gate_before}
 use Rattle.gate_journal.specs.Inner.Sides.{never_ours, sound, stands}
-use Rattle.gate_journal.specs.Side.{Heading, IsHeading, IsNotOurs, IsDamagedAt, StandsFor, frame, spell, spell_heading}
+use Rattle.gate_journal.specs.Side.{Heading, IsHeading, IsDamagedAt, StandsFor, frame, spell_heading}
 use Rattle.gate_journal.specs.State.{extents_from}
 use Rattle.gate_journal.proofs.Parts.{place_of}
 use Rattle.gate_journal.proofs.Walks.{damaged_there, fault_since, far_is, stands_for}

@@ -1,5 +1,6 @@
 pub mod AskedLemmas
 pub mod Bodies
+pub mod DecodingLemmas
 pub mod Extents
 pub mod GateLemmas
 pub mod Marks

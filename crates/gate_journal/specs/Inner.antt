@@ -1,5 +1,6 @@
 pub mod Asked
 pub mod Deciding
+pub mod Decoding
 pub mod Found
 pub mod Frames
 pub mod Gates

@@ -1,5 +1,6 @@
 pub mod Answers
 pub mod Crash
+pub mod Decoding
 pub mod Gates
 pub mod Inner
 pub mod Reads

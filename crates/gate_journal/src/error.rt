@@ -1,10 +1,11 @@
 //! Why a call on a side is refused.
 ghost use Rattle.std.specs.Prelude.{◌≡◌};
 ghost use Rattle.gate_journal.specs.declared.error.JournalError.TheVariants.{NoMemory, Device};
+ghost use Rattle.gate_journal.specs.declared.error.OpenError.TheVariants as Openings;
 
 use std::alloc::AllocError;
 use thiserror::Error;
-use vtl_base::DevFault;
+use vtl_base::{DevFault, NoMemory};
 
 /// Why a call on a side is refused (own).
 #[derive(Clone, Copy, PartialEq, Eq, Debug, Error)]
@@ -55,6 +56,57 @@ impl From<DevFault> for JournalError {
 pub struct Refused<D> {
     /// Why.
     pub error: JournalError,
+    /// The disk that was handed in.
+    pub disk: D,
+}
+
+/// Why a side is not opened, or what its bodies spell is not decoded (own). Nothing was written.
+#[derive(Clone, Copy, PartialEq, Eq, Debug, Error)]
+pub enum OpenError {
+    /// The bytes begin with no header of a side of the kind.
+    #[error("not a side of the kind")]
+    NotOurs,
+    /// The first frame that is not whole has its gate at this place, counted in bytes.
+    #[error("damaged at {at}")]
+    Damaged {
+        /// The place of the gate.
+        at: u64,
+    },
+    /// The first frame whose body is refused has its gate at this place, counted in bytes.
+    #[error("bad record at {at}")]
+    BadRecord {
+        /// The place of the gate.
+        at: u64,
+    },
+    /// The disk failed in this call.
+    #[error("device fault")]
+    Device(DevFault),
+    /// Memory ran out. No call of the disk failed.
+    #[error("out of memory")]
+    NoMemory,
+}
+
+impl From<AllocError> for OpenError {
+    ghost from_gives = { λ _ e. e ≡ Openings.NoMemory };
+
+    fn from(_: AllocError) -> Self {
+        OpenError::NoMemory
+    }
+}
+
+impl From<NoMemory> for OpenError {
+    ghost from_gives = { λ _ e. e ≡ Openings.NoMemory };
+
+    fn from(_: NoMemory) -> Self {
+        OpenError::NoMemory
+    }
+}
+
+/// A side that could not be opened and decoded, and its disk.
+#[derive(Drop, Debug)]
+pub struct NotDecoded<D> {
+    /// Why.
+    pub error: OpenError,
     /// The disk that was handed in.
     pub disk: D,
 }

@@ -1,5 +1,5 @@
 //! An open side: frames are read from it and added to it.
-ghost use Rattle.std.specs.Prelude.{◌≡◌, ◌⊎◌, ◌+◌, ◌*◌, ◌<◌, ◌≤◌, ◌++◌, [], ◌∷◌, ℕ, List, length, true, false, OnOk, OnErr, IfOk, IfErr, slice_range, slice_index_or, if◌then◌else◌, is_ok};
+ghost use Rattle.std.specs.Prelude.{◌≡◌, ◌⊎◌, ◌+◌, ◌*◌, ◌^◌, ◌<◌, ◌≤◌, ◌++◌, [], ◌∷◌, ℕ, List, length, true, false, OnOk, OnErr, IfOk, IfErr, slice_range, slice_index_or, if◌then◌else◌, is_ok};
 ghost use Rattle.tape_disk.specs.Disk.{Each, Keeps, Only};
 ghost use Rattle.tape_disk.specs.Moments.{LeavesOnly};
 ghost use Rattle.gate_journal.specs.Side.{CLOSED, IsBody, IsHeading, StandsFor, heading_of, spell};
@@ -130,6 +130,7 @@ impl<D: Disk> Journal<D> {
         requires { frame < length self.now.extents }
         ensures value { result ≡ slice_index_or self.now.extents frame result }
         ensures inside { IsExtent self.now.end result }
+        ensures fits { result.0 + result.1 + 1 < 2 ^ 64 }
         ensures whole { LiesInBody self.now.extents result.0 result.1 }
         ensures body { (D.state self.now.disk).honest →
             IsBodyAt (D.state self.now.disk).seen self.now.heading self.now.bodies frame result }

@@ -1,6 +1,8 @@
 //! Frames behind gates, on a disk: each is there whole or not at all, wherever the work is stopped.
 #![tactic(auto)]
 
+pub mod decoders;
+mod decoding;
 mod device;
 pub mod error;
 pub mod gates;
@@ -13,7 +15,8 @@ mod room;
 mod spelling;
 pub mod stops;
 
-pub use error::{JournalError, Refused};
+pub use decoders::Decodes;
+pub use error::{JournalError, NotDecoded, OpenError, Refused};
 pub use gates::{Gates, last_gates};
 pub use header::{Header, SideKind};
 pub use journal::Journal;

@@ -1,7 +1,7 @@
 use Rattle.std.proofs.Common.{◌≡◌, ◌+◌, ◌-◌, ℕ, List, [], ◌++◌, length, take, drop, slice_index_or, ap, ◌∙◌, arith}
 use Rattle.std.specs.Prelude.{slice_range}
 use Rattle.std.proofs.lemmas.List.{get_or_default, append-nil, take_all, drop_all}
-use Rattle.aptpl_store.proofs.opening.read_frame.Goals as goal
+use Rattle.gate_journal.proofs.decoding.read_frame.Goals as goal
 
 pub returns-in-Ok-clause-body : goal.returns-in-Ok-clause-body
 returns-in-Ok-clause-body g c = λ h.

@@ -1,0 +1,65 @@
+-- The bodies of a side are decoded while it is opened.
+use Rattle.std.specs.Prelude.{◌≡◌, ◌<◌, ◌≤◌, ℕ, List, [], ◌∷◌, ◌++◌, length, take, slice_index_or, Bool, true, false, Result, Ok, Err}
+use Rattle.tape_disk.specs.Disk.{DiskState, Only}
+use Rattle.gate_journal.specs.declared.header.SideKind.{SideKind}
+use Rattle.gate_journal.specs.declared.error.OpenError.{OpenError}
+use Rattle.gate_journal.specs.declared.error.OpenError.TheVariants.{NotOurs, Damaged, BadRecord, Device, NoMemory}
+use Rattle.gate_journal.specs.declared.error.NotDecoded.{NotDecoded}
+use Rattle.gate_journal.specs.Side.{Heading, IsDamagedOf, IsNotOf, StandsFor, spell}
+use Rattle.gate_journal.specs.State.{OpenSide}
+use Rattle.gate_journal.specs.Answers.{IsFault, NoneFailed}
+
+-- the disk that an opening gives back, in an open side or beside its refusal (own)
+abbrev pub disk_decoded : {D T : Type 0} → Result (OpenSide D × T) (NotDecoded D) → D
+disk_decoded (Ok opened) = opened.0.disk
+disk_decoded (Err refused) = refused.disk
+
+-- by what a decoder has read, and what it refuses
+module _ {T : Type 0} (has_read : T → Heading → List (ℕ × ℕ) → List (List ℕ) → Type 0)
+    (refuses : T → List ℕ → Type 0) where
+  -- what a decoder makes of the next body, which lies at that place: it has read it behind the others, or it is bad
+  -- (own)
+  abbrev pub TakesBody : Bool → T → T → Heading → List (ℕ × ℕ) → List (List ℕ) → ℕ → List ℕ → Type 0
+  TakesBody true old new heading extents bodies at body =
+      has_read new heading (extents ++ (at, length body) ∷ []) (bodies ++ body ∷ [])
+  TakesBody false old new heading extents bodies at body = refuses old body
+
+  -- a decoder has read the first so many bodies and refuses the next, whose frame has its gate at that place (own)
+  pub record IsRefused (decoder : T) (good : ℕ) (extents : List (ℕ × ℕ)) (heading : Heading)
+      (bodies : List (List ℕ)) (at : ℕ) : Type 0 where
+    pub inside : good < length bodies
+    pub before : has_read decoder heading extents (take good bodies)
+    pub bad : refuses decoder (slice_index_or bodies good [])
+    pub gate : at ≡ length (spell heading (take good bodies))
+
+  -- some decoder refuses the first body that is bad, and the gate of its frame has that place (own)
+  abbrev pub HasBadBody : Heading → List (List ℕ) → ℕ → Type 0
+  HasBadBody heading bodies at =
+      (decoder : T) × (good : ℕ) × (extents : List (ℕ × ℕ)) × IsRefused decoder good extents heading bodies at
+
+  -- the image stands for a side of this kind whose first bad body has its frame's gate at that place (own)
+  abbrev pub HasBadBodyAt : SideKind → List ℕ → ℕ → Type 0
+  HasBadBodyAt kind image at =
+      (heading : Heading) × (bodies : List (List ℕ)) × (heading.kind ≡ kind) × StandsFor heading bodies image
+      × HasBadBody heading bodies at
+
+  -- Why a side of this kind is not opened and decoded: what the old bytes are; a fault; or memory ran out, where there
+  -- are the 27 bytes of a heading. But for a fault no call failed, and what stands is sure (own).
+  abbrev pub IsNotDecoded : SideKind → OpenError → DiskState → DiskState → Type 0
+  IsNotDecoded kind NotOurs old new =
+      NoneFailed old new × (old.honest → IsNotOf kind old.seen × Only old.seen new.may_leave)
+  IsNotDecoded kind (Damaged at) old new =
+      NoneFailed old new × (old.honest → IsDamagedOf kind old.seen at × Only old.seen new.may_leave)
+  IsNotDecoded kind (BadRecord at) old new =
+      NoneFailed old new × (old.honest → HasBadBodyAt kind old.seen at × Only old.seen new.may_leave)
+  IsNotDecoded kind (Device fault) old new = IsFault fault old new
+  IsNotDecoded kind NoMemory old new =
+      NoneFailed old new × (old.honest → (27 ≤ length old.seen) × Only old.seen new.may_leave)
+
+-- by what a decoder has read
+module _ {T : Type 0} (has_read : T → Heading → List (ℕ × ℕ) → List (List ℕ) → Type 0) where
+  -- A decoder has read bodies that lie in these extents of a side with this heading: these bodies, where the disk is
+  -- honest (own).
+  abbrev pub HasDecoded : T → Heading → List (ℕ × ℕ) → List (List ℕ) → Type 0 → Type 0
+  HasDecoded decoder heading extents bodies honest =
+      (read : List (List ℕ)) × has_read decoder heading extents read × (honest → read ≡ bodies)
