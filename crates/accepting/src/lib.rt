@@ -4,7 +4,5 @@
 
 pub mod accepting;
 pub mod laws;
-#[cfg(test)]
-mod tests;
 
 pub use accepting::Accepting;

@@ -264,16 +264,25 @@ static UNREADABLE: &'static [Row<'static>] = &[
 // No cartridge's side, a partition too many, a record of no kind, and a last gate that is open.
 static WRONG: &'static [(usize, u8)] = &[(0, 0x00), (10, 0x05), (40, 0x04), (51, 0xa5)];
 
+// The side with one block, with one of its bytes set to a value.
+fn changed(alloc: Global, place: usize, value: u8) -> Result<MemDisk, Fail> {
+    let mut side = ONE.to_vec(alloc)?;
+    if place < side.len() {
+        side[place] = value;
+    }
+    Ok(MemDisk::from_bytes(alloc, &side)?)
+}
+
+fn refused(rt: &impl Abort, alloc: Global, disk: MemDisk) -> Result<(), Fail> {
+    let mut drive = greeted(rt, alloc, disk)?;
+    asks(rt, &mut drive, UNREADABLE);
+    Ok(())
+}
+
 #[test]
 fn a_side_that_is_refused(rt: HostRuntime) -> Result<(), Fail> {
-    let alloc = rt.alloc();
     for &(place, value) in WRONG {
-        let mut side = ONE.to_vec(alloc)?;
-        if place < side.len() {
-            side[place] = value;
-        }
-        let mut drive = greeted(&rt, alloc, MemDisk::from_bytes(alloc, &side)?)?;
-        asks(&rt, &mut drive, UNREADABLE);
+        refused(&rt, rt.alloc(), changed(rt.alloc(), place, value)?)?;
     }
     Ok(())
 }

@@ -10,8 +10,6 @@ mod fault_tests;
 #[cfg(test)]
 mod medium_tests;
 #[cfg(test)]
-mod mode_tests;
-#[cfg(test)]
 mod row_tests;
 #[cfg(test)]
 mod samples;

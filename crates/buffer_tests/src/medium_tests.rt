@@ -6,7 +6,7 @@ use std::alloc::Global;
 use std::process::Abort;
 use std::test::Fail;
 use tape_buffer::Buffered;
-use tape_disk::MemDisk;
+use tape_disk::{Disk, MemDisk};
 use volume_core::{Catalog, Kind, Medium};
 use vtl_base::Bytes;
 
@@ -14,6 +14,20 @@ use vtl_base::Bytes;
 fn parked(alloc: Global, side: &[u8]) -> Result<Buffered<MemDisk>, Fail> {
     let disk = MemDisk::from_bytes(alloc, side)?;
     Ok(Buffered::parked(alloc, Shelved::of(disk)))
+}
+
+// A block of this size behind the first objects. A medium that is awake stays as it is.
+#[tactic(auto, using(crate::proofs::TestLemmas::opened_is_awake))]
+fn puts<D: Disk + Drop>(
+    alloc: Global,
+    medium: &mut Buffered<D>,
+    at: u32,
+    size: usize,
+) -> Result<(), Fail> {
+    let block = Bytes::from_vec(vec![in alloc; 0x5a; size]?);
+    medium.wake()?;
+    medium.put(0, at, block)?;
+    Ok(())
 }
 
 // How many changes wait after so many blocks of one size, and how many syncs these took.
@@ -27,10 +41,7 @@ fn filled(
     medium.wake()?;
     let before = medium.disk().syncs();
     for at in 0..count {
-        let block = Bytes::from_vec(vec![in alloc; 0x5a; size]?);
-        // One that is awake stays as it is.
-        medium.wake()?;
-        medium.put(0, at, block)?;
+        puts(alloc, medium, at, size)?;
     }
     medium.wake()?;
     Ok((
@@ -67,26 +78,36 @@ fn what_waits_is_counted(rt: HostRuntime) -> Result<(), Fail> {
     Ok(())
 }
 
-// What a medium is seen to hold: the bytes of its blocks, each of one byte, and `|` for a filemark; and what all of
-// it takes.
+// Adds an object to what is seen: the byte of a block, and `|` for a filemark. A medium that is awake stays as it is.
 #[tactic(auto, using(crate::proofs::TestLemmas::opened_is_awake))]
-fn seen(alloc: Global, medium: &mut Buffered<MemDisk>) -> Result<(Vec<u8>, u64), Fail> {
+fn see<D: Disk + Drop>(
+    medium: &mut Buffered<D>,
+    at: u32,
+    block: &mut Vec<u8>,
+    text: &mut Vec<u8>,
+) -> Result<(), Fail> {
+    medium.wake()?;
+    match medium.kind_at(0, at) {
+        Some(Kind::Block) => {
+            medium.fetch(0, at, block)?;
+            text.extend_from_slice(block)?;
+        }
+        Some(Kind::Mark) => text.push(b'|')?,
+        None => {}
+    }
+    Ok(())
+}
+
+// What a medium is seen to hold, and what all of it takes.
+#[tactic(auto, using(crate::proofs::TestLemmas::opened_is_awake))]
+fn seen<D: Disk + Drop>(alloc: Global, medium: &mut Buffered<D>) -> Result<(Vec<u8>, u64), Fail> {
     medium.wake()?;
     let count = medium.count(0);
     let used = medium.used(0, count);
     let mut text = Vec::new(alloc);
     let mut block = Vec::new(alloc);
     for at in 0..count {
-        // One that is awake stays as it is.
-        medium.wake()?;
-        match medium.kind_at(0, at) {
-            Some(Kind::Block) => {
-                medium.fetch(0, at, &mut block)?;
-                text.extend_from_slice(&block)?;
-            }
-            Some(Kind::Mark) => text.push(b'|')?,
-            None => {}
-        }
+        see(medium, at, &mut block, &mut text)?;
     }
     Ok((text, used))
 }
@@ -104,9 +125,9 @@ static CHANGES: &'static [(Option<u8>, u32, u32, &'static [u8], u64)] = &[
 
 // A block of this byte, so many marks, or, with none, an erase, behind the first objects.
 #[tactic(auto, using(crate::proofs::TestLemmas::opened_is_awake))]
-fn takes(
+fn takes<D: Disk + Drop>(
     alloc: Global,
-    medium: &mut Buffered<MemDisk>,
+    medium: &mut Buffered<D>,
     block: Option<u8>,
     at: u32,
     count: u32,
@@ -122,7 +143,7 @@ fn takes(
 
 // Asks a medium to store, or to be parked and opened again.
 #[tactic(auto, using(crate::proofs::TestLemmas::opened_is_awake))]
-fn stores(medium: &mut Buffered<MemDisk>, parks: bool) -> Result<(), Fail> {
+fn stores<D: Disk + Drop>(medium: &mut Buffered<D>, parks: bool) -> Result<(), Fail> {
     medium.wake()?;
     if parks {
         medium.park()?;
@@ -132,11 +153,23 @@ fn stores(medium: &mut Buffered<MemDisk>, parks: bool) -> Result<(), Fail> {
     Ok(())
 }
 
-// All changes, with a storing behind the one of this number.
-fn sees(
+fn is_seen<D: Disk + Drop>(
     rt: &impl Abort,
     alloc: Global,
-    medium: &mut Buffered<MemDisk>,
+    medium: &mut Buffered<D>,
+    wanted: (&[u8], u64),
+    at: usize,
+) -> Result<(), Fail> {
+    let (found, all) = seen(alloc, medium)?;
+    assert_equal!(rt; (found.as_slice(), all), wanted; at);
+    Ok(())
+}
+
+// All changes, with a storing behind the one of this number.
+fn sees<D: Disk + Drop>(
+    rt: &impl Abort,
+    alloc: Global,
+    medium: &mut Buffered<D>,
     behind: usize,
     parks: bool,
 ) -> Result<(), Fail> {
@@ -145,21 +178,23 @@ fn sees(
         if i == behind {
             stores(medium, parks)?;
         }
-        let (found, all) = seen(alloc, medium)?;
-        assert_equal!(rt; (found.as_slice(), all), (text, used); i);
+        is_seen(rt, alloc, medium, (text, used), i)?;
     }
     Ok(())
 }
 
+// The same of a new medium over a block.
+fn sees_all(rt: &impl Abort, alloc: Global, behind: usize, parks: bool) -> Result<(), Fail> {
+    let mut medium = parked(alloc, ONE)?;
+    sees(rt, alloc, &mut medium, behind, parks)
+}
+
 #[test]
 fn what_waits_is_seen(rt: HostRuntime) -> Result<(), Fail> {
-    let alloc = rt.alloc();
     // Nothing is stored on the way, all is stored behind a change, or it is parked there and opened again.
     for behind in 0..8 {
-        for parks in [false, true] {
-            let mut medium = parked(alloc, ONE)?;
-            sees(&rt, alloc, &mut medium, behind, parks)?;
-        }
+        sees_all(&rt, rt.alloc(), behind, false)?;
+        sees_all(&rt, rt.alloc(), behind, true)?;
     }
     Ok(())
 }

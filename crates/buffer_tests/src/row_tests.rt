@@ -143,15 +143,27 @@ static CRASHES: &'static [(u64, u8)] = &[
     (u64::MAX, 0x00),
 ];
 
-// What a crash leaves of the tape, whatever becomes of the bytes that are not sure.
+// A crash leaves this of the tape.
+fn is_left(
+    rt: &impl Abort,
+    alloc: Global,
+    disk: &MemDisk,
+    crash: (u64, u8),
+    wanted: &[u8],
+) -> Result<(), Fail> {
+    let (keep, fill) = crash;
+    let text = found(alloc, disk.copy()?.crash(keep, fill)?)?;
+    assert_equal!(rt; text.as_slice(), wanted; crash);
+    Ok(())
+}
+
+// So does each, whatever becomes of the bytes that are not sure.
 fn left(rt: &impl Abort, alloc: Global, drive: &Tape<MemDisk>, wanted: &[u8]) -> Result<(), Fail> {
-    for &(keep, fill) in CRASHES {
-        let Some(medium) = drive.medium() else {
-            return Err(Fail::from("no medium"));
-        };
-        let disk = medium.disk().copy()?.crash(keep, fill)?;
-        let text = found(alloc, disk)?;
-        assert_equal!(rt; text.as_slice(), wanted; (keep, fill));
+    let Some(medium) = drive.medium() else {
+        return Err(Fail::from("no medium"));
+    };
+    for crash in CRASHES {
+        is_left(rt, alloc, medium.disk(), *crash, wanted)?;
     }
     Ok(())
 }

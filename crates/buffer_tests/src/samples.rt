@@ -68,8 +68,6 @@ pub const POWERED_ON: Wanted<'static> = (Some((0x70, 6, 0, 0x29, 0)), &[]);
 
 pub const CHANGED: Wanted<'static> = (Some((0x70, 6, 0, 0x28, 0)), &[]);
 
-pub const MODE_CHANGED: Wanted<'static> = (Some((0x70, 6, 0, 0x2a, 1)), &[]);
-
 pub const NO_MEDIUM: Wanted<'static> = (Some((0x70, 2, 0, 0x3a, 0)), &[]);
 
 pub const WRITE_ERROR: Wanted<'static> = (Some((0x70, 3, 0, 0x0c, 0)), &[]);
@@ -79,12 +77,6 @@ pub const READ_ERROR: Wanted<'static> = (Some((0x70, 3, 0, 0x11, 0)), &[]);
 pub const LATE_ERROR: Wanted<'static> = (Some((0x71, 3, 0, 0x0c, 0)), &[]);
 
 pub const FAILED: Wanted<'static> = (Some((0x70, 4, 0, 0x44, 0)), &[]);
-
-pub const BAD_FIELD: Wanted<'static> = (Some((0x70, 5, 0, 0x24, 0)), &[]);
-
-pub const BAD_LIST: Wanted<'static> = (Some((0x70, 5, 0, 0x26, 0)), &[]);
-
-pub const BAD_LENGTH: Wanted<'static> = (Some((0x70, 5, 0, 0x1a, 0)), &[]);
 
 // The end of data, where one byte was asked for.
 pub const END: Wanted<'static> = (Some((0xf0, 8, 1, 0, 5)), &[]);
@@ -199,21 +191,36 @@ pub fn syncs(drive: &Tape<MemDisk>) -> u64 {
     }
 }
 
-/// What the cartridge on a disk holds: the bytes of its blocks, and `|` for a filemark.
-pub fn found(alloc: Global, disk: MemDisk) -> Result<Vec<u8>, Fail> {
-    let Ok(mut cartridge) = Cartridge::open(alloc, Shelved::of(disk)) else {
-        return Err(Fail::from("no cartridge"));
-    };
+// Adds an object to what is found: the bytes of a block, and `|` for a filemark.
+fn find<D: Disk>(
+    cartridge: &mut Cartridge<D>,
+    at: u32,
+    block: &mut Vec<u8>,
+    text: &mut Vec<u8>,
+) -> Result<(), Fail> {
+    match cartridge.kind_at(0, at) {
+        Some(Kind::Block) => {
+            cartridge.fetch(0, at, block)?;
+            text.extend_from_slice(block)?;
+        }
+        _ => text.push(b'|')?,
+    }
+    Ok(())
+}
+
+fn found_in<D: Disk>(alloc: Global, cartridge: &mut Cartridge<D>) -> Result<Vec<u8>, Fail> {
     let mut text = Vec::new(alloc);
     let mut block = Vec::new(alloc);
     for at in 0..cartridge.count(0) {
-        match cartridge.kind_at(0, at) {
-            Some(Kind::Block) => {
-                cartridge.fetch(0, at, &mut block)?;
-                text.extend_from_slice(&block)?;
-            }
-            _ => text.push(b'|')?,
-        }
+        find(cartridge, at, &mut block, &mut text)?;
     }
     Ok(text)
+}
+
+/// What the cartridge on a disk holds.
+pub fn found(alloc: Global, disk: MemDisk) -> Result<Vec<u8>, Fail> {
+    match Cartridge::open(alloc, Shelved::of(disk)) {
+        Ok(mut cartridge) => found_in(alloc, &mut cartridge),
+        Err(_) => Err(Fail::from("no cartridge")),
+    }
 }

@@ -7,8 +7,10 @@ use crate::samples::{
 use assertions::{assert_equal, assert_holds};
 use gate_journal::stops::{Run, Stop, stop_at_each_call};
 use std::alloc::Global;
+use std::process::Abort;
 use std::test::Fail;
 use tape_disk::{FuseDisk, MemDisk};
+use vtl_base::NoMemory;
 
 // Three blocks are written and stored; then one is written in the place of the second.
 struct Rewriting;
@@ -57,19 +59,28 @@ fn may_be_found(calls: u64) -> (&'static [u8], &'static [u8]) {
     }
 }
 
+fn is_right(rt: &impl Abort, alloc: Global, stop: Stop) -> Result<(), Fail> {
+    let Stop { calls, ended, disk } = stop;
+    assert_equal!(rt; ended, calls == 12);
+    let (old, new) = may_be_found(calls);
+    let left = found(alloc, disk)?;
+    let left = left.as_slice();
+    assert_holds!(rt; left == old || left == new; (left, calls));
+    Ok(())
+}
+
+fn stops_of(alloc: Global) -> Result<Vec<Stop>, NoMemory> {
+    let disk = MemDisk::from_bytes(alloc, EMPTY)?;
+    stop_at_each_call(alloc, &disk, &Rewriting)
+}
+
 #[test]
 fn a_stop_never_leaves_a_cut_without_its_block(rt: HostRuntime) -> Result<(), Fail> {
-    let alloc = rt.alloc();
-    let disk = MemDisk::from_bytes(alloc, EMPTY)?;
-    let stops = stop_at_each_call(alloc, &disk, &Rewriting)?;
+    let stops = stops_of(rt.alloc())?;
     // Before each of 12 calls and behind them all, nine crashes.
     assert_equal!(rt; stops.len(), 117);
-    for Stop { calls, ended, disk } in stops {
-        assert_equal!(rt; ended, calls == 12);
-        let (old, new) = may_be_found(calls);
-        let left = found(alloc, disk)?;
-        let left = left.as_slice();
-        assert_holds!(rt; left == old || left == new; (left, calls));
+    for stop in stops {
+        is_right(&rt, rt.alloc(), stop)?;
     }
     Ok(())
 }

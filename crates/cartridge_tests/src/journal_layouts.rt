@@ -1,10 +1,15 @@
 //! The layout byte by byte, every cut and every gate.
-use crate::journal_samples::{FAULT, FIRST, SECOND, body_of, frames_of, made, shut, written};
-use crate::samples::SIDE;
+use crate::journal_samples::{
+    FAULT, FIRST, Frames, SECOND, frames_in, frames_of, has_body, header_of, in_memory, written,
+};
+use crate::samples::{SIDE, changed, cut};
 use assertions::assert_equal;
 use gate_journal::{Header, Journal, JournalError, SideKind};
+use std::alloc::Global;
+use std::process::Abort;
 use std::test::Fail;
-use tape_disk::MemDisk;
+use tape_disk::{Disk, MemDisk};
+use vtl_base::NoMemory;
 
 // The side with so many frames: where its end gate stands, and the room behind it.
 static LENGTHS: &'static [(usize, usize, u64)] = &[
@@ -40,65 +45,77 @@ static GATES: &'static [(usize, usize, Result<usize, JournalError>)] = &[
     (70, 2, Err(JournalError::Damaged { at: 70 })),
 ];
 
+fn is_side(rt: &impl Abort, journal: &Journal<MemDisk>, frames: usize, gate: usize, room: u64) {
+    let state = (journal.frames(), journal.has_failed(), journal.room());
+    assert_equal!(rt; state, (frames, false, room));
+    let bytes = journal.disk().bytes();
+    assert_equal!(rt; bytes.get(..gate), SIDE.get(..gate));
+    assert_equal!(rt; bytes.get(gate..), Some(b"\0".as_slice()));
+}
+
 #[test]
 fn a_side_byte_by_byte(rt: HostRuntime) -> Result<(), Fail> {
-    let alloc = rt.alloc();
     for &(frames, gate, room) in LENGTHS {
-        let journal = written(alloc, frames)?;
-        let state = (journal.frames(), journal.has_failed(), journal.room());
-        assert_equal!(rt; state, (frames, false, room));
-        assert_equal!(rt; journal.disk().bytes(), shut(alloc, gate)?.as_slice());
+        let journal = written(rt.alloc(), frames)?;
+        is_side(&rt, &journal, frames, gate, room);
     }
     Ok(())
+}
+
+fn are_read<D: Disk + Drop>(rt: &impl Abort, alloc: Global, journal: &mut Journal<D>) {
+    for &(frame, place, bytes) in BODIES {
+        assert_equal!(rt; has_body(alloc, journal, frame, bytes), Ok((place, true)));
+    }
+}
+
+fn is_header(rt: &impl Abort, header: &Header) {
+    assert_equal!(rt; header.name, *b"T00001L6        ");
+    assert_equal!(rt; header.capacities.as_slice(), [4096].as_slice());
 }
 
 #[test]
 fn bodies_are_read_back(rt: HostRuntime) -> Result<(), Fail> {
-    let alloc = rt.alloc();
-    let Ok(mut journal) = Journal::open(alloc, MemDisk::from_bytes(alloc, SIDE)?) else {
+    let Ok(mut journal) = Journal::open(rt.alloc(), MemDisk::from_bytes(rt.alloc(), SIDE)?) else {
         return Err(Fail::from("not opened"));
     };
-    let header = journal.header();
-    assert_equal!(rt; header.name, *b"T00001L6        ");
-    assert_equal!(rt; header.capacities.as_slice(), [4096].as_slice());
-    for &(frame, place, bytes) in BODIES {
-        let Ok((at, body)) = body_of(alloc, &mut journal, frame) else {
-            return Err(Fail::from("not read"));
-        };
-        assert_equal!(rt; (at, body.as_slice()), (place, bytes));
-    }
+    is_header(&rt, journal.header());
+    are_read(&rt, rt.alloc(), &mut journal);
     Ok(())
+}
+
+// No room was asked for before.
+fn adds_five<D: Disk + Drop>(rt: &impl Abort, journal: &mut Journal<D>) {
+    for _ in 0..5 {
+        assert_equal!(rt; journal.append(FIRST), Ok(()));
+    }
+}
+
+// A side with five frames.
+fn with_five(rt: &impl Abort, alloc: Global, header: Header) -> Result<Journal<MemDisk>, Fail> {
+    let mut journal = in_memory(alloc, header)?;
+    adds_five(rt, &mut journal);
+    Ok(journal)
+}
+
+fn is_of_kind(rt: &impl Abort, side: &Journal<MemDisk>, kind: SideKind, name: [u8; 16]) {
+    let header = side.header();
+    assert_equal!(rt; (header.kind, header.name, side.frames()), (kind, name, 5));
+}
+
+fn reopened(alloc: Global, side: Journal<MemDisk>) -> Result<Journal<MemDisk>, Fail> {
+    match Journal::open(alloc, side.close()) {
+        Ok(side) => Ok(side),
+        Err(_) => Err(Fail::from("not opened")),
+    }
 }
 
 #[test]
 fn sides_of_each_kind(rt: HostRuntime) -> Result<(), Fail> {
-    let alloc = rt.alloc();
     for &(kind, name, count) in KINDS {
-        let header = Header {
-            kind,
-            name,
-            capacities: vec![in alloc; 4096; count]?,
-        };
-        let Ok(mut journal) = made(alloc, MemDisk::new(alloc), header) else {
-            return Err(Fail::from("not made"));
-        };
-        // No room was asked for before.
-        for _ in 0..5 {
-            assert_equal!(rt; journal.append(FIRST), Ok(()));
-        }
-        let Ok(journal) = Journal::open(alloc, journal.close()) else {
-            return Err(Fail::from("not opened"));
-        };
-        let header = journal.header();
-        assert_equal!(rt;
-            (
-                header.kind,
-                header.name,
-                header.capacities.len(),
-                journal.frames()
-            ),
-            (kind, name, count, 5)
-        );
+        let header = header_of(rt.alloc(), kind, name, count)?;
+        let side = reopened(rt.alloc(), with_five(&rt, rt.alloc(), header)?)?;
+        is_of_kind(&rt, &side, kind, name);
+        assert_equal!(rt; side.header().capacities.len(), count);
     }
     Ok(())
 }
@@ -113,59 +130,56 @@ fn the_texts_of_the_refusals(rt: HostRuntime) -> Result<(), Fail> {
 
 #[test]
 fn every_cut(rt: HostRuntime) -> Result<(), Fail> {
-    let alloc = rt.alloc();
     for len in 0..SIDE.len() {
-        let found = frames_of(alloc, MemDisk::from_bytes(alloc, &SIDE[..len])?);
         let expected = match len {
             0..=34 => Err(JournalError::NotOurs),
             35..=55 => Err(JournalError::Damaged { at: 35 }),
             _ => Err(JournalError::Damaged { at: 55 }),
         };
-        assert_equal!(rt; found, expected; len);
+        assert_equal!(rt; frames_in(rt.alloc(), cut(len))?, expected; len);
     }
     Ok(())
+}
+
+// What is found where a byte of the side is set to a value.
+fn frames_with(alloc: Global, place: usize, value: u8) -> Result<Frames, NoMemory> {
+    Ok(frames_of(alloc, changed(alloc, place, value)?))
 }
 
 #[test]
 fn every_gate(rt: HostRuntime) -> Result<(), Fail> {
-    let alloc = rt.alloc();
     for value in 0..=255 {
         for &(gate, shut, open) in GATES {
-            let mut bytes = *SIDE;
-            if gate < bytes.len() {
-                bytes[gate] = value;
-            }
-            let found = frames_of(alloc, MemDisk::from_bytes(alloc, &bytes)?);
             let expected = if value == 0xa5 { open } else { Ok(shut) };
-            assert_equal!(rt; found, expected; (value, gate));
+            assert_equal!(rt; frames_with(rt.alloc(), gate, value)?, expected; (value, gate));
         }
     }
     Ok(())
 }
 
-// The side whole, and cut behind its header: what a cartridge is opened as then.
-static SIZES: &'static [(usize, Result<usize, JournalError>)] = &[
-    (71, Ok(2)),
-    (35, Err(JournalError::Damaged { at: 35 })),
+const CUT: Frames = Err(JournalError::Damaged { at: 35 });
+
+const OTHER: Frames = Err(JournalError::NotOurs);
+
+// The side whole, and cut behind its header: what it is opened as then, by its kind.
+static OPENED: &'static [(usize, SideKind, Frames)] = &[
+    (71, SideKind::Cartridge, Ok(2)),
+    (71, SideKind::Store, OTHER),
+    (35, SideKind::Cartridge, CUT),
+    (35, SideKind::Store, OTHER),
 ];
+
+fn opened_as(alloc: Global, size: usize, kind: SideKind) -> Result<Frames, NoMemory> {
+    match Journal::open_as(alloc, MemDisk::from_bytes(alloc, cut(size))?, kind) {
+        Ok(journal) => Ok(Ok(journal.frames())),
+        Err(refused) => Ok(Err(refused.error)),
+    }
+}
 
 #[test]
 fn a_side_is_opened_as_its_kind(rt: HostRuntime) -> Result<(), Fail> {
-    let alloc = rt.alloc();
-    for &(size, told) in SIZES {
-        for &(kind, told) in [
-            (SideKind::Cartridge, told),
-            (SideKind::Store, Err(JournalError::NotOurs)),
-        ]
-        .as_slice()
-        {
-            let disk = MemDisk::from_bytes(alloc, &SIDE[..SIDE.len().min(size)])?;
-            let found = match Journal::open_as(alloc, disk, kind) {
-                Ok(journal) => Ok(journal.frames()),
-                Err(refused) => Err(refused.error),
-            };
-            assert_equal!(rt; found, told; (size, kind));
-        }
+    for &(size, kind, told) in OPENED {
+        assert_equal!(rt; opened_as(rt.alloc(), size, kind)?, told; (size, kind));
     }
     Ok(())
 }

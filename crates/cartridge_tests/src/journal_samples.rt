@@ -1,10 +1,9 @@
 //! The side of two frames as a journal's, and what tests do with it.
-use crate::samples::SIDE;
 use gate_journal::{Header, Journal, JournalError, Refused, SideKind};
 use std::alloc::{AllocError, Global};
 use std::test::Fail;
 use tape_disk::{Disk, MemDisk};
-use vtl_base::DevFault;
+use vtl_base::{DevFault, NoMemory};
 
 /// The body of the first frame of the side.
 pub const FIRST: &'static [u8; 15] = b"\x01\0\0\0\0\0\0\0\0\x05hello";
@@ -12,24 +11,31 @@ pub const FIRST: &'static [u8; 15] = b"\x01\0\0\0\0\0\0\0\0\x05hello";
 /// That of the second.
 pub const SECOND: &'static [u8; 10] = b"\x02\0\0\0\0\x01\0\0\0\x01";
 
+/// The side with no frames.
+pub const NEW: &'static [u8; 36] = b"\xa5VTLCART1\0\x01T00001L6        \0\0\0\0\0\0\x10\0\0";
+
 /// The first fault of a disk.
 pub const FAULT: JournalError = JournalError::Device(DevFault { failures: 1 });
 
-/// The header of the side.
-pub fn cartridge(alloc: Global) -> Result<Header, AllocError> {
+/// What is found on a disk: how many frames, or why it is no side.
+pub type Frames = Result<usize, JournalError>;
+
+/// A header with so many capacities of 4,096 bytes.
+pub fn header_of(
+    alloc: Global,
+    kind: SideKind,
+    name: [u8; 16],
+    count: usize,
+) -> Result<Header, AllocError> {
     Ok(Header {
-        kind: SideKind::Cartridge,
-        name: *b"T00001L6        ",
-        capacities: vec![in alloc; 4096]?,
+        kind,
+        name,
+        capacities: vec![in alloc; 4096; count]?,
     })
 }
 
-/// Makes a side, where its header can be spelled.
-pub fn made<D: Disk + Drop>(
-    alloc: Global,
-    disk: D,
-    header: Header,
-) -> Result<Journal<D>, Refused<D>> {
+// Makes a side, where its header can be spelled.
+fn made<D: Disk + Drop>(alloc: Global, disk: D, header: Header) -> Result<Journal<D>, Refused<D>> {
     if header.can_be_spelled() {
         Journal::create(alloc, disk, header)
     } else {
@@ -40,52 +46,70 @@ pub fn made<D: Disk + Drop>(
     }
 }
 
-/// The first bytes of the side, and a closed gate.
-pub fn shut(alloc: Global, len: usize) -> Result<Vec<u8>, AllocError> {
-    let mut bytes = Vec::new(alloc);
-    for byte in SIDE.iter().take(len) {
-        bytes.push(*byte)?;
+/// Makes the side, with no frames.
+pub fn made_new<D: Disk + Drop>(alloc: Global, disk: D) -> Result<Journal<D>, Refused<D>> {
+    match header_of(alloc, SideKind::Cartridge, *b"T00001L6        ", 1) {
+        Ok(header) => made(alloc, disk, header),
+        Err(_) => Err(Refused {
+            error: JournalError::NoMemory,
+            disk,
+        }),
     }
-    bytes.push(0)?;
-    Ok(bytes)
+}
+
+/// A new side in memory with this header.
+pub fn in_memory(alloc: Global, header: Header) -> Result<Journal<MemDisk>, Fail> {
+    match made(alloc, MemDisk::new(alloc), header) {
+        Ok(journal) => Ok(journal),
+        Err(_) => Err(Fail::from("not made")),
+    }
+}
+
+// Adds so many of the frames of the side.
+fn add<D: Disk + Drop>(journal: &mut Journal<D>, frames: usize) -> Result<(), JournalError> {
+    journal.reserve(frames)?;
+    if frames > 0 {
+        journal.append(FIRST)?;
+    }
+    if frames > 1 {
+        journal.append(SECOND)?;
+    }
+    Ok(())
 }
 
 /// The side on a new disk, with so many of its frames.
 pub fn written(alloc: Global, frames: usize) -> Result<Journal<MemDisk>, Fail> {
-    let Ok(mut journal) = made(alloc, MemDisk::new(alloc), cartridge(alloc)?) else {
-        return Err(Fail::from("not made"));
-    };
-    if journal.reserve(frames).is_err() {
-        return Err(Fail::from("not reserved"));
-    }
-    if frames > 0 && journal.append(FIRST).is_err() {
-        return Err(Fail::from("the first frame was not added"));
-    }
-    if frames > 1 && journal.append(SECOND).is_err() {
-        return Err(Fail::from("the second frame was not added"));
-    }
+    let header = header_of(alloc, SideKind::Cartridge, *b"T00001L6        ", 1)?;
+    let mut journal = in_memory(alloc, header)?;
+    add(&mut journal, frames)?;
     Ok(journal)
 }
 
-/// The place of a body, and its bytes.
-pub fn body_of<D: Disk + Drop>(
+/// The place of a body, and whether it has these bytes.
+pub fn has_body<D: Disk + Drop>(
     alloc: Global,
     journal: &mut Journal<D>,
     frame: usize,
-) -> Result<(u64, Vec<u8>), JournalError> {
+    bytes: &[u8],
+) -> Result<(u64, bool), JournalError> {
     if frame >= journal.frames() {
         return Err(JournalError::NotOurs);
     }
     let (at, size) = journal.body_at(frame);
     let mut body = vec![in alloc; 0; size as usize]?;
     journal.read_body(at, &mut body)?;
-    Ok((at, body))
+    Ok((at, body.as_slice() == bytes))
 }
 
 /// The frames of the side that a disk holds, or why it is none.
-pub fn frames_of(alloc: Global, disk: MemDisk) -> Result<usize, JournalError> {
+pub fn frames_of(alloc: Global, disk: MemDisk) -> Frames {
     match Journal::open(alloc, disk) {
         Ok(journal) => Ok(journal.frames()),
         Err(refused) => Err(refused.error),
     }
+}
+
+/// The same of a disk with these bytes.
+pub fn frames_in(alloc: Global, bytes: &[u8]) -> Result<Frames, NoMemory> {
+    Ok(frames_of(alloc, MemDisk::from_bytes(alloc, bytes)?))
 }

@@ -1,16 +1,18 @@
 //! A stop and a fault at each call, and a side in another thread.
 use crate::journal_samples::{
-    FAULT, FIRST, SECOND, body_of, cartridge, frames_of, made, shut, written,
+    FAULT, FIRST, Frames, NEW, SECOND, frames_of, has_body, made_new, written,
 };
 use crate::samples::SIDE;
 use assertions::{assert_equal, assert_holds};
 use gate_journal::stops::{Run, Stop, stop_at_each_call};
 use gate_journal::{Journal, JournalError};
 use std::alloc::Global;
+use std::process::Abort;
 use std::test::Fail;
 use std::thread;
 use std::thread::Threads;
 use tape_disk::{Disk, FuseDisk, MemDisk, OnceDisk};
+use vtl_base::NoMemory;
 
 // What is done on a disk: the side is opened and the first body added, it is opened, or it is made.
 #[derive(Clone, Copy, Debug, PartialEq, Eq)]
@@ -20,33 +22,29 @@ enum Work {
     Make,
 }
 
+// Whether the work goes through behind its opening or making, and the disk.
+fn done(work: Work, journal: Journal<FuseDisk<MemDisk>>) -> (MemDisk, bool) {
+    let mut journal = journal;
+    let ended = work != Work::Append || journal.append(FIRST).is_ok();
+    (journal.close().into_inner(), ended)
+}
+
 impl Run for Work {
     fn run(&self, alloc: Global, disk: FuseDisk<MemDisk>) -> (MemDisk, bool) {
-        let Ok(header) = cartridge(alloc) else {
-            return (disk.into_inner(), false);
-        };
-        let side = match self {
-            Work::Make => made(alloc, disk, header),
-            _ => Journal::open(alloc, disk),
+        let side = if *self == Work::Make {
+            made_new(alloc, disk)
+        } else {
+            Journal::open(alloc, disk)
         };
         match side {
-            Ok(mut journal) => {
-                let ended = *self != Work::Append || journal.append(FIRST).is_ok();
-                (journal.close().into_inner(), ended)
-            }
+            Ok(journal) => done(*self, journal),
             Err(refused) => (refused.disk.into_inner(), false),
         }
     }
 }
 
 // Whether a stop of this work may leave these frames on a disk that had so many bytes.
-fn may_be_left(
-    work: Work,
-    had: usize,
-    calls: u64,
-    ended: bool,
-    found: Result<usize, JournalError>,
-) -> bool {
+fn may_be_left(work: Work, had: usize, calls: u64, ended: bool, found: Frames) -> bool {
     match work {
         Work::Append if ended => found == Ok(3),
         Work::Append => found == Ok(2) || found == Ok(3),
@@ -66,18 +64,38 @@ static STOPS: &'static [(Work, &'static [u8], usize)] = &[
     (Work::Make, SIDE, 54),
 ];
 
+fn is_right(rt: &impl Abort, alloc: Global, stop: Stop, work: Work, before: &[u8]) {
+    let Stop { calls, ended, disk } = stop;
+    assert_holds!(rt; work != Work::Open || disk.bytes() == before);
+    let found = frames_of(alloc, disk);
+    assert_holds!(rt; may_be_left(work, before.len(), calls, ended, found); (work, found, calls));
+}
+
+// The stops of a run over a disk of these bytes.
+fn stops_of<R: Run>(alloc: Global, bytes: &[u8], run: &R) -> Result<Vec<Stop>, NoMemory> {
+    let disk = MemDisk::from_bytes(alloc, bytes)?;
+    stop_at_each_call(alloc, &disk, run)
+}
+
+fn stopped(
+    rt: &impl Abort,
+    alloc: Global,
+    work: Work,
+    before: &[u8],
+    count: usize,
+) -> Result<(), NoMemory> {
+    let stops = stops_of(alloc, before, &work)?;
+    assert_equal!(rt; stops.len(), count);
+    for stop in stops {
+        is_right(rt, alloc, stop, work, before);
+    }
+    Ok(())
+}
+
 #[test]
 fn a_stop_at_each_call(rt: HostRuntime) -> Result<(), Fail> {
-    let alloc = rt.alloc();
     for &(work, before, count) in STOPS {
-        let disk = MemDisk::from_bytes(alloc, before)?;
-        let stops = stop_at_each_call(alloc, &disk, &work)?;
-        assert_equal!(rt; stops.len(), count);
-        for Stop { calls, ended, disk } in stops {
-            assert_holds!(rt; work != Work::Open || disk.bytes() == before);
-            let found = frames_of(alloc, disk);
-            assert_holds!(rt; may_be_left(work, before.len(), calls, ended, found); (work, found, calls));
-        }
+        stopped(&rt, rt.alloc(), work, before, count)?;
     }
     Ok(())
 }
@@ -106,21 +124,27 @@ static LANDED: &'static [[u8; 2]; 9] = &[
     *b"ab",
 ];
 
+// What the stop of this number leaves: nine are before the write, nine before the sync, and nine behind both.
+fn left_at(i: usize) -> [u8; 2] {
+    match i / 9 {
+        0 => *b"..",
+        1 => LANDED[i % 9],
+        _ => *b"ab",
+    }
+}
+
+fn are_left(rt: &impl Abort, stops: &[Stop]) {
+    assert_equal!(rt; stops.len(), 27);
+    for (i, stop) in stops.iter().enumerate() {
+        assert_equal!(rt; (stop.calls, stop.ended), (i as u64 / 9, i >= 18));
+        assert_equal!(rt; stop.disk.bytes(), left_at(i).as_slice(); i);
+    }
+}
+
 #[test]
 fn what_the_stops_leave(rt: HostRuntime) -> Result<(), Fail> {
-    let alloc = rt.alloc();
-    let disk = MemDisk::from_bytes(alloc, b"..")?;
-    let stops = stop_at_each_call(alloc, &disk, &TwoBytes)?;
-    assert_equal!(rt; stops.len(), 27);
-    for (i, Stop { calls, ended, disk }) in stops.into_iter().enumerate() {
-        let left = match i / 9 {
-            0 => *b"..",
-            1 => LANDED[i % 9],
-            _ => *b"ab",
-        };
-        assert_equal!(rt; (calls, ended), (i as u64 / 9, i >= 18));
-        assert_equal!(rt; disk.bytes(), left.as_slice(); i);
-    }
+    let stops = stops_of(rt.alloc(), b"..", &TwoBytes)?;
+    are_left(&rt, stops.as_slice());
     Ok(())
 }
 
@@ -133,18 +157,20 @@ static CRASHES: &'static [(u64, u64, u8, usize)] = &[
     (7, 0, 0xa5, 1),
 ];
 
+// What a crash leaves of an append that stops so.
+fn left_of_append(alloc: Global, calls: u64, keep: u64, fill: u8) -> Result<Frames, NoMemory> {
+    let before = MemDisk::from_bytes(alloc, NEW)?;
+    match Work::Append.run(alloc, FuseDisk::new(before, calls)) {
+        (reached, false) => Ok(frames_of(alloc, reached.crash(keep, fill)?)),
+        (_, true) => Ok(Err(JournalError::Failed)),
+    }
+}
+
 #[test]
 fn a_stop_in_an_append(rt: HostRuntime) -> Result<(), Fail> {
-    let alloc = rt.alloc();
     for &(calls, keep, fill, frames) in CRASHES {
-        let before = MemDisk::from_bytes(alloc, &shut(alloc, 35)?)?;
-        let (reached, ended) = Work::Append.run(alloc, FuseDisk::new(before, calls));
-        assert_holds!(rt; !ended);
-        assert_equal!(rt;
-            frames_of(alloc, reached.crash(keep, fill)?),
-            Ok(frames);
-            (calls, keep, fill)
-        );
+        let found = left_of_append(rt.alloc(), calls, keep, fill)?;
+        assert_equal!(rt; found, Ok(frames); (calls, keep, fill));
     }
     Ok(())
 }
@@ -152,32 +178,33 @@ fn a_stop_in_an_append(rt: HostRuntime) -> Result<(), Fail> {
 // What an append answers, a read of the first body, and a further append.
 type Answers = [Result<(), JournalError>; 3];
 
-// Opens a side, adds a frame, reads a body and adds a frame, and says how many there are then.
-fn used(alloc: Global, disk: OnceDisk<MemDisk>) -> Result<(Answers, usize), JournalError> {
-    let mut journal = match Journal::open(alloc, disk) {
-        Ok(journal) => journal,
-        Err(refused) => return Err(refused.error),
-    };
+// Adds a frame, reads a body and adds a frame, and says how many there are then.
+fn answers<D: Disk + Drop>(alloc: Global, journal: &mut Journal<D>) -> (Answers, usize) {
     let added = journal.append(FIRST);
-    let read = match body_of(alloc, &mut journal, 0) {
+    let read = match has_body(alloc, journal, 0, FIRST) {
         Ok(_) => Ok(()),
         Err(error) => Err(error),
     };
     let further = journal.append(SECOND);
-    Ok(([added, read, further], journal.frames()))
+    ([added, read, further], journal.frames())
+}
+
+// The same of a side that is opened, on a disk of which the call after so many fails.
+fn used(alloc: Global, calls: u64) -> Result<Result<(Answers, usize), JournalError>, NoMemory> {
+    let disk = OnceDisk::new(MemDisk::from_bytes(alloc, SIDE)?, calls);
+    match Journal::open(alloc, disk) {
+        Ok(mut journal) => Ok(Ok(answers(alloc, &mut journal))),
+        Err(refused) => Ok(Err(refused.error)),
+    }
 }
 
 #[test]
 fn a_fault_at_each_call(rt: HostRuntime) -> Result<(), Fail> {
-    let alloc = rt.alloc();
     let failed = Err(JournalError::Failed);
     // Six calls open the side, four add a frame, one reads, and four add a frame. One of them
     // fails, and those behind it would pass.
     for calls in 0..16 {
-        let found = used(
-            alloc,
-            OnceDisk::new(MemDisk::from_bytes(alloc, SIDE)?, calls),
-        );
+        let found = used(rt.alloc(), calls)?;
         let expected = match calls {
             0..=5 => Err(FAULT),
             6..=9 => Ok(([Err(FAULT), failed, failed], 2)),

@@ -1,39 +1,57 @@
 //! Over a disk that is not honest every call returns.
 use crate::liar::Liar;
-use crate::samples::{erased, fetched, opened};
-use cartridge::{Cartridge, CartridgeError};
+use crate::samples::{erased, has, opened};
+use assertions::{assert_equal, assert_holds};
+use cartridge::{Cartridge, Shelved};
+use std::alloc::Global;
+use std::process::Abort;
 use std::test::Fail;
 use vtl_base::Barcode;
 
 // How much further on each read begins.
 static STEPS: &'static [usize] = &[0, 1, 35, 70];
 
+// What is found does not matter, only that each call ends.
+fn answers(rt: &impl Abort, alloc: Global, cartridge: &mut Cartridge<Liar>) {
+    for at in 0..3 {
+        assert_holds!(rt; has(alloc, cartridge, 0, at, b"").is_ok());
+    }
+    assert_equal!(rt; cartridge.reserve(0, 10, 1), Ok(()));
+    assert_equal!(rt; erased(cartridge), Ok(()));
+    assert_equal!(rt; (cartridge.count(0), cartridge.used(0, 1)), (0, 0));
+}
+
+fn is_opened_again(alloc: Global, shelved: Shelved<Liar>) {
+    shelved.known();
+    let _ = opened(alloc, shelved.into_disk());
+}
+
+// Whether the disk is taken for a cartridge's.
+fn is_opened(rt: &impl Abort, alloc: Global, shift: usize, step: usize) -> bool {
+    let Ok(mut cartridge) = opened(alloc, Liar { shift, step }) else {
+        return false;
+    };
+    answers(rt, alloc, &mut cartridge);
+    is_opened_again(alloc, cartridge.shelve());
+    true
+}
+
+fn is_made(alloc: Global, barcode: &Barcode, shift: usize, step: usize) -> bool {
+    Cartridge::create(alloc, Liar { shift, step }, barcode, &[4_096]).is_ok()
+}
+
 #[test]
 fn every_call_returns(rt: HostRuntime) -> Result<(), Fail> {
-    let alloc = rt.alloc();
     let Ok(barcode) = Barcode::parse(b"T00001L6") else {
         return Err(Fail::from("no barcode"));
     };
     let mut some = false;
     for shift in 0..71 {
         for &step in STEPS {
-            // What is found does not matter, only that each call ends.
-            if let Ok(mut cartridge) = opened(alloc, Liar { shift, step }) {
-                some = true;
-                for at in 0..3 {
-                    assert!(rt; fetched(alloc, &mut cartridge, 0, at).is_ok());
-                }
-                assert_eq!(rt; cartridge.reserve(0, 10, 1), Ok(()));
-                assert_eq!(rt; erased(&mut cartridge), Ok(()));
-                assert_eq!(rt; (cartridge.count(0), cartridge.used(0, 1)), (0, 0));
-                let shelved = cartridge.shelve();
-                shelved.known();
-                let _ = opened(alloc, shelved.into_disk());
-            }
-            let made = Cartridge::create(alloc, Liar { shift, step }, &barcode, &[4_096]);
-            assert!(rt; made.is_ok());
+            some = is_opened(&rt, rt.alloc(), shift, step) || some;
+            assert_holds!(rt; is_made(rt.alloc(), &barcode, shift, step));
         }
     }
-    assert!(rt; some);
+    assert_holds!(rt; some);
     Ok(())
 }

@@ -39,21 +39,40 @@ pub fn opened<D: Disk + Drop>(alloc: Global, disk: D) -> Result<Cartridge<D>, Ca
     }
 }
 
-/// The side, written by a cartridge on a new disk.
-pub fn written(alloc: Global) -> Result<Known<MemDisk>, Fail> {
-    let Ok(mut known) = Known::made(alloc, MemDisk::new(alloc), &[4_096]) else {
-        return Err(Fail::from("not made"));
-    };
-    let hello = block(alloc, 0, 0, b"hello")?;
-    if known.store(alloc, &[hello]).is_err() || known.store(alloc, &[marks(0, 1, 1)]).is_err() {
-        return Err(Fail::from("not stored"));
-    }
-    Ok(known)
+/// Stores a frame of one block.
+pub fn store_block<D: Disk + Drop>(
+    alloc: Global,
+    known: &mut Known<D>,
+    part: PartNo,
+    at: ObjNo,
+    bytes: &[u8],
+) -> Result<(), CartridgeError> {
+    known.store(alloc, &[block(alloc, part, at, bytes)?])
 }
 
-/// A block in the place of the mark of the side, and two marks behind it.
-pub fn two_changes(alloc: Global) -> Result<[Change; 2], NoMemory> {
-    Ok([block(alloc, 0, 1, b"abc")?, marks(0, 2, 2)])
+/// Stores a block and a mark, a frame each.
+pub fn store_side<D: Disk + Drop>(
+    alloc: Global,
+    known: &mut Known<D>,
+) -> Result<(), CartridgeError> {
+    store_block(alloc, known, 0, 0, b"hello")?;
+    known.store(alloc, &[marks(0, 1, 1)])
+}
+
+/// A new cartridge of these capacities.
+pub fn made(alloc: Global, capacities: &[u64]) -> Result<Known<MemDisk>, Fail> {
+    match Known::made(alloc, MemDisk::new(alloc), capacities) {
+        Ok(known) => Ok(known),
+        Err(_) => Err(Fail::from("not made")),
+    }
+}
+
+/// Stores a block in the place of the mark of the side, and two marks behind it.
+pub fn store_two<D: Disk + Drop>(
+    alloc: Global,
+    known: &mut Known<D>,
+) -> Result<(), CartridgeError> {
+    known.store(alloc, &[block(alloc, 0, 1, b"abc")?, marks(0, 2, 2)])
 }
 
 /// Frames, the objects of the first partition and what they take.
@@ -71,18 +90,33 @@ pub fn found<D: Disk + Drop>(
     Ok(told(&cartridge))
 }
 
-/// The bytes of a block; none where there is no block.
-pub fn fetched<D: Disk>(
+/// Whether a block has these bytes; where there is no block, there are none.
+pub fn has<D: Disk>(
     alloc: Global,
     cartridge: &mut Cartridge<D>,
     part: PartNo,
     at: ObjNo,
-) -> Result<Vec<u8>, CartridgeError> {
+    wanted: &[u8],
+) -> Result<bool, CartridgeError> {
     let mut bytes = Vec::new(alloc);
     if cartridge.kind_at(part, at) == Some(Kind::Block) {
         cartridge.fetch(part, at, &mut bytes)?;
     }
-    Ok(bytes)
+    Ok(bytes.as_slice() == wanted)
+}
+
+/// The side on a disk, with one of its bytes set to a value.
+pub fn changed(alloc: Global, place: usize, value: u8) -> Result<MemDisk, NoMemory> {
+    let mut bytes = *SIDE;
+    if place < bytes.len() {
+        bytes[place] = value;
+    }
+    MemDisk::from_bytes(alloc, &bytes)
+}
+
+/// The first bytes of the side.
+pub fn cut(len: usize) -> &'static [u8] {
+    &SIDE[..SIDE.len().min(len)]
 }
 
 /// Erases the first partition.

@@ -1,12 +1,14 @@
 //! A stop and a fault at each call of the disk.
-use crate::samples::{FAULT, SIDE, block, erased, fetched, found, marks, opened, two_changes};
+use crate::samples::{FAULT, SIDE, erased, found, has, store_block, store_side, store_two};
 use assertions::{assert_equal, assert_holds};
-use cartridge::{CartridgeError, NotCreated};
+use cartridge::{Cartridge, CartridgeError, NotCreated, Shelved};
 use gate_journal::stops::{Run, Stop, stop_at_each_call};
 use known_cartridge::Known;
 use std::alloc::Global;
+use std::process::Abort;
 use std::test::Fail;
 use tape_disk::{Disk, FuseDisk, MemDisk, OnceDisk};
+use vtl_base::NoMemory;
 
 // What is found on a disk: frames, objects of the first partition, and what they take.
 type Found = Result<(usize, u32, u64), CartridgeError>;
@@ -21,14 +23,11 @@ fn stored<D: Disk + Drop>(
     known: Known<D>,
 ) -> Result<(Known<D>, bool), NotCreated<D>> {
     let mut known = known;
-    let (Ok(hello), Ok(changes)) = (block(alloc, 0, 0, b"hello"), two_changes(alloc)) else {
-        return Ok((known, false));
-    };
-    if known.store(alloc, &[hello]).is_err() || known.store(alloc, &[marks(0, 1, 1)]).is_err() {
+    if store_side(alloc, &mut known).is_err() {
         return Ok((known, false));
     }
     let mut known = known.opened_again(alloc)?;
-    if known.store(alloc, &changes).is_err() {
+    if store_two(alloc, &mut known).is_err() {
         return Ok((known, false));
     }
     Ok((known.opened_again(alloc)?, true))
@@ -77,20 +76,35 @@ static BEFORE: &'static [(&'static [u8], Found)] = &[
     (SIDE, Ok((2, 2, 37))),
 ];
 
+// What a stop of the work leaves may be found, and the work has ended just behind its last call.
+fn is_right(rt: &impl Abort, alloc: Global, stop: Stop, before: Found) {
+    let Stop { calls, ended, disk } = stop;
+    assert_equal!(rt; ended, calls == 39);
+    let left = found(alloc, disk);
+    let (old, new) = may_be_found(calls, before);
+    assert_holds!(rt; left == old || left == new; (left, calls));
+}
+
+// The stops of a run over a disk of these bytes.
+fn stops_of<R: Run>(alloc: Global, bytes: &[u8], run: &R) -> Result<Vec<Stop>, NoMemory> {
+    let disk = MemDisk::from_bytes(alloc, bytes)?;
+    stop_at_each_call(alloc, &disk, run)
+}
+
+// Before each of 39 calls and behind them all, nine crashes.
+fn stopped(rt: &impl Abort, alloc: Global, bytes: &[u8], before: Found) -> Result<(), NoMemory> {
+    let stops = stops_of(alloc, bytes, &Work)?;
+    assert_equal!(rt; stops.len(), 360);
+    for stop in stops {
+        is_right(rt, alloc, stop, before);
+    }
+    Ok(())
+}
+
 #[test]
 fn a_stop_at_each_call(rt: HostRuntime) -> Result<(), Fail> {
-    let alloc = rt.alloc();
     for &(bytes, before) in BEFORE {
-        let disk = MemDisk::from_bytes(alloc, bytes)?;
-        let stops = stop_at_each_call(alloc, &disk, &Work)?;
-        // Before each of 39 calls and behind them all, nine crashes.
-        assert_equal!(rt; stops.len(), 360);
-        for Stop { calls, ended, disk } in stops {
-            assert_equal!(rt; ended, calls == 39);
-            let left = found(alloc, disk);
-            let (old, new) = may_be_found(calls, before);
-            assert_holds!(rt; left == old || left == new; (left, calls));
-        }
+        stopped(&rt, rt.alloc(), bytes, before)?;
     }
     Ok(())
 }
@@ -100,48 +114,60 @@ struct Opening;
 
 impl Run for Opening {
     fn run(&self, alloc: Global, disk: FuseDisk<MemDisk>) -> (MemDisk, bool) {
-        match cartridge::Cartridge::open(alloc, cartridge::Shelved::of(disk)) {
+        match Cartridge::open(alloc, Shelved::of(disk)) {
             Ok(cartridge) => (cartridge.shelve().into_disk().into_inner(), true),
             Err(refused) => (refused.shelved.into_disk().into_inner(), false),
         }
     }
 }
 
+// A sync, two reads of the header, three of gates and two of bodies, which leave the side as it is.
+fn are_openings(rt: &impl Abort, stops: &[Stop]) {
+    assert_equal!(rt; stops.len(), 81);
+    for stop in stops {
+        assert_equal!(rt; stop.ended, stop.calls == 8);
+        assert_equal!(rt; stop.disk.bytes(), SIDE.as_slice(); stop.calls);
+    }
+}
+
 #[test]
 fn a_stop_of_an_opening(rt: HostRuntime) -> Result<(), Fail> {
-    let alloc = rt.alloc();
-    let disk = MemDisk::from_bytes(alloc, SIDE)?;
-    let stops = stop_at_each_call(alloc, &disk, &Opening)?;
-    // A sync, two reads of the header, three of gates and two of bodies.
-    assert_equal!(rt; stops.len(), 81);
-    for Stop { calls, ended, disk } in stops {
-        assert_equal!(rt; ended, calls == 8);
-        assert_equal!(rt; disk.bytes(), SIDE.as_slice(); calls);
-    }
+    let stops = stops_of(rt.alloc(), SIDE, &Opening)?;
+    are_openings(&rt, stops.as_slice());
     Ok(())
 }
 
 // What a store answers, a read of the first block, and an erase.
 type Answers = [Result<(), CartridgeError>; 3];
 
-// Makes a cartridge, stores a block, and then stores two changes, reads the block and erases all.
-fn used(alloc: Global, disk: OnceDisk<MemDisk>) -> Result<(Answers, usize), CartridgeError> {
-    let mut known = match Known::made(alloc, disk, &[4_096]) {
-        Ok(known) => known,
-        Err(refused) => return Err(refused.error),
-    };
-    let (Ok(hello), Ok(changes)) = (block(alloc, 0, 0, b"hello"), two_changes(alloc)) else {
-        return Err(CartridgeError::NoMemory);
-    };
-    known.store(alloc, &[hello])?;
-    let stored = known.store(alloc, &changes);
+// A cartridge is made, and stores a block.
+fn with_block<D: Disk + Drop>(alloc: Global, known: Known<D>) -> Result<Known<D>, CartridgeError> {
+    let mut known = known;
+    store_block(alloc, &mut known, 0, 0, b"hello")?;
+    Ok(known)
+}
+
+// Whether the first block could be read.
+fn read<D: Disk>(alloc: Global, cartridge: &mut Cartridge<D>) -> Result<(), CartridgeError> {
+    has(alloc, cartridge, 0, 0, b"hello")?;
+    Ok(())
+}
+
+// It stores two changes, reads the block and erases all.
+fn answers<D: Disk + Drop>(alloc: Global, known: Known<D>) -> (Answers, usize) {
+    let mut known = known;
+    let stored = store_two(alloc, &mut known);
     let mut cartridge = known.into_cartridge();
-    let read = match fetched(alloc, &mut cartridge, 0, 0) {
-        Ok(_) => Ok(()),
-        Err(error) => Err(error),
-    };
+    let read = read(alloc, &mut cartridge);
     let erased = erased(&mut cartridge);
-    Ok(([stored, read, erased], cartridge.frames()))
+    ([stored, read, erased], cartridge.frames())
+}
+
+fn used(alloc: Global, disk: OnceDisk<MemDisk>) -> Result<(Answers, usize), CartridgeError> {
+    match Known::made(alloc, disk, &[4_096]) {
+        Ok(known) => Ok(answers(alloc, with_block(alloc, known)?)),
+        Err(refused) => Err(refused.error),
+    }
 }
 
 #[test]
@@ -151,7 +177,6 @@ fn a_fault_at_each_call(rt: HostRuntime) -> Result<(), Fail> {
     // Five calls make the cartridge, four open it, four store, four store, one reads, four store.
     // One of them fails, and those behind it would pass.
     for calls in 0..23 {
-        let disk = OnceDisk::new(MemDisk::new(alloc), calls);
         let expected = match calls {
             0..=12 => Err(FAULT),
             13..=16 => Ok(([Err(FAULT), failed, failed], 1)),
@@ -159,7 +184,8 @@ fn a_fault_at_each_call(rt: HostRuntime) -> Result<(), Fail> {
             18..=21 => Ok(([Ok(()), Ok(()), Err(FAULT)], 2)),
             _ => Ok(([Ok(()), Ok(()), Ok(())], 3)),
         };
-        assert_equal!(rt; used(alloc, disk), expected; calls);
+        let found = used(alloc, OnceDisk::new(MemDisk::new(alloc), calls));
+        assert_equal!(rt; found, expected; calls);
     }
     Ok(())
 }

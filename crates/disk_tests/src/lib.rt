@@ -1,4 +1,4 @@
-//! The tests of tape_disk and of file_disk.
+//! The tests of tape_disk, of file_disk and of accepting.
 #![tactic(auto)]
 
 #[cfg(test)]
@@ -7,6 +7,8 @@ mod asserted;
 mod doubles;
 #[cfg(test)]
 mod files;
+#[cfg(test)]
+mod letters;
 #[cfg(test)]
 mod memory;
 #[cfg(test)]

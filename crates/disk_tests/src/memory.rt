@@ -6,12 +6,12 @@ ghost use Rattle.tape_disk.specs.MemDisk.{mem_log};
 
 use crate::steps::{Step, act, fails};
 use assertions::assert_equal;
-use std::alloc::Global;
+use std::process::Abort;
 use std::test::Fail;
 use std::thread;
 use std::thread::Threads;
 use tape_disk::{Disk, FuseDisk, MemDisk, OnceDisk};
-use vtl_base::DevFault;
+use vtl_base::{DevFault, NoMemory};
 
 // Each call of a disk in memory, the bytes behind it, and how many syncs there were.
 static IN_MEMORY: &'static [(Step, &'static [u8], u64)] = &[
@@ -23,14 +23,25 @@ static IN_MEMORY: &'static [(Step, &'static [u8], u64)] = &[
     (Step::Sync, b"ab", 2),
 ];
 
+// A copy of the disk has these bytes, and so many syncs.
+fn is_copied(rt: &impl Abort, disk: &MemDisk, bytes: &[u8], syncs: u64) -> Result<(), NoMemory> {
+    let copy = disk.copy()?;
+    assert_equal!(rt; (copy.bytes(), copy.len(), copy.syncs()), (bytes, bytes.len() as u64, syncs));
+    Ok(())
+}
+
+fn acts(rt: &impl Abort, disk: &mut MemDisk) -> Result<(), NoMemory> {
+    for &(ask, bytes, syncs) in IN_MEMORY {
+        assert_equal!(rt; act(disk, ask), Ok(()));
+        is_copied(rt, disk, bytes, syncs)?;
+    }
+    Ok(())
+}
+
 #[test]
 fn a_disk_in_memory(rt: HostRuntime) -> Result<(), Fail> {
     let mut disk = MemDisk::new(rt.alloc());
-    for &(ask, bytes, syncs) in IN_MEMORY {
-        assert_equal!(rt; act(&mut disk, ask), Ok(()));
-        let copy = disk.copy()?;
-        assert_equal!(rt; (copy.bytes(), copy.len(), copy.syncs()), (bytes, bytes.len() as u64, syncs));
-    }
+    acts(&rt, &mut disk)?;
     Ok(())
 }
 
@@ -44,11 +55,9 @@ fn a_read(rt: HostRuntime) -> Result<(), Fail> {
 }
 
 // "abcdef" is safe; "XY" at 2 and "Z12" at 6 are not.
-fn half_written(alloc: Global) -> Result<MemDisk, Fail> {
-    let mut disk = MemDisk::from_bytes(alloc, b"abcdef")?;
-    act(&mut disk, Step::Put(2, b"XY"))?;
-    act(&mut disk, Step::Put(6, b"Z12"))?;
-    Ok(disk)
+fn write_half(disk: &mut MemDisk) -> Result<(), DevFault> {
+    act(disk, Step::Put(2, b"XY"))?;
+    act(disk, Step::Put(6, b"Z12"))
 }
 
 // A call, how many bytes land, with what the others are filled, and what a crash leaves.
@@ -63,15 +72,31 @@ static CRASHES: &'static [(Step, u64, u8, &'static [u8])] = &[
     (Step::Sync, 0, b'.', b"abXYefZ"),
 ];
 
-#[test]
-fn what_a_crash_leaves(rt: HostRuntime) -> Result<(), Fail> {
-    let mut disk = half_written(rt.alloc())?;
+fn leaves(
+    rt: &impl Abort,
+    disk: &MemDisk,
+    keep: u64,
+    fill: u8,
+    left: &[u8],
+) -> Result<(), NoMemory> {
+    let crashed = disk.copy()?.crash(keep, fill)?;
+    assert_equal!(rt; (crashed.bytes(), crashed.syncs()), (left, 0); keep);
+    Ok(())
+}
+
+fn crashes(rt: &impl Abort, disk: &mut MemDisk) -> Result<(), Fail> {
+    write_half(disk)?;
     for &(ask, keep, fill, left) in CRASHES {
-        act(&mut disk, ask)?;
-        let crashed = disk.copy()?.crash(keep, fill)?;
-        assert_equal!(rt; (crashed.bytes(), crashed.syncs()), (left, 0); keep);
+        act(disk, ask)?;
+        leaves(rt, disk, keep, fill, left)?;
     }
     Ok(())
+}
+
+#[test]
+fn what_a_crash_leaves(rt: HostRuntime) -> Result<(), Fail> {
+    let mut disk = MemDisk::from_bytes(rt.alloc(), b"abcdef")?;
+    crashes(&rt, &mut disk)
 }
 
 // Two calls pass.

@@ -5,8 +5,10 @@ use assertions::assert_equal;
 use file_disk::{DiskOver, RawFile, StagedFile, Stop, Turn};
 use std::alloc::Global;
 use std::collections::VecDeque;
+use std::process::Abort;
 use std::test::Fail;
 use tape_disk::{Disk, MemDisk};
+use vtl_base::NoMemory;
 
 /// A file in memory that holds these bytes.
 pub fn staged(alloc: Global, bytes: &[u8], turns: &[Turn]) -> Result<StagedFile, Fail> {
@@ -25,17 +27,38 @@ static SHORT: &'static [&'static [Turn]] = &[
     &[Turn::Part(5), Turn::Interrupted, Turn::Part(1)],
 ];
 
+// Bytes are written, and the file then has these.
+fn is_written(
+    rt: &impl Abort,
+    disk: &mut DiskOver<StagedFile>,
+    at: u64,
+    bytes: &[u8],
+    wanted: &[u8],
+) {
+    assert_equal!(rt; failures(put(disk, at, bytes)), 0);
+    assert_equal!(rt; disk.file().disk().bytes(), wanted);
+    assert_equal!(rt; disk.len(), wanted.len() as u64);
+}
+
+fn writes(rt: &impl Abort, alloc: Global, turns: &[Turn]) -> Result<(), Fail> {
+    let mut disk = DiskOver::new(staged(alloc, b"abc", turns)?);
+    is_written(rt, &mut disk, 2, b"uvwxyz", b"abuvwxyz");
+    Ok(())
+}
+
+fn reads(rt: &impl Abort, alloc: Global, turns: &[Turn]) -> Result<(), Fail> {
+    let mut disk = DiskOver::new(staged(alloc, b"abuvwxyz", turns)?);
+    let mut buffer = [0; 6];
+    assert_equal!(rt; failures(get(&mut disk, 1, &mut buffer)), 0);
+    assert_equal!(rt; buffer, *b"buvwxy");
+    Ok(())
+}
+
 #[test]
 fn short_and_interrupted_calls_are_gone_on_with(rt: HostRuntime) -> Result<(), Fail> {
     for turns in SHORT {
-        let mut disk = DiskOver::new(staged(rt.alloc(), b"abc", turns)?);
-        assert_equal!(rt; failures(put(&mut disk, 2, b"uvwxyz")), 0);
-        assert_equal!(rt; disk.file().disk().bytes(), b"abuvwxyz".as_slice());
-        assert_equal!(rt; disk.len(), 8);
-        let mut disk = DiskOver::new(staged(rt.alloc(), b"abuvwxyz", turns)?);
-        let mut buffer = [0; 6];
-        assert_equal!(rt; failures(get(&mut disk, 1, &mut buffer)), 0);
-        assert_equal!(rt; buffer, *b"buvwxy");
+        writes(&rt, rt.alloc(), turns)?;
+        reads(&rt, rt.alloc(), turns)?;
     }
     Ok(())
 }
@@ -54,19 +77,27 @@ fn many_bytes() -> [u8; 1500] {
     bytes
 }
 
+fn writes_many(rt: &impl Abort, alloc: Global, turns: &[Turn], bytes: &[u8]) -> Result<(), Fail> {
+    let mut disk = DiskOver::new(staged(alloc, b"", turns)?);
+    is_written(rt, &mut disk, 0, bytes, bytes);
+    Ok(())
+}
+
+fn reads_many(rt: &impl Abort, alloc: Global, turns: &[Turn], bytes: &[u8]) -> Result<(), Fail> {
+    let mut disk = DiskOver::new(staged(alloc, bytes, turns)?);
+    let mut buffer = [0; 1500];
+    assert_equal!(rt; failures(get(&mut disk, 0, &mut buffer)), 0);
+    assert_equal!(rt; buffer.as_slice(), bytes);
+    Ok(())
+}
+
 // 1,500 bytes: 1,000 calls are interrupted, 1,000 move a byte each, and one moves the rest.
 #[test]
 fn many_calls_make_one(rt: HostRuntime) -> Result<(), Fail> {
     let turns = many_turns();
     let bytes = many_bytes();
-    let mut disk = DiskOver::new(staged(rt.alloc(), b"", &turns)?);
-    assert_equal!(rt; failures(put(&mut disk, 0, &bytes)), 0);
-    assert_equal!(rt; disk.file().disk().bytes(), bytes.as_slice());
-    let mut disk = DiskOver::new(staged(rt.alloc(), &bytes, &turns)?);
-    let mut buffer = [0; 1500];
-    assert_equal!(rt; failures(get(&mut disk, 0, &mut buffer)), 0);
-    assert_equal!(rt; buffer.as_slice(), bytes.as_slice());
-    Ok(())
+    writes_many(&rt, rt.alloc(), &turns, &bytes)?;
+    reads_many(&rt, rt.alloc(), &turns, &bytes)
 }
 
 static FAILED_WRITE: &'static [Turn] = &[Turn::Part(2), Turn::Failed, Turn::Whole, Turn::Failed];
@@ -77,16 +108,26 @@ static AFTER_FAILED_WRITE: &'static [(Step, u64)] = &[
     (Step::Get(0), 2),
 ];
 
+// What a crash leaves of a disk, and the syncs that it took.
+fn is_left(rt: &impl Abort, disk: &MemDisk, bytes: &[u8], syncs: u64) -> Result<(), NoMemory> {
+    let left = disk.copy()?.crash(0, b'.')?;
+    assert_equal!(rt; (left.bytes(), disk.syncs()), (bytes, syncs));
+    Ok(())
+}
+
+fn stays<D: Disk>(rt: &impl Abort, disk: &mut D) {
+    fails(rt, disk, AFTER_FAILED_WRITE);
+    let mut buffer = [0; 6];
+    assert_equal!(rt; failures(get(disk, 0, &mut buffer)), 0);
+    assert_equal!(rt; (buffer, disk.len()), (*b"aWXdef", 6));
+}
+
 // What of a failed write reached the file stays, and is made sure.
 #[test]
 fn a_sync_after_a_failed_write(rt: HostRuntime) -> Result<(), Fail> {
     let mut disk = DiskOver::new(staged(rt.alloc(), b"abcdef", FAILED_WRITE)?);
-    fails(&rt, &mut disk, AFTER_FAILED_WRITE);
-    let mut buffer = [0; 6];
-    assert_equal!(rt; failures(get(&mut disk, 0, &mut buffer)), 0);
-    assert_equal!(rt; (buffer, disk.len()), (*b"aWXdef", 6));
-    let left = disk.file().disk().copy()?.crash(0, b'.')?;
-    assert_equal!(rt; (left.bytes(), disk.file().disk().syncs()), (b"aWXdef".as_slice(), 1));
+    stays(&rt, &mut disk);
+    is_left(&rt, disk.file().disk(), b"aWXdef", 1)?;
     Ok(())
 }
 
@@ -114,14 +155,21 @@ static COUNTED: &'static [(Step, u64, u64)] = &[
     (Step::Sync, 0, 1),
 ];
 
+fn counts<D: Disk>(rt: &impl Abort, disk: &mut D, rows: &[(Step, u64, u64)]) {
+    for &(step, failed, len) in rows {
+        assert_equal!(rt; (failures(act(disk, step)), disk.len()), (failed, len));
+    }
+}
+
+fn has(rt: &impl Abort, disk: &MemDisk, bytes: &[u8], syncs: u64) {
+    assert_equal!(rt; (disk.bytes(), disk.syncs()), (bytes, syncs));
+}
+
 #[test]
 fn each_error_is_counted(rt: HostRuntime) -> Result<(), Fail> {
     let mut disk = DiskOver::new(staged(rt.alloc(), b"abc", ERRORS)?);
-    for &(step, failed, len) in COUNTED {
-        assert_equal!(rt; (failures(act(&mut disk, step)), disk.len()), (failed, len));
-    }
-    assert_equal!(rt; disk.file().disk().syncs(), 2);
-    assert_equal!(rt; disk.file().disk().bytes(), b"a".as_slice());
+    counts(&rt, &mut disk, COUNTED);
+    has(&rt, disk.file().disk(), b"a", 2);
     Ok(())
 }
 
@@ -137,8 +185,7 @@ static UNTOLD: &'static [(Step, u64)] = &[
 fn a_length_that_is_not_told(rt: HostRuntime) {
     for &(step, len) in UNTOLD {
         let mut disk = DiskOver::new(Untold { calls: 0 });
-        assert_equal!(rt; (failures(act(&mut disk, step)), disk.len()), (1, 0));
-        assert_equal!(rt; (failures(act(&mut disk, step)), disk.len()), (0, len));
+        counts(&rt, &mut disk, &[(step, 1, 0), (step, 0, len)]);
     }
 }
 
@@ -154,14 +201,18 @@ static ROOM: &'static [(u64, usize, bool)] = &[
     (u64::MAX, 1, false),
 ];
 
+fn has_room(rt: &impl Abort, disk: &mut DiskOver<Untold>, at: u64, count: usize, fit: bool) {
+    let read = disk.read_at(at, &mut [0][..count.min(1)]);
+    assert_equal!(rt; read.is_ok(), fit; (count, at));
+    let written = disk.write_at(at, &[0][..count.min(1)]);
+    assert_equal!(rt; written.is_ok(), fit; (count, at));
+}
+
 #[test]
 fn what_a_file_has_room_for(rt: HostRuntime) {
     for &(at, count, fit) in ROOM {
         let mut disk = DiskOver::new(Untold { calls: 1 });
-        let read = disk.read_at(at, &mut [0][..count.min(1)]);
-        assert_equal!(rt; read.is_ok(), fit; (count, at));
-        let written = disk.write_at(at, &[0][..count.min(1)]);
-        assert_equal!(rt; written.is_ok(), fit; (count, at));
+        has_room(&rt, &mut disk, at, count, fit);
     }
 }
 
@@ -175,12 +226,16 @@ static TURNS: &'static [(Turn, Result<usize, Stop>)] = &[
 ];
 
 // Each turn does what its comment says: a test over a file that passes turns over would see nothing.
+fn is_moved<F: RawFile>(rt: &impl Abort, file: &mut F, moved: Result<usize, Stop>) {
+    assert_equal!(rt; file.read_some(0, &mut [0; 4]), moved);
+    assert_equal!(rt; file.write_some(0, b"wxyz"), moved);
+}
+
 #[test]
 fn what_a_turn_moves(rt: HostRuntime) -> Result<(), Fail> {
     for &(turn, moved) in TURNS {
         let mut file = staged(rt.alloc(), b"abcd", &[turn, turn])?;
-        assert_equal!(rt; file.read_some(0, &mut [0; 4]), moved);
-        assert_equal!(rt; file.write_some(0, b"wxyz"), moved);
+        is_moved(&rt, &mut file, moved);
     }
     Ok(())
 }

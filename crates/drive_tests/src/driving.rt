@@ -10,6 +10,7 @@ use crate::tables::{
     NO_BYTE, NO_MARKS_FAIL, NO_MEMORY, NONE, NOTHING_LOADED, POWERED_ON, READ_5, READ_FAILS,
     READ_FAILS_TO_STORE, REWIND_FAILS, Row, SOUND, WRITE_ERROR, Wanted,
 };
+use assertions::{assert_equal, assert_holds};
 use drive_core::laws::{
     answers_are_determined, events_run, honest_steps, runs_append, served_hosts_run,
 };
@@ -24,7 +25,20 @@ use vtl_base::{Bytes, NoMemory};
 // Which storing fails, which reading, and the room of the side.
 type Side = (Option<u32>, Option<u32>, u64);
 
-// What is answered over such a side: commands, a turn, and commands.
+// What a drive answers: to commands, to a turn, and to commands.
+fn goes_on(
+    rt: &impl Abort,
+    drive: &mut Drive<StagedMedium, NoKeeper>,
+    rows: &[Row],
+    turn: Turn,
+    then: &[Row],
+) {
+    assert_rows(rt, drive, rows);
+    assert_equal!(rt; drive.turn(), turn);
+    assert_rows(rt, drive, then);
+}
+
+// The same over such a side.
 fn assert_course(
     rt: &impl Abort,
     alloc: Global,
@@ -40,9 +54,7 @@ fn assert_course(
         ..SOUND
     };
     let mut drive = with_side(alloc, room, plan)?;
-    assert_rows(rt, &mut drive, rows);
-    assert_eq!(rt; drive.turn(), turn);
-    assert_rows(rt, &mut drive, then);
+    goes_on(rt, &mut drive, rows, turn, then);
     Ok(())
 }
 
@@ -91,59 +103,75 @@ fn written(
     Ok(medium)
 }
 
+// A drive that was just loaded holds a medium, and one that was not holds none.
+fn is_loaded(rt: &impl Abort, drive: &mut Drive<StagedMedium, NoKeeper>, wanted: Wanted) {
+    assert_holds!(rt; wanted.0.is_none() && !drive.is_empty());
+    assert_holds!(rt; drive.medium().is_some());
+    assert_rows(rt, drive, LOADED);
+}
+
 fn assert_loads(
     rt: &impl Abort,
     drive: &mut Drive<StagedMedium, NoKeeper>,
     medium: StagedMedium,
     wanted: Wanted,
 ) {
-    assert!(rt; drive.medium().is_none());
     match load(rt, drive, medium) {
-        None => {
-            assert!(rt; wanted.0.is_none() && !drive.is_empty());
-            assert_eq!(rt; drive.medium().is_some(), true);
-            assert_rows(rt, drive, LOADED);
-        }
+        None => is_loaded(rt, drive, wanted),
         Some(reply) => {
             assert_reply(rt, &reply, wanted, 0);
-            assert!(rt; drive.is_empty());
+            assert_holds!(rt; drive.is_empty());
         }
     }
 }
 
-// A drive with nothing in it, whose host 1 knows that.
-fn with_nothing(rt: &impl Abort, alloc: Global) -> Result<Drive<StagedMedium, NoKeeper>, Fail> {
-    let mut drive = switched_on(alloc, None)?;
-    assert_rows(rt, &mut drive, NOTHING_LOADED);
-    assert_eq!(rt; drive.turn(), Turn::Idle);
-    Ok(drive)
+// A drive has nothing in it, and host 1 learns that.
+fn has_nothing(rt: &impl Abort, drive: &mut Drive<StagedMedium, NoKeeper>) {
+    goes_on(rt, drive, NOTHING_LOADED, Turn::Idle, &[]);
+    assert_holds!(rt; drive.medium().is_none());
 }
 
 // What a drive that is loaded with this answers.
-fn assert_arrival(rt: &impl Abort, alloc: Global, arrival: &Arrival) -> Result<(), Fail> {
-    let (plan, settles, parks, loading, loaded, _) = *arrival;
-    let medium = written(alloc, plan, settles, parks)?;
-    let mut drive = with_nothing(rt, alloc)?;
-    assert_loads(rt, &mut drive, medium, loading);
-    assert_row(rt, &mut drive, (1, READ_5, NONE, loaded), 0);
+fn assert_arrival(
+    rt: &impl Abort,
+    drive: &mut Drive<StagedMedium, NoKeeper>,
+    medium: StagedMedium,
+    arrival: &Arrival,
+) {
+    let (_, _, _, loading, loaded, _) = *arrival;
+    has_nothing(rt, drive);
+    assert_loads(rt, drive, medium, loading);
+    assert_row(rt, drive, (1, READ_5, NONE, loaded), 0);
+}
+
+// What one that is switched on with it answers.
+fn assert_power_on(rt: &impl Abort, drive: &mut Drive<StagedMedium, NoKeeper>, arrival: &Arrival) {
+    assert_row(rt, drive, (1, READ_5, NONE, POWERED_ON), 0);
+    assert_row(rt, drive, (1, READ_5, NONE, arrival.5), 1);
+}
+
+fn made_ready(alloc: Global, arrival: &Arrival) -> Result<StagedMedium, Fail> {
+    let (plan, settles, parks, _, _, _) = *arrival;
+    written(alloc, plan, settles, parks)
+}
+
+fn comes_in(rt: &impl Abort, alloc: Global, arrival: &Arrival) -> Result<(), Fail> {
+    let mut drive = switched_on(alloc, None)?;
+    assert_arrival(rt, &mut drive, made_ready(alloc, arrival)?, arrival);
     Ok(())
 }
 
-// What a drive that is switched on with it answers.
-fn assert_power_on(rt: &impl Abort, alloc: Global, arrival: &Arrival) -> Result<(), Fail> {
-    let (plan, settles, parks, _, _, powered_on) = *arrival;
-    let medium = written(alloc, plan, settles, parks)?;
-    let mut drive = switched_on(alloc, Some(medium))?;
-    assert_row(rt, &mut drive, (1, READ_5, NONE, POWERED_ON), 0);
-    assert_row(rt, &mut drive, (1, READ_5, NONE, powered_on), 1);
+fn is_there(rt: &impl Abort, alloc: Global, arrival: &Arrival) -> Result<(), Fail> {
+    let mut drive = switched_on(alloc, Some(made_ready(alloc, arrival)?))?;
+    assert_power_on(rt, &mut drive, arrival);
     Ok(())
 }
 
 #[test]
 fn a_medium_comes_into_a_drive(rt: HostRuntime) -> Result<(), Fail> {
     for arrival in ARRIVALS {
-        assert_arrival(&rt, rt.alloc(), arrival)?;
-        assert_power_on(&rt, rt.alloc(), arrival)?;
+        comes_in(&rt, rt.alloc(), arrival)?;
+        is_there(&rt, rt.alloc(), arrival)?;
     }
     Ok(())
 }
@@ -174,31 +202,21 @@ fn a_drive_moves_and_tells(rt: HostRuntime) -> Result<(), Fail> {
     assert_moves(&rt, alloc, 20, NO_ERASURE)
 }
 
-// A drive with a block that is pending, and whose device fails as it is stored.
-fn with_a_fault_to_come(
-    rt: &impl Abort,
-    alloc: Global,
-) -> Result<Drive<StagedMedium, NoKeeper>, Fail> {
-    let mut drive = powered(alloc, 1_000, Some(0))?;
-    assert_rows(rt, &mut drive, BEFORE_A_FAULT);
-    Ok(drive)
-}
-
-// The same, where a turn has met the fault.
-fn with_a_late_fault(
-    rt: &impl Abort,
-    alloc: Global,
-) -> Result<Drive<StagedMedium, NoKeeper>, Fail> {
-    let mut drive = with_a_fault_to_come(rt, alloc)?;
-    assert_eq!(rt; drive.turn(), Turn::Device);
-    Ok(drive)
+// A drive whose device fails as it stores for the first time.
+fn with_a_fault_to_come(alloc: Global) -> Result<Drive<StagedMedium, NoKeeper>, Fail> {
+    powered(alloc, 1_000, Some(0))
 }
 
 // This command ends as what is pending is stored.
+fn stores_first(rt: &impl Abort, drive: &mut Drive<StagedMedium, NoKeeper>, cdb: &[u8]) {
+    assert_rows(rt, drive, BEFORE_A_FAULT);
+    assert_row(rt, drive, (1, cdb, NONE, WRITE_ERROR), 0);
+    assert_rows(rt, drive, AFTER_A_FAULT);
+}
+
 fn assert_stored_first(rt: &impl Abort, alloc: Global, cdb: &[u8]) -> Result<(), Fail> {
-    let mut drive = with_a_fault_to_come(rt, alloc)?;
-    assert_row(rt, &mut drive, (1, cdb, NONE, WRITE_ERROR), 0);
-    assert_rows(rt, &mut drive, AFTER_A_FAULT);
+    let mut drive = with_a_fault_to_come(alloc)?;
+    stores_first(rt, &mut drive, cdb);
     Ok(())
 }
 
@@ -215,18 +233,23 @@ fn what_is_pending_is_stored_first(rt: HostRuntime) -> Result<(), Fail> {
 // The cartridge goes out of the drive, and comes back.
 fn move_out_and_in(rt: &impl Abort, drive: &mut Drive<StagedMedium, NoKeeper>) {
     match drive.unload() {
-        Ok(medium) => assert!(rt; load(rt, drive, medium).is_none()),
-        Err(_) => assert!(rt; false, "nothing came out"),
+        Ok(medium) => assert_holds!(rt; load(rt, drive, medium).is_none()),
+        Err(_) => assert_holds!(rt; false, "nothing came out"),
     }
 }
 
-// What is told of a late fault, where the cartridge went out and came back before or stayed.
-fn assert_late(rt: &impl Abort, alloc: Global, moves: bool, rows: &[Row]) -> Result<(), Fail> {
-    let mut drive = with_a_late_fault(rt, alloc)?;
+// A turn meets a fault, and the cartridge goes out and comes back or stays; what is told of it.
+fn is_late(rt: &impl Abort, drive: &mut Drive<StagedMedium, NoKeeper>, moves: bool, rows: &[Row]) {
+    goes_on(rt, drive, BEFORE_A_FAULT, Turn::Device, &[]);
     if moves {
-        move_out_and_in(rt, &mut drive);
+        move_out_and_in(rt, drive);
     }
-    assert_rows(rt, &mut drive, rows);
+    assert_rows(rt, drive, rows);
+}
+
+fn assert_late(rt: &impl Abort, alloc: Global, moves: bool, rows: &[Row]) -> Result<(), Fail> {
+    let mut drive = with_a_fault_to_come(alloc)?;
+    is_late(rt, &mut drive, moves, rows);
     Ok(())
 }
 

@@ -5,6 +5,7 @@ use crate::asking::{
 };
 use crate::samples::with_side;
 use crate::tables::{NONE, READ_5, SOUND, TEST_UNIT_READY, WRITE_5};
+use assertions::{assert_equal, assert_holds};
 use drive_core::Drive;
 use pr_core::NoKeeper;
 use std::alloc::Global;
@@ -58,7 +59,20 @@ static AFTER_THE_FAULT: &'static [Row<'static>] = &[
     (1, TEST_UNIT_READY, NONE, GOOD),
 ];
 
-// The first storing fails, by this command: its frame is under way or not, and is found or not.
+// The first storing fails, by this command.
+fn fails_in(rt: &impl Abort, drive: &mut Drive<StagedMedium, NoKeeper>, first: &[u8]) {
+    asks(rt, drive, (1, WRITE_5, b"hello", GOOD), 0);
+    asks(rt, drive, (1, first, NONE, WRITE_ERROR), 1);
+    ask_all(rt, drive, AFTER_THE_FAULT);
+}
+
+// Whether the side is found with the frame that was under way.
+fn has_a_block(rt: &impl Abort, drive: &mut Drive<StagedMedium, NoKeeper>) -> bool {
+    let nexus = Nexus::new(1).expect(rt, "a nexus");
+    drive.execute(nexus, READ_5, NONE).sense.is_none()
+}
+
+// Its frame is under way or not, and is found or not.
 fn meets_a_fault(
     rt: &impl Abort,
     alloc: Global,
@@ -73,13 +87,8 @@ fn meets_a_fault(
         keeps_torn,
     };
     let mut drive = with_tape(rt, alloc, plan)?;
-    asks(rt, &mut drive, (1, WRITE_5, b"hello", GOOD), 0);
-    asks(rt, &mut drive, (1, first, NONE, WRITE_ERROR), 1);
-    ask_all(rt, &mut drive, AFTER_THE_FAULT);
-    // The side is found with the frame that was under way, or without it.
-    let nexus = Nexus::new(1).expect(rt, "a nexus");
-    let reply = drive.execute(nexus, READ_5, NONE);
-    assert_eq!(rt; reply.sense.is_none(), tears && keeps_torn);
+    fails_in(rt, &mut drive, first);
+    assert_equal!(rt; has_a_block(rt, &mut drive), tears && keeps_torn);
     Ok(())
 }
 
@@ -114,35 +123,35 @@ fn an_unbuffered_write_meets_a_fault(rt: HostRuntime) -> Result<(), Fail> {
 // Nothing comes out of the drive, and the reply says why.
 fn stays(rt: &impl Abort, drive: &mut Drive<StagedMedium, NoKeeper>, wanted: Answer) {
     match drive.unload() {
-        Ok(_medium) => assert!(rt; false, "a cartridge came out"),
+        Ok(_medium) => assert_holds!(rt; false, "a cartridge came out"),
         Err(reply) => assert_answer(rt, &reply, wanted, 0),
     }
 }
 
 // A cartridge comes out of the drive, and leaves it empty.
 fn comes_out(rt: &impl Abort, drive: &mut Drive<StagedMedium, NoKeeper>) {
-    assert!(rt; drive.unload().is_ok());
-    assert!(rt; drive.is_empty());
+    assert_holds!(rt; drive.unload().is_ok());
+    assert_holds!(rt; drive.is_empty());
 }
 
 // The device fails, and it stays; then what is pending is given up.
-fn one_with_a_fault_goes_out(rt: &impl Abort, alloc: Global) -> Result<(), Fail> {
-    let plan = FaultPlan {
-        store: Some(0),
-        ..SOUND
-    };
-    let mut drive = with_tape(rt, alloc, plan)?;
-    asks(rt, &mut drive, (1, WRITE_5, b"hello", GOOD), 0);
-    stays(rt, &mut drive, WRITE_ERROR);
-    assert!(rt; drive.medium().is_some());
-    comes_out(rt, &mut drive);
-    stays(rt, &mut drive, NO_MEDIUM);
-    Ok(())
+fn one_with_a_fault_goes_out(rt: &impl Abort, drive: &mut Drive<StagedMedium, NoKeeper>) {
+    asks(rt, drive, (1, WRITE_5, b"hello", GOOD), 0);
+    stays(rt, drive, WRITE_ERROR);
+    assert_holds!(rt; drive.medium().is_some());
+    comes_out(rt, drive);
+    stays(rt, drive, NO_MEDIUM);
 }
 
 #[test]
 fn a_cartridge_goes_out(rt: HostRuntime) -> Result<(), Fail> {
-    one_with_a_fault_goes_out(&rt, rt.alloc())
+    let plan = FaultPlan {
+        store: Some(0),
+        ..SOUND
+    };
+    let mut drive = with_tape(&rt, rt.alloc(), plan)?;
+    one_with_a_fault_goes_out(&rt, &mut drive);
+    Ok(())
 }
 
 // It is there, not loaded, and nobody is told; then it is loaded.
@@ -164,21 +173,24 @@ static RESERVED: &'static [Row<'static>] = &[
 fn goes_out_and_in(rt: &impl Abort, drive: &mut Drive<StagedMedium, NoKeeper>) {
     match drive.unload() {
         Ok(medium) => drive.insert(medium),
-        Err(_) => assert!(rt; false, "nothing came out"),
+        Err(_) => assert_holds!(rt; false, "nothing came out"),
     }
+}
+
+fn is_put_in(rt: &impl Abort, drive: &mut Drive<StagedMedium, NoKeeper>) {
+    asks(rt, drive, (1, WRITE_5, b"hello", GOOD), 0);
+    goes_out_and_in(rt, drive);
+    assert_holds!(rt; !drive.is_empty());
+    ask_all(rt, drive, PUT_IN);
+    // A reservation is held from its making on.
+    assert_holds!(rt; !drive.held());
+    ask_all(rt, drive, RESERVED);
+    assert_holds!(rt; drive.held());
 }
 
 #[test]
 fn a_cartridge_is_put_in(rt: HostRuntime) -> Result<(), Fail> {
-    let alloc = rt.alloc();
-    let mut drive = with_tape(&rt, alloc, SOUND)?;
-    asks(&rt, &mut drive, (1, WRITE_5, b"hello", GOOD), 0);
-    goes_out_and_in(&rt, &mut drive);
-    assert!(&rt; !drive.is_empty());
-    ask_all(&rt, &mut drive, PUT_IN);
-    // A reservation is held from its making on.
-    assert!(&rt; !drive.held());
-    ask_all(&rt, &mut drive, RESERVED);
-    assert!(&rt; drive.held());
+    let mut drive = with_tape(&rt, rt.alloc(), SOUND)?;
+    is_put_in(&rt, &mut drive);
     Ok(())
 }

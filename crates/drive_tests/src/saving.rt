@@ -85,18 +85,22 @@ static AFTER_A_CLEARING: &'static [Row<'static>] = &[
 ];
 
 // The save of this order finds no memory, and succeeds when it is asked for again.
-fn runs_out_at(rt: &impl Abort, alloc: Global, at: u32) -> Result<(), NoMemory> {
-    let mut drive = failing(alloc, at, SaveFault::NoMemory)?;
-    greet(rt, &mut drive, &[1, 2]);
+fn runs_out(rt: &impl Abort, drive: &mut Drive<StagedMedium, StagedKeeper>, at: u32) {
+    greet(rt, drive, &[1, 2]);
     for (turn, &(row, keys, reservation)) in SAVED_ORDERS.iter().enumerate() {
         if turn == at as usize {
             let (host, cdb, sent, _) = row;
-            asks(rt, &mut drive, (host, cdb, sent, OUT_OF_MEMORY), 0);
+            asks(rt, drive, (host, cdb, sent, OUT_OF_MEMORY), 0);
         }
-        assert_stands(rt, &mut drive, keys, reservation, turn);
-        asks(rt, &mut drive, row, turn);
+        assert_stands(rt, drive, keys, reservation, turn);
+        asks(rt, drive, row, turn);
     }
-    ask_all(rt, &mut drive, AFTER_A_CLEARING);
+    ask_all(rt, drive, AFTER_A_CLEARING);
+}
+
+fn runs_out_at(rt: &impl Abort, alloc: Global, at: u32) -> Result<(), NoMemory> {
+    let mut drive = failing(alloc, at, SaveFault::NoMemory)?;
+    runs_out(rt, &mut drive, at);
     Ok(())
 }
 
@@ -119,18 +123,22 @@ static AFTER_A_FAULT: &'static [Row<'static>] = &[
 ];
 
 // The save of this order meets a device fault.
-fn fails_at(rt: &impl Abort, alloc: Global, at: u32) -> Result<(), NoMemory> {
-    let mut drive = failing(alloc, at, SaveFault::Device)?;
-    greet(rt, &mut drive, &[1, 2, 3]);
+fn fails(rt: &impl Abort, drive: &mut Drive<StagedMedium, StagedKeeper>, at: u32) {
+    greet(rt, drive, &[1, 2, 3]);
     for (turn, &(row, keys, reservation)) in SAVED_ORDERS.iter().enumerate() {
         let (host, cdb, sent, wanted) = row;
         let wanted = if turn < at as usize { wanted } else { FAILED };
-        asks(rt, &mut drive, (host, cdb, sent, wanted), turn);
+        asks(rt, drive, (host, cdb, sent, wanted), turn);
         if turn == at as usize {
-            assert_stands(rt, &mut drive, keys, reservation, turn);
+            assert_stands(rt, drive, keys, reservation, turn);
         }
     }
-    ask_all(rt, &mut drive, AFTER_A_FAULT);
+    ask_all(rt, drive, AFTER_A_FAULT);
+}
+
+fn fails_at(rt: &impl Abort, alloc: Global, at: u32) -> Result<(), NoMemory> {
+    let mut drive = failing(alloc, at, SaveFault::Device)?;
+    fails(rt, &mut drive, at);
     Ok(())
 }
 
@@ -221,14 +229,23 @@ fn reserved(rt: &impl Abort, aptpl: bool) -> Reservations {
     saved
 }
 
+fn begins(
+    rt: &impl Abort,
+    drive: &mut Drive<StagedMedium, StagedKeeper>,
+    keys: &'static [u8],
+    stopped: Answer,
+) {
+    greet(rt, drive, &[1, 2]);
+    asks(rt, drive, (1, READ_KEYS, NONE, Answer::Good(keys)), 0);
+    asks(rt, drive, (2, REWIND, NONE, stopped), 1);
+    asks(rt, drive, (1, REWIND, NONE, GOOD), 2);
+}
+
 #[test]
 fn a_drive_begins_with_what_was_saved(rt: HostRuntime) -> Result<(), Fail> {
     for &(aptpl, keys, stopped) in BEGINNINGS {
         let mut drive = with_keeper(rt.alloc(), reserved(&rt, aptpl), 4_096, None)?;
-        greet(&rt, &mut drive, &[1, 2]);
-        asks(&rt, &mut drive, (1, READ_KEYS, NONE, Answer::Good(keys)), 0);
-        asks(&rt, &mut drive, (2, REWIND, NONE, stopped), 1);
-        asks(&rt, &mut drive, (1, REWIND, NONE, GOOD), 2);
+        begins(&rt, &mut drive, keys, stopped);
     }
     Ok(())
 }

@@ -1,8 +1,9 @@
 //! What the slots and the drives of a library hold.
-use crate::samples::{Answer, Disk, GOOD, NEVER, cartridge, is_answer, library};
+use crate::samples::{Answer, GOOD, NEVER, Once, library, moves, place};
 use assertions::{assert_equal, assert_holds};
 use library::{Held, Parked};
 use scsi_sense::Status;
+use std::alloc::Global;
 use std::process::Abort;
 use std::test::Fail;
 
@@ -13,27 +14,31 @@ const SECOND: &'static [u8] = b"T00002L6        ";
 const NO_ROOM: Answer = (Status::Check, 5, 0x3b, 0x0d);
 
 // The barcode that a cartridge's side has on its disk: bytes 11 to 26.
-fn barcode(parked: &Parked<Disk>) -> &[u8] {
+fn barcode(parked: &Parked<Once>) -> &[u8] {
     match parked.medium().disk().inner().bytes().get(11..27) {
         Some(name) => name,
         None => &[],
     }
 }
 
+// A place holds the cartridge that is wanted there, by its place and its barcode.
+fn is_wanted(rt: &impl Abort, parked: &Parked<Once>, at: usize, wanted: Option<&(usize, &[u8])>) {
+    match wanted {
+        Some((place, name)) => {
+            assert_equal!(rt; at, *place);
+            assert_equal!(rt; barcode(parked), *name; at);
+        }
+        None => assert_holds!(rt; false; at),
+    }
+}
+
 // Just these places hold a cartridge, of these barcodes.
-fn assert_held(rt: &impl Abort, held: &Held<Disk>, wanted: &[(usize, &[u8])]) {
-    let row = held.inventory().slots;
+fn are_held(rt: &impl Abort, row: &[Option<Parked<Once>>], wanted: &[(usize, &[u8])]) {
     assert_equal!(rt; row.len(), 256);
     let mut found = 0usize;
     for (at, place) in row.iter().enumerate() {
         if let Some(parked) = place {
-            match wanted.get(found) {
-                Some((place, name)) => {
-                    assert_equal!(rt; at, *place);
-                    assert_equal!(rt; barcode(parked), *name; at);
-                }
-                None => assert_holds!(rt; false; at),
-            }
+            is_wanted(rt, parked, at, wanted.get(found));
             found = found.saturating_add(1);
         }
     }
@@ -41,7 +46,7 @@ fn assert_held(rt: &impl Abort, held: &Held<Disk>, wanted: &[(usize, &[u8])]) {
 }
 
 // Of 16 places for drives just the first two have one, and there is a cartridge in it where this says so.
-fn assert_drives(rt: &impl Abort, held: &Held<Disk>, wanted: &[bool; 2]) {
+fn assert_drives(rt: &impl Abort, held: &Held<Once>, wanted: &[bool]) {
     let row = held.inventory().drives;
     assert_equal!(rt; row.len(), 16);
     for (at, place) in row.iter().enumerate() {
@@ -53,14 +58,6 @@ fn assert_drives(rt: &impl Abort, held: &Held<Disk>, wanted: &[bool; 2]) {
 // A move, how it is answered, and what the slots hold then.
 type Row = (u32, u32, Answer, &'static [(usize, &'static [u8])]);
 
-fn moves(rt: &impl Abort, held: &mut Held<Disk>, rows: &[Row]) {
-    for (at, row) in rows.iter().enumerate() {
-        let (from, to, answer, wanted) = *row;
-        is_answer(rt, &held.move_medium(from, to), answer, at);
-        assert_held(rt, held, wanted);
-    }
-}
-
 // Two cartridges are moved: out of their slots, into others, and into both drives.
 static MOVES: &'static [Row] = &[
     (1001, 1, GOOD, &[(255, SECOND)]),
@@ -71,17 +68,29 @@ static MOVES: &'static [Row] = &[
     (1002, 2, GOOD, &[(99, FIRST)]),
 ];
 
+static FIRST_ALONE: &'static [(usize, &'static [u8])] = &[(0, FIRST)];
+
+static BOTH: &'static [(usize, &'static [u8])] = &[(0, FIRST), (255, SECOND)];
+
+static NONE_IN_DRIVES: &'static [bool] = &[false, false];
+
+static ONE_IN_DRIVE_2: &'static [bool] = &[false, true];
+
+fn is_shown(rt: &impl Abort, alloc: Global, held: &mut Held<Once>) -> Result<(), Fail> {
+    are_held(rt, held.inventory().slots, FIRST_ALONE);
+    assert_drives(rt, held, NONE_IN_DRIVES);
+    place(alloc, held, 1256, b"T00002L6", NEVER)?;
+    are_held(rt, held.inventory().slots, BOTH);
+    for (at, &(from, to, answer, wanted)) in MOVES.iter().enumerate() {
+        moves(rt, held, (from, to, answer), at);
+        are_held(rt, held.inventory().slots, wanted);
+    }
+    assert_drives(rt, held, ONE_IN_DRIVE_2);
+    Ok(())
+}
+
 #[test]
 fn each_slot_and_each_drive_is_shown(rt: HostRuntime) -> Result<(), Fail> {
     let mut held = library(rt.alloc(), NEVER)?;
-    assert_held(&rt, &held, &[(0, FIRST)]);
-    assert_drives(&rt, &held, &[false, false]);
-    let second = cartridge(rt.alloc(), b"T00002L6", NEVER)?;
-    if held.place(1256, Parked::of(rt.alloc(), second)).is_err() {
-        return Err(Fail::from("not placed"));
-    }
-    assert_held(&rt, &held, &[(0, FIRST), (255, SECOND)]);
-    moves(&rt, &mut held, MOVES);
-    assert_drives(&rt, &held, &[false, true]);
-    Ok(())
+    is_shown(&rt, rt.alloc(), &mut held)
 }

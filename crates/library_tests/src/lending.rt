@@ -2,16 +2,15 @@
 ghost use Rattle.std.specs.Prelude.{◌≢◌, IfSome};
 ghost use Rattle.library.specs.Lent.{IsDriveAddress};
 
-use crate::samples::{Answer, Disk, GOOD, NEVER, cartridge, is_answer, store};
+use crate::samples::{Answer, GOOD, NEVER, Once, Row, bay, drive_no, is_answer, parked};
 use assertions::assert_holds;
 use changer::Slots;
 use library::{Bay, Parked, move_lent};
-use pr_core::Reservations;
 use scsi_sense::Status;
 use std::alloc::Global;
 use std::process::Abort;
 use std::test::Fail;
-use vtl_base::DriveNo;
+use tape_disk::Disk;
 
 // A reply's status, key, code and qualifier.
 const NO_ADDRESS: Answer = (Status::Check, 5, 0x21, 0x01);
@@ -20,26 +19,13 @@ const NO_SOURCE: Answer = (Status::Check, 5, 0x3b, 0x0e);
 
 const NO_ROOM: Answer = (Status::Check, 5, 0x3b, 0x0d);
 
-fn bay(alloc: Global, number: u8) -> Result<Bay<Disk>, Fail> {
-    let Some(number) = DriveNo::new(number) else {
-        return Err(Fail::from("no drive"));
-    };
-    match Bay::power_on(alloc, store(alloc, number)?, Reservations::empty(), None) {
-        Ok(bay) => Ok(bay),
-        Err(_) => Err(Fail::from("not switched on")),
-    }
-}
-
-// A move from one address to another, and how it is answered.
-type Row = (u32, u32, Answer);
-
 // A move on what is lent has this answer.
-fn is_moved(
+fn is_moved<D: Disk + Drop>(
     rt: &impl Abort,
     alloc: Global,
-    slots: &mut Slots<Parked<Disk>>,
-    source: Option<&mut Bay<Disk>>,
-    destination: Option<&mut Bay<Disk>>,
+    slots: &mut Slots<Parked<D>>,
+    source: Option<&mut Bay<D>>,
+    destination: Option<&mut Bay<D>>,
     row: Row,
 )
     requires source { IfSome source (λ bay. IsDriveAddress row.0) }
@@ -50,65 +36,67 @@ fn is_moved(
     is_answer(rt, &reply, wanted, from as usize);
 }
 
+// Moves on the slots and drive 1.
+fn goes_in<D: Disk + Drop>(
+    rt: &impl Abort,
+    alloc: Global,
+    slots: &mut Slots<Parked<D>>,
+    one: &mut Bay<D>,
+) {
+    is_moved(rt, alloc, slots, None, None, (1001, 1300, NO_ADDRESS));
+    is_moved(rt, alloc, slots, None, Some(one), (1002, 1, NO_SOURCE));
+    is_moved(rt, alloc, slots, None, Some(one), (1001, 1, GOOD));
+    is_moved(rt, alloc, slots, Some(one), None, (1, 1, NO_ROOM));
+}
+
+// Then through drive 2 into a slot, and back into the first one.
+fn goes_out<D: Disk + Drop>(
+    rt: &impl Abort,
+    alloc: Global,
+    slots: &mut Slots<Parked<D>>,
+    one: &mut Bay<D>,
+    two: &mut Bay<D>,
+) {
+    is_moved(rt, alloc, slots, Some(one), Some(two), (1, 2, GOOD));
+    is_moved(rt, alloc, slots, Some(two), None, (2, 1256, GOOD));
+    is_moved(rt, alloc, slots, None, None, (1256, 1001, GOOD));
+    assert_holds!(rt; one.is_empty() && two.is_empty());
+    assert_holds!(rt; slots.held(1001).is_some());
+}
+
 // Slots of which the first holds a cartridge.
-fn slots(alloc: Global) -> Result<Slots<Parked<Disk>>, Fail> {
-    let parked = Parked::of(alloc, cartridge(alloc, b"T00001L6", NEVER)?);
+fn slots(alloc: Global) -> Result<Slots<Parked<Once>>, Fail> {
     let mut slots = Slots::new(alloc)?;
-    if slots.place(1001, parked).is_err() {
-        return Err(Fail::from("not placed"));
+    match slots.place(1001, parked(alloc, b"T00001L6", NEVER)?) {
+        Ok(()) => Ok(slots),
+        Err(_) => Err(Fail::from("not placed")),
     }
-    Ok(slots)
+}
+
+// Drive 2 is made behind the first moves.
+fn goes_round(
+    rt: &impl Abort,
+    alloc: Global,
+    slots: &mut Slots<Parked<Once>>,
+    one: &mut Bay<Once>,
+) -> Result<(), Fail> {
+    goes_in(rt, alloc, slots, one);
+    let mut two = bay(alloc, drive_no(2)?, None)?;
+    goes_out(rt, alloc, slots, one, &mut two);
+    Ok(())
+}
+
+fn with_drive_1(
+    rt: &impl Abort,
+    alloc: Global,
+    slots: &mut Slots<Parked<Once>>,
+) -> Result<(), Fail> {
+    let mut one = bay(alloc, drive_no(1)?, None)?;
+    goes_round(rt, alloc, slots, &mut one)
 }
 
 #[test]
 fn a_cartridge_goes_round_what_is_lent(rt: HostRuntime) -> Result<(), Fail> {
-    let alloc = rt.alloc();
-    let mut slots = slots(alloc)?;
-    let mut one = bay(alloc, 1)?;
-    let mut two = bay(alloc, 2)?;
-    is_moved(&rt, alloc, &mut slots, None, None, (1001, 1300, NO_ADDRESS));
-    is_moved(
-        &rt,
-        alloc,
-        &mut slots,
-        None,
-        Some(&mut one),
-        (1002, 1, NO_SOURCE),
-    );
-    is_moved(
-        &rt,
-        alloc,
-        &mut slots,
-        None,
-        Some(&mut one),
-        (1001, 1, GOOD),
-    );
-    is_moved(
-        &rt,
-        alloc,
-        &mut slots,
-        Some(&mut one),
-        None,
-        (1, 1, NO_ROOM),
-    );
-    is_moved(
-        &rt,
-        alloc,
-        &mut slots,
-        Some(&mut one),
-        Some(&mut two),
-        (1, 2, GOOD),
-    );
-    is_moved(
-        &rt,
-        alloc,
-        &mut slots,
-        Some(&mut two),
-        None,
-        (2, 1256, GOOD),
-    );
-    is_moved(&rt, alloc, &mut slots, None, None, (1256, 1001, GOOD));
-    assert_holds!(rt; one.is_empty() && two.is_empty());
-    assert_holds!(rt; slots.held(1001).is_some());
-    Ok(())
+    let mut slots = slots(rt.alloc())?;
+    with_drive_1(&rt, rt.alloc(), &mut slots)
 }

@@ -1,14 +1,13 @@
 //! A cartridge that is not loaded goes back where it was.
-use crate::samples::{Answer, Disk, GOOD, asks, is_answer, library};
+use crate::samples::{Answer, GOOD, READY, Row, asks, is_answer, library, moves};
+use crate::writing::{is_kept, is_unwritten};
 use assertions::assert_equal;
 use library::Held;
 use scsi_sense::Status;
 use std::alloc::Global;
 use std::process::Abort;
 use std::test::Fail;
-
-/// A move, and how it is answered.
-type Row = (u32, u32, Answer);
+use tape_disk::Disk;
 
 const NO_SOURCE: Answer = (Status::Check, 5, 0x3b, 0x0e);
 
@@ -20,14 +19,11 @@ const NOT_PRESENT: Answer = (Status::Check, 2, 0x3a, 0);
 
 const NOT_OPENED: Answer = (Status::Check, 3, 0x11, 0);
 
-const READY: &'static [u8] = &[0; 6];
-
 const LOAD: &'static [u8] = &[0x1b, 0, 0, 0, 1, 0];
 
-fn moves(rt: &impl Abort, held: &mut Held<Disk>, rows: &[Row]) {
+fn move_all<D: Disk + Drop>(rt: &impl Abort, held: &mut Held<D>, rows: &[Row]) {
     for (at, row) in rows.iter().enumerate() {
-        let (from, to, wanted) = *row;
-        is_answer(rt, &held.move_medium(from, to), wanted, at);
+        moves(rt, held, *row, at);
     }
 }
 
@@ -38,7 +34,7 @@ static NOT_LOADED: &'static [Row] = &[(1001, 1, NOT_OPENED), (1, 1002, NO_SOURCE
 #[test]
 fn what_is_not_loaded_goes_back(rt: HostRuntime) -> Result<(), Fail> {
     let mut held = library(rt.alloc(), 5)?;
-    moves(&rt, &mut held, NOT_LOADED);
+    move_all(&rt, &mut held, NOT_LOADED);
     Ok(())
 }
 
@@ -54,35 +50,59 @@ static PUT_BACK: &'static [(&'static [u8], Answer)] = &[
 // Drive 1 has the cartridge, and drive 2 has none.
 static OUT_OF_BOTH: &'static [Row] = &[(2, 1002, NO_SOURCE), (1, 2, GOOD), (2, 1002, GOOD)];
 
-// Whether this call of the cartridge's disk is one of its opening in drive 2, to which it goes from drive 1: it fails,
-// and the cartridge goes back.
-fn is_put_back(rt: &impl Abort, alloc: Global, fails: u64) -> Result<bool, Fail> {
-    let mut held = library(alloc, fails)?;
+// Whether the opening in drive 2 of the cartridge, which goes there from drive 1, fails: it goes back.
+fn is_put_back<D: Disk + Drop>(rt: &impl Abort, held: &mut Held<D>, fails: u64) -> bool {
     if held.move_medium(1001, 1).sense.is_some() {
-        return Ok(false);
+        return false;
     }
     let reply = held.move_medium(1, 2);
     if reply.sense.is_none() {
-        return Ok(false);
+        return false;
     }
     is_answer(rt, &reply, NOT_OPENED, fails as usize);
     for (cdb, wanted) in PUT_BACK {
-        asks(rt, &mut held, (1, 1), cdb, b"", *wanted);
+        asks(rt, held, cdb, b"", *wanted);
     }
-    moves(rt, &mut held, OUT_OF_BOTH);
-    Ok(true)
+    move_all(rt, held, OUT_OF_BOTH);
+    true
+}
+
+/// What is done with a library whose cartridge's disk fails at a call.
+#[derive(Clone, Copy)]
+pub enum Work {
+    /// The cartridge goes into drive 1, and from there into drive 2.
+    Moves,
+    /// A block is written, and the library ends.
+    Ends,
+    /// A block is written, and the cartridge goes out of its drive.
+    GoesOut,
+}
+
+// Whether the call that fails is one of the work's.
+fn is_met<D: Disk + Drop>(rt: &impl Abort, held: &mut Held<D>, work: Work, fails: u64) -> bool {
+    match work {
+        Work::Moves => is_put_back(rt, held, fails),
+        Work::Ends => is_unwritten(rt, held),
+        Work::GoesOut => is_kept(rt, held, fails),
+    }
+}
+
+/// How many calls of the work fail, each in turn.
+pub fn met(rt: &impl Abort, alloc: Global, work: Work) -> Result<u32, Fail> {
+    let mut count = 0u32;
+    for fails in 5..30 {
+        let mut held = library(alloc, fails)?;
+        if is_met(rt, &mut held, work, fails) {
+            count = count.saturating_add(1);
+        }
+    }
+    Ok(count)
 }
 
 // The opening of a new cartridge makes four calls of its disk: a sync, two reads of the header, and one of the gate
 // that is closed behind it.
 #[test]
 fn what_another_drive_does_not_load_goes_back(rt: HostRuntime) -> Result<(), Fail> {
-    let mut put_back = 0u32;
-    for fails in 5..30 {
-        if is_put_back(&rt, rt.alloc(), fails)? {
-            put_back = put_back.saturating_add(1);
-        }
-    }
-    assert_equal!(rt; put_back, 4);
+    assert_equal!(rt; met(&rt, rt.alloc(), Work::Moves)?, 4);
     Ok(())
 }

@@ -10,11 +10,11 @@ use scsi_sense::{Reply, Status};
 use std::alloc::Global;
 use std::process::Abort;
 use std::test::Fail;
-use tape_disk::{MemDisk, OnceDisk};
+use tape_disk::{Disk, MemDisk, OnceDisk};
 use vtl_base::{Barcode, DriveNo, Nexus};
 
 /// A disk of whose calls one may fail.
-pub type Disk = OnceDisk<MemDisk>;
+pub type Once = OnceDisk<MemDisk>;
 
 /// No call of a disk is this one.
 pub const NEVER: u64 = u64::MAX;
@@ -24,8 +24,10 @@ pub type Answer = (Status, u8, u8, u8);
 
 pub const GOOD: Answer = (Status::Good, 0, 0, 0);
 
+pub const READY: &'static [u8] = &[0; 6];
+
 /// A new cartridge of this barcode and 4,096 bytes, on a disk whose call of this number fails. Its creation makes five.
-pub fn cartridge(alloc: Global, barcode: &[u8], fails: u64) -> Result<Shelved<Disk>, Fail>
+fn cartridge(alloc: Global, barcode: &[u8], fails: u64) -> Result<Shelved<Once>, Fail>
     ensures { IfOk result (λ shelved. shelved.known ≡ true) }
 {
     let Ok(barcode) = Barcode::parse(barcode) else {
@@ -38,8 +40,13 @@ pub fn cartridge(alloc: Global, barcode: &[u8], fails: u64) -> Result<Shelved<Di
     }
 }
 
-/// The new store of a drive.
-pub fn store(alloc: Global, number: DriveNo) -> Result<AptplStore<Disk>, Fail>
+/// The same, closed.
+pub fn parked(alloc: Global, barcode: &[u8], fails: u64) -> Result<Parked<Once>, Fail> {
+    Ok(Parked::of(alloc, cartridge(alloc, barcode, fails)?))
+}
+
+// The new store of a drive.
+fn store(alloc: Global, number: DriveNo) -> Result<AptplStore<Once>, Fail>
     ensures { IfOk result (λ store. store.states ≡ []) }
 {
     match AptplStore::create(alloc, OnceDisk::new(MemDisk::new(alloc), NEVER), number) {
@@ -48,31 +55,73 @@ pub fn store(alloc: Global, number: DriveNo) -> Result<AptplStore<Disk>, Fail>
     }
 }
 
-/// Adds a drive with nothing in it.
-pub fn add_drive(alloc: Global, held: &mut Held<Disk>, number: u8) -> Result<(), Fail> {
-    let Some(number) = DriveNo::new(number) else {
-        return Err(Fail::from("no drive"));
-    };
+/// A drive that is just switched on, with this in it.
+pub fn bay(
+    alloc: Global,
+    number: DriveNo,
+    cartridge: Option<Parked<Once>>,
+) -> Result<Bay<Once>, Fail> {
     let store = store(alloc, number)?;
-    let Ok(bay) = Bay::power_on(alloc, store, Reservations::empty(), None) else {
-        return Err(Fail::from("not switched on"));
-    };
-    match held.install(number, bay) {
+    match Bay::power_on(alloc, store, Reservations::empty(), cartridge) {
+        Ok(bay) => Ok(bay),
+        Err(_) => Err(Fail::from("not switched on")),
+    }
+}
+
+/// The drive of this number.
+pub fn drive_no(number: u8) -> Result<DriveNo, Fail> {
+    match DriveNo::new(number) {
+        Some(number) => Ok(number),
+        None => Err(Fail::from("no drive")),
+    }
+}
+
+// Adds a drive with nothing in it.
+fn add_drive(alloc: Global, held: &mut Held<Once>, number: u8) -> Result<(), Fail> {
+    let number = drive_no(number)?;
+    match held.install(number, bay(alloc, number, None)?) {
         Ok(()) => Ok(()),
         Err(_) => Err(Fail::from("not installed")),
     }
 }
 
-/// Drives 1 and 2, and in slot 1001 a new cartridge T00001L6 on a disk whose call of this number fails.
-pub fn library(alloc: Global, fails: u64) -> Result<Held<Disk>, Fail> {
-    let mut held = Held::new(alloc)?;
-    let shelved = cartridge(alloc, b"T00001L6", fails)?;
-    if held.place(1001, Parked::of(alloc, shelved)).is_err() {
-        return Err(Fail::from("not placed"));
+/// Places a new cartridge of this barcode, on a disk whose call of this number fails.
+pub fn place(
+    alloc: Global,
+    held: &mut Held<Once>,
+    address: u32,
+    barcode: &[u8],
+    fails: u64,
+) -> Result<(), Fail> {
+    match held.place(address, parked(alloc, barcode, fails)?) {
+        Ok(()) => Ok(()),
+        Err(_) => Err(Fail::from("not placed")),
     }
-    add_drive(alloc, &mut held, 1)?;
-    add_drive(alloc, &mut held, 2)?;
+}
+
+// Puts what a library has into it.
+fn fill(alloc: Global, held: &mut Held<Once>, fails: u64) -> Result<(), Fail> {
+    place(alloc, held, 1001, b"T00001L6", fails)?;
+    add_drive(alloc, held, 1)?;
+    add_drive(alloc, held, 2)
+}
+
+/// Drives 1 and 2, and in slot 1001 a new cartridge T00001L6 on a disk whose call of this number fails.
+pub fn library(alloc: Global, fails: u64) -> Result<Held<Once>, Fail> {
+    let mut held = Held::new(alloc)?;
+    fill(alloc, &mut held, fails)?;
     Ok(held)
+}
+
+// The key, code and qualifier that a reply tells.
+fn told(reply: &Reply) -> (u8, u8, u8) {
+    match reply.sense {
+        Some(sense) => {
+            let bytes = sense.bytes();
+            (bytes[2] % 16, bytes[12], bytes[13])
+        }
+        None => (0, 0, 0),
+    }
 }
 
 /// A reply is this answer, with no bytes.
@@ -80,27 +129,28 @@ pub fn is_answer(rt: &impl Abort, reply: &Reply, wanted: Answer, at: usize) {
     let (status, key, code, qualifier) = wanted;
     assert_equal!(rt; reply.status, status; at);
     assert_equal!(rt; reply.bytes.as_slice().len(), 0; at);
-    let told = match reply.sense {
-        Some(sense) => {
-            let bytes = sense.bytes();
-            (bytes[2] % 16, bytes[12], bytes[13])
-        }
-        None => (0, 0, 0),
-    };
-    assert_equal!(rt; told, (key, code, qualifier); at);
+    assert_equal!(rt; told(reply), (key, code, qualifier); at);
 }
 
-/// A host's command to a drive that is there is answered so.
-pub fn asks(
+/// A move, and how it is answered.
+pub type Row = (u32, u32, Answer);
+
+/// A cartridge is moved, or not, and that is answered so.
+pub fn moves<D: Disk + Drop>(rt: &impl Abort, held: &mut Held<D>, row: Row, at: usize) {
+    let (from, to, wanted) = row;
+    is_answer(rt, &held.move_medium(from, to), wanted, at);
+}
+
+/// A command of host 1 to drive 1, which is there, is answered so.
+pub fn asks<D: Disk + Drop>(
     rt: &impl Abort,
-    held: &mut Held<Disk>,
-    place: (u8, u8),
+    held: &mut Held<D>,
     cdb: &[u8],
     sent: &[u8],
     wanted: Answer,
 ) {
-    let nexus = Nexus::new(place.0).expect(rt, "a nexus");
-    let drive = DriveNo::new(place.1).expect(rt, "a drive");
+    let nexus = Nexus::new(1).expect(rt, "a nexus");
+    let drive = DriveNo::new(1).expect(rt, "a drive");
     // `std`'s, since `command` asks for what it says.
     assert!(rt; held.configured(drive));
     is_answer(rt, &held.command(nexus, drive, cdb, sent), wanted, 0);

@@ -6,6 +6,8 @@ mod asserted;
 #[cfg(test)]
 mod borders;
 #[cfg(test)]
+mod counting;
+#[cfg(test)]
 mod echoes;
 #[cfg(test)]
 mod failing;

@@ -1,15 +1,16 @@
 //! A fault at each call of the disk below a drive.
 use crate::asking::{
-    A_NEW, BY_A, CHECK, FAILED, GOOD, NO_KEYS, NONE, POWERED_ON, READ_KEYS, REGISTER,
+    A_NEW, BY_A, CHECK, FAILED, GOOD, Host, NO_KEYS, NONE, POWERED_ON, READ_KEYS, REGISTER,
     REGISTER_AND_IGNORE, RESERVE_5, Row, TEST_UNIT_READY, ask_all, host_over, new_host,
 };
-use crate::samples::{FAULT, NEW, REGISTERED, found};
+use crate::samples::{FAULT, Found, NEW, REGISTERED, found};
 use assertions::{assert_equal, assert_holds};
 use pr_core::Keeper;
 use std::alloc::Global;
 use std::process::Abort;
 use std::test::Fail;
 use tape_disk::{MemDisk, OnceDisk};
+use vtl_base::NoMemory;
 
 // The save of the first order fails. The old state stands, and the store goes on to fail.
 static FAILING: &'static [Row] = &[
@@ -34,38 +35,64 @@ static CRASHES: &'static [(u64, u8)] = &[
     (u64::MAX, 0xff),
 ];
 
-// The state before the first order or after it is left, and a drive over the disk as it was reached works.
-fn is_left(rt: &impl Abort, alloc: Global, reached: &MemDisk) -> Result<(), Fail> {
+// What a crash leaves of a disk.
+fn left(alloc: Global, reached: &MemDisk, keep: u64, fill: u8) -> Result<Found, NoMemory> {
+    Ok(found(alloc, reached.copy()?.crash(keep, fill)?))
+}
+
+// The state before the first order or after it is left.
+fn are_left(rt: &impl Abort, alloc: Global, reached: &MemDisk) -> Result<(), NoMemory> {
     for (keep, fill) in CRASHES {
-        let left = found(alloc, reached.copy()?.crash(*keep, *fill)?);
+        let left = left(alloc, reached, *keep, *fill)?;
         assert_holds!(rt; left == NEW || left == REGISTERED; left);
     }
-    let Ok(mut drive) = host_over(alloc, reached.copy()?) else {
-        return Err(Fail::from("not opened"));
-    };
+    Ok(())
+}
+
+// A drive over a store works.
+fn works(rt: &impl Abort, alloc: Global, drive: &mut Host<MemDisk>) -> Result<(), NoMemory> {
     let frames = drive.keeper().frames();
     let rows = [
         (1, TEST_UNIT_READY, NONE, CHECK, POWERED_ON, frames),
         (1, REGISTER_AND_IGNORE, A_NEW, GOOD, NONE, 1),
     ];
-    ask_all(rt, &mut drive, &rows);
-    assert_equal!(rt; found(alloc, drive.keeper().disk().copy()?.crash(0, 0xa5)?), REGISTERED);
+    ask_all(rt, drive, &rows);
+    assert_equal!(rt; left(alloc, drive.keeper().disk(), 0, 0xa5)?, REGISTERED);
     Ok(())
 }
 
+fn opens(rt: &impl Abort, alloc: Global, reached: &MemDisk) -> Result<(), Fail> {
+    match host_over(alloc, reached.copy()?) {
+        Ok(mut drive) => works(rt, alloc, &mut drive)?,
+        Err(_) => return Err(Fail::from("not opened")),
+    }
+    Ok(())
+}
+
+// The save of the first order fails; what is left, and that a drive over the disk as it was reached works.
+fn fails(rt: &impl Abort, alloc: Global, drive: &mut Host<OnceDisk<MemDisk>>) -> Result<(), Fail> {
+    ask_all(rt, drive, FAILING);
+    assert_holds!(rt; drive.keeper().has_failed());
+    are_left(rt, alloc, drive.keeper().disk().inner())?;
+    opens(rt, alloc, drive.keeper().disk().inner())
+}
+
 // Five calls make the store, four save what host 1 registers. The last call is the second sync.
+fn is_met(rt: &impl Abort, alloc: Global, calls: u64) -> Result<(), Fail> {
+    match new_host(alloc, OnceDisk::new(MemDisk::new(alloc), calls)) {
+        Ok(mut drive) => {
+            assert_holds!(rt; calls >= 5);
+            fails(rt, alloc, &mut drive)?;
+        }
+        Err(refused) => assert_equal!(rt; (refused.error, calls < 5), (FAULT, true)),
+    }
+    Ok(())
+}
+
 #[test]
 fn a_fault_at_each_call_of_a_save(rt: HostRuntime) -> Result<(), Fail> {
-    let alloc = rt.alloc();
     for calls in 0..9 {
-        match new_host(alloc, OnceDisk::new(MemDisk::new(alloc), calls)) {
-            Ok(mut drive) => {
-                ask_all(&rt, &mut drive, FAILING);
-                assert_equal!(rt; (drive.keeper().has_failed(), calls >= 5), (true, true));
-                is_left(&rt, alloc, drive.keeper().disk().inner())?;
-            }
-            Err(refused) => assert_equal!(rt; (refused.error, calls < 5), (FAULT, true)),
-        }
+        is_met(&rt, rt.alloc(), calls)?;
     }
     Ok(())
 }

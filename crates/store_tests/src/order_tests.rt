@@ -1,10 +1,11 @@
 //! Orders to a drive over a store, with losses of power, and what is on the disk.
 use crate::asking::{
-    A_NEW, A_OVER_A, A_WITHOUT_APTPL, BY_A, CHECK, CONFLICT, GOOD, NO_KEYS, NONE, POWERED_ON,
+    A_NEW, A_OVER_A, A_WITHOUT_APTPL, BY_A, CHECK, CONFLICT, GOOD, Host, NO_KEYS, NONE, POWERED_ON,
     READ_KEYS, READ_RESERVATION, REGISTER, RESERVE_5, REWIND, Row, TEST_UNIT_READY, ask_all,
     host_over, made,
 };
 use crate::samples::{NEW_SIDE, SIDE, SIDE_WITHOUT_APTPL};
+use assertions::assert_equal;
 use std::alloc::Global;
 use std::process::Abort;
 use std::test::Fail;
@@ -55,8 +56,21 @@ static COURSES: &'static [(&'static [Row], &'static [u8], u64)] = &[
     (LEFT, SIDE_WITHOUT_APTPL, 1),
 ];
 
-// A drive over this disk is asked, and leaves these bytes; then its power goes.
+// A drive is asked, and leaves these bytes; then its power goes.
 fn asked(
+    rt: &impl Abort,
+    drive: &mut Host<MemDisk>,
+    rows: &[Row],
+    bytes: &[u8],
+    syncs: u64,
+) -> Result<MemDisk, Fail> {
+    ask_all(rt, drive, rows);
+    let reached = drive.keeper().disk();
+    assert_equal!(rt; (reached.bytes(), reached.syncs()), (bytes, syncs));
+    Ok(reached.copy()?.crash(0, 0xa5)?)
+}
+
+fn asked_over(
     rt: &impl Abort,
     alloc: Global,
     disk: MemDisk,
@@ -64,13 +78,10 @@ fn asked(
     bytes: &[u8],
     syncs: u64,
 ) -> Result<MemDisk, Fail> {
-    let Ok(mut drive) = host_over(alloc, disk) else {
-        return Err(Fail::from("not opened"));
-    };
-    ask_all(rt, &mut drive, rows);
-    let reached = drive.keeper().disk();
-    assert_eq!(rt; (reached.bytes(), reached.syncs()), (bytes, syncs));
-    Ok(reached.copy()?.crash(0, 0xa5)?)
+    match host_over(alloc, disk) {
+        Ok(mut drive) => asked(rt, &mut drive, rows, bytes, syncs),
+        Err(_) => Err(Fail::from("not opened")),
+    }
 }
 
 #[test]
@@ -80,7 +91,7 @@ fn reservations_outlive_a_loss_of_power(rt: HostRuntime) -> Result<(), Fail> {
     };
     let mut disk = store.close();
     for (rows, bytes, syncs) in COURSES {
-        disk = asked(&rt, rt.alloc(), disk, rows, bytes, *syncs)?;
+        disk = asked_over(&rt, rt.alloc(), disk, rows, bytes, *syncs)?;
     }
     Ok(())
 }

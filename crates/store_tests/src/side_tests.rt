@@ -57,19 +57,30 @@ fn sides_are_read(rt: HostRuntime) -> Result<(), Fail> {
     Ok(())
 }
 
-// How many changed copies of a side have a bad record. Each of its bytes is set to each value.
+// How many copies of a side have a bad record where this byte is set to each value.
+fn bad_at(rt: &impl Abort, alloc: Global, bytes: &mut [u8], at: usize) -> Result<u32, NoMemory> {
+    let mut bad = 0u32;
+    for value in 0..=255 {
+        if let Some(byte) = bytes.get_mut(at) {
+            *byte = value;
+        }
+        if let Err(StoreError::BadRecord { .. }) = agreed(rt, alloc, bytes)? {
+            bad = bad.saturating_add(1);
+        }
+    }
+    Ok(bad)
+}
+
+fn bad_copy(rt: &impl Abort, alloc: Global, side: &[u8], at: usize) -> Result<u32, NoMemory> {
+    let mut bytes = Vec::from_slice(alloc, side)?;
+    bad_at(rt, alloc, bytes.as_mut_slice(), at)
+}
+
+// Each byte of a side is set to each value.
 fn bad_copies(rt: &impl Abort, alloc: Global, side: &[u8]) -> Result<u32, NoMemory> {
     let mut bad = 0u32;
     for at in 0..side.len() {
-        let mut bytes = Vec::from_slice(alloc, side)?;
-        for value in 0..=255 {
-            if let Some(byte) = bytes.get_mut(at) {
-                *byte = value;
-            }
-            if let Err(StoreError::BadRecord { .. }) = agreed(rt, alloc, &bytes)? {
-                bad = bad.saturating_add(1);
-            }
-        }
+        bad = bad.saturating_add(bad_copy(rt, alloc, side, at)?);
     }
     Ok(bad)
 }
@@ -108,34 +119,36 @@ fn save_each(rt: &impl Abort, store: &mut AptplStore<MemDisk>, state: &mut Reser
 }
 
 // The state is left but for its generation, after so many saves.
-fn is_left(
-    rt: &impl Abort,
-    alloc: Global,
-    disk: MemDisk,
-    state: &Reservations,
-) -> Result<(), Fail> {
-    let Ok((store, left)) = AptplStore::open(alloc, disk) else {
-        return Err(Fail::from("not opened"));
-    };
+fn is_left(rt: &impl Abort, frames: usize, left: &Reservations, state: &Reservations) {
     let (left, saved) = (left.state(), state.state());
-    assert_equal!(rt; (store.frames(), seen_of(left)), (364, [1, 0, 0, 64]));
+    assert_equal!(rt; (frames, seen_of(left)), (364, [1, 0, 0, 64]));
     assert_holds!(rt; left.keys == saved.keys && left.generation == 0);
+}
+
+fn opens(rt: &impl Abort, alloc: Global, disk: MemDisk, state: &Reservations) -> Result<(), Fail> {
+    match AptplStore::open(alloc, disk) {
+        Ok((store, left)) => is_left(rt, store.frames(), &left, state),
+        Err(_) => return Err(Fail::from("not opened")),
+    }
     Ok(())
 }
 
 // All 64 hosts are registered, and 300 saves more.
-#[test]
-fn the_longest_state_and_many_saves(rt: HostRuntime) -> Result<(), Fail> {
-    let alloc = rt.alloc();
-    let Ok(mut store) = made(alloc, MemDisk::new(alloc)) else {
-        return Err(Fail::from("not made"));
-    };
-    let mut state = Reservations::empty();
-    save_each(&rt, &mut store, &mut state);
+fn saves_all(rt: &impl Abort, store: &mut AptplStore<MemDisk>, state: &mut Reservations) {
+    save_each(rt, store, state);
     for _save in 0..300 {
-        assert_holds!(rt; store.save(&state).is_ok());
+        assert_holds!(rt; store.save(state).is_ok());
     }
     store.known();
     assert_equal!(rt; store.name(), b"DRIVE1          ");
-    is_left(&rt, alloc, store.close(), &state)
+}
+
+#[test]
+fn the_longest_state_and_many_saves(rt: HostRuntime) -> Result<(), Fail> {
+    let Ok(mut store) = made(rt.alloc(), MemDisk::new(rt.alloc())) else {
+        return Err(Fail::from("not made"));
+    };
+    let mut state = Reservations::empty();
+    saves_all(&rt, &mut store, &mut state);
+    opens(&rt, rt.alloc(), store.close(), &state)
 }

@@ -37,6 +37,19 @@ fn ordered<D: Disk + Drop>(drive: &mut Host<D>, orders: &[Order]) -> bool {
     true
 }
 
+// The disk that the orders reach, and whether all of them go through.
+fn reached(
+    alloc: Global,
+    drive: &mut Host<FuseDisk<MemDisk>>,
+    orders: &[Order],
+) -> (MemDisk, bool) {
+    let ended = ordered(drive, orders);
+    match drive.keeper().disk().inner().copy() {
+        Ok(reached) => (reached, ended),
+        Err(_) => (MemDisk::new(alloc), false),
+    }
+}
+
 impl Run for Work {
     fn run(&self, alloc: Global, disk: FuseDisk<MemDisk>) -> (MemDisk, bool) {
         let host = if self.is_new {
@@ -44,14 +57,9 @@ impl Run for Work {
         } else {
             host_over(alloc, disk)
         };
-        let mut drive = match host {
-            Ok(drive) => drive,
-            Err(refused) => return (refused.disk.into_inner(), false),
-        };
-        let ended = ordered(&mut drive, self.orders);
-        match drive.keeper().disk().inner().copy() {
-            Ok(reached) => (reached, ended),
-            Err(_) => (MemDisk::new(alloc), false),
+        match host {
+            Ok(mut drive) => reached(alloc, &mut drive, self.orders),
+            Err(refused) => (refused.disk.into_inner(), false),
         }
     }
 }
@@ -141,6 +149,11 @@ fn is_right(rt: &impl Abort, alloc: Global, stop: Stop, total: u64, moments: &[M
 }
 
 // Stops the work at each of its calls of a disk of these bytes, nine times each.
+fn stops_of(alloc: Global, bytes: &[u8], work: &Work) -> Result<Vec<Stop>, NoMemory> {
+    let disk = MemDisk::from_bytes(alloc, bytes)?;
+    stop_at_each_call(alloc, &disk, work)
+}
+
 fn stopped(
     rt: &impl Abort,
     alloc: Global,
@@ -149,8 +162,7 @@ fn stopped(
     total: u64,
     moments: &[Moment],
 ) -> Result<(), NoMemory> {
-    let disk = MemDisk::from_bytes(alloc, bytes)?;
-    let stops = stop_at_each_call(alloc, &disk, work)?;
+    let stops = stops_of(alloc, bytes, work)?;
     assert_equal!(rt; stops.len() as u64 / 9, total.saturating_add(1));
     for stop in stops {
         // An opening writes nothing.

@@ -1,6 +1,8 @@
 //! A medium whose side has an end and whose device fails.
 use crate::media::{Answer, Ask, PAST_END, Row, assert_rows};
 use crate::volumes::Add;
+use std::alloc::Global;
+use std::process::Abort;
 use std::test::Fail;
 use volume_core::{FaultPlan, MediumError, StagedMedium, Turn};
 
@@ -147,13 +149,23 @@ static RUNS: &'static [(FaultPlan, u64, &'static [Row], &'static [Row])] = &[
     (BOTH, 1_000, BOTH_FAIL, &[]),
 ];
 
+fn runs(
+    rt: &impl Abort,
+    alloc: Global,
+    side: (FaultPlan, u64),
+    rows: &[Row],
+    then: &[Row],
+) -> Result<(), Fail> {
+    let (plan, room) = side;
+    let mut medium = StagedMedium::new(alloc, &[4_096], room, plan)?;
+    assert_rows(rt, alloc, &mut medium, rows)?;
+    assert_rows(rt, alloc, &mut medium, then)
+}
+
 #[test]
 fn a_side_fills_and_a_device_fails(rt: HostRuntime) -> Result<(), Fail> {
-    let alloc = rt.alloc();
     for (plan, room, rows, then) in RUNS {
-        let mut medium = StagedMedium::new(alloc, &[4_096], *room, *plan)?;
-        assert_rows(&rt, alloc, &mut medium, rows)?;
-        assert_rows(&rt, alloc, &mut medium, then)?;
+        runs(&rt, rt.alloc(), (*plan, *room), rows, then)?;
     }
     Ok(())
 }

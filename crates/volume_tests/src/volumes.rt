@@ -1,5 +1,5 @@
 //! Refusals in their order, capacities at their borders; each public call once.
-use assertions::{assert_equal, assert_holds};
+use assertions::assert_equal;
 use std::alloc::Global;
 use std::process::Abort;
 use std::test::Fail;
@@ -35,24 +35,41 @@ pub fn make_change(alloc: Global, part: PartNo, at: ObjNo, add: Add) -> Result<C
 // the partition has then, what they take, and whether it is in its early zone.
 type Row = (PartNo, ObjNo, Add, Option<Refusal>, u32, u64, bool);
 
+// The change of a row is applied, or refused for its cause.
+fn is_applied(rt: &impl Abort, volume: &mut Volume, change: Change, row: &Row) {
+    let (_, at, add, refusal, _, _, _) = *row;
+    assert_equal!(rt; volume.refusal(&change), refusal; (add, at));
+    let wanted = match refusal {
+        Some(cause) => Err(ApplyError::Refused(cause)),
+        None => Ok(()),
+    };
+    assert_equal!(rt; volume.apply(change), wanted; (add, at));
+}
+
+// What a volume has behind the change of a row.
+fn is_left(rt: &impl Abort, volume: &Volume, row: &Row) {
+    let (part, at, add, _, count, used, early) = *row;
+    assert_equal!(rt; volume.count(part), count; (add, at));
+    assert_equal!(rt; volume.used(part, u32::MAX), used; (add, at));
+    let is_early = is_in_early_zone(volume.capacity(part), used);
+    assert_equal!(rt; is_early, early; (add, at));
+}
+
+fn assert_row(rt: &impl Abort, alloc: Global, volume: &mut Volume, row: &Row) -> Result<(), Fail> {
+    let (part, at, add, _, _, _, _) = *row;
+    is_applied(rt, volume, make_change(alloc, part, at, add)?, row);
+    is_left(rt, volume, row);
+    Ok(())
+}
+
 fn assert_rows(
     rt: &impl Abort,
     alloc: Global,
     volume: &mut Volume,
     rows: &[Row],
 ) -> Result<(), Fail> {
-    for (part, at, add, refusal, count, used, early) in rows {
-        let change = make_change(alloc, *part, *at, *add)?;
-        assert_equal!(rt; volume.refusal(&change), *refusal; (add, at));
-        let wanted = match refusal {
-            Some(cause) => Err(ApplyError::Refused(*cause)),
-            None => Ok(()),
-        };
-        assert_equal!(rt; volume.apply(change), wanted; (add, at));
-        assert_equal!(rt; volume.count(*part), *count; (add, at));
-        assert_equal!(rt; volume.used(*part, u32::MAX), *used; (add, at));
-        let is_early = is_in_early_zone(volume.capacity(*part), *used);
-        assert_equal!(rt; is_early, *early; (add, at));
+    for row in rows {
+        assert_row(rt, alloc, volume, row)?;
     }
     Ok(())
 }
@@ -156,19 +173,19 @@ static FILLING: &'static [Row] = &[
     (0, 5, Add::Marks(1), Some(Refusal::NoRoom), 5, 4_096, true),
 ];
 
+// The rows of a new volume.
+fn begins(rt: &impl Abort, alloc: Global, capacities: &[u64], rows: &[Row]) -> Result<(), Fail> {
+    if !are_capacities(capacities) {
+        return Err(Fail::from("no capacities"));
+    }
+    let mut volume = Volume::new(alloc, capacities)?;
+    assert_rows(rt, alloc, &mut volume, rows)
+}
+
 #[test]
 fn refusals_come_in_their_order_and_a_partition_fills(rt: HostRuntime) -> Result<(), Fail> {
-    let alloc = rt.alloc();
-    for (capacities, rows) in [
-        ([4_096, TEBIBYTE].as_slice(), REFUSALS),
-        ([4_096].as_slice(), FILLING),
-    ] {
-        assert_holds!(&rt; are_capacities(capacities));
-        if are_capacities(capacities) {
-            assert_rows(&rt, alloc, &mut Volume::new(alloc, capacities)?, rows)?;
-        }
-    }
-    Ok(())
+    begins(&rt, rt.alloc(), &[4_096, TEBIBYTE], REFUSALS)?;
+    begins(&rt, rt.alloc(), &[4_096], FILLING)
 }
 
 static IN_THE_MIDDLE: &'static [Row] = &[
@@ -197,25 +214,37 @@ static PARTS: &'static [(PartNo, u64, u32)] = &[
     (4, 0, 0),
 ];
 
-#[test]
-fn a_write_in_the_middle_drops_what_is_behind(rt: HostRuntime) -> Result<(), Fail> {
-    let alloc = rt.alloc();
-    let mut volume = Volume::new(alloc, &[4_096, 5_000, 6_000, 7_000])?;
-    assert_rows(&rt, alloc, &mut volume, &IN_THE_MIDDLE[..4])?;
-    assert_equal!(rt; volume.block_at(2, 1), Some([7u8; 5].as_slice()));
-    assert_rows(&rt, alloc, &mut volume, &IN_THE_MIDDLE[4..5])?;
+// Behind a run of marks.
+fn are_kinds(rt: &impl Abort, volume: &Volume) {
     assert_equal!(rt; volume.block_at(2, 1), None);
     assert_equal!(rt; volume.used(2, 1), 26);
     for (at, kind) in KINDS {
         assert_equal!(rt; volume.kind_at(2, *at), *kind; at);
     }
-    assert_rows(&rt, alloc, &mut volume, &IN_THE_MIDDLE[5..])?;
+}
+
+fn are_parts(rt: &impl Abort, volume: &Volume) {
     for (part, capacity, count) in PARTS {
         assert_equal!(rt; volume.capacity(*part), *capacity; part);
         assert_equal!(rt; volume.count(*part), *count; part);
     }
     assert_equal!(rt; volume.parts(), 4);
+}
+
+fn is_cut(rt: &impl Abort, alloc: Global, volume: &mut Volume) -> Result<(), Fail> {
+    assert_rows(rt, alloc, volume, &IN_THE_MIDDLE[..4])?;
+    assert_equal!(rt; volume.block_at(2, 1), Some(b"\x07\x07\x07\x07\x07".as_slice()));
+    assert_rows(rt, alloc, volume, &IN_THE_MIDDLE[4..5])?;
+    are_kinds(rt, volume);
+    assert_rows(rt, alloc, volume, &IN_THE_MIDDLE[5..])?;
+    are_parts(rt, volume);
     Ok(())
+}
+
+#[test]
+fn a_write_in_the_middle_drops_what_is_behind(rt: HostRuntime) -> Result<(), Fail> {
+    let mut volume = Volume::new(rt.alloc(), &[4_096, 5_000, 6_000, 7_000])?;
+    is_cut(&rt, rt.alloc(), &mut volume)
 }
 
 // The capacities of partitions, and whether they are taken.

@@ -6,15 +6,13 @@ mod hosts;
 mod interruptions;
 pub mod items;
 pub mod laws;
-mod line_readers;
+pub mod line_readers;
 pub mod lines;
 mod phases;
 pub mod runners;
-mod script_limits;
+pub mod script_limits;
 pub mod scripts;
 mod splits;
-#[cfg(test)]
-mod tests;
 mod texts;
 
 pub use faults::ScriptFault;

@@ -239,7 +239,6 @@ impl LineReader {
     }
 
     /// How many reads were asked for.
-    #[cfg(test)]
     pub fn reads(&self) -> u64
         ensures { result ≡ self.now.reads }
     {

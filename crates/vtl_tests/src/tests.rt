@@ -1,8 +1,6 @@
 //! The turns of hosts.
 mod calls;
-mod early_warning;
 mod failing;
-mod libraries;
 mod noted_files;
 mod programs;
 mod refusals;
@@ -10,8 +8,7 @@ mod streams;
 
 use assertions::assert_equal;
 use library::{Held, run_held};
-use std::alloc::{AllocError, Global};
-use std::process::Abort;
+use std::alloc::Global;
 use std::test::Fail;
 use streams::{BadReader, BadWriter};
 use tape_disk::MemDisk;
@@ -20,64 +17,31 @@ use vtl_script::ScriptFault;
 
 const ATTENTION: &str = "CHECK 700006000000000a00000000290000000000\n";
 
-// What is wanted of a script: the text of its answers, and how it ends.
-type Wanted<'a> = (&'a [&'a str], Result<(), ScriptFault>);
-
-const DONE: Result<(), ScriptFault> = Ok(());
-
 // What a script writes, and how it ends.
-#[derive(Drop)]
-struct Outcome {
-    text: Vec<u8>,
-    end: Result<(), ScriptFault>,
-}
-
-fn answered_by(alloc: Global, held: &mut Held<MemDisk>, script: &[u8]) -> Outcome {
+fn answered(
+    alloc: Global,
+    held: &mut Held<MemDisk>,
+    script: &[u8],
+) -> (Vec<u8>, Result<(), ScriptFault>) {
     let mut reader = BadReader::new(script, None);
     let mut writer = BadWriter::new(alloc, None);
     let end = run_held(alloc, held, &mut reader, &mut writer);
-    Outcome {
-        text: writer.into_text(),
-        end,
-    }
+    (writer.into_text(), end)
 }
 
-fn joined(alloc: Global, parts: &[&str]) -> Result<Vec<u8>, AllocError> {
-    let mut text = Vec::new(alloc);
-    for part in parts {
-        text.extend_from_slice(part.as_bytes())?;
-    }
-    Ok(text)
-}
+const TURNS: &[u8] = b"3 1 a50000000000\n1 1 000000000000\n3 1 000000000000\n2 1 000000000000 00\n\
+    1 1 000000000000\n--\n2 1 000000000000\n1 1 000000000000\n";
 
-fn assert_ends(
-    rt: &impl Abort,
-    alloc: Global,
-    script: &[u8],
-    wanted: Wanted,
-    at: usize,
-) -> Result<(), Fail> {
-    let text = joined(alloc, wanted.0)?;
-    let outcome = answered_by(alloc, &mut built_in(alloc)?, script);
-    assert_equal!(rt; outcome.end, wanted.1; at);
-    assert_equal!(rt; outcome.text.as_slice(), text.as_slice(); at);
-    Ok(())
-}
+const ANSWERS: &str = "CHECK 700006000000000a00000000290000000000\nGOOD\n\
+    CHECK 700006000000000a00000000290000000000\n\
+    CHECK 700005000000000a00000000200000000000\n\
+    CHECK 700006000000000a00000000290000000000\nGOOD\nGOOD\n";
 
 #[test]
 fn hosts_take_turns(rt: HostRuntime) -> Result<(), Fail> {
-    let script = b"3 1 a50000000000\n1 1 000000000000\n3 1 000000000000\n2 1 000000000000 00\n\
-        1 1 000000000000\n--\n2 1 000000000000\n1 1 000000000000\n";
-    let wanted: Wanted = (
-        &[
-            ATTENTION,
-            "GOOD\n",
-            ATTENTION,
-            "CHECK 700005000000000a00000000200000000000\n",
-            ATTENTION,
-            "GOOD\nGOOD\n",
-        ],
-        DONE,
-    );
-    assert_ends(&rt, rt.alloc(), script, wanted, 0)
+    let mut held = built_in(rt.alloc())?;
+    let (text, end) = answered(rt.alloc(), &mut held, TURNS);
+    assert_equal!(rt; end, Ok(()));
+    assert_equal!(rt; text.as_slice(), ANSWERS.as_bytes());
+    Ok(())
 }

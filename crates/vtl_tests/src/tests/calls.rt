@@ -34,23 +34,36 @@ fn words_of(alloc: Global, line: &str) -> Result<Vec<String>, Fail> {
     Ok(words)
 }
 
-fn assert_row(abort: &impl Abort, alloc: Global, row: Row, at: usize) -> Result<(), Fail> {
-    let (failing, words, calls, text, (line, status)) = row;
-    let files = NotedFiles::new(alloc, failing);
-    let words = words_of(alloc, words)?;
+// A run over these files with these words, which writes to these streams.
+fn ran_over(
+    alloc: Global,
+    files: &NotedFiles,
+    line: &str,
+    writer: &mut BadWriter,
+    lines: &mut BadWriter,
+) -> Result<Ended, Fail> {
+    let words = words_of(alloc, line)?;
     let mut reader = BadReader::new(b"", None);
+    Ok(run(alloc, files, Ok(words), &mut reader, writer, lines))
+}
+
+// The text and the line that a run over these files writes, and how it ends.
+fn ran(alloc: Global, files: &NotedFiles, line: &str) -> Result<(Vec<u8>, Vec<u8>, Ended), Fail> {
     let mut writer = BadWriter::new(alloc, None);
     let mut lines = BadWriter::new(alloc, None);
-    let ended = run(
-        alloc,
-        &files,
-        Ok(words),
-        &mut reader,
-        &mut writer,
-        &mut lines,
-    );
-    let (told, reported, called) = (writer.into_text(), lines.into_text(), files.into_note());
-    assert_equal!(abort; called.as_slice(), calls.as_bytes(); at);
+    let ended = ran_over(alloc, files, line, &mut writer, &mut lines)?;
+    Ok((writer.into_text(), lines.into_text(), ended))
+}
+
+fn is_told(
+    abort: &impl Abort,
+    alloc: Global,
+    files: &NotedFiles,
+    row: Row,
+    at: usize,
+) -> Result<(), Fail> {
+    let (_, words, _, text, (line, status)) = row;
+    let (told, reported, ended) = ran(alloc, files, words)?;
     assert_equal!(abort; told.as_slice(), text.as_bytes(); at);
     assert_equal!(abort; reported.as_slice(), line.as_bytes(); at);
     let wanted = Ended {
@@ -58,6 +71,14 @@ fn assert_row(abort: &impl Abort, alloc: Global, row: Row, at: usize) -> Result<
         is_reported: true,
     };
     assert_equal!(abort; ended, wanted; at);
+    Ok(())
+}
+
+fn assert_row(abort: &impl Abort, alloc: Global, row: Row, at: usize) -> Result<(), Fail> {
+    let files = NotedFiles::new(alloc, row.0);
+    is_told(abort, alloc, &files, row, at)?;
+    let called = files.into_note();
+    assert_equal!(abort; called.as_slice(), row.2.as_bytes(); at);
     Ok(())
 }
 
@@ -266,15 +287,23 @@ fn refused_words_ask_for_no_file(rt: HostRuntime) -> Result<(), Fail> {
     assert_rows(&rt, rt.alloc(), REFUSED)
 }
 
+static HELPS: &'static [&'static str] = &["vtl --help", "vtl run -h"];
+
+// The help that these words ask for.
+fn help(alloc: Global, line: &str) -> Result<String, Fail> {
+    let words = words_of(alloc, line)?;
+    match read_words(alloc, words.as_slice()) {
+        Err(WordsError::Help(text)) => Ok(text),
+        _ => Err(Fail::from("no help")),
+    }
+}
+
 #[test]
 fn help_is_written_as_it_was_given(rt: HostRuntime) -> Result<(), Fail> {
-    for (at, line) in ["vtl --help", "vtl run -h"].into_iter().enumerate() {
-        let words = words_of(rt.alloc(), line)?;
-        let Err(WordsError::Help(text)) = read_words(rt.alloc(), words.as_slice()) else {
-            return Err(Fail::from("no help"));
-        };
+    for (at, line) in HELPS.iter().enumerate() {
+        let text = help(rt.alloc(), line)?;
         assert_holds!(rt; !text.is_empty(); at);
-        let row = (Failing::Nothing, line, "", text.as_str(), DONE);
+        let row = (Failing::Nothing, *line, "", text.as_str(), DONE);
         assert_row(&rt, rt.alloc(), row, at)?;
     }
     Ok(())

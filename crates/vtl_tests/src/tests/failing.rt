@@ -87,18 +87,30 @@ const CONFIG: &[u8] =
     b"cartridge = [{ barcode = \"T00001L6\", file = \"t\", capacities = [4096], home = 1 }]\n\
     drive = [{ number = 1, reservations = \"1\" }]\n";
 
-// Runs a script over a library whose cartridge fails at that call: what it writes, and how it ends.
-fn ran(alloc: Global, script: &[u8], calls: u64) -> Result<(Vec<u8>, Result<(), VtlFault>), Fail> {
-    let config = match read_config(alloc, CONFIG) {
-        Ok(config) => config,
-        Err(_) => return Err(Fail::from("no configuration")),
-    };
+// A library is started and runs a script; how it ends.
+fn run_over(
+    alloc: Global,
+    sides: &FailingSides,
+    config: Config,
+    script: &[u8],
+    writer: &mut BadWriter,
+) -> Result<(), VtlFault> {
     let Config { cartridges, drives } = config;
-    let sides = FailingSides { calls };
-    let held = start(alloc, &sides, cartridges, drives);
+    let held = start(alloc, sides, cartridges, drives);
     let mut reader = BadReader::new(script, None);
+    run_started(alloc, sides, held, &mut reader, writer)
+}
+
+// What a script ends with, and what it writes.
+type Ran = (Vec<u8>, Result<(), VtlFault>);
+
+// Runs a script over a library whose cartridge fails at that call.
+fn ran(alloc: Global, script: &[u8], calls: u64) -> Result<Ran, Fail> {
+    let Ok(config) = read_config(alloc, CONFIG) else {
+        return Err(Fail::from("no configuration"));
+    };
     let mut writer = BadWriter::new(alloc, None);
-    let outcome = run_started(alloc, &sides, held, &mut reader, &mut writer);
+    let outcome = run_over(alloc, &FailingSides { calls }, config, script, &mut writer);
     Ok((writer.into_text(), outcome))
 }
 
@@ -107,24 +119,29 @@ const WAITS: &[u8] = b"1 1 000000000000\n1 1 0a0000000100 61\n";
 
 const REFUSED: &[u8] = b"1 1 000000000000\n1 1 0a0000000100 61\n--\nx\n";
 
+const GOOD: &str = "CHECK 700006000000000a00000000290000000000\nGOOD\n";
+
+// How a script ends that writes what it should; None where it writes something else.
+fn end_of(alloc: Global, script: &[u8], calls: u64) -> Result<Option<Result<(), VtlFault>>, Fail> {
+    let (text, outcome) = ran(alloc, script, calls)?;
+    if text.as_slice() != GOOD.as_bytes() {
+        return Ok(None);
+    }
+    Ok(Some(outcome))
+}
+
 #[test]
 fn the_first_fault_is_told(rt: HostRuntime) -> Result<(), Fail> {
-    let good = "CHECK 700006000000000a00000000290000000000\nGOOD\n";
     let mut unwritten = 0u32;
     for calls in 0..40 {
-        let (text, outcome) = ran(rt.alloc(), WAITS, calls)?;
-        if text.as_slice() != good.as_bytes() {
+        let Some(outcome) = end_of(rt.alloc(), WAITS, calls)? else {
             continue;
-        }
-        let (again, refused) = ran(rt.alloc(), REFUSED, calls)?;
-        assert_equal!(rt; again.as_slice(), good.as_bytes(); calls);
-        assert_equal!(rt; refused, Err(VtlFault::Script { line: 4 }); calls);
-        match outcome {
-            Ok(()) => {}
-            Err(fault) => {
-                assert_equal!(rt; fault, VtlFault::Device; calls);
-                unwritten = unwritten.saturating_add(1);
-            }
+        };
+        let refused = end_of(rt.alloc(), REFUSED, calls)?;
+        assert_equal!(rt; refused, Some(Err(VtlFault::Script { line: 4 })); calls);
+        if outcome.is_err() {
+            assert_equal!(rt; outcome, Err(VtlFault::Device); calls);
+            unwritten = unwritten.saturating_add(1);
         }
     }
     // A frame is four calls of the disk.

@@ -35,20 +35,31 @@ const WHOLE: Plan = Plan {
     error: None,
 };
 
-// Runs the program. Without a drive memory has run out before the start.
-fn ran(alloc: Global, script: &[u8], plan: Plan, has_drive: bool) -> ProgramRun {
-    let mut reader = BadReader::new(script, plan.read);
-    let mut writer = BadWriter::new(alloc, plan.write);
-    let mut lines = BadWriter::new(alloc, plan.error);
+// Starts a library and runs a script. Without a drive memory has run out before the start.
+fn outcome_of(
+    alloc: Global,
+    script: &[u8],
+    read: BadCall,
+    has_drive: bool,
+    writer: &mut BadWriter,
+) -> Result<Verdict, VtlFault> {
     let start = if has_drive {
         built_in(alloc)
     } else {
         Err(VtlFault::NoMemory)
     };
-    let outcome = match run_started(alloc, &NewSides, start, &mut reader, &mut writer) {
+    let mut reader = BadReader::new(script, read);
+    match run_started(alloc, &NewSides, start, &mut reader, writer) {
         Ok(()) => Ok(Verdict::Done),
         Err(fault) => Err(fault),
-    };
+    }
+}
+
+// Runs the program.
+fn ran(alloc: Global, script: &[u8], plan: Plan, has_drive: bool) -> ProgramRun {
+    let mut writer = BadWriter::new(alloc, plan.write);
+    let mut lines = BadWriter::new(alloc, plan.error);
+    let outcome = outcome_of(alloc, script, plan.read, has_drive, &mut writer);
     let ended = end(outcome, &mut lines);
     ProgramRun {
         text: writer.into_text(),
@@ -99,29 +110,35 @@ static ENDS: &'static [End<'static>] = &[
     (SCRIPT, WHOLE, false, 3, "", "vtl: out of memory\n"),
 ];
 
-#[test]
-fn status_and_line_of_each_end(rt: HostRuntime) -> Result<(), Fail> {
-    for (at, (script, plan, has_drive, status, text, line)) in ENDS.iter().enumerate() {
-        let ran = ran(rt.alloc(), script, *plan, *has_drive);
-        assert_equal!(rt; ran.ended.status, *status; at);
-        assert_holds!(rt; ran.ended.is_reported; at);
-        assert_equal!(rt; ran.text.as_slice(), text.as_bytes(); at);
-        assert_equal!(rt; ran.line.as_slice(), line.as_bytes(); at);
-    }
-    Ok(())
+fn has_ended(rt: &impl Abort, ran: &ProgramRun, wanted: &End, at: usize) {
+    let (_, _, _, status, text, line) = *wanted;
+    assert_equal!(rt; ran.ended.status, status; at);
+    assert_holds!(rt; ran.ended.is_reported; at);
+    assert_equal!(rt; ran.text.as_slice(), text.as_bytes(); at);
+    assert_equal!(rt; ran.line.as_slice(), line.as_bytes(); at);
 }
 
 #[test]
-fn a_line_that_can_not_be_written(rt: HostRuntime) -> Result<(), Fail> {
+fn status_and_line_of_each_end(rt: HostRuntime) {
+    for (at, row) in ENDS.iter().enumerate() {
+        let (script, plan, has_drive, _, _, _) = *row;
+        has_ended(&rt, &ran(rt.alloc(), script, plan, has_drive), row, at);
+    }
+}
+
+fn is_silent(rt: &impl Abort, ran: &ProgramRun) {
+    assert_equal!(rt; ran.ended.status, 1);
+    assert_holds!(rt; !ran.ended.is_reported);
+    assert_holds!(rt; ran.line.is_empty());
+}
+
+#[test]
+fn a_line_that_can_not_be_written(rt: HostRuntime) {
     let closed = Plan {
         error: Some(1),
         ..WHOLE
     };
-    let ran = ran(rt.alloc(), b"x\n", closed, true);
-    assert_equal!(rt; ran.ended.status, 1);
-    assert_holds!(rt; !ran.ended.is_reported);
-    assert_holds!(rt; ran.line.is_empty());
-    Ok(())
+    is_silent(&rt, &ran(rt.alloc(), b"x\n", closed, true));
 }
 
 // Faults of the program and of a script, each with its status and its line.
@@ -191,21 +208,23 @@ static WRITTEN_IN_PARTS: &'static [Parts<'static>] = &[
     (0, &[], b"", false),
 ];
 
+fn is_written(rt: &impl Abort, writer: &mut PartWriter, parts: &Parts, at: usize) {
+    let (_, _, text, is_all) = *parts;
+    let wanted = if is_all {
+        Ok(())
+    } else {
+        Err(VtlFault::Device)
+    };
+    assert_equal!(rt; tell(writer, b"abcdef"), wanted; at);
+    assert_equal!(rt; writer.text(), text; at);
+}
+
 #[test]
-fn a_text_is_written_in_parts(rt: HostRuntime) -> Result<(), Fail> {
-    for (at, (most, errors, text, is_all)) in WRITTEN_IN_PARTS.iter().enumerate() {
-        let mut writer = PartWriter::new(rt.alloc(), *most, errors);
-        let outcome = tell(&mut writer, b"abcdef");
-        let wanted = if *is_all {
-            Ok(())
-        } else {
-            Err(VtlFault::Device)
-        };
-        assert_equal!(rt; outcome, wanted; at);
-        let written = writer.into_text();
-        assert_equal!(rt; written.as_slice(), *text; at);
+fn a_text_is_written_in_parts(rt: HostRuntime) {
+    for (at, parts) in WRITTEN_IN_PARTS.iter().enumerate() {
+        let mut writer = PartWriter::new(rt.alloc(), parts.0, parts.1);
+        is_written(&rt, &mut writer, parts, at);
     }
-    Ok(())
 }
 
 static TAKEN_IN_PARTS: &'static [Parts<'static>] = &[
@@ -220,35 +239,41 @@ static TAKEN_IN_PARTS: &'static [Parts<'static>] = &[
     (0, &[], b"", false),
 ];
 
-#[test]
-fn a_line_is_taken_in_parts(rt: HostRuntime) -> Result<(), Fail> {
-    for (at, (most, errors, text, is_reported)) in TAKEN_IN_PARTS.iter().enumerate() {
-        let mut writer = PartWriter::new(rt.alloc(), *most, errors);
-        let ended = end(Err(VtlFault::NoMemory), &mut writer);
-        let wanted = Ended {
-            status: 3,
-            is_reported: *is_reported,
-        };
-        assert_equal!(rt; ended, wanted; at);
-        let written = writer.into_text();
-        assert_equal!(rt; written.as_slice(), *text; at);
-    }
-    Ok(())
+// The line of a fault is written to this writer, with this status.
+fn is_taken(
+    rt: &impl Abort,
+    writer: &mut PartWriter,
+    fault: VtlFault,
+    ended: Ended,
+    text: &[u8],
+    at: usize,
+) {
+    assert_equal!(rt; end(Err(fault), writer), ended; at);
+    assert_equal!(rt; writer.text(), text; at);
 }
 
 #[test]
-fn the_longest_line_is_reported(rt: HostRuntime) -> Result<(), Fail> {
+fn a_line_is_taken_in_parts(rt: HostRuntime) {
+    for (at, &(most, errors, text, is_reported)) in TAKEN_IN_PARTS.iter().enumerate() {
+        let mut writer = PartWriter::new(rt.alloc(), most, errors);
+        let wanted = Ended {
+            status: 3,
+            is_reported,
+        };
+        is_taken(&rt, &mut writer, VtlFault::NoMemory, wanted, text, at);
+    }
+}
+
+#[test]
+fn the_longest_line_is_reported(rt: HostRuntime) {
     let mut writer = PartWriter::new(rt.alloc(), 64, &[]);
-    let ended = end(Err(VtlFault::Script { line: u64::MAX }), &mut writer);
     let wanted = Ended {
         status: 1,
         is_reported: true,
     };
-    assert_equal!(rt; ended, wanted);
-    let line = b"vtl: script line 18446744073709551615 refused\n";
-    let written = writer.into_text();
-    assert_equal!(rt; written.as_slice(), line.as_slice());
-    Ok(())
+    let fault = VtlFault::Script { line: u64::MAX };
+    let line: &[u8] = b"vtl: script line 18446744073709551615 refused\n";
+    is_taken(&rt, &mut writer, fault, wanted, line, 0);
 }
 
 // The first call is the write, the second the flush.
@@ -258,14 +283,21 @@ static FLUSHED: &'static [(BadCall, &'static [u8], Result<(), VtlFault>)] = &[
     (Some(3), b"abcdef", Ok(())),
 ];
 
+fn is_flushed(
+    rt: &impl Abort,
+    writer: &mut BadWriter,
+    text: &[u8],
+    wanted: Result<(), VtlFault>,
+    at: usize,
+) {
+    assert_equal!(rt; tell(writer, b"abcdef"), wanted; at);
+    assert_equal!(rt; writer.text(), text; at);
+}
+
 #[test]
-fn a_text_is_flushed(rt: HostRuntime) -> Result<(), Fail> {
-    for (at, (bad, text, wanted)) in FLUSHED.iter().enumerate() {
-        let mut writer = BadWriter::new(rt.alloc(), *bad);
-        let outcome = tell(&mut writer, b"abcdef");
-        assert_equal!(rt; outcome, *wanted; at);
-        let written = writer.into_text();
-        assert_equal!(rt; written.as_slice(), *text; at);
+fn a_text_is_flushed(rt: HostRuntime) {
+    for (at, &(bad, text, wanted)) in FLUSHED.iter().enumerate() {
+        let mut writer = BadWriter::new(rt.alloc(), bad);
+        is_flushed(&rt, &mut writer, text, wanted, at);
     }
-    Ok(())
 }

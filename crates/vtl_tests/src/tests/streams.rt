@@ -59,6 +59,10 @@ impl BadWriter {
         }
     }
 
+    pub fn text(&self) -> &[u8] {
+        self.text.as_slice()
+    }
+
     pub fn into_text(self) -> Vec<u8> {
         self.text
     }
@@ -94,8 +98,8 @@ impl<'a> PartWriter<'a> {
         }
     }
 
-    pub fn into_text(self) -> Vec<u8> {
-        self.text
+    pub fn text(&self) -> &[u8] {
+        self.text.as_slice()
     }
 }
 

@@ -1,6 +1,6 @@
-//! The laws, at one kind of thing over one disk.
-use crate::accepting::Accepting;
-use crate::laws::{
+//! The laws of what accepts, at one kind of thing over one disk.
+use accepting::Accepting;
+use accepting::laws::{
     a_crash_leaves_what_was_acknowledged, calls_drop_nothing, moves_append, steps_keep_cores,
     what_is_kept_begins, what_is_safe_is_kept, what_was_acknowledged_is_kept,
 };
