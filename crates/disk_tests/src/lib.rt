@@ -8,6 +8,8 @@ mod doubles;
 #[cfg(test)]
 mod files;
 #[cfg(test)]
+mod healings;
+#[cfg(test)]
 mod memory;
 #[cfg(test)]
 mod openings;
