@@ -59,6 +59,7 @@ bench: need-rt
 	python3 bench/cartridge.py
 	python3 bench/buffer.py
 	python3 bench/program.py
+	python3 bench/starts.py
 
 gate: need-rt
 	python3 bench/gate.py

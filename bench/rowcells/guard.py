@@ -6,7 +6,8 @@ from .tables import TOP
 
 # by heading, the lines of its tables; a table that has more needs its cells in listing.py, and then its number here
 LINES = {
-    "Command blocks": [17, 3], "What each command does": [40, 4], "When a partition or a file is full": [6],
+    "Command blocks": [17, 3], "What each command does": [40],
+    "The bytes of READ POSITION and of INQUIRY": [4], "When a partition or a file is full": [6],
     "Memory and device faults": [9, 5], "Persistent reservations": [6, 3], "Actions of PERSISTENT RESERVE OUT": [18],
     "The cases of PREEMPT": [5], "When 2A/04 is established": [3], "READ KEYS and READ RESERVATION": [3],
     "Mode lists": [6, 3, 2], "Sense data": [6], "Unit attention conditions": [6], "Moves": [4, 5, 3],

@@ -8,6 +8,8 @@ mod doubles;
 #[cfg(test)]
 mod files;
 #[cfg(test)]
+mod healings;
+#[cfg(test)]
 mod letters;
 #[cfg(test)]
 mod memory;

@@ -1,7 +1,7 @@
-//! What the first sync behind an opening writes again, and what one that follows a sync that failed.
+//! What the first sync behind an opening writes again.
 use crate::doubles::Noted;
 use crate::staged::staged;
-use crate::steps::{Step, act, fails, failures};
+use crate::steps::{Step, act, failures};
 use assertions::{assert_equal, assert_holds};
 use file_disk::{CallFailed, DiskOver, ForgetfulFile, RawFile, StagedFile, Turn};
 use gate_journal::{Header, Journal, SideKind};
@@ -34,15 +34,17 @@ fn add(journal: &mut Journal<MemDisk>, body: &[u8]) -> Result<(), Fail> {
     Ok(())
 }
 
-fn noted(alloc: Global, bytes: &[u8], turns: &[Turn]) -> Result<Noted<StagedFile>, Fail> {
+/// A file in memory that holds these bytes, and counts what is written to it.
+pub fn noted(alloc: Global, bytes: &[u8], turns: &[Turn]) -> Result<Noted<StagedFile>, Fail> {
     Ok(Noted::new(staged(alloc, bytes, turns)?))
 }
 
-// A call, the failures that it tells, and what all calls have then done: the bytes that were written, the place of the
-// last write, and the good syncs.
-type Row = (Step, u64, u64, u64, u64);
+/// A call, the failures that it tells, and what all calls have then done: the bytes that were written, the place of the
+/// last write, and the good syncs.
+pub type Row = (Step, u64, u64, u64, u64);
 
-fn are_written(rt: &impl Abort, disk: &mut DiskOver<Noted<StagedFile>>, rows: &[Row]) {
+/// The calls are made one after another, and do what their rows say.
+pub fn are_written(rt: &impl Abort, disk: &mut DiskOver<Noted<StagedFile>>, rows: &[Row]) {
     for &(step, failed, bytes, last, syncs) in rows {
         assert_equal!(rt; failures(act(disk, step)), failed);
         let file = disk.file();
@@ -63,9 +65,10 @@ fn opened(
     Ok(())
 }
 
-// The last open gate alone, and only before the first good sync.
-static OF_A_SIDE: &'static [(&'static [&'static [u8]], &'static [Row])] = &[
+// The last open gate alone, and only before the first good sync: a sync that fails behind it leaves the gate alone.
+static OF_A_SIDE: &'static [(&'static [&'static [u8]], &'static [Turn], &'static [Row])] = &[
     (
+        &[],
         &[],
         &[
             (Step::Read(0), 0, 0, 0, 0),
@@ -75,23 +78,46 @@ static OF_A_SIDE: &'static [(&'static [&'static [u8]], &'static [Row])] = &[
     ),
     (
         &[b"body"],
+        &[],
         &[(Step::Sync, 0, 1, 27, 1), (Step::Sync, 0, 1, 27, 2)],
     ),
     (
         &[b"body", b"b"],
+        &[],
         &[
             (Step::Sync, 0, 1, 36, 1),
             (Step::Put(41, b"xy"), 0, 3, 41, 1),
             (Step::Sync, 0, 3, 41, 2),
         ],
     ),
+    // The seven calls of the first sync, a write, and the sync that fails.
+    (
+        &[b"body"],
+        &[
+            Turn::Whole,
+            Turn::Whole,
+            Turn::Whole,
+            Turn::Whole,
+            Turn::Whole,
+            Turn::Whole,
+            Turn::Whole,
+            Turn::Whole,
+            Turn::Failed,
+        ],
+        &[
+            (Step::Sync, 0, 1, 27, 1),
+            (Step::Put(32, b"y"), 0, 2, 32, 1),
+            (Step::Sync, 1, 2, 32, 1),
+            (Step::Sync, 0, 3, 32, 2),
+        ],
+    ),
 ];
 
 #[test]
 fn an_opening_writes_one_byte(rt: HostRuntime) -> Result<(), Fail> {
-    for &(bodies, rows) in OF_A_SIDE {
+    for &(bodies, turns, rows) in OF_A_SIDE {
         let side = side_of(rt.alloc(), bodies)?;
-        opened(&rt, rt.alloc(), side.bytes(), &[], rows)?;
+        opened(&rt, rt.alloc(), side.bytes(), turns, rows)?;
     }
     Ok(())
 }
@@ -158,122 +184,11 @@ fn a_first_sync_that_fails(rt: HostRuntime) -> Result<(), Fail> {
     Ok(())
 }
 
-// A sync that fails behind writes into sixteen bytes. The good one behind it writes again what was written since the
-// last good one, and no more.
-static HEALED: &'static [(&'static [Turn], &'static [Row])] = &[
-    (
-        &[Turn::Whole, Turn::Failed],
-        &[
-            (Step::Put(3, b"abc"), 0, 3, 3, 0),
-            (Step::Sync, 1, 3, 3, 0),
-            (Step::Sync, 0, 6, 3, 1),
-        ],
-    ),
-    // Two writes that touch or overlap are one range, and two others two.
-    (
-        &[Turn::Whole, Turn::Whole, Turn::Failed],
-        &[
-            (Step::Put(3, b"abc"), 0, 3, 3, 0),
-            (Step::Put(5, b"def"), 0, 6, 5, 0),
-            (Step::Sync, 1, 6, 5, 0),
-            (Step::Sync, 0, 11, 3, 1),
-        ],
-    ),
-    (
-        &[Turn::Whole, Turn::Whole, Turn::Failed],
-        &[
-            (Step::Put(8, b"b"), 0, 1, 8, 0),
-            (Step::Put(0, b"a"), 0, 2, 0, 0),
-            (Step::Sync, 1, 2, 0, 0),
-            (Step::Sync, 0, 4, 0, 1),
-            (Step::Sync, 0, 4, 0, 2),
-        ],
-    ),
-    // What a good sync made sure is not written again.
-    (
-        &[Turn::Whole, Turn::Whole, Turn::Whole, Turn::Failed],
-        &[
-            (Step::Put(3, b"abc"), 0, 3, 3, 0),
-            (Step::Sync, 0, 3, 3, 1),
-            (Step::Put(9, b"z"), 0, 4, 9, 1),
-            (Step::Sync, 1, 4, 9, 1),
-            (Step::Sync, 0, 5, 9, 2),
-        ],
-    ),
-    // Bytes that were cut away are not written again.
-    (
-        &[Turn::Whole, Turn::Whole, Turn::Failed],
-        &[
-            (Step::Put(3, b"abc"), 0, 3, 3, 0),
-            (Step::Cut(4), 0, 3, 3, 0),
-            (Step::Sync, 1, 3, 3, 0),
-            (Step::Sync, 0, 4, 3, 1),
-        ],
-    ),
-    // A second fault is a fault again; the file is then asked for no bytes.
-    (
-        &[
-            Turn::Whole,
-            Turn::Failed,
-            Turn::Whole,
-            Turn::Failed,
-            Turn::Whole,
-            Turn::Whole,
-            Turn::Whole,
-            Turn::Failed,
-        ],
-        &[
-            (Step::Put(3, b"abc"), 0, 3, 3, 0),
-            (Step::Sync, 1, 3, 3, 0),
-            (Step::Sync, 2, 3, 3, 0),
-            (Step::Sync, 3, 6, 3, 0),
-            (Step::Sync, 0, 9, 3, 1),
-        ],
-    ),
-    // More ranges are not kept: each later sync fails, and asks the file for no bytes.
-    (
-        &[Turn::Whole, Turn::Whole, Turn::Whole, Turn::Failed],
-        &[
-            (Step::Put(0, b"a"), 0, 1, 0, 0),
-            (Step::Put(8, b"b"), 0, 2, 8, 0),
-            (Step::Put(14, b"c"), 0, 3, 14, 0),
-            (Step::Sync, 1, 3, 14, 0),
-            (Step::Sync, 2, 3, 14, 0),
-            (Step::Put(0, b"a"), 0, 4, 0, 0),
-            (Step::Sync, 3, 4, 0, 0),
-        ],
-    ),
-];
-
-#[test]
-fn a_sync_behind_one_that_failed(rt: HostRuntime) -> Result<(), Fail> {
-    for &(turns, rows) in HEALED {
-        let mut disk = DiskOver::new(noted(rt.alloc(), b"0123456789abcdef", turns)?);
-        are_written(&rt, &mut disk, rows);
-    }
-    Ok(())
-}
-
-// What a crash leaves at worst.
-fn leaves(rt: &impl Abort, disk: &MemDisk, bytes: &[u8]) -> Result<(), Fail> {
+/// What a crash leaves at worst.
+pub fn leaves(rt: &impl Abort, disk: &MemDisk, bytes: &[u8]) -> Result<(), Fail> {
     let left = disk.copy()?.crash(0, b'.')?;
     assert_equal!(rt; left.bytes(), bytes);
     Ok(())
-}
-
-static FORGOTTEN: &'static [(Step, u64)] = &[
-    (Step::Put(0, b"new "), 0),
-    (Step::Sync, 1),
-    (Step::Sync, 0),
-];
-
-// Over a system that forgets what failed, too.
-#[test]
-fn what_a_system_forgets(rt: HostRuntime) -> Result<(), Fail> {
-    let file = ForgetfulFile::new(MemDisk::from_bytes(rt.alloc(), b"old ")?);
-    let mut disk = DiskOver::new(file);
-    fails(&rt, &mut disk, FORGOTTEN);
-    leaves(&rt, disk.file().disk(), b"new ")
 }
 
 // An earlier process opened the last gate, and its sync failed: a later one passes over it.
