@@ -1,21 +1,23 @@
 //! A stop and a fault at each call, and a side in another thread.
 use crate::journal_samples::{
-    FAULT, FIRST, SECOND, body_of, cartridge, frames_of, made, shut, written,
+    FAULT, FIRST, SECOND, body_of, cartridge, frames_of, made, place, shut, spell, written,
 };
 use crate::samples::SIDE;
 use assertions::{assert_equal, assert_holds};
 use gate_journal::stops::{Run, Stop, stop_at_each_call};
-use gate_journal::{Journal, JournalError};
+use gate_journal::{Frame, Journal, JournalError};
 use std::alloc::Global;
 use std::test::Fail;
 use std::thread;
 use std::thread::Threads;
 use tape_disk::{Disk, FuseDisk, MemDisk, OnceDisk};
 
-// What is done on a disk: the side is opened and the first body added, it is opened, or it is made.
+// What is done on a disk: the side is opened and the first body added, as it is or spelled in place; it is
+// opened; or it is made.
 #[derive(Clone, Copy, Debug, PartialEq, Eq)]
 enum Work {
     Append,
+    Place,
     Open,
     Make,
 }
@@ -31,12 +33,22 @@ impl Run for Work {
         };
         match side {
             Ok(mut journal) => {
-                let ended = *self != Work::Append || journal.append(FIRST).is_ok();
+                let ended = match self {
+                    Work::Append => journal.append(FIRST).is_ok(),
+                    Work::Place => is_placed(alloc, &mut journal),
+                    _ => true,
+                };
                 (journal.close().into_inner(), ended)
             }
             Err(refused) => (refused.disk.into_inner(), false),
         }
     }
+}
+
+// Adds the first body, spelled in place: whether that went through.
+fn is_placed<D: Disk + Drop>(alloc: Global, journal: &mut Journal<D>) -> bool {
+    let mut frame = Frame::new(alloc);
+    spell(&mut frame, FIRST).is_ok() && place(journal, &mut frame).is_ok()
 }
 
 // Whether a stop of this work may leave these frames on a disk that had so many bytes.
@@ -48,8 +60,8 @@ fn may_be_left(
     found: Result<usize, JournalError>,
 ) -> bool {
     match work {
-        Work::Append if ended => found == Ok(3),
-        Work::Append => found == Ok(2) || found == Ok(3),
+        Work::Append | Work::Place if ended => found == Ok(3),
+        Work::Append | Work::Place => found == Ok(2) || found == Ok(3),
         Work::Open => found == Ok(2),
         Work::Make if ended => found == Ok(0),
         Work::Make if calls == 0 && had > 0 => found == Ok(2),
@@ -61,6 +73,7 @@ fn may_be_left(
 // and nine crashes at each.
 static STOPS: &'static [(Work, &'static [u8], usize)] = &[
     (Work::Append, SIDE, 99),
+    (Work::Place, SIDE, 99),
     (Work::Open, SIDE, 63),
     (Work::Make, &[], 54),
     (Work::Make, SIDE, 54),
@@ -137,14 +150,16 @@ static CRASHES: &'static [(u64, u64, u8, usize)] = &[
 fn a_stop_in_an_append(rt: HostRuntime) -> Result<(), Fail> {
     let alloc = rt.alloc();
     for &(calls, keep, fill, frames) in CRASHES {
-        let before = MemDisk::from_bytes(alloc, &shut(alloc, 35)?)?;
-        let (reached, ended) = Work::Append.run(alloc, FuseDisk::new(before, calls));
-        assert_holds!(rt; !ended);
-        assert_equal!(rt;
-            frames_of(alloc, reached.crash(keep, fill)?),
-            Ok(frames);
-            (calls, keep, fill)
-        );
+        for work in [Work::Append, Work::Place] {
+            let before = MemDisk::from_bytes(alloc, &shut(alloc, 35)?)?;
+            let (reached, ended) = work.run(alloc, FuseDisk::new(before, calls));
+            assert_holds!(rt; !ended);
+            assert_equal!(rt;
+                frames_of(alloc, reached.crash(keep, fill)?),
+                Ok(frames);
+                (work, calls, keep, fill)
+            );
+        }
     }
     Ok(())
 }

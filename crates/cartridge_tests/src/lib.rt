@@ -4,6 +4,8 @@
 #[cfg(test)]
 mod asserted;
 #[cfg(test)]
+mod journal_frames;
+#[cfg(test)]
 mod journal_layouts;
 #[cfg(test)]
 mod journal_samples;
