@@ -14,5 +14,5 @@ spelled_code =
     (λ p. record { body = p.0; room = p.1 }) (λ _. refl)
 
 -- the frame's body is gone, and its room is what it was (own)
-abbrev pub emptied : SpelledBody → SpelledBody
-emptied frame = record { body = []; room = frame.room }
+abbrev pub body_taken : SpelledBody → SpelledBody
+body_taken frame = record { body = []; room = frame.room }

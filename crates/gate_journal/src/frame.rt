@@ -3,7 +3,7 @@ ghost use Rattle.std.specs.Prelude.{◌≡◌, ◌≤◌, ◌<◌, ◌+◌, ◌^
 ghost use Rattle.tape_disk.specs.Disk.{DiskState, Only, Passes};
 ghost use Rattle.tape_disk.specs.Moments.{LeavesOnly};
 ghost use Rattle.gate_journal.specs.Side.{IsBody};
-ghost use Rattle.gate_journal.specs.Spelled.{emptied};
+ghost use Rattle.gate_journal.specs.Spelled.{body_taken};
 ghost use Rattle.gate_journal.specs.Inner.Writing.{BehindOrGated, Opened, tail_of};
 
 use crate::device::write_frame;
@@ -75,7 +75,7 @@ impl Frame {
 
     /// Takes the body away. The memory stays.
     pub fn clear(&mut self)
-        ensures { self.new ≡ emptied self.old }
+        ensures { self.new ≡ body_taken self.old }
     {
         self.bytes.truncate(LENGTH_BYTES);
     }
@@ -123,7 +123,7 @@ impl Frame {
         requires gate { (D.state disk.old).honest → end < length (D.state disk.old).seen }
         requires sure { (D.state disk.old).honest →
             Only (D.state disk.old).seen (D.state disk.old).may_leave }
-        ensures frame { self.new ≡ emptied self.old }
+        ensures frame { self.new ≡ body_taken self.old }
         ensures passes { Passes (D.state disk.old) (D.state disk.new) result }
         ensures any_moment { (D.state disk.old).honest →
             LeavesOnly (D.state disk.old) (D.state disk.new)
