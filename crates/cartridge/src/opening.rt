@@ -14,7 +14,7 @@ use crate::error::{CartridgeError, NotOpened};
 use crate::noted::Noted;
 use crate::shelved::Shelved;
 use crate::walking::walk_body;
-use gate_journal::{Journal, JournalError, Refused, SideKind};
+use gate_journal::{Frame, Journal, JournalError, Refused, SideKind};
 use record_index::Index;
 use std::alloc::Global;
 use tape_disk::Disk;
@@ -47,7 +47,7 @@ impl<D: Disk> Cartridge<D> {
                     Ok((index, found)) => Ok(Cartridge {
                         journal,
                         index,
-                        body: Vec::new(alloc),
+                        frame: Frame::new(alloc),
                         noted: found,
                     }),
                     Err(error) => {
