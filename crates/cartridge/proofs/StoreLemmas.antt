@@ -31,7 +31,7 @@ abbrev pub cartridge_with : {D : Type 0} → OpenSide D → List PlacedPart → 
 cartridge_with side index capacity notes =
     cartridge_on side (noted_contents notes) notes.torn (record {
       body = capacity;
-      frames = side.reserved;
+      frames = side.reserved_extents;
       entries = map (λ (p : PlacedPart). p.reserved) index;
     })
 
@@ -132,7 +132,7 @@ module _ {D : Type 0} (old mid : OpenSide D) (same : IsSameSide old mid) (index 
           room = omega (arith, appended.end, appended.fitted, same.end, size_is);
           reserved = record {
             body = more;
-            frames = omega (arith, same.reserved, appended.reserved);
+            frames = omega (arith, same.reserved, appended.reserved_extents);
             entries = taken_entries index index' entered changes grown takes;
           };
         }
@@ -197,7 +197,7 @@ module _ {D : Type 0} (old mid : OpenSide D) (same : IsSameSide old mid) (index 
         room = ap room_behind (broke.end ∙ same.end);
         reserved = record {
           body = more;
-          frames = omega (arith, same.reserved, broke.reserved);
+          frames = omega (arith, same.reserved, broke.reserved_extents);
           entries = grown_entries index index' grown;
         };
       }

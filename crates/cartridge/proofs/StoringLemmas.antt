@@ -129,12 +129,13 @@ same_side old new e = record {
   extents = ap (λ s. s.extents) e;
   end = ap (λ s. s.end) e;
   failed = ap (λ s. s.failed) e;
-  reserved = omega (arith, ap (λ s. s.reserved) e);
+  reserved = omega (arith, ap (λ s. s.reserved_extents) e);
 }
 
 -- or the same but for what is reserved
-pub reserved_side : {D : Type 0} (old new : OpenSide D) → new ≡ record old { reserved = new.reserved }
-    → old.reserved ≤ new.reserved → IsSameSide old new
+pub reserved_side : {D : Type 0} (old new : OpenSide D)
+    → new ≡ record old { reserved = new.reserved; reserved_extents = new.reserved_extents }
+    → old.reserved_extents ≤ new.reserved_extents → IsSameSide old new
 reserved_side old new e more = record {
   disk = ap (λ s. s.disk) e;
   heading = ap (λ s. s.heading) e;

@@ -1,10 +1,11 @@
-//! Changes are put together to a body.
-ghost use Rattle.std.specs.Prelude.{◌≡◌, ◌≤◌, length, vec_capacity};
+//! Changes are put together to the body of a frame.
+ghost use Rattle.std.specs.Prelude.{◌≡◌, ◌≤◌, ◌+◌, ◌++◌, length};
 ghost use Rattle.std.specs.List.{All};
 ghost use Rattle.vtl_base.specs.declared.limits.TheConstants.{MAX_BODY};
-ghost use Rattle.record_index.specs.Records.{IsRecord, spell_all};
+ghost use Rattle.record_index.specs.Records.{IsRecord, spell_all, spell_change};
 
-use record_index::encode_change;
+use gate_journal::Frame;
+use record_index::spelled_parts;
 use volume_core::Change;
 
 // The bytes that these changes have.
@@ -19,17 +20,27 @@ pub(crate) fn size_of_body(changes: &[Change]) -> u32
     size
 }
 
-// Fills a body, in which there is room, with these changes.
-pub(crate) fn fill_body(body: &mut Vec<u8>, changes: &[Change])
+// Spells these changes in a frame that has room for them, and nothing beside them.
+pub(crate) fn fill_body(frame: &mut Frame, changes: &[Change])
     requires records { All IsRecord changes.now }
-    requires room { length (spell_all changes.now) ≤ vec_capacity body.old }
-    ensures body { body.new.items ≡ spell_all changes.now }
-    ensures room { vec_capacity body.old ≤ vec_capacity body.new }
+    requires room { length (spell_all changes.now) ≤ frame.old.room }
+    ensures body { frame.new.body ≡ spell_all changes.now }
+    ensures room { frame.old.room ≤ frame.new.room }
 {
-    body.clear();
+    frame.clear();
     for change in changes {
-        let Ok(()) = encode_change(change, body) else {
-            unreachable!()
-        };
+        add_change(frame, change);
     }
+}
+
+// Spells a change behind what a frame holds, which has room for it.
+fn add_change(frame: &mut Frame, change: &Change)
+    requires record { IsRecord change.now }
+    requires room { length frame.old.body + length (spell_change change.now) ≤ frame.old.room }
+    ensures body { frame.new.body ≡ frame.old.body ++ spell_change change.now }
+    ensures room { frame.old.room ≤ frame.new.room }
+{
+    let (head, block) = spelled_parts(change);
+    frame.extend_reserved(&head);
+    frame.extend_reserved(block);
 }

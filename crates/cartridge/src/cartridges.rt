@@ -9,8 +9,8 @@ ghost use Rattle.cartridge.specs.Contents.{GivesContents, IsContents, ShowsConte
 
 use crate::noted::Noted;
 use crate::shelved::Shelved;
-use gate_journal::Journal;
 use gate_journal::header::NAME_BYTES;
+use gate_journal::{Frame, Journal};
 use record_index::Index;
 use record_index::laws::a_volume_is_seen_by_its_shape;
 use std::marker::Model;
@@ -24,13 +24,13 @@ use vtl_base::{ObjNo, PartNo};
 pub struct Cartridge<D: Disk> {
     pub(crate) journal: Journal<D>,
     pub(crate) index: Index,
-    // The next frame's body is put together here.
-    pub(crate) body: Vec<u8>,
+    // The next frame is spelled here.
+    pub(crate) frame: Frame,
     pub(crate) noted: Noted,
 }
 
 impl<D: Disk> Model for Cartridge<D> {
-    ghost use Rattle.std.specs.Prelude.{map, vec_capacity};
+    ghost use Rattle.std.specs.Prelude.{map};
     ghost use Rattle.gate_journal.specs.State.{room_behind};
     ghost use Rattle.record_index.specs.Places.{PlacedPart};
     ghost use Rattle.cartridge.specs.Inner.Open.{IsOpen, StoresContents};
@@ -48,8 +48,8 @@ impl<D: Disk> Model for Cartridge<D> {
       failed = a.journal.failed;
       room = room_behind a.journal.end;
       reserved = record {
-        body = vec_capacity a.body;
-        frames = a.journal.reserved;
+        body = a.frame.room;
+        frames = a.journal.reserved_extents;
         entries = map (λ (part : PlacedPart). part.reserved) a.index;
       };
     } };

@@ -10,7 +10,7 @@ use crate::cartridges::Cartridge;
 use crate::error::{CartridgeError, NotOpened};
 use crate::recovering::Recovered;
 use crate::shelved::Shelved;
-use gate_journal::{Journal, NotDecoded};
+use gate_journal::{Frame, Journal, NotDecoded};
 use std::alloc::Global;
 use tape_disk::Disk;
 
@@ -39,7 +39,7 @@ impl<D: Disk> Cartridge<D> {
             Ok((journal, recovered)) => Ok(Cartridge {
                 journal,
                 index: recovered.index,
-                body: Vec::new(alloc),
+                frame: Frame::new(alloc),
                 noted: recovered.noted,
             }),
             Err(refused) => {

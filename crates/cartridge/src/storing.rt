@@ -1,5 +1,5 @@
 //! Changes are stored, as one frame.
-ghost use Rattle.std.specs.Prelude.{◌≡◌, ◌⊎◌, ◌+◌, ◌<◌, ◌≤◌, ◌++◌, [], ◌∷◌, ℕ, length, sum_by, true, false, OnOk, OnErr, IfErr, slice_index_or, vec_capacity, map};
+ghost use Rattle.std.specs.Prelude.{◌≡◌, ◌⊎◌, ◌+◌, ◌<◌, ◌≤◌, ◌++◌, [], ◌∷◌, ℕ, length, sum_by, true, false, OnOk, OnErr, IfErr, slice_index_or, map};
 ghost use Rattle.std.specs.List.{All};
 ghost use Rattle.tape_disk.specs.Disk.{Each, Keeps};
 ghost use Rattle.tape_disk.specs.Moments.{LeavesOnly};
@@ -16,9 +16,8 @@ use crate::bodies::{fill_body, size_of_body};
 use crate::cartridges::Cartridge;
 use crate::error::CartridgeError;
 use crate::placing::place_frame;
-use gate_journal::{Journal, JournalError};
+use gate_journal::{Frame, Journal, JournalError};
 use record_index::Index;
-use std::alloc::AllocError;
 use tape_disk::Disk;
 use volume_core::Change;
 use vtl_base::{NoMemory, PartNo};
@@ -40,9 +39,9 @@ impl<D: Disk> Cartridge<D> {
         ensures refused { IfErr result (λ error. (error ≡ CartridgeError.NoMemory)
             × Lacks self.old.reserved part body entries) }
     {
-        reserve_body(&mut self.body, body)?;
+        self.frame.reserve(body)?;
         reserve_part(&mut self.index, part, entries)?;
-        let Ok(()) = self.journal.reserve(1) else {
+        let Ok(()) = self.journal.reserve_extents(1) else {
             return Err(CartridgeError::NoMemory);
         };
         Ok(())
@@ -82,14 +81,14 @@ impl<D: Disk> Cartridge<D> {
         let Ok(()) = make_room(
             &mut self.journal,
             &mut self.index,
-            &mut self.body,
+            &mut self.frame,
             changes,
             size as usize,
         ) else {
             return Err(CartridgeError::NoMemory);
         };
-        fill_body(&mut self.body, changes);
-        match self.journal.append(&self.body) {
+        fill_body(&mut self.frame, changes);
+        match self.journal.append_frame(&mut self.frame) {
             Ok(()) => {
                 place_frame(&mut self.index, &self.journal, &self.noted, changes);
                 self.noted = self.noted.with_frame(changes);
@@ -112,36 +111,26 @@ impl<D: Disk> Cartridge<D> {
 fn make_room<D: Disk>(
     journal: &mut Journal<D>,
     index: &mut Index,
-    body: &mut Vec<u8>,
+    frame: &mut Frame,
     changes: &[Change],
     size: usize,
 ) -> Result<(), NoMemory>
     ensures side { IsSameSide journal.old journal.new }
     ensures few { length index.old ≤ MAX_PARTITIONS }
     ensures grown { IsGrown index.old index.new }
-    ensures body { vec_capacity body.old ≤ vec_capacity body.new }
-    ensures ok { OnOk result ((size ≤ vec_capacity body.new) × (1 ≤ journal.new.reserved)
+    ensures body { frame.old.room ≤ frame.new.room }
+    ensures ok { OnOk result ((size ≤ frame.new.room) × (1 ≤ journal.new.reserved_extents)
         × HasRoomWithin index.new changes.now) }
-    ensures err { OnErr result ((journal.old.reserved ≡ 0)
-        ⊎ ((vec_capacity body.old < size) ⊎ ((part : ℕ)
+    ensures err { OnErr result ((journal.old.reserved_extents ≡ 0)
+        ⊎ ((frame.old.room < size) ⊎ ((part : ℕ)
         × (reserved_of index.old part < sum_by (entries_of part) changes.now)))) }
 {
     reserve_entries(index, changes)?;
-    reserve_body(body, size)?;
-    let Ok(()) = journal.reserve(1) else {
+    frame.reserve(size)?;
+    let Ok(()) = journal.reserve_extents(1) else {
         return Err(NoMemory);
     };
     Ok(())
-}
-
-// Makes room for a body of so many bytes.
-fn reserve_body(body: &mut Vec<u8>, size: usize) -> Result<(), AllocError>
-    ensures grows { vec_capacity body.old ≤ vec_capacity body.new }
-    ensures ok { OnOk result (size ≤ vec_capacity body.new) }
-    ensures err { OnErr result (vec_capacity body.old < size) }
-{
-    body.clear();
-    body.reserve(size)
 }
 
 // Makes room for so many blocks and runs of marks in a partition, where it is there.

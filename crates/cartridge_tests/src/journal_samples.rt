@@ -1,8 +1,9 @@
 //! The side of two frames as a journal's, and what tests do with it.
-use gate_journal::{Header, Journal, JournalError, Refused, SideKind};
+use gate_journal::{Frame, Header, Journal, JournalError, Refused, SideKind};
 use std::alloc::{AllocError, Global};
 use std::test::Fail;
 use tape_disk::{Disk, MemDisk};
+use vtl_base::limits::MAX_BODY;
 use vtl_base::{DevFault, NoMemory};
 
 /// The body of the first frame of the side.
@@ -83,6 +84,27 @@ pub fn written(alloc: Global, frames: usize) -> Result<Journal<MemDisk>, Fail> {
     let mut journal = in_memory(alloc, header)?;
     add(&mut journal, frames)?;
     Ok(journal)
+}
+
+/// Spells a body in a frame, in two parts.
+pub fn spell(frame: &mut Frame, body: &[u8]) -> Result<(), AllocError> {
+    frame.reserve(body.len())?;
+    let half = body.len() / 2;
+    frame.extend_reserved(&body[..half]);
+    frame.extend_reserved(&body[half..]);
+    Ok(())
+}
+
+/// Adds a frame that was spelled, where its body has 1 to 8,388,608 bytes.
+pub fn place<D: Disk + Drop>(
+    journal: &mut Journal<D>,
+    frame: &mut Frame,
+) -> Result<(), JournalError> {
+    let size = frame.body().len();
+    if size == 0 || size > MAX_BODY as usize {
+        return Err(JournalError::NotOurs);
+    }
+    journal.append_frame(frame)
 }
 
 /// The place of a body, and whether it has these bytes.

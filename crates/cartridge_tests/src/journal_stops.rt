@@ -1,11 +1,11 @@
 //! A stop and a fault at each call, and a side in another thread.
 use crate::journal_samples::{
-    FAULT, FIRST, Frames, NEW, SECOND, frames_of, has_body, made_new, written,
+    FAULT, FIRST, Frames, NEW, SECOND, frames_of, has_body, made_new, place, spell, written,
 };
 use crate::samples::SIDE;
 use assertions::{assert_equal, assert_holds};
 use gate_journal::stops::{Run, Stop, stop_at_each_call};
-use gate_journal::{Journal, JournalError};
+use gate_journal::{Frame, Journal, JournalError};
 use std::alloc::Global;
 use std::process::Abort;
 use std::test::Fail;
@@ -14,18 +14,24 @@ use std::thread::Threads;
 use tape_disk::{Disk, FuseDisk, MemDisk, OnceDisk};
 use vtl_base::NoMemory;
 
-// What is done on a disk: the side is opened and the first body added, it is opened, or it is made.
+// What is done on a disk: the side is opened and the first body added, as it is or spelled in place; it is
+// opened; or it is made.
 #[derive(Clone, Copy, Debug, PartialEq, Eq)]
 enum Work {
     Append,
+    Place,
     Open,
     Make,
 }
 
 // Whether the work goes through behind its opening or making, and the disk.
-fn done(work: Work, journal: Journal<FuseDisk<MemDisk>>) -> (MemDisk, bool) {
+fn done(alloc: Global, work: Work, journal: Journal<FuseDisk<MemDisk>>) -> (MemDisk, bool) {
     let mut journal = journal;
-    let ended = work != Work::Append || journal.append(FIRST).is_ok();
+    let ended = match work {
+        Work::Append => journal.append(FIRST).is_ok(),
+        Work::Place => is_placed(alloc, &mut journal),
+        Work::Open | Work::Make => true,
+    };
     (journal.close().into_inner(), ended)
 }
 
@@ -37,17 +43,23 @@ impl Run for Work {
             Journal::open(alloc, disk)
         };
         match side {
-            Ok(journal) => done(*self, journal),
+            Ok(journal) => done(alloc, *self, journal),
             Err(refused) => (refused.disk.into_inner(), false),
         }
     }
 }
 
+// Adds the first body, spelled in place: whether that went through.
+fn is_placed<D: Disk + Drop>(alloc: Global, journal: &mut Journal<D>) -> bool {
+    let mut frame = Frame::new(alloc);
+    spell(&mut frame, FIRST).is_ok() && place(journal, &mut frame).is_ok()
+}
+
 // Whether a stop of this work may leave these frames on a disk that had so many bytes.
 fn may_be_left(work: Work, had: usize, calls: u64, ended: bool, found: Frames) -> bool {
     match work {
-        Work::Append if ended => found == Ok(3),
-        Work::Append => found == Ok(2) || found == Ok(3),
+        Work::Append | Work::Place if ended => found == Ok(3),
+        Work::Append | Work::Place => found == Ok(2) || found == Ok(3),
         Work::Open => found == Ok(2),
         Work::Make if ended => found == Ok(0),
         Work::Make if calls == 0 && had > 0 => found == Ok(2),
@@ -59,6 +71,7 @@ fn may_be_left(work: Work, had: usize, calls: u64, ended: bool, found: Frames) -
 // and nine crashes at each.
 static STOPS: &'static [(Work, &'static [u8], usize)] = &[
     (Work::Append, SIDE, 99),
+    (Work::Place, SIDE, 99),
     (Work::Open, SIDE, 63),
     (Work::Make, &[], 54),
     (Work::Make, SIDE, 54),
@@ -157,10 +170,10 @@ static CRASHES: &'static [(u64, u64, u8, usize)] = &[
     (7, 0, 0xa5, 1),
 ];
 
-// What a crash leaves of an append that stops so.
-fn left_of_append(alloc: Global, calls: u64, keep: u64, fill: u8) -> Result<Frames, NoMemory> {
+// What a crash leaves of a frame that is added, where that stops so.
+fn left_of(alloc: Global, work: Work, calls: u64, keep: u64, fill: u8) -> Result<Frames, NoMemory> {
     let before = MemDisk::from_bytes(alloc, NEW)?;
-    match Work::Append.run(alloc, FuseDisk::new(before, calls)) {
+    match work.run(alloc, FuseDisk::new(before, calls)) {
         (reached, false) => Ok(frames_of(alloc, reached.crash(keep, fill)?)),
         (_, true) => Ok(Err(JournalError::Failed)),
     }
@@ -169,8 +182,10 @@ fn left_of_append(alloc: Global, calls: u64, keep: u64, fill: u8) -> Result<Fram
 #[test]
 fn a_stop_in_an_append(rt: HostRuntime) -> Result<(), Fail> {
     for &(calls, keep, fill, frames) in CRASHES {
-        let found = left_of_append(rt.alloc(), calls, keep, fill)?;
-        assert_equal!(rt; found, Ok(frames); (calls, keep, fill));
+        for work in [Work::Append, Work::Place] {
+            let found = left_of(rt.alloc(), work, calls, keep, fill)?;
+            assert_equal!(rt; found, Ok(frames); (work, calls, keep, fill));
+        }
     }
     Ok(())
 }

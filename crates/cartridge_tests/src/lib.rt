@@ -6,6 +6,8 @@ mod asserted;
 #[cfg(test)]
 mod block_tests;
 #[cfg(test)]
+mod journal_frames;
+#[cfg(test)]
 mod journal_layouts;
 #[cfg(test)]
 mod journal_samples;

@@ -12,12 +12,8 @@ use Rattle.tape_disk.specs.Moments.{LeavesOnly, no_call, weakened, holds_now}
 use Rattle.gate_journal.specs.Side.{OPEN, Heading, IsHeading, IsBody, IsSide, frame, spell_heading, spell, StandsFor}
 use Rattle.gate_journal.specs.Crash.{WithOrWithout}
 use Rattle.gate_journal.specs.State.{StoresSide, bodies_at, extents_from}
-use Rattle.gate_journal.specs.Inner.Writing.{BehindOrGated, Opened}
+use Rattle.gate_journal.specs.Inner.Writing.{BehindOrGated, Opened, tail_of}
 use Rattle.gate_journal.specs.Inner.Frames.{length-frame}
-
--- what is written behind the gate: a length, a body, and the next gate, closed
-abbrev pub tail_of : List ℕ → List ℕ
-tail_of body = to_be_bytes w32 (length body) ++ body ++ 0 ∷ []
 
 pub frames_push : (bodies : List (List ℕ)) (body : List ℕ) →
     flat_map frame (bodies ++ body ∷ []) ≡ flat_map frame bodies ++ frame body

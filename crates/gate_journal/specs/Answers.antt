@@ -37,6 +37,7 @@ pub record Appended {D : Type 0} (old new : OpenSide D) (count : ℕ) : Type 0 w
   pub end : new.end ≡ old.end + 5 + count
   pub extents : new.extents ≡ old.extents ++ (old.end + 5, count) ∷ []
   pub reserved : old.reserved ≤ new.reserved + 1
+  pub reserved_extents : old.reserved_extents ≤ new.reserved_extents + 1
 
 -- the disk failed in an append of that many bytes (own)
 pub record Broke {D : Type 0} (old new : OpenSide D) (count : ℕ) : Type 0 where
@@ -46,6 +47,7 @@ pub record Broke {D : Type 0} (old new : OpenSide D) (count : ℕ) : Type 0 wher
   pub end : new.end ≡ old.end
   pub extents : new.extents ≡ old.extents
   pub reserved : old.reserved ≤ new.reserved
+  pub reserved_extents : old.reserved_extents ≤ new.reserved_extents
 
 -- the disk that a call gives back, in an open side or beside its refusal (own)
 abbrev pub disk_after : {D : Type 0} → Result (OpenSide D) (Refused D) → D

@@ -6,4 +6,5 @@ pub mod Inner
 pub mod Reads
 pub mod Side
 pub mod SideOn
+pub mod Spelled
 pub mod State

@@ -21,6 +21,8 @@ pub record OpenSide (D : Type 0) : Type 0 where
   pub failed : Bool
   -- how many appends take no memory
   pub reserved : ℕ
+  -- how many frames that are spelled in place take no memory
+  pub reserved_extents : ℕ
 
 -- the bytes that may still be added to a side whose end gate has that place (own)
 abbrev pub room_behind : ℕ → ℕ
@@ -96,10 +98,10 @@ module _ {D : Type 0} where
   -- an open side as plain data (own)
   abbrev pub side_code : Coded D → Coded (OpenSide D)
   side_code disk =
-      code_by (D × (Heading × (List (List ℕ) × (List (ℕ × ℕ) × (ℕ × (Bool × ℕ))))))
+      code_by (D × (Heading × (List (List ℕ) × (List (ℕ × ℕ) × (ℕ × (Bool × (ℕ × ℕ)))))))
       (coded× disk (coded× heading_code (coded× (coded_list (coded_list coded_ℕ))
-      (coded× (coded_list (coded× coded_ℕ coded_ℕ)) (coded× coded_ℕ (coded× coded_bool coded_ℕ))))))
-      (λ s. (s.disk, (s.heading, (s.bodies, (s.extents, (s.end, (s.failed, s.reserved)))))))
+      (coded× (coded_list (coded× coded_ℕ coded_ℕ)) (coded× coded_ℕ (coded× coded_bool (coded× coded_ℕ coded_ℕ)))))))
+      (λ s. (s.disk, (s.heading, (s.bodies, (s.extents, (s.end, (s.failed, (s.reserved, s.reserved_extents))))))))
       (λ p. record {
         disk = p.0;
         heading = p.1.0;
@@ -107,6 +109,7 @@ module _ {D : Type 0} where
         extents = p.1.1.1.0;
         end = p.1.1.1.1.0;
         failed = p.1.1.1.1.1.0;
-        reserved = p.1.1.1.1.1.1;
+        reserved = p.1.1.1.1.1.1.0;
+        reserved_extents = p.1.1.1.1.1.1.1;
       })
       (λ _. refl)

@@ -17,7 +17,8 @@ use tape_disk::Disk;
 impl<D: Disk> Journal<D> {
     /// Opens the side of the decoder's kind that the disk holds, as `open_as` does. Then each body is
     /// read once, whole, in order, and given to a new decoder. The first that it refuses is
-    /// `BadRecord`, also where later ones are good. Room is made in memory for that many appends.
+    /// `BadRecord`, also where later ones are good. Room is made in memory for that many frames that
+    /// are spelled in place.
     pub fn open_decoded<T: Decodes>(
         alloc: Global,
         disk: D,
@@ -25,7 +26,7 @@ impl<D: Disk> Journal<D> {
     ) -> Result<(Journal<D>, T), NotDecoded<D>>
         ensures disk { Keeps (D.state disk) (D.state (disk_decoded result)) }
         ensures ok { IfOk result (λ opened. (opened.0.heading.kind ≡ T.KIND)
-            × (opened.0.failed ≡ false) × (frames ≤ opened.0.reserved)
+            × (opened.0.failed ≡ false) × (frames ≤ opened.0.reserved_extents)
             × NoneFailed (D.state disk) (D.state opened.0.disk)) }
         ensures read { IfOk result (λ opened. HasDecoded T.has_read opened.1 opened.0.heading
             opened.0.extents opened.0.bodies (D.state disk).honest) }
@@ -72,7 +73,7 @@ fn of_opening(error: JournalError) -> OpenError
     }
 }
 
-// What the frames of a side spell that was just opened. Room is made for that many appends.
+// What the frames of a side spell that was just opened. Room is made for that many frames more.
 fn decode_frames<D: Disk, T: Decodes>(
     alloc: Global,
     journal: &mut Journal<D>,
@@ -87,7 +88,7 @@ fn decode_frames<D: Disk, T: Decodes>(
         × (journal.new.extents ≡ journal.old.extents)
         × ((D.state journal.old.disk).honest → journal.new.bodies ≡ journal.old.bodies) }
     ensures ok { IfOk result (λ decoder. (journal.new.failed ≡ false)
-        × (frames ≤ journal.new.reserved)
+        × (frames ≤ journal.new.reserved_extents)
         × NoneFailed (D.state journal.old.disk) (D.state journal.new.disk)
         × HasDecoded T.has_read decoder journal.old.heading journal.old.extents
         journal.old.bodies (D.state journal.old.disk).honest) }
@@ -95,7 +96,7 @@ fn decode_frames<D: Disk, T: Decodes>(
         journal.old.heading journal.old.bodies
         (D.state journal.old.disk) (D.state journal.new.disk)) }
 {
-    let Ok(()) = journal.reserve(frames) else {
+    let Ok(()) = journal.reserve_extents(frames) else {
         return Err(OpenError::NoMemory);
     };
     let mut decoder = T::begin(alloc, journal.header())?;
@@ -123,7 +124,7 @@ fn read_frame<D: Disk>(
     ensures disk { Keeps (D.state journal.old.disk) (D.state journal.new.disk) }
     ensures same { (journal.new.extents ≡ journal.old.extents)
         × (journal.new.heading ≡ journal.old.heading)
-        × (journal.new.reserved ≡ journal.old.reserved) }
+        × (journal.new.reserved_extents ≡ journal.old.reserved_extents) }
     ensures unwritten { (D.state journal.old.disk).honest →
         Unwritten (D.state journal.old.disk) (D.state journal.new.disk)
         × (journal.new.bodies ≡ journal.old.bodies) }

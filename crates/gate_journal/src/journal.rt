@@ -7,9 +7,9 @@ ghost use Rattle.gate_journal.specs.Answers.{Appended, Broke, IsFault, MatchWrit
 ghost use Rattle.gate_journal.specs.Crash.{Unwritten, WithOrWithout};
 ghost use Rattle.gate_journal.specs.State.{room_behind, IsBodyAt, IsBodyPart, IsExtent, LiesInBody};
 
-use crate::device::{write_frame, write_new};
-use crate::room::make_room;
-use crate::spelling::{START_BYTES, fill_frame, spell_closed};
+use crate::device::write_new;
+use crate::frame::Frame;
+use crate::spelling::{START_BYTES, spell_closed};
 use crate::{Header, JournalError, Refused};
 use std::alloc::Global;
 use std::marker::Model;
@@ -22,17 +22,20 @@ pub struct Journal<D: Disk> {
     pub(crate) disk: D,
     pub(crate) header: Header,
     pub(crate) extents: Vec<(u64, u32)>,
-    pub(crate) buffer: Vec<u8>,
+    // The frames of `append` are spelled here.
+    pub(crate) buffer: Frame,
+    // How many frames that are spelled in place have their extents reserved.
+    pub(crate) reserved_extents: usize,
     pub(crate) end: u64,
     pub(crate) failed: bool,
 }
 
 impl<D: Disk> Model for Journal<D> {
-    ghost use Rattle.std.specs.Prelude.{◌≡◌, ◌+◌, ◌^◌, ◌<◌};
+    ghost use Rattle.std.specs.Prelude.{◌≡◌, ◌+◌, ◌^◌, ◌<◌, ◌≤◌};
     ghost use Rattle.std.specs.List.{All};
     ghost use Rattle.gate_journal.specs.State.{OpenSide, side_code, bodies_at, IsExtent, StoresSide};
     ghost use Rattle.gate_journal.specs.Side.{IsHeading, heading_of};
-    ghost use Rattle.gate_journal.specs.Inner.Spare.{spare};
+    ghost use Rattle.gate_journal.specs.Inner.Spare.{free, spare};
 
     ghost Value = { OpenSide D };
 
@@ -46,12 +49,14 @@ impl<D: Disk> Model for Journal<D> {
       end = a.end;
       failed = a.failed;
       reserved = spare a.extents a.buffer;
+      reserved_extents = a.reserved_extents;
     } };
 
     ghost invariant = { λ a. IsHeading (heading_of a.header) × (a.end + 1 < 2 ^ 64)
         × All (IsExtent a.end) a.extents.items
         × ((D.state a.disk).honest → StoresSide (D.state a.disk) (heading_of a.header)
-        (bodies_at (D.state a.disk).seen a.extents.items) a.extents.items a.end a.failed) };
+        (bodies_at (D.state a.disk).seen a.extents.items) a.extents.items a.end a.failed)
+        × (a.reserved_extents ≤ free a.extents) };
 }
 
 impl<D: Disk> Journal<D> {
@@ -84,7 +89,8 @@ impl<D: Disk> Journal<D> {
                     disk,
                     header,
                     extents: Vec::new(alloc),
-                    buffer: Vec::new(alloc),
+                    buffer: Frame::new(alloc),
+                    reserved_extents: 0,
                     end,
                     failed: false,
                 })
@@ -185,69 +191,6 @@ impl<D: Disk> Journal<D> {
         ensures { result ≡ room_behind self.now.end }
     {
         MAX_SIDE.saturating_sub(self.end + 1)
-    }
-
-    /// Makes room in memory for that many appends, which then take none: 16 bytes for the extent of
-    /// each, and once 8,388,613 for the longest frame.
-    pub fn reserve(&mut self, frames: usize) -> Result<(), JournalError>
-        ensures ok { OnOk result ((frames ≤ self.new.reserved)
-            × (self.old.reserved ≤ self.new.reserved)
-            × (self.new ≡ record self.old { reserved = self.new.reserved })) }
-        ensures refused { IfErr result (λ error. (error ≡ JournalError.NoMemory)
-            × (self.old.reserved < frames) × (self.new ≡ self.old)) }
-    {
-        if frames == 0 {
-            return Ok(());
-        }
-        make_room(&mut self.extents, &mut self.buffer, frames)?;
-        Ok(())
-    }
-
-    /// Adds a frame with this body of 1 to 8,388,608 bytes. At Ok it is sure, and the room is less
-    /// by 5 and the body's bytes. After `Device` it may be there or not, and nothing more is
-    /// written; after every other error nothing changed.
-    pub fn append(&mut self, body: &[u8]) -> Result<(), JournalError>
-        requires { IsBody body.now }
-        ensures disk { Keeps (D.state self.old.disk) (D.state self.new.disk) }
-        ensures heading { self.new.heading ≡ self.old.heading }
-        ensures answer { MatchWrite result
-            (Appended self.old self.new (length body.now)
-            × NoneFailed (D.state self.old.disk) (D.state self.new.disk))
-            ((self.old.failed ≡ false) × (length body.now + 5 ≤ room_behind self.old.end)
-            × (self.old.reserved ≡ 0) × (self.new ≡ self.old))
-            ((self.old.failed ≡ false) × (room_behind self.old.end < length body.now + 5)
-            × (self.new ≡ self.old))
-            (λ fault. Broke self.old self.new (length body.now)
-            × IsFault fault (D.state self.old.disk) (D.state self.new.disk))
-            ((self.old.failed ≡ true) × (self.new ≡ self.old)) }
-        ensures bodies { (D.state self.old.disk).honest → self.new.bodies
-            ≡ (if is_ok result then self.old.bodies ++ body.now ∷ [] else self.old.bodies) }
-        ensures sure { (D.state self.old.disk).honest → OnOk result
-            (Each (D.state self.new.disk) (StandsFor self.new.heading self.new.bodies)) }
-        ensures any_moment { (D.state self.old.disk).honest → self.old.failed ≡ false →
-            LeavesOnly (D.state self.old.disk) (D.state self.new.disk)
-            (WithOrWithout self.old.heading self.old.bodies body.now) }
-    {
-        if self.failed {
-            return Err(JournalError::Failed);
-        }
-        let size = body.len() as u32;
-        if u64::from(size) + 5 > MAX_SIDE.saturating_sub(self.end + 1) {
-            return Err(JournalError::SideFull);
-        }
-        make_room(&mut self.extents, &mut self.buffer, 1)?;
-        fill_frame(&mut self.buffer, body);
-        match write_frame(&mut self.disk, self.end, &self.buffer) {
-            Ok(()) => {
-                self.extents.push_reserved((self.end + 5, size));
-                self.end += 5 + u64::from(size);
-                Ok(())
-            }
-            Err(fault) => {
-                self.failed = true;
-                Err(JournalError::Device(fault))
-            }
-        }
     }
 
     /// Gives the disk back.

@@ -3,7 +3,7 @@ ghost use Rattle.std.specs.Prelude.{◌≡◌, ◌↔◌, ℕ, List, Some};
 ghost use Rattle.gate_journal.specs.Side.{Heading, StandsFor, IsNotOurs, IsDamagedAt, IsDecided};
 ghost use Rattle.gate_journal.specs.SideOn.{side_on};
 ghost use Rattle.gate_journal.specs.declared.header.TheConstants.{NAME_BYTES};
-ghost use Rattle.gate_journal.specs.declared.spelling.TheConstants.{FRAME_BYTES};
+ghost use Rattle.gate_journal.specs.declared.frame.TheConstants.{AROUND, LENGTH_BYTES};
 
 /// Each image stands for some side, is no side of this library, or is damaged at some place.
 pub fn each_image_is_decided()
@@ -29,8 +29,10 @@ pub fn the_side_on_an_image()
         (side_on image ≡ Some (h, bs)) ↔ StandsFor h bs image }
 {}
 
-/// The lengths that this crate names itself: of a name, and of the longest frame.
+/// The lengths that this crate names itself: of a name, of a body's length, and of all that stands
+/// around a body.
 pub fn the_lengths()
     ensures name { NAME_BYTES ≡ 16 }
-    ensures frame { FRAME_BYTES ≡ 8_388_613 }
+    ensures length { LENGTH_BYTES ≡ 4 }
+    ensures around { AROUND ≡ 5 }
 {}

@@ -1,15 +1,18 @@
 //! Frames behind gates, on a disk: each is there whole or not at all, wherever the work is stopped.
 #![tactic(auto)]
 
+mod appending;
 pub mod decoders;
 mod decoding;
 mod device;
 pub mod error;
+pub mod frame;
 pub mod gates;
 pub mod header;
 pub mod journal;
 pub mod laws;
 mod opening;
+mod placing;
 mod reading;
 mod room;
 mod spelling;
@@ -17,6 +20,7 @@ pub mod stops;
 
 pub use decoders::Decodes;
 pub use error::{JournalError, NotDecoded, OpenError, Refused};
+pub use frame::Frame;
 pub use gates::{Gates, last_gates};
 pub use header::{Header, SideKind};
 pub use journal::Journal;

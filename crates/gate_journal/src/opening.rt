@@ -6,6 +6,7 @@ ghost use Rattle.gate_journal.specs.Side.{StandsFor};
 ghost use Rattle.gate_journal.specs.Answers.{NoneFailed, NotOpened, NotOpenedAs, disk_after};
 ghost use Rattle.gate_journal.specs.Inner.Asked.{IsAsked, NotOpenedAsked};
 
+use crate::frame::Frame;
 use crate::reading::{Frames, read_side};
 use crate::{Journal, Refused, SideKind};
 use std::alloc::Global;
@@ -65,7 +66,8 @@ impl<D: Disk> Journal<D> {
                     disk,
                     header,
                     extents,
-                    buffer: Vec::new(alloc),
+                    buffer: Frame::new(alloc),
+                    reserved_extents: 0,
                     end,
                     failed: false,
                 })

@@ -21,11 +21,10 @@
 //! at the first closed one: what lies behind it counts for nothing. So a frame is added in four
 //! calls of the disk: behind the gate at the end, which stands closed, go length, body and the next
 //! closed gate in one write; a sync; A5h into the gate; a sync.
-ghost use Rattle.std.specs.Prelude.{◌≡◌, ◌≤◌, ◌<◌, ◌+◌, [], ◌∷◌, ◌++◌, length, drop, IfOk, vec_capacity};
+ghost use Rattle.std.specs.Prelude.{◌≡◌, ◌≤◌, [], ◌∷◌, ◌++◌, length, drop, IfOk};
 ghost use Rattle.std.specs.List.{flat_map};
-ghost use Rattle.std.specs.Int.{to_be_bytes, w32, w64};
-ghost use Rattle.gate_journal.specs.Side.{CLOSED, IsBody, IsHeading, heading_of, spell_heading};
-ghost use Rattle.gate_journal.specs.declared.spelling.TheConstants.{FRAME_BYTES};
+ghost use Rattle.std.specs.Int.{to_be_bytes, w64};
+ghost use Rattle.gate_journal.specs.Side.{CLOSED, IsHeading, heading_of, spell_heading};
 
 use crate::header::{Header, NAME_BYTES};
 use byteorder::{BigEndian, ByteOrder};
@@ -39,10 +38,6 @@ pub(crate) const CLOSED: u8 = 0x00;
 
 /// The bytes of a header before the capacities.
 pub(crate) const START_BYTES: usize = 27;
-
-/// The bytes that the longest frame takes of a side: its gate or the next one, its length and its
-/// body.
-pub(crate) const FRAME_BYTES: usize = 8_388_613;
 
 // A header in bytes.
 pub(crate) fn spell_header(alloc: Global, header: &Header) -> Result<Vec<u8>, AllocError>
@@ -82,23 +77,4 @@ pub(crate) fn spell_closed(alloc: Global, header: &Header) -> Result<Vec<u8>, Al
     bytes[0] = CLOSED;
     bytes.push(CLOSED)?;
     Ok(bytes)
-}
-
-// Fills the buffer with what goes behind a gate: a length, a body, and the next gate, closed.
-pub(crate) fn fill_frame(buffer: &mut Vec<u8>, body: &[u8])
-    requires body { IsBody body.now }
-    requires room { FRAME_BYTES ≤ vec_capacity buffer.old }
-    ensures frame { buffer.new.items ≡ to_be_bytes w32 (length body.now) ++ body.now ++ CLOSED ∷ [] }
-    ensures room { FRAME_BYTES ≤ vec_capacity buffer.new }
-{
-    let mut size = [0; 4];
-    BigEndian::write_u32(&mut size, body.len() as u32);
-    buffer.clear();
-    let Ok(()) = buffer.extend_from_slice(&size) else {
-        unreachable!()
-    };
-    let Ok(()) = buffer.extend_from_slice(body) else {
-        unreachable!()
-    };
-    buffer.push_reserved(CLOSED);
 }

@@ -13,4 +13,4 @@ mod tables;
 pub use index::Index;
 pub use places::{Placed, Run};
 pub use records::{HEAD_BYTES, Record, RecordError};
-pub use spelling::{decode_changes, encode_change};
+pub use spelling::{decode_changes, encode_change, spelled_parts};

@@ -20,17 +20,26 @@ pub fn encode_change(change: &Change, into: &mut Vec<u8>) -> Result<(), NoMemory
     ensures room { vec_capacity into.old ≤ vec_capacity into.new }
 {
     into.reserve(Record::of(change).size())?;
+    let (head, block) = spelled_parts(change);
+    into.extend_from_slice(&head)?;
+    into.extend_from_slice(block)?;
+    Ok(())
+}
+
+/// A change in bytes, of which no block is copied: the head of its record, and what stands behind
+/// that.
+pub fn spelled_parts(change: &Change) -> ([u8; HEAD_BYTES], &[u8])
+    requires { IsRecord change.now }
+    ensures { result.0 ++ result.1.now ≡ spell_change change.now }
+{
     match change {
         Change::Put { part, at, block } => {
-            into.extend_from_slice(&head(BLOCK, *part, *at, block.len() as u32))?;
-            into.extend_from_slice(block.as_slice())?;
+            let bytes = block.as_slice();
+            (head(BLOCK, *part, *at, bytes.len() as u32), bytes)
         }
-        Change::Marks { part, at, count } => {
-            into.extend_from_slice(&head(MARKS, *part, *at, *count))?;
-        }
-        Change::Erase { part, at } => into.extend_from_slice(&head(ERASE, *part, *at, 0))?,
+        Change::Marks { part, at, count } => (head(MARKS, *part, *at, *count), &[]),
+        Change::Erase { part, at } => (head(ERASE, *part, *at, 0), &[]),
     }
-    Ok(())
 }
 
 // What a record begins with.

@@ -35,4 +35,4 @@ pub record IsSameSide {D : Type 0} (old new : OpenSide D) : Type 0 where
   pub extents : new.extents ≡ old.extents
   pub end : new.end ≡ old.end
   pub failed : new.failed ≡ old.failed
-  pub reserved : old.reserved ≤ new.reserved
+  pub reserved : old.reserved_extents ≤ new.reserved_extents

@@ -1,9 +1,13 @@
 -- How many frames may be added without memory.
 use Rattle.std.specs.Prelude.{ℕ, ◌-◌, if◌then◌else◌, nat_le, vec_len, vec_capacity}
 use Rattle.std.specs.declared.vec.Vec.{Vec}
-use Rattle.gate_journal.specs.declared.spelling.TheConstants.{FRAME_BYTES}
+use Rattle.vtl_base.specs.declared.limits.TheConstants.{MAX_BODY}
+use Rattle.gate_journal.specs.Spelled.{SpelledBody}
 
--- the extents that may be added, where the buffer has room for the longest frame (own)
-abbrev pub spare : {A B P Q : Type 0} → Vec A P → Vec B Q → ℕ
-spare extents buffer =
-    if nat_le FRAME_BYTES (vec_capacity buffer) then vec_capacity extents - vec_len extents else 0
+-- the extents that may be added without memory (own)
+abbrev pub free : {A B : Type 0} → Vec A B → ℕ
+free extents = vec_capacity extents - vec_len extents
+
+-- the extents that may be added, where the buffer has room for the longest body (own)
+abbrev pub spare : {A B : Type 0} → Vec A B → SpelledBody → ℕ
+spare extents buffer = if nat_le MAX_BODY buffer.room then free extents else 0

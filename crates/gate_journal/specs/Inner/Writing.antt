@@ -1,7 +1,8 @@
 -- What a crash may leave while a frame is written, in bytes.
-use Rattle.std.specs.Prelude.{◌≡◌, ◌⊎◌, ℕ, List, ◌∷◌, ◌++◌}
+use Rattle.std.specs.Prelude.{◌≡◌, ◌⊎◌, ℕ, List, [], ◌∷◌, ◌++◌, length}
+use Rattle.std.specs.Int.{to_be_bytes, w32}
 use Rattle.tape_disk.specs.Disk.{Smeared}
-use Rattle.gate_journal.specs.Side.{OPEN}
+use Rattle.gate_journal.specs.Side.{CLOSED, OPEN}
 
 -- one of these images, and any bytes in a range of it (own)
 abbrev pub Touched : ℕ → ℕ → (List ℕ → Type 0) → List ℕ → Type 0
@@ -22,3 +23,7 @@ BehindOrGated front gate bytes image = Behind front gate image ⊎ Gated front b
 -- the front, an open gate, and these bytes behind it (own)
 abbrev pub Opened : List ℕ → List ℕ → List ℕ → Type 0
 Opened front bytes image = (rest : List ℕ) × (image ≡ front ++ OPEN ∷ bytes ++ rest)
+
+-- what is written behind the gate: a length, a body, and the next gate, closed (own)
+abbrev pub tail_of : List ℕ → List ℕ
+tail_of body = to_be_bytes w32 (length body) ++ body ++ CLOSED ∷ []

@@ -14,7 +14,7 @@ invariant-loop-frame g l =
       fine : l.journal.failed ≡ false;
       heading : l.journal.heading ≡ start.heading;
       extents : l.journal.extents ≡ start.extents;
-      reserved : l.frames ≤ l.journal.reserved;
+      reserved : l.frames ≤ l.journal.reserved_extents;
       keeps : Keeps old new;
       none_failed : NoneFailed old new;
       read :

@@ -22,7 +22,7 @@ returns-in_err-reserve_part-clause-grows g c = rw (← c.self.view_is) (
     let index = c.reserve_part.new.index in
     let grown = c.reserve_part.ensures.grown in
     record {
-      body = c.reserve_body.ensures.grows;
+      body = c.reserve.ensures.grows;
       frames = omega arith;
       entries = grown_entries i.index index grown;
     })
@@ -46,9 +46,11 @@ invariant_of-self-in_default g c =
     let i = c.self.inside in
     let index = c.reserve_part.new.index in
     let grown = c.reserve_part.ensures.grown in
-    let side = same_side i.journal c.reserve.new.self c.in_default.ensures.refused.2 in (
-      same_open g.D.Disk.state i.journal c.reserve.new.self side i.index index i.noted.notes grown c.self.invariant.0,
-      same_stores g.D.Disk.state i.journal c.reserve.new.self side i.index index i.noted.notes c.self.invariant.1,
+    let side = same_side i.journal c.reserve_extents.new.self c.in_default.ensures.refused.2 in (
+      same_open g.D.Disk.state i.journal c.reserve_extents.new.self side i.index index i.noted.notes grown
+          c.self.invariant.0,
+      same_stores g.D.Disk.state i.journal c.reserve_extents.new.self side i.index index i.noted.notes
+          c.self.invariant.1,
     )
 
 pub returns-in_default-clause-grows : goal.returns-in_default-clause-grows
@@ -56,9 +58,9 @@ returns-in_default-clause-grows g c = rw (← c.self.view_is) (
     let i = c.self.inside in
     let index = c.reserve_part.new.index in
     let grown = c.reserve_part.ensures.grown in
-    let side = same_side i.journal c.reserve.new.self c.in_default.ensures.refused.2 in
+    let side = same_side i.journal c.reserve_extents.new.self c.in_default.ensures.refused.2 in
     record {
-      body = c.reserve_body.ensures.grows;
+      body = c.reserve.ensures.grows;
       frames = side.reserved;
       entries = grown_entries i.index index grown;
     })
@@ -69,9 +71,11 @@ invariant_of-self-2 g c =
     let index = c.reserve_part.new.index in
     let grown = c.reserve_part.ensures.grown in
     let done = c.in-Ok.ensures.ok in
-    let side = reserved_side i.journal c.reserve.new.self done.2 done.1 in (
-      same_open g.D.Disk.state i.journal c.reserve.new.self side i.index index i.noted.notes grown c.self.invariant.0,
-      same_stores g.D.Disk.state i.journal c.reserve.new.self side i.index index i.noted.notes c.self.invariant.1,
+    let side = reserved_side i.journal c.reserve_extents.new.self done.3 done.1 in (
+      same_open g.D.Disk.state i.journal c.reserve_extents.new.self side i.index index i.noted.notes grown
+          c.self.invariant.0,
+      same_stores g.D.Disk.state i.journal c.reserve_extents.new.self side i.index index i.noted.notes
+          c.self.invariant.1,
     )
 
 pub returns-clause-grows : goal.returns-clause-grows
@@ -80,9 +84,9 @@ returns-clause-grows g c = rw (← c.self.view_is) (
     let index = c.reserve_part.new.index in
     let grown = c.reserve_part.ensures.grown in
     let done = c.in-Ok.ensures.ok in
-    let side = reserved_side i.journal c.reserve.new.self done.2 done.1 in
+    let side = reserved_side i.journal c.reserve_extents.new.self done.3 done.1 in
     record {
-      body = c.reserve_body.ensures.grows;
+      body = c.reserve.ensures.grows;
       frames = side.reserved;
       entries = grown_entries i.index index grown;
     })
@@ -93,8 +97,8 @@ returns-clause-ok g c = rw (← c.self.view_is) (
     let index = c.reserve_part.new.index in
     let grown = c.reserve_part.ensures.grown in
     let done = c.in-Ok.ensures.ok in
-    let side = reserved_side i.journal c.reserve.new.self done.2 done.1 in (
-      c.in_ok-reserve_body.ensures.ok,
+    let side = reserved_side i.journal c.reserve_extents.new.self done.3 done.1 in (
+      c.in_ok-reserve.ensures.ok,
       done.0,
       λ inside. omega (
         arith,

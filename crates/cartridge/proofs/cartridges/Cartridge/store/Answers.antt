@@ -34,7 +34,8 @@ returns-in_default-clause-answer g c =
       was_fine = fine;
       fitted = omega (arith, c.if-from-room.false, c.from.ensures, c.room.ensures, c.size_of_body-size.ensures);
       lacked =
-          lacks_told i.index j.reserved _ _ c.args.changes.now c.size_of_body-size.ensures c.in_default.ensures.err;
+          lacks_told i.index j.reserved_extents _ _ c.args.changes.now c.size_of_body-size.ensures
+          c.in_default.ensures.err;
       same = same_view j k same (noted_contents notes) notes.torn _;
       reserved = record {
         body = c.make_room.ensures.body;
@@ -52,11 +53,11 @@ fill_body-requires-clause-records g c =
     all_records old.journal mid.journal made.side old.index mid.index made.grown made.few old.noted.notes
     c.self.invariant.0 c.args.changes.now apply
 
-pub append-requires : goal.append-requires
-append-requires g c =
+pub append_frame-requires : goal.append_frame-requires
+append_frame-requires g c =
     let changes = c.args.changes.now in
-    let body = c.deref.result.now in
-    let body_is : body ≡ spell_all changes = c.deref.ensures.value ∙ c.fill_body.ensures.body in (
+    let body = c.fill_body.new.frame.body in
+    let body_is : body ≡ spell_all changes = c.fill_body.ensures.body in (
       omega (arith, ap (λ (l : List ℕ). length l) body_is, some_body changes c.requires.some),
       omega (arith, ap (λ (l : List ℕ). length l) body_is, c.requires.short),
     )
@@ -85,10 +86,11 @@ place_frame-requires-clause-counted g c =
     let mid = c.make_room.new in
     let made = c.make_room.ensures in
     let apply = rw (← c.self.view_is) at c.requires.apply in
-    let body = c.deref.result.now in
-    let body_is : body ≡ spell_all c.args.changes.now = c.deref.ensures.value ∙ c.fill_body.ensures.body in
+    let body = c.fill_body.new.frame.body in
+    let body_is : body ≡ spell_all c.args.changes.now = c.fill_body.ensures.body in
     counted_more old.journal mid.journal made.side old.index mid.index made.grown made.few old.noted.notes
-    c.self.invariant.0 c.args.changes.now apply c.append.new.self body body_is c.in-Ok-append.ensures.answer.0
+    c.self.invariant.0 c.args.changes.now apply c.append_frame.new.self body body_is
+    c.in-Ok-append_frame.ensures.answer.0
 
 pub place_frame-requires-clause-sized : goal.place_frame-requires-clause-sized
 place_frame-requires-clause-sized g c =
@@ -96,10 +98,11 @@ place_frame-requires-clause-sized g c =
     let mid = c.make_room.new in
     let made = c.make_room.ensures in
     let apply = rw (← c.self.view_is) at c.requires.apply in
-    let body = c.deref.result.now in
-    let body_is : body ≡ spell_all c.args.changes.now = c.deref.ensures.value ∙ c.fill_body.ensures.body in
+    let body = c.fill_body.new.frame.body in
+    let body_is : body ≡ spell_all c.args.changes.now = c.fill_body.ensures.body in
     last_sized old.journal mid.journal made.side old.index mid.index made.grown made.few old.noted.notes
-    c.self.invariant.0 c.args.changes.now apply c.append.new.self body body_is c.in-Ok-append.ensures.answer.0
+    c.self.invariant.0 c.args.changes.now apply c.append_frame.new.self body body_is
+    c.in-Ok-append_frame.ensures.answer.0
 
 pub place_frame-requires-clause-fits : goal.place_frame-requires-clause-fits
 place_frame-requires-clause-fits g c =
@@ -107,10 +110,11 @@ place_frame-requires-clause-fits g c =
     let mid = c.make_room.new in
     let made = c.make_room.ensures in
     let apply = rw (← c.self.view_is) at c.requires.apply in
-    let body = c.deref.result.now in
-    let body_is : body ≡ spell_all c.args.changes.now = c.deref.ensures.value ∙ c.fill_body.ensures.body in
+    let body = c.fill_body.new.frame.body in
+    let body_is : body ≡ spell_all c.args.changes.now = c.fill_body.ensures.body in
     last_fits old.journal mid.journal made.side old.index mid.index made.grown made.few old.noted.notes
-    c.self.invariant.0 c.args.changes.now apply c.append.new.self body body_is c.in-Ok-append.ensures.answer.0
+    c.self.invariant.0 c.args.changes.now apply c.append_frame.new.self body body_is
+    c.in-Ok-append_frame.ensures.answer.0
 
 pub place_frame-requires-clause-lies : goal.place_frame-requires-clause-lies
 place_frame-requires-clause-lies g c =
@@ -118,28 +122,30 @@ place_frame-requires-clause-lies g c =
     let mid = c.make_room.new in
     let made = c.make_room.ensures in
     let apply = rw (← c.self.view_is) at c.requires.apply in
-    let body = c.deref.result.now in
-    let body_is : body ≡ spell_all c.args.changes.now = c.deref.ensures.value ∙ c.fill_body.ensures.body in
+    let body = c.fill_body.new.frame.body in
+    let body_is : body ≡ spell_all c.args.changes.now = c.fill_body.ensures.body in
     lies_before old.journal mid.journal made.side old.index mid.index made.grown made.few old.noted.notes
-    c.self.invariant.0 c.args.changes.now apply c.append.new.self body body_is c.in-Ok-append.ensures.answer.0
+    c.self.invariant.0 c.args.changes.now apply c.append_frame.new.self body body_is
+    c.in-Ok-append_frame.ensures.answer.0
 
-pub invariant_of-self-in-Ok-append : goal.invariant_of-self-in-Ok-append
-invariant_of-self-in-Ok-append g c =
+pub invariant_of-self-in-Ok-append_frame : goal.invariant_of-self-in-Ok-append_frame
+invariant_of-self-in-Ok-append_frame g c =
     let old = c.self.inside in
     let mid = c.make_room.new in
     let made = c.make_room.ensures in
     let apply = rw (← c.self.view_is) at c.requires.apply in
-    let body = c.deref.result.now in
-    let body_is : body ≡ spell_all c.args.changes.now = c.deref.ensures.value ∙ c.fill_body.ensures.body in
-    let said = c.in-Ok-append.ensures in (
+    let body = c.fill_body.new.frame.body in
+    let body_is : body ≡ spell_all c.args.changes.now = c.fill_body.ensures.body in
+    let said = c.in-Ok-append_frame.ensures in (
       stored_open old.journal mid.journal made.side old.index mid.index made.grown made.few old.noted.notes
-          c.self.invariant.0 c.args.changes.now apply c.append.new.self body body_is
+          c.self.invariant.0 c.args.changes.now apply c.append_frame.new.self body body_is
           said.answer.0 c.with_frame-self-inside.result.notes c.with_frame-self-inside.ensures
-          c.place_frame.new.index c.append.ensures.heading c.place_frame.ensures.lies,
+          c.place_frame.new.index c.append_frame.ensures.heading c.place_frame.ensures.lies,
       stored_stores old.journal mid.journal made.side old.index mid.index made.grown made.few old.noted.notes
-          c.self.invariant.0 c.args.changes.now apply c.append.new.self body body_is
+          c.self.invariant.0 c.args.changes.now apply c.append_frame.new.self body body_is
           said.answer.0 c.with_frame-self-inside.result.notes c.with_frame-self-inside.ensures
-          g.D.Disk.state c.self.invariant.1 c.append.ensures.heading said.bodies said.sure c.append.ensures.disk,
+          g.D.Disk.state c.self.invariant.1 c.append_frame.ensures.heading said.bodies said.sure
+          c.append_frame.ensures.disk,
     )
 
 pub invariant_of-self-in-Err-Device : goal.invariant_of-self-in-Err-Device
@@ -148,65 +154,67 @@ invariant_of-self-in-Err-Device g c =
     let mid = c.make_room.new in
     let made = c.make_room.ensures in
     let apply = rw (← c.self.view_is) at c.requires.apply in
-    let body = c.deref.result.now in
-    let body_is : body ≡ spell_all c.args.changes.now = c.deref.ensures.value ∙ c.fill_body.ensures.body in
+    let body = c.fill_body.new.frame.body in
+    let body_is : body ≡ spell_all c.args.changes.now = c.fill_body.ensures.body in
     let said = c.in-Err-Device.ensures in
     let answer = rw c.in-Err-Device.field-0-is at said.answer in (
       broken_open old.journal mid.journal made.side old.index mid.index made.grown made.few old.noted.notes
-          c.self.invariant.0 c.args.changes.now apply c.append.new.self body body_is
-          answer.0 c.with_torn-self-inside.result.notes c.with_torn-self-inside.ensures c.append.ensures.heading,
+          c.self.invariant.0 c.args.changes.now apply c.append_frame.new.self body body_is
+          answer.0 c.with_torn-self-inside.result.notes c.with_torn-self-inside.ensures c.append_frame.ensures.heading,
       broken_stores old.journal mid.journal made.side old.index mid.index made.grown made.few old.noted.notes
-          c.self.invariant.0 c.args.changes.now apply c.append.new.self body body_is
+          c.self.invariant.0 c.args.changes.now apply c.append_frame.new.self body body_is
           answer.0 c.with_torn-self-inside.result.notes c.with_torn-self-inside.ensures
-          g.D.Disk.state c.self.invariant.1 (g.met.D.Disk.is_disk c.append.new.self.disk) c.append.ensures.disk
+          g.D.Disk.state c.self.invariant.1 (g.met.D.Disk.is_disk c.append_frame.new.self.disk)
+          c.append_frame.ensures.disk
           said.bodies said.any_moment,
     )
 
-pub returns-in-Ok-append-clause-answer : goal.returns-in-Ok-append-clause-answer
-returns-in-Ok-append-clause-answer g c =
+pub returns-in-Ok-append_frame-clause-answer : goal.returns-in-Ok-append_frame-clause-answer
+returns-in-Ok-append_frame-clause-answer g c =
     rw (← c.self.view_is) (
     let old = c.self.inside in
     let mid = c.make_room.new in
     let made = c.make_room.ensures in
     let apply = rw (← c.self.view_is) at c.requires.apply in
-    let body = c.deref.result.now in
-    let body_is : body ≡ spell_all c.args.changes.now = c.deref.ensures.value ∙ c.fill_body.ensures.body in
-    let said = c.in-Ok-append.ensures in (
+    let body = c.fill_body.new.frame.body in
+    let body_is : body ≡ spell_all c.args.changes.now = c.fill_body.ensures.body in
+    let said = c.in-Ok-append_frame.ensures in (
       stored_answer old.journal mid.journal made.side old.index mid.index made.grown made.few old.noted.notes
-          c.self.invariant.0 c.args.changes.now apply c.append.new.self body body_is
+          c.self.invariant.0 c.args.changes.now apply c.append_frame.new.self body body_is
           said.answer.0 c.with_frame-self-inside.result.notes c.with_frame-self-inside.ensures
           c.place_frame.new.index _ _
-          (omega (arith, made.body, c.fill_body.ensures.room)) c.place_frame.ensures.reserved,
+          (omega (arith, made.body, c.fill_body.ensures.room, c.append_frame.ensures.frame.0))
+          c.place_frame.ensures.reserved,
       said.answer.1 ∙ ap (λ d. (g.D.Disk.state d).failures) made.side.disk,
     ))
 
-pub returns-in-Ok-append-clause-sure : goal.returns-in-Ok-append-clause-sure
-returns-in-Ok-append-clause-sure g c =
+pub returns-in-Ok-append_frame-clause-sure : goal.returns-in-Ok-append_frame-clause-sure
+returns-in-Ok-append_frame-clause-sure g c =
     rw (← c.self.view_is) (
     let old = c.self.inside in
     let mid = c.make_room.new in
     let made = c.make_room.ensures in
     let apply = rw (← c.self.view_is) at c.requires.apply in
-    let body = c.deref.result.now in
-    let body_is : body ≡ spell_all c.args.changes.now = c.deref.ensures.value ∙ c.fill_body.ensures.body in
-    let said = c.in-Ok-append.ensures in
+    let body = c.fill_body.new.frame.body in
+    let body_is : body ≡ spell_all c.args.changes.now = c.fill_body.ensures.body in
+    let said = c.in-Ok-append_frame.ensures in
     stored_sure old.journal mid.journal made.side old.index mid.index made.grown made.few old.noted.notes
-    c.self.invariant.0 c.args.changes.now apply c.append.new.self body body_is
+    c.self.invariant.0 c.args.changes.now apply c.append_frame.new.self body body_is
     said.answer.0 c.with_frame-self-inside.result.notes c.with_frame-self-inside.ensures
-    g.D.Disk.state c.self.invariant.1 c.append.ensures.heading said.bodies said.sure)
+    g.D.Disk.state c.self.invariant.1 c.append_frame.ensures.heading said.bodies said.sure)
 
-pub returns-in-Ok-append-clause-any_moment : goal.returns-in-Ok-append-clause-any_moment
-returns-in-Ok-append-clause-any_moment g c =
+pub returns-in-Ok-append_frame-clause-any_moment : goal.returns-in-Ok-append_frame-clause-any_moment
+returns-in-Ok-append_frame-clause-any_moment g c =
     rw (← c.self.view_is) (
     let old = c.self.inside in
     let mid = c.make_room.new in
     let made = c.make_room.ensures in
     let apply = rw (← c.self.view_is) at c.requires.apply in
-    let body = c.deref.result.now in
-    let body_is : body ≡ spell_all c.args.changes.now = c.deref.ensures.value ∙ c.fill_body.ensures.body in
+    let body = c.fill_body.new.frame.body in
+    let body_is : body ≡ spell_all c.args.changes.now = c.fill_body.ensures.body in
     shown_moments old.journal mid.journal made.side old.index mid.index made.grown made.few old.noted.notes
-    c.self.invariant.0 c.args.changes.now apply c.append.new.self body body_is
-    g.D.Disk.state c.self.invariant.1 c.in-Ok-append.ensures.any_moment)
+    c.self.invariant.0 c.args.changes.now apply c.append_frame.new.self body body_is
+    g.D.Disk.state c.self.invariant.1 c.in-Ok-append_frame.ensures.any_moment)
 
 pub returns-in-Err-Device-clause-any_moment : goal.returns-in-Err-Device-clause-any_moment
 returns-in-Err-Device-clause-any_moment g c =
@@ -215,10 +223,10 @@ returns-in-Err-Device-clause-any_moment g c =
     let mid = c.make_room.new in
     let made = c.make_room.ensures in
     let apply = rw (← c.self.view_is) at c.requires.apply in
-    let body = c.deref.result.now in
-    let body_is : body ≡ spell_all c.args.changes.now = c.deref.ensures.value ∙ c.fill_body.ensures.body in
+    let body = c.fill_body.new.frame.body in
+    let body_is : body ≡ spell_all c.args.changes.now = c.fill_body.ensures.body in
     shown_moments old.journal mid.journal made.side old.index mid.index made.grown made.few old.noted.notes
-    c.self.invariant.0 c.args.changes.now apply c.append.new.self body body_is
+    c.self.invariant.0 c.args.changes.now apply c.append_frame.new.self body body_is
     g.D.Disk.state c.self.invariant.1 c.in-Err-Device.ensures.any_moment)
 
 pub returns-in-Err-Device-clause-answer : goal.returns-in-Err-Device-clause-answer
@@ -228,14 +236,14 @@ returns-in-Err-Device-clause-answer g c =
     let mid = c.make_room.new in
     let made = c.make_room.ensures in
     let apply = rw (← c.self.view_is) at c.requires.apply in
-    let body = c.deref.result.now in
-    let body_is : body ≡ spell_all c.args.changes.now = c.deref.ensures.value ∙ c.fill_body.ensures.body in
+    let body = c.fill_body.new.frame.body in
+    let body_is : body ≡ spell_all c.args.changes.now = c.fill_body.ensures.body in
     let said = c.in-Err-Device.ensures in
     let answer = rw c.in-Err-Device.field-0-is at said.answer in (
       broken_answer old.journal mid.journal made.side old.index mid.index made.grown made.few old.noted.notes
-          c.self.invariant.0 c.args.changes.now apply c.append.new.self body body_is
+          c.self.invariant.0 c.args.changes.now apply c.append_frame.new.self body body_is
           answer.0 c.with_torn-self-inside.result.notes c.with_torn-self-inside.ensures _ _
-          (omega (arith, made.body, c.fill_body.ensures.room)),
-      subst (λ d. IsFault c.in-Err-Device.fault (g.D.Disk.state d) (g.D.Disk.state c.append.new.self.disk))
+          (omega (arith, made.body, c.fill_body.ensures.room, c.append_frame.ensures.frame.0)),
+      subst (λ d. IsFault c.in-Err-Device.fault (g.D.Disk.state d) (g.D.Disk.state c.append_frame.new.self.disk))
           made.side.disk answer.1,
     ))

@@ -25,6 +25,7 @@ invariant_of-result g c =
           fresh (g.D.Disk.state c.write_new.new.disk) h c.new.result.items (27 + 8 * c.len.result) c.requires
           (there.0 ∙ ap (λ (l : List ℕ). 165 ∷ drop 1 l) bytes) there.1 c.new.ensures.items
           (omega (arith, long, count)),
+      omega arith,
     )
 
 pub returns-in-Ok-write_new-clause-bytes : goal.returns-in-Ok-write_new-clause-bytes

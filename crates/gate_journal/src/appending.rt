@@ -1,0 +1,79 @@
+//! A body is added to an open side, as a frame.
+ghost use Rattle.std.specs.Prelude.{◌≡◌, ◌+◌, ◌<◌, ◌≤◌, ◌++◌, [], ◌∷◌, length, true, false, OnOk, IfErr, if◌then◌else◌, is_ok};
+ghost use Rattle.tape_disk.specs.Disk.{Each, Keeps};
+ghost use Rattle.tape_disk.specs.Moments.{LeavesOnly};
+ghost use Rattle.gate_journal.specs.Side.{IsBody, StandsFor};
+ghost use Rattle.gate_journal.specs.Answers.{Appended, Broke, IsFault, MatchWrite, NoneFailed};
+ghost use Rattle.gate_journal.specs.Crash.{WithOrWithout};
+ghost use Rattle.gate_journal.specs.State.{room_behind};
+
+use crate::room::make_room;
+use crate::{Journal, JournalError};
+use tape_disk::Disk;
+use vtl_base::limits::MAX_SIDE;
+
+impl<D: Disk> Journal<D> {
+    /// Makes room in memory for that many appends, which then take none: 16 bytes for the extent of
+    /// each, and once 8,388,613 for the longest frame.
+    pub fn reserve(&mut self, frames: usize) -> Result<(), JournalError>
+        ensures ok { OnOk result ((frames ≤ self.new.reserved)
+            × (self.old.reserved ≤ self.new.reserved)
+            × (self.new ≡ record self.old { reserved = self.new.reserved })) }
+        ensures refused { IfErr result (λ error. (error ≡ JournalError.NoMemory)
+            × (self.old.reserved < frames) × (self.new ≡ self.old)) }
+    {
+        if frames == 0 {
+            return Ok(());
+        }
+        make_room(&mut self.extents, &mut self.buffer, frames)?;
+        Ok(())
+    }
+
+    /// Adds a frame with this body of 1 to 8,388,608 bytes. At Ok it is sure, and the room is less
+    /// by 5 and the body's bytes. After `Device` it may be there or not, and nothing more is
+    /// written; after every other error nothing changed.
+    pub fn append(&mut self, body: &[u8]) -> Result<(), JournalError>
+        requires { IsBody body.now }
+        ensures disk { Keeps (D.state self.old.disk) (D.state self.new.disk) }
+        ensures heading { self.new.heading ≡ self.old.heading }
+        ensures answer { MatchWrite result
+            (Appended self.old self.new (length body.now)
+            × NoneFailed (D.state self.old.disk) (D.state self.new.disk))
+            ((self.old.failed ≡ false) × (length body.now + 5 ≤ room_behind self.old.end)
+            × (self.old.reserved ≡ 0) × (self.new ≡ self.old))
+            ((self.old.failed ≡ false) × (room_behind self.old.end < length body.now + 5)
+            × (self.new ≡ self.old))
+            (λ fault. Broke self.old self.new (length body.now)
+            × IsFault fault (D.state self.old.disk) (D.state self.new.disk))
+            ((self.old.failed ≡ true) × (self.new ≡ self.old)) }
+        ensures bodies { (D.state self.old.disk).honest → self.new.bodies
+            ≡ (if is_ok result then self.old.bodies ++ body.now ∷ [] else self.old.bodies) }
+        ensures sure { (D.state self.old.disk).honest → OnOk result
+            (Each (D.state self.new.disk) (StandsFor self.new.heading self.new.bodies)) }
+        ensures any_moment { (D.state self.old.disk).honest → self.old.failed ≡ false →
+            LeavesOnly (D.state self.old.disk) (D.state self.new.disk)
+            (WithOrWithout self.old.heading self.old.bodies body.now) }
+    {
+        if self.failed {
+            return Err(JournalError::Failed);
+        }
+        let size = body.len() as u32;
+        if u64::from(size) + 5 > MAX_SIDE.saturating_sub(self.end + 1) {
+            return Err(JournalError::SideFull);
+        }
+        make_room(&mut self.extents, &mut self.buffer, 1)?;
+        self.buffer.extend_reserved(body);
+        match self.buffer.write_behind(&mut self.disk, self.end) {
+            Ok(()) => {
+                self.extents.push_reserved((self.end + 5, size));
+                self.end += 5 + u64::from(size);
+                self.reserved_extents = self.reserved_extents.saturating_sub(1);
+                Ok(())
+            }
+            Err(fault) => {
+                self.failed = true;
+                Err(JournalError::Device(fault))
+            }
+        }
+    }
+}
