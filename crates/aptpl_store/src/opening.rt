@@ -1,5 +1,5 @@
 //! A store is opened: each frame's body is read whole, once, and the last one counts.
-ghost use Rattle.std.specs.Prelude.{◌≡◌, ◌<◌, ◌≤◌, [], None, length, slice_index_or, IfOk, IfErr, true, false, vec_capacity};
+ghost use Rattle.std.specs.Prelude.{◌≡◌, ◌<◌, ◌≤◌, [], None, length, slice_index_or, IfOk, IfErr, true, false};
 ghost use Rattle.tape_disk.specs.Disk.{Keeps, Only};
 ghost use Rattle.tape_disk.specs.Moments.{LeavesOnly};
 ghost use Rattle.gate_journal.specs.Answers.{NoneFailed};
@@ -15,7 +15,7 @@ use crate::noted::Noted;
 use crate::spelling::STATE_BYTES;
 use crate::stores::AptplStore;
 use crate::telling::decode;
-use gate_journal::{Journal, JournalError, Refused, SideKind};
+use gate_journal::{Frame, Journal, JournalError, Refused, SideKind};
 use pr_core::Reservations;
 use std::alloc::Global;
 use tape_disk::Disk;
@@ -45,10 +45,10 @@ impl<D: Disk> AptplStore<D> {
             Ok(journal) => {
                 let mut journal = journal;
                 match recover(alloc, &mut journal) {
-                    Ok((body, noted, last)) => {
+                    Ok((frame, noted, last)) => {
                         let store = AptplStore {
                             journal,
-                            body,
+                            frame,
                             noted,
                         };
                         Ok((store, last.power_loss()))
@@ -79,7 +79,7 @@ impl<D: Disk> AptplStore<D> {
 fn recover<D: Disk>(
     alloc: Global,
     journal: &mut Journal<D>,
-) -> Result<(Vec<u8>, Noted, Reservations), StoreError>
+) -> Result<(Frame, Noted, Reservations), StoreError>
     requires fine { journal.old.failed ≡ false }
     requires kind { journal.old.heading.kind ≡ SideKind.Store }
     ensures disk { Keeps (D.state journal.old.disk) (D.state journal.new.disk) }
@@ -90,7 +90,7 @@ fn recover<D: Disk>(
         × ((D.state journal.old.disk).honest → journal.new.bodies ≡ journal.old.bodies) }
     ensures ok { IfOk result (λ found. (journal.new.failed ≡ false)
         × NoneFailed (D.state journal.old.disk) (D.state journal.new.disk)
-        × (STATE_BYTES ≤ vec_capacity found.0) × (RESERVED_SAVES ≤ journal.new.reserved)
+        × (STATE_BYTES ≤ found.0.room) × (RESERVED_SAVES ≤ journal.new.reserved_extents)
         × IsReadUpTo (length journal.old.extents) found.1.notes found.2) }
     ensures spelled { IfOk result (λ found. (D.state journal.old.disk).honest →
         journal.old.bodies ≡ state_bodies found.1.notes.states) }
@@ -126,7 +126,7 @@ fn read_frame<D: Disk>(
     ensures disk { Keeps (D.state journal.old.disk) (D.state journal.new.disk) }
     ensures same { (journal.new.extents ≡ journal.old.extents)
         × (journal.new.heading ≡ journal.old.heading)
-        × (journal.new.reserved ≡ journal.old.reserved) }
+        × (journal.new.reserved_extents ≡ journal.old.reserved_extents) }
     ensures unwritten { (D.state journal.old.disk).honest →
         Unwritten (D.state journal.old.disk) (D.state journal.new.disk)
         × (journal.new.bodies ≡ journal.old.bodies) }

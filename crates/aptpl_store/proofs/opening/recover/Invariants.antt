@@ -1,5 +1,4 @@
 use Rattle.std.proofs.Common.{◌≡◌, ◌≤◌, take, false}
-use Rattle.std.specs.Prelude.{vec_capacity}
 use Rattle.tape_disk.specs.Disk.{Keeps}
 use Rattle.gate_journal.specs.Answers.{NoneFailed}
 use Rattle.gate_journal.specs.Crash.{Unwritten}
@@ -17,8 +16,8 @@ invariant-loop-frame g l =
       fine : l.journal.failed ≡ false;
       heading : l.journal.heading ≡ l.fn.journal.heading;
       extents : l.journal.extents ≡ l.fn.journal.extents;
-      reserved : RESERVED_SAVES ≤ l.journal.reserved;
-      room : STATE_BYTES ≤ vec_capacity l.spelled;
+      reserved : RESERVED_SAVES ≤ l.journal.reserved_extents;
+      room : STATE_BYTES ≤ l.spelled.room;
       keeps : Keeps old new;
       none_failed : NoneFailed old new;
       read : IsReadUpTo l.frame l.noted.notes l.last;
