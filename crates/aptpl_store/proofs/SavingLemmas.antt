@@ -37,7 +37,7 @@ store_on side notes =
       torn = notes.torn;
       failed = side.failed;
       room = room_behind side.end;
-      reserved = side.reserved;
+      reserved = side.reserved_extents;
     }
 
 -- a state is a body
@@ -300,10 +300,10 @@ module _ {D : Type 0} (state : D → DiskState) (is_disk : (d : D) → (state d)
             torn = (notes_are i).torn;
             failed = (appended.is_fine ∙ sym fine) i;
             room = room_behind new.end;
-            reserved = new.reserved;
+            reserved = new.reserved_extents;
           },
           omega (arith, appended.end, appended.fitted, frame_is),
-          appended.reserved,
+          appended.reserved_extents,
         )
 
         pub opens_saved : (state old.disk).honest

@@ -1,5 +1,5 @@
 //! A store is made.
-ghost use Rattle.std.specs.Prelude.{◌≡◌, ◌⊎◌, ◌≤◌, ◌<◌, ◌++◌, [], ◌∷◌, None, false, IfOk, IfErr, OnOk, OnErr, vec_capacity};
+ghost use Rattle.std.specs.Prelude.{◌≡◌, ◌⊎◌, ◌≤◌, ◌<◌, ◌++◌, [], ◌∷◌, None, false, IfOk, IfErr, OnOk, OnErr};
 ghost use Rattle.tape_disk.specs.Disk.{Each, Keeps};
 ghost use Rattle.gate_journal.specs.Answers.{IsFault, NoneFailed};
 ghost use Rattle.gate_journal.specs.Side.{CLOSED, drive_name, spell};
@@ -11,7 +11,7 @@ use crate::noted::Noted;
 use crate::spelling::STATE_BYTES;
 use crate::stores::AptplStore;
 use gate_journal::header::NAME_BYTES;
-use gate_journal::{Header, Journal, JournalError, Refused, SideKind};
+use gate_journal::{Frame, Header, Journal, JournalError, Refused, SideKind};
 use std::alloc::Global;
 use tape_disk::Disk;
 use vtl_base::{DriveNo, NoMemory};
@@ -47,9 +47,9 @@ impl<D: Disk> AptplStore<D> {
                 let mut journal = journal;
                 journal.known();
                 match make_room(alloc, &mut journal) {
-                    Ok(body) => Ok(AptplStore {
+                    Ok(frame) => Ok(AptplStore {
                         journal,
-                        body,
+                        frame,
                         noted: Noted::none(),
                     }),
                     Err(_) => {
@@ -90,24 +90,27 @@ fn name_of(drive: DriveNo) -> [u8; NAME_BYTES]
     name
 }
 
-// Makes a buffer for the longest body.
-pub(crate) fn make_body(alloc: Global) -> Result<Vec<u8>, NoMemory>
-    ensures { IfOk result (λ body. STATE_BYTES ≤ vec_capacity body) }
+// Makes a frame with room for the longest body.
+pub(crate) fn make_frame(alloc: Global) -> Result<Frame, NoMemory>
+    ensures { IfOk result (λ frame. STATE_BYTES ≤ frame.room) }
 {
-    let mut body = Vec::new(alloc);
-    body.reserve(STATE_BYTES)?;
-    Ok(body)
+    let mut frame = Frame::new(alloc);
+    frame.reserve(STATE_BYTES)?;
+    Ok(frame)
 }
 
-// Makes room in memory for later saves: a buffer for the longest body, and the frames.
-fn make_room<D: Disk>(alloc: Global, journal: &mut Journal<D>) -> Result<Vec<u8>, NoMemory>
-    ensures same { journal.new ≡ record journal.old { reserved = journal.new.reserved } }
-    ensures ok { IfOk result (λ body. (STATE_BYTES ≤ vec_capacity body)
-        × (RESERVED_SAVES ≤ journal.new.reserved)) }
+// Makes room in memory for later saves: a frame for the longest body, and the extents of the frames.
+fn make_room<D: Disk>(alloc: Global, journal: &mut Journal<D>) -> Result<Frame, NoMemory>
+    ensures same { journal.new ≡ record journal.old {
+      reserved = journal.new.reserved;
+      reserved_extents = journal.new.reserved_extents;
+    } }
+    ensures ok { IfOk result (λ frame. (STATE_BYTES ≤ frame.room)
+        × (RESERVED_SAVES ≤ journal.new.reserved_extents)) }
 {
-    let body = make_body(alloc)?;
-    let Ok(()) = journal.reserve(RESERVED_SAVES) else {
+    let frame = make_frame(alloc)?;
+    let Ok(()) = journal.reserve_extents(RESERVED_SAVES) else {
         return Err(NoMemory);
     };
-    Ok(body)
+    Ok(frame)
 }

@@ -39,10 +39,10 @@ impl<D: Disk> AptplStore<D> {
     {
         match Journal::open_decoded::<Recovered>(alloc, disk, RESERVED_SAVES) {
             Ok((journal, recovered)) => {
-                let Recovered { body, noted, last } = recovered;
+                let Recovered { frame, noted, last } = recovered;
                 let store = AptplStore {
                     journal,
-                    body,
+                    frame,
                     noted,
                 };
                 Ok((store, last.power_loss()))

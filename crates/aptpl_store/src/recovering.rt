@@ -1,12 +1,12 @@
 //! What is recovered of a store's side, a frame's body after the other.
-ghost use Rattle.std.specs.Prelude.{◌≤◌, vec_capacity};
+ghost use Rattle.std.specs.Prelude.{◌≤◌};
 ghost use Rattle.aptpl_store.specs.declared.spelling.TheConstants.{STATE_BYTES};
 
-use crate::creating::make_body;
+use crate::creating::make_frame;
 use crate::noted::Noted;
 use crate::spelling::STATE_BYTES;
 use crate::telling::decode;
-use gate_journal::{Decodes, Header, SideKind};
+use gate_journal::{Decodes, Frame, Header, SideKind};
 use pr_core::Reservations;
 use std::alloc::Global;
 use vtl_base::NoMemory;
@@ -14,10 +14,10 @@ use vtl_base::NoMemory;
 // The memory for saves, the states that the frames of a side spell, and the last of them.
 #[derive(Drop)]
 pub(crate) struct Recovered {
-    pub body: Vec<u8>,
+    pub frame: Frame,
     pub noted: Noted,
     pub last: Reservations,
-    ghost room: { STATE_BYTES ≤ vec_capacity body },
+    ghost room: { STATE_BYTES ≤ frame.room },
 }
 
 impl Decodes for Recovered {
@@ -33,9 +33,9 @@ impl Decodes for Recovered {
     const KIND: SideKind = SideKind::Store;
 
     fn begin(alloc: Global, _header: &Header) -> Result<Self, NoMemory> {
-        let body = make_body(alloc)?;
+        let frame = make_frame(alloc)?;
         Ok(Recovered {
-            body,
+            frame,
             noted: Noted::none(),
             last: Reservations::empty(),
         })
@@ -46,7 +46,7 @@ impl Decodes for Recovered {
     }
 
     fn take(&mut self, _at: u64, body: &[u8]) -> Result<bool, NoMemory> {
-        let Some(state) = decode(body, &mut self.body) else {
+        let Some(state) = decode(body, &mut self.frame) else {
             return Ok(false);
         };
         self.noted = self.noted.with_state(&state);

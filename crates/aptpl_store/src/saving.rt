@@ -40,8 +40,8 @@ impl<D: Disk> Keeper for AptplStore<D> {
             LeavesOnly (D.state self.old.disk) (D.state self.new.disk)
             (OpensAsEither self.old.heading (latest self.old.states) reservations.now) }
     {
-        fill_body(&mut self.body, reservations.state());
-        match self.journal.append(&self.body) {
+        fill_body(&mut self.frame, reservations.state());
+        match self.journal.append_frame(&mut self.frame) {
             Ok(()) => {
                 self.noted = self.noted.with_state(reservations);
                 Ok(())

@@ -8,12 +8,13 @@
 //! | 3 | how many nexuses are registered |
 //! | 4 + 9N | the nexus of registration N, by rising nexus |
 //! | 5 + 9N | its key, 8 bytes, not 0 |
-ghost use Rattle.std.specs.Prelude.{◌≡◌, ◌≤◌, ◌+◌, ◌++◌, count_by, is_some, length, vec_capacity};
+ghost use Rattle.std.specs.Prelude.{◌≡◌, ◌≤◌, ◌+◌, ◌++◌, count_by, is_some, length};
 ghost use Rattle.vtl_base.specs.declared.limits.TheConstants.{NEXUSES};
 ghost use Rattle.pr_core.specs.Sound.{IsSound};
 ghost use Rattle.aptpl_store.specs.declared.spelling.TheConstants.{REGISTRATION_BYTES};
 ghost use Rattle.aptpl_store.specs.Spelling.{IsKey, IsSavable, aptpl_byte, holder_byte, registration, spell_state, type_byte};
 
+use gate_journal::Frame;
 use pr_core::{PrState, Reservation};
 use vtl_base::limits::NEXUSES;
 
@@ -67,34 +68,34 @@ fn registered(keys: &[Option<u64>]) -> u8
     count
 }
 
-// Puts the registration of a nexus, where it has a key, behind these bytes, for which there is room.
-fn push_registration(body: &mut Vec<u8>, number: u8, key: Option<u64>)
-    requires room { length body.old.items + REGISTRATION_BYTES ≤ vec_capacity body.old }
-    ensures body { body.new.items ≡ body.old.items ++ registration key number }
+// Puts the registration of a nexus, where it has a key, behind what a frame holds, which has room for it.
+fn push_registration(frame: &mut Frame, number: u8, key: Option<u64>)
+    requires room { length frame.old.body + REGISTRATION_BYTES ≤ frame.old.room }
+    ensures body { frame.new.body ≡ frame.old.body ++ registration key number }
     ensures key { IsKey key }
-    ensures room { vec_capacity body.old ≤ vec_capacity body.new }
+    ensures room { frame.old.room ≤ frame.new.room }
 {
     let Some(key) = key else { return };
-    body.push_reserved(number);
-    let Ok(()) = body.extend_from_slice(&key.to_be_bytes()) else {
-        unreachable!()
-    };
+    frame.extend_reserved(&[number]);
+    frame.extend_reserved(&key.to_be_bytes());
 }
 
-// Fills a body, in which there is room, with the spelling of a state.
-pub(crate) fn fill_body(body: &mut Vec<u8>, state: &PrState)
-    requires room { STATE_BYTES ≤ vec_capacity body.old }
+// Spells a state in a frame that has room for it, and nothing beside it.
+pub(crate) fn fill_body(frame: &mut Frame, state: &PrState)
+    requires room { STATE_BYTES ≤ frame.old.room }
     requires sound { IsSound state.now }
-    ensures body { body.new.items ≡ spell_state state.now }
+    ensures body { frame.new.body ≡ spell_state state.now }
     ensures savable { IsSavable state.now }
-    ensures room { STATE_BYTES ≤ vec_capacity body.new }
+    ensures room { frame.old.room ≤ frame.new.room }
 {
-    body.clear();
-    body.push_reserved(aptpl_byte(state.aptpl));
-    body.push_reserved(type_byte(&state.reservation));
-    body.push_reserved(holder_byte(&state.reservation));
-    body.push_reserved(registered(&state.keys));
+    frame.clear();
+    frame.extend_reserved(&[
+        aptpl_byte(state.aptpl),
+        type_byte(&state.reservation),
+        holder_byte(&state.reservation),
+        registered(&state.keys),
+    ]);
     for number in 1..=NEXUSES {
-        push_registration(body, number, state.keys[number as usize - 1]);
+        push_registration(frame, number, state.keys[number as usize - 1]);
     }
 }

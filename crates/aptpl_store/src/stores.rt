@@ -8,8 +8,8 @@ ghost use Rattle.aptpl_store.specs.Contents.{GivesStates, OpensAs, OpensAsEither
 ghost use Rattle.pr_core.specs.States.{power_loss};
 
 use crate::noted::Noted;
-use gate_journal::Journal;
 use gate_journal::header::NAME_BYTES;
+use gate_journal::{Frame, Journal};
 use std::marker::Model;
 use tape_disk::Disk;
 
@@ -18,13 +18,12 @@ use tape_disk::Disk;
 #[derive(Drop)]
 pub struct AptplStore<D: Disk> {
     pub(crate) journal: Journal<D>,
-    // The next frame's body is put together here; there is room for the longest.
-    pub(crate) body: Vec<u8>,
+    // The next frame is spelled here; there is room for the longest.
+    pub(crate) frame: Frame,
     pub(crate) noted: Noted,
 }
 
 impl<D: Disk> Model for AptplStore<D> {
-    ghost use Rattle.std.specs.Prelude.{vec_capacity};
     ghost use Rattle.gate_journal.specs.State.{room_behind};
     ghost use Rattle.aptpl_store.specs.Inner.Open.{IsOpen, StoresStates};
     ghost use Rattle.aptpl_store.specs.State.{OpenStore, store_code};
@@ -40,11 +39,11 @@ impl<D: Disk> Model for AptplStore<D> {
       torn = a.noted.notes.torn;
       failed = a.journal.failed;
       room = room_behind a.journal.end;
-      reserved = a.journal.reserved;
+      reserved = a.journal.reserved_extents;
     } };
 
     ghost invariant = { λ a.
-        IsOpen a.journal.heading a.journal.extents a.journal.failed (vec_capacity a.body) a.noted.notes
+        IsOpen a.journal.heading a.journal.extents a.journal.failed a.frame.room a.noted.notes
         × ((D.state a.journal.disk).honest →
         StoresStates (D.state a.journal.disk) a.journal.heading a.journal.bodies a.noted.notes) };
 }

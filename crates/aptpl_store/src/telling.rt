@@ -1,5 +1,5 @@
 //! The state that a body spells, if it spells one.
-ghost use Rattle.std.specs.Prelude.{◌≡◌, ◌≤◌, length, vec_capacity, IfSome, IfNone};
+ghost use Rattle.std.specs.Prelude.{◌≡◌, ◌≤◌, length, IfSome, IfNone};
 ghost use Rattle.pr_core.specs.declared.states.PrState.{PrState};
 ghost use Rattle.aptpl_store.specs.Spelling.{SpellsState};
 ghost use Rattle.aptpl_store.specs.Inner.Told.{begins_with, behind, held_told, key_told, keys_told, nexus_told, nexuses_from, state_told};
@@ -7,6 +7,7 @@ ghost use Rattle.scsi_lists.specs.Actions.{type_of};
 
 use crate::spelling::{HEAD_BYTES, REGISTRATION_BYTES, STATE_BYTES, fill_body};
 use byteorder::{BigEndian, ByteOrder};
+use gate_journal::Frame;
 use pr_core::{PrState, Reservation, Reservations};
 use scsi_lists::PrType;
 use vtl_base::Nexus;
@@ -73,18 +74,18 @@ fn state_told(body: &[u8]) -> PrState
 
 // The reservations that a body spells, if it spells some: those that it would spell, where their spelling
 // is the body itself.
-pub(crate) fn decode(body: &[u8], spelled: &mut Vec<u8>) -> Option<Reservations>
-    requires room { STATE_BYTES ≤ vec_capacity spelled.old }
+pub(crate) fn decode(body: &[u8], spelled: &mut Frame) -> Option<Reservations>
+    requires room { STATE_BYTES ≤ spelled.old.room }
     ensures some { IfSome result (λ reservations. SpellsState reservations body.now) }
     ensures none { IfNone result ((state : PrState) → SpellsState state body.now → ⊥) }
-    ensures room { STATE_BYTES ≤ vec_capacity spelled.new }
+    ensures room { spelled.old.room ≤ spelled.new.room }
 {
     if body.len() < HEAD_BYTES {
         return None;
     }
     let reservations = Reservations::of(state_told(body))?;
     fill_body(spelled, reservations.state());
-    if spelled.as_slice() != body {
+    if spelled.body() != body {
         return None;
     }
     Some(reservations)

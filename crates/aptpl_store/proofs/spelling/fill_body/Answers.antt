@@ -12,16 +12,14 @@ use Rattle.aptpl_store.proofs.spelling.fill_body.Goals as goal
 pub loop-number-init : goal.loop-number-init
 loop-number-init c =
     let state = c.args.state.now in
-    let items : c.push_reserved-4.new.self.items ≡ aptpl_byte state.aptpl ∷ type_byte state.reservation
+    let items : c.extend_reserved.new.self.body ≡ aptpl_byte state.aptpl ∷ type_byte state.reservation
     ∷ holder_byte state.reservation ∷ count_by is_some state.keys ∷ [] =
-    c.push_reserved-4.ensures.items
-    ∙ (λ i. (((c.push_reserved-3.ensures.items
-    ∙ (λ i. ((c.push_reserved-2.ensures.items
-    ∙ (λ i. (c.push_reserved.ensures.items ∙ (λ i. c.clear.ensures.items i ++ c.aptpl_byte.ensures i ∷ [])) i
-    ++ c.type_byte.ensures i ∷ [])) i) ++ c.holder_byte.ensures i ∷ [])) i)) ++ c.registered.ensures i ∷ []) in
+    c.extend_reserved.ensures.body
+    ∙ (λ i. ap (λ f. f.body) c.clear.ensures i ++ c.aptpl_byte.ensures i ∷ c.type_byte.ensures i
+    ∷ c.holder_byte.ensures i ∷ c.registered.ensures i ∷ []) in
     record {
       few = omega arith;
-      room = omega arith;
+      room = omega (arith, c.extend_reserved.ensures.room, ap (λ f. f.room) c.clear.ensures);
       short = omega (arith, ap (λ (l : List ℕ). length l) items);
       keys = All-nil IsKey;
       spelled =
@@ -47,7 +45,7 @@ loop-number-preserved c =
             inv.short,
             registration_short key n,
             ap (λ (l : List ℕ). length l) body,
-            length-append c.loop-number.body.items (registration key n),
+            length-append c.loop-number.frame.body (registration key n),
           );
       keys =
           subst (λ (count : ℕ). All IsKey (take count state.keys)) next
@@ -55,17 +53,17 @@ loop-number-preserved c =
           c.push_registration.ensures.key);
       spelled =
           ap (λ (l : List ℕ). l ++ registrations_of state (nexuses_from (n + 1))) body
-          ∙ spelled_more state n c.loop-number.body.items _ (omega arith) (omega arith) inv.spelled;
+          ∙ spelled_more state n c.loop-number.frame.body _ (omega arith) (omega arith) inv.spelled;
     }
 
 pub returns-clause-body : goal.returns-clause-body
 returns-clause-body c =
     let state = c.args.state.now in
     let end : 65 ≡ c.loop-number.number = omega arith in
-    sym (append-nil c.loop-number.body.items)
-    ∙ ap (λ (l : List ℕ). c.loop-number.body.items ++ l)
+    sym (append-nil c.loop-number.frame.body)
+    ∙ ap (λ (l : List ℕ). c.loop-number.frame.body ++ l)
     (sym (ap (registrations_of state) nexuses_none ∙ registrations_none state))
-    ∙ ap (λ (n : ℕ). c.loop-number.body.items ++ registrations_of state (nexuses_from n)) end
+    ∙ ap (λ (n : ℕ). c.loop-number.frame.body ++ registrations_of state (nexuses_from n)) end
     ∙ c.loop-number.invariant.spelled
 
 pub returns-clause-savable : goal.returns-clause-savable

@@ -14,8 +14,8 @@ returns-in_err-reservations-clause-none c =
 
 pub returns-then-ne-clause-none : goal.returns-then-ne-clause-none
 returns-then-ne-clause-none c = λ state spells.
-    let same : c.as_slice.result.now ≡ c.args.body.now =
-    c.as_slice.ensures.value ∙ c.fill_body.ensures.body
+    let same : c.body.result.now ≡ c.args.body.now =
+    c.body.ensures ∙ c.fill_body.ensures.body
     ∙ ap spell_state (c.state.ensures.state ∙ c.in_ok-reservations.ensures.value ∙ c.state_told.ensures)
     ∙ told_spelled state c.args.body.now spells in
-    false≢true (sym (ap not (equal_bytes c.as_slice.result.now c.args.body.now same)) ∙ sym c.ne.ensures ∙ c.if-ne.true)
+    false≢true (sym (ap not (equal_bytes c.body.result.now c.args.body.now same)) ∙ sym c.ne.ensures ∙ c.if-ne.true)

@@ -1,36 +1,38 @@
-use Rattle.std.proofs.Common.{◌≡◌, ap, subst, ◌∙◌, arith}
+use Rattle.std.proofs.Common.{◌≡◌, ◌≤◌, ap, subst, ◌∙◌, arith}
 use Rattle.gate_journal.specs.State.{OpenSide}
 use Rattle.aptpl_store.specs.Kept.{store_kept}
 use Rattle.aptpl_store.specs.Spelling.{IsSavable, spell_state}
 use Rattle.aptpl_store.proofs.SavingLemmas.{broken_advances, broken_kept, broken_open, broken_stores, frame_of, is_body, opened, opens_saved, rests, saved_advances, saved_kept, saved_open, saved_stores, saved_value, store_on}
 use Rattle.aptpl_store.proofs.saving.AptplStoreKeeper.save.Goals as goal
 
-pub append-requires : goal.append-requires
-append-requires g c =
+pub append_frame-requires : goal.append_frame-requires
+append_frame-requires g c =
     let state = c.args.reservations.now in
-    let body = c.deref.result.now in
+    let body = c.fill_body.new.frame.body in
     let body_is : body ≡ spell_state state =
-    c.deref.ensures.value ∙ c.fill_body.ensures.body ∙ ap spell_state c.state.ensures.state in
+    c.fill_body.ensures.body ∙ ap spell_state c.state.ensures.state in
     let savable : IsSavable state = subst IsSavable c.state.ensures.state c.fill_body.ensures.savable in
     let is = is_body state body savable body_is in (is.0, omega (arith, is.1))
 
 pub invariant_of-self : goal.invariant_of-self
 invariant_of-self g c =
     let old = c.self.inside.journal in
-    let new = c.append.new.self in
+    let new = c.append_frame.new.self in
     let notes = c.self.inside.noted.notes in
     let state = c.args.reservations.now in
-    let body = c.deref.result.now in
+    let body = c.fill_body.new.frame.body in
+    let room : 580 ≤ c.append_frame.new.frame.room =
+    omega (arith, c.self.invariant.0.body, c.fill_body.ensures.room, c.append_frame.ensures.frame.0) in
     let body_is : body ≡ spell_state state =
-    c.deref.ensures.value ∙ c.fill_body.ensures.body ∙ ap spell_state c.state.ensures.state in
+    c.fill_body.ensures.body ∙ ap spell_state c.state.ensures.state in
     let savable : IsSavable state = subst IsSavable c.state.ensures.state c.fill_body.ensures.savable in
     let said = c.in-Ok.ensures in (
       saved_open g.D.Disk.state g.met.D.Disk.is_disk old new _ _ notes c.self.invariant.0 c.self.invariant.1
-          c.fill_body.ensures.room state savable body body_is said.disk said.heading said.answer.0.was_fine
+          room state savable body body_is said.disk said.heading said.answer.0.was_fine
           (λ h. said.any_moment h said.answer.0.was_fine)
           said.answer.0 said.bodies said.sure c.with_state-self-inside.result.notes c.with_state-self-inside.ensures,
       saved_stores g.D.Disk.state g.met.D.Disk.is_disk old new _ _ notes c.self.invariant.0 c.self.invariant.1
-          c.fill_body.ensures.room state savable body body_is said.disk said.heading said.answer.0.was_fine
+          room state savable body body_is said.disk said.heading said.answer.0.was_fine
           (λ h. said.any_moment h said.answer.0.was_fine)
           said.answer.0 said.bodies said.sure c.with_state-self-inside.result.notes c.with_state-self-inside.ensures,
     )
@@ -38,21 +40,23 @@ invariant_of-self g c =
 pub invariant_of-self-in-Err-Device : goal.invariant_of-self-in-Err-Device
 invariant_of-self-in-Err-Device g c =
     let old = c.self.inside.journal in
-    let new = c.append.new.self in
+    let new = c.append_frame.new.self in
     let notes = c.self.inside.noted.notes in
     let state = c.args.reservations.now in
-    let body = c.deref.result.now in
+    let body = c.fill_body.new.frame.body in
+    let room : 580 ≤ c.append_frame.new.frame.room =
+    omega (arith, c.self.invariant.0.body, c.fill_body.ensures.room, c.append_frame.ensures.frame.0) in
     let body_is : body ≡ spell_state state =
-    c.deref.ensures.value ∙ c.fill_body.ensures.body ∙ ap spell_state c.state.ensures.state in
+    c.fill_body.ensures.body ∙ ap spell_state c.state.ensures.state in
     let savable : IsSavable state = subst IsSavable c.state.ensures.state c.fill_body.ensures.savable in
     let said = c.in-Err-Device.ensures in
     let broke = rw c.in-Err-Device.field-0-is at said.answer in (
       broken_open g.D.Disk.state g.met.D.Disk.is_disk old new _ _ notes c.self.invariant.0 c.self.invariant.1
-          c.fill_body.ensures.room state savable body body_is said.disk said.heading broke.0.was_fine
+          room state savable body body_is said.disk said.heading broke.0.was_fine
           (λ h. said.any_moment h broke.0.was_fine)
           broke.0 said.bodies c.with_torn_state-self-inside.result.notes c.with_torn_state-self-inside.ensures,
       broken_stores g.D.Disk.state g.met.D.Disk.is_disk old new _ _ notes c.self.invariant.0 c.self.invariant.1
-          c.fill_body.ensures.room state savable body body_is said.disk said.heading broke.0.was_fine
+          room state savable body body_is said.disk said.heading broke.0.was_fine
           (λ h. said.any_moment h broke.0.was_fine)
           broke.0 said.bodies c.with_torn_state-self-inside.result.notes c.with_torn_state-self-inside.ensures,
     )
@@ -61,17 +65,19 @@ pub returns-in-Ok-clause-answer : goal.returns-in-Ok-clause-answer
 returns-in-Ok-clause-answer g c =
     rw (← c.self.view_is) (
     let old = c.self.inside.journal in
-    let new = c.append.new.self in
+    let new = c.append_frame.new.self in
     let notes = c.self.inside.noted.notes in
     let state = c.args.reservations.now in
-    let body = c.deref.result.now in
+    let body = c.fill_body.new.frame.body in
+    let room : 580 ≤ c.append_frame.new.frame.room =
+    omega (arith, c.self.invariant.0.body, c.fill_body.ensures.room, c.append_frame.ensures.frame.0) in
     let body_is : body ≡ spell_state state =
-    c.deref.ensures.value ∙ c.fill_body.ensures.body ∙ ap spell_state c.state.ensures.state in
+    c.fill_body.ensures.body ∙ ap spell_state c.state.ensures.state in
     let savable : IsSavable state = subst IsSavable c.state.ensures.state c.fill_body.ensures.savable in
     let said = c.in-Ok.ensures in (
       said.answer.0.was_fine,
       saved_kept g.D.Disk.state g.met.D.Disk.is_disk old new _ _ notes c.self.invariant.0 c.self.invariant.1
-          c.fill_body.ensures.room state savable body body_is said.disk said.heading said.answer.0.was_fine
+          room state savable body body_is said.disk said.heading said.answer.0.was_fine
           (λ h. said.any_moment h said.answer.0.was_fine)
           said.answer.0 said.bodies said.sure c.with_state-self-inside.result.notes c.with_state-self-inside.ensures,
     ))
@@ -80,16 +86,18 @@ pub returns-in-Ok-clause-advances : goal.returns-in-Ok-clause-advances
 returns-in-Ok-clause-advances g c =
     rw (← c.self.view_is) (
     let old = c.self.inside.journal in
-    let new = c.append.new.self in
+    let new = c.append_frame.new.self in
     let notes = c.self.inside.noted.notes in
     let state = c.args.reservations.now in
-    let body = c.deref.result.now in
+    let body = c.fill_body.new.frame.body in
+    let room : 580 ≤ c.append_frame.new.frame.room =
+    omega (arith, c.self.invariant.0.body, c.fill_body.ensures.room, c.append_frame.ensures.frame.0) in
     let body_is : body ≡ spell_state state =
-    c.deref.ensures.value ∙ c.fill_body.ensures.body ∙ ap spell_state c.state.ensures.state in
+    c.fill_body.ensures.body ∙ ap spell_state c.state.ensures.state in
     let savable : IsSavable state = subst IsSavable c.state.ensures.state c.fill_body.ensures.savable in
     let said = c.in-Ok.ensures in
     saved_advances g.D.Disk.state g.met.D.Disk.is_disk old new _ _ notes c.self.invariant.0 c.self.invariant.1
-    c.fill_body.ensures.room state savable body body_is said.disk said.heading said.answer.0.was_fine
+    room state savable body body_is said.disk said.heading said.answer.0.was_fine
     (λ h. said.any_moment h said.answer.0.was_fine)
     said.answer.0 said.bodies said.sure c.with_state-self-inside.result.notes
     c.with_state-self-inside.ensures said.answer.1)
@@ -98,16 +106,18 @@ pub returns-in-Ok-clause-saves : goal.returns-in-Ok-clause-saves
 returns-in-Ok-clause-saves g c =
     rw (← c.self.view_is) (
     let old = c.self.inside.journal in
-    let new = c.append.new.self in
+    let new = c.append_frame.new.self in
     let notes = c.self.inside.noted.notes in
     let state = c.args.reservations.now in
-    let body = c.deref.result.now in
+    let body = c.fill_body.new.frame.body in
+    let room : 580 ≤ c.append_frame.new.frame.room =
+    omega (arith, c.self.invariant.0.body, c.fill_body.ensures.room, c.append_frame.ensures.frame.0) in
     let body_is : body ≡ spell_state state =
-    c.deref.ensures.value ∙ c.fill_body.ensures.body ∙ ap spell_state c.state.ensures.state in
+    c.fill_body.ensures.body ∙ ap spell_state c.state.ensures.state in
     let savable : IsSavable state = subst IsSavable c.state.ensures.state c.fill_body.ensures.savable in
     let said = c.in-Ok.ensures in
     saved_value g.D.Disk.state g.met.D.Disk.is_disk old new _ _ notes c.self.invariant.0 c.self.invariant.1
-    c.fill_body.ensures.room state savable body body_is said.disk said.heading said.answer.0.was_fine
+    room state savable body body_is said.disk said.heading said.answer.0.was_fine
     (λ h. said.any_moment h said.answer.0.was_fine)
     said.answer.0 said.bodies said.sure c.with_state-self-inside.result.notes c.with_state-self-inside.ensures)
 
@@ -115,16 +125,18 @@ pub returns-in-Ok-clause-sure : goal.returns-in-Ok-clause-sure
 returns-in-Ok-clause-sure g c =
     rw (← c.self.view_is) (
     let old = c.self.inside.journal in
-    let new = c.append.new.self in
+    let new = c.append_frame.new.self in
     let notes = c.self.inside.noted.notes in
     let state = c.args.reservations.now in
-    let body = c.deref.result.now in
+    let body = c.fill_body.new.frame.body in
+    let room : 580 ≤ c.append_frame.new.frame.room =
+    omega (arith, c.self.invariant.0.body, c.fill_body.ensures.room, c.append_frame.ensures.frame.0) in
     let body_is : body ≡ spell_state state =
-    c.deref.ensures.value ∙ c.fill_body.ensures.body ∙ ap spell_state c.state.ensures.state in
+    c.fill_body.ensures.body ∙ ap spell_state c.state.ensures.state in
     let savable : IsSavable state = subst IsSavable c.state.ensures.state c.fill_body.ensures.savable in
     let said = c.in-Ok.ensures in
     opens_saved g.D.Disk.state g.met.D.Disk.is_disk old new _ _ notes c.self.invariant.0 c.self.invariant.1
-    c.fill_body.ensures.room state savable body body_is said.disk said.heading said.answer.0.was_fine
+    room state savable body body_is said.disk said.heading said.answer.0.was_fine
     (λ h. said.any_moment h said.answer.0.was_fine)
     said.answer.0 said.bodies said.sure c.with_state-self-inside.result.notes c.with_state-self-inside.ensures)
 
@@ -132,34 +144,38 @@ pub returns-in-Ok-clause-any_moment : goal.returns-in-Ok-clause-any_moment
 returns-in-Ok-clause-any_moment g c =
     rw (← c.self.view_is) (
     let old = c.self.inside.journal in
-    let new = c.append.new.self in
+    let new = c.append_frame.new.self in
     let notes = c.self.inside.noted.notes in
     let state = c.args.reservations.now in
-    let body = c.deref.result.now in
+    let body = c.fill_body.new.frame.body in
+    let room : 580 ≤ c.append_frame.new.frame.room =
+    omega (arith, c.self.invariant.0.body, c.fill_body.ensures.room, c.append_frame.ensures.frame.0) in
     let body_is : body ≡ spell_state state =
-    c.deref.ensures.value ∙ c.fill_body.ensures.body ∙ ap spell_state c.state.ensures.state in
+    c.fill_body.ensures.body ∙ ap spell_state c.state.ensures.state in
     let savable : IsSavable state = subst IsSavable c.state.ensures.state c.fill_body.ensures.savable in
     let said = c.in-Ok.ensures in
     (λ h fine. opened g.D.Disk.state g.met.D.Disk.is_disk old new _ _ notes c.self.invariant.0 c.self.invariant.1
-    c.fill_body.ensures.room state savable body body_is said.disk said.heading said.answer.0.was_fine
+    room state savable body body_is said.disk said.heading said.answer.0.was_fine
     (λ h. said.any_moment h said.answer.0.was_fine) h))
 
 pub returns-in-Err-Device-clause-answer : goal.returns-in-Err-Device-clause-answer
 returns-in-Err-Device-clause-answer g c =
     rw (← c.self.view_is) (
     let old = c.self.inside.journal in
-    let new = c.append.new.self in
+    let new = c.append_frame.new.self in
     let notes = c.self.inside.noted.notes in
     let state = c.args.reservations.now in
-    let body = c.deref.result.now in
+    let body = c.fill_body.new.frame.body in
+    let room : 580 ≤ c.append_frame.new.frame.room =
+    omega (arith, c.self.invariant.0.body, c.fill_body.ensures.room, c.append_frame.ensures.frame.0) in
     let body_is : body ≡ spell_state state =
-    c.deref.ensures.value ∙ c.fill_body.ensures.body ∙ ap spell_state c.state.ensures.state in
+    c.fill_body.ensures.body ∙ ap spell_state c.state.ensures.state in
     let savable : IsSavable state = subst IsSavable c.state.ensures.state c.fill_body.ensures.savable in
     let said = c.in-Err-Device.ensures in
     let broke = rw c.in-Err-Device.field-0-is at said.answer in (
       broke.0.was_fine,
       broken_kept g.D.Disk.state g.met.D.Disk.is_disk old new _ _ notes c.self.invariant.0 c.self.invariant.1
-          c.fill_body.ensures.room state savable body body_is said.disk said.heading broke.0.was_fine
+          room state savable body body_is said.disk said.heading broke.0.was_fine
           (λ h. said.any_moment h broke.0.was_fine)
           broke.0 said.bodies c.with_torn_state-self-inside.result.notes c.with_torn_state-self-inside.ensures,
     ))
@@ -168,17 +184,19 @@ pub returns-in-Err-Device-clause-advances : goal.returns-in-Err-Device-clause-ad
 returns-in-Err-Device-clause-advances g c =
     rw (← c.self.view_is) (
     let old = c.self.inside.journal in
-    let new = c.append.new.self in
+    let new = c.append_frame.new.self in
     let notes = c.self.inside.noted.notes in
     let state = c.args.reservations.now in
-    let body = c.deref.result.now in
+    let body = c.fill_body.new.frame.body in
+    let room : 580 ≤ c.append_frame.new.frame.room =
+    omega (arith, c.self.invariant.0.body, c.fill_body.ensures.room, c.append_frame.ensures.frame.0) in
     let body_is : body ≡ spell_state state =
-    c.deref.ensures.value ∙ c.fill_body.ensures.body ∙ ap spell_state c.state.ensures.state in
+    c.fill_body.ensures.body ∙ ap spell_state c.state.ensures.state in
     let savable : IsSavable state = subst IsSavable c.state.ensures.state c.fill_body.ensures.savable in
     let said = c.in-Err-Device.ensures in
     let broke = rw c.in-Err-Device.field-0-is at said.answer in
     broken_advances g.D.Disk.state g.met.D.Disk.is_disk old new _ _ notes c.self.invariant.0 c.self.invariant.1
-    c.fill_body.ensures.room state savable body body_is said.disk said.heading broke.0.was_fine
+    room state savable body body_is said.disk said.heading broke.0.was_fine
     (λ h. said.any_moment h broke.0.was_fine)
     broke.0 said.bodies c.with_torn_state-self-inside.result.notes c.with_torn_state-self-inside.ensures broke.1.cause)
 
@@ -186,17 +204,19 @@ pub returns-in-Err-Device-clause-any_moment : goal.returns-in-Err-Device-clause-
 returns-in-Err-Device-clause-any_moment g c =
     rw (← c.self.view_is) (
     let old = c.self.inside.journal in
-    let new = c.append.new.self in
+    let new = c.append_frame.new.self in
     let notes = c.self.inside.noted.notes in
     let state = c.args.reservations.now in
-    let body = c.deref.result.now in
+    let body = c.fill_body.new.frame.body in
+    let room : 580 ≤ c.append_frame.new.frame.room =
+    omega (arith, c.self.invariant.0.body, c.fill_body.ensures.room, c.append_frame.ensures.frame.0) in
     let body_is : body ≡ spell_state state =
-    c.deref.ensures.value ∙ c.fill_body.ensures.body ∙ ap spell_state c.state.ensures.state in
+    c.fill_body.ensures.body ∙ ap spell_state c.state.ensures.state in
     let savable : IsSavable state = subst IsSavable c.state.ensures.state c.fill_body.ensures.savable in
     let said = c.in-Err-Device.ensures in
     let broke = rw c.in-Err-Device.field-0-is at said.answer in
     (λ h fine. opened g.D.Disk.state g.met.D.Disk.is_disk old new _ _ notes c.self.invariant.0 c.self.invariant.1
-    c.fill_body.ensures.room state savable body body_is said.disk said.heading broke.0.was_fine
+    room state savable body body_is said.disk said.heading broke.0.was_fine
     (λ h. said.any_moment h broke.0.was_fine) h))
 
 pub returns-in-Err-NoMemory-clause-answer : goal.returns-in-Err-NoMemory-clause-answer
@@ -204,9 +224,9 @@ returns-in-Err-NoMemory-clause-answer g c =
     rw (← c.self.view_is) (
     let notes = c.self.inside.noted.notes in
     let state = c.args.reservations.now in
-    let body = c.deref.result.now in
+    let body = c.fill_body.new.frame.body in
     let body_is : body ≡ spell_state state =
-    c.deref.ensures.value ∙ c.fill_body.ensures.body ∙ ap spell_state c.state.ensures.state in
+    c.fill_body.ensures.body ∙ ap spell_state c.state.ensures.state in
     let savable : IsSavable state = subst IsSavable c.state.ensures.state c.fill_body.ensures.savable in
     let said = c.in-Err-NoMemory.ensures in
     let why = rw c.in-Err-NoMemory.field-0-is at said.answer in (
@@ -219,7 +239,7 @@ pub returns-in-Err-NoMemory-clause-advances : goal.returns-in-Err-NoMemory-claus
 returns-in-Err-NoMemory-clause-advances g c =
     rw (← c.self.view_is) (
     let old = c.self.inside.journal in
-    let new = c.append.new.self in
+    let new = c.append_frame.new.self in
     let notes = c.self.inside.noted.notes in
     let said = c.in-Err-NoMemory.ensures in
     let why = rw c.in-Err-NoMemory.field-0-is at said.answer in
@@ -229,17 +249,19 @@ pub returns-in-Err-NoMemory-clause-any_moment : goal.returns-in-Err-NoMemory-cla
 returns-in-Err-NoMemory-clause-any_moment g c =
     rw (← c.self.view_is) (
     let old = c.self.inside.journal in
-    let new = c.append.new.self in
+    let new = c.append_frame.new.self in
     let notes = c.self.inside.noted.notes in
     let state = c.args.reservations.now in
-    let body = c.deref.result.now in
+    let body = c.fill_body.new.frame.body in
+    let room : 580 ≤ c.append_frame.new.frame.room =
+    omega (arith, c.self.invariant.0.body, c.fill_body.ensures.room, c.append_frame.ensures.frame.0) in
     let body_is : body ≡ spell_state state =
-    c.deref.ensures.value ∙ c.fill_body.ensures.body ∙ ap spell_state c.state.ensures.state in
+    c.fill_body.ensures.body ∙ ap spell_state c.state.ensures.state in
     let savable : IsSavable state = subst IsSavable c.state.ensures.state c.fill_body.ensures.savable in
     let said = c.in-Err-NoMemory.ensures in
     let why = rw c.in-Err-NoMemory.field-0-is at said.answer in
     (λ h fine. opened g.D.Disk.state g.met.D.Disk.is_disk old new _ _ notes c.self.invariant.0 c.self.invariant.1
-    c.fill_body.ensures.room state savable body body_is said.disk said.heading why.0
+    room state savable body body_is said.disk said.heading why.0
     (λ h. said.any_moment h why.0) h))
 
 pub returns-in-Err-SideFull-clause-answer : goal.returns-in-Err-SideFull-clause-answer
@@ -247,9 +269,9 @@ returns-in-Err-SideFull-clause-answer g c =
     rw (← c.self.view_is) (
     let notes = c.self.inside.noted.notes in
     let state = c.args.reservations.now in
-    let body = c.deref.result.now in
+    let body = c.fill_body.new.frame.body in
     let body_is : body ≡ spell_state state =
-    c.deref.ensures.value ∙ c.fill_body.ensures.body ∙ ap spell_state c.state.ensures.state in
+    c.fill_body.ensures.body ∙ ap spell_state c.state.ensures.state in
     let savable : IsSavable state = subst IsSavable c.state.ensures.state c.fill_body.ensures.savable in
     let said = c.in-Err-SideFull.ensures in
     let why = rw c.in-Err-SideFull.field-0-is at said.answer in (
@@ -262,7 +284,7 @@ pub returns-in-Err-SideFull-clause-advances : goal.returns-in-Err-SideFull-claus
 returns-in-Err-SideFull-clause-advances g c =
     rw (← c.self.view_is) (
     let old = c.self.inside.journal in
-    let new = c.append.new.self in
+    let new = c.append_frame.new.self in
     let notes = c.self.inside.noted.notes in
     let said = c.in-Err-SideFull.ensures in
     let why = rw c.in-Err-SideFull.field-0-is at said.answer in
@@ -272,24 +294,26 @@ pub returns-in-Err-SideFull-clause-any_moment : goal.returns-in-Err-SideFull-cla
 returns-in-Err-SideFull-clause-any_moment g c =
     rw (← c.self.view_is) (
     let old = c.self.inside.journal in
-    let new = c.append.new.self in
+    let new = c.append_frame.new.self in
     let notes = c.self.inside.noted.notes in
     let state = c.args.reservations.now in
-    let body = c.deref.result.now in
+    let body = c.fill_body.new.frame.body in
+    let room : 580 ≤ c.append_frame.new.frame.room =
+    omega (arith, c.self.invariant.0.body, c.fill_body.ensures.room, c.append_frame.ensures.frame.0) in
     let body_is : body ≡ spell_state state =
-    c.deref.ensures.value ∙ c.fill_body.ensures.body ∙ ap spell_state c.state.ensures.state in
+    c.fill_body.ensures.body ∙ ap spell_state c.state.ensures.state in
     let savable : IsSavable state = subst IsSavable c.state.ensures.state c.fill_body.ensures.savable in
     let said = c.in-Err-SideFull.ensures in
     let why = rw c.in-Err-SideFull.field-0-is at said.answer in
     (λ h fine. opened g.D.Disk.state g.met.D.Disk.is_disk old new _ _ notes c.self.invariant.0 c.self.invariant.1
-    c.fill_body.ensures.room state savable body body_is said.disk said.heading why.0
+    room state savable body body_is said.disk said.heading why.0
     (λ h. said.any_moment h why.0) h))
 
 pub returns-in-Err-Failed-clause-advances : goal.returns-in-Err-Failed-clause-advances
 returns-in-Err-Failed-clause-advances g c =
     rw (← c.self.view_is) (
     let old = c.self.inside.journal in
-    let new = c.append.new.self in
+    let new = c.append_frame.new.self in
     let notes = c.self.inside.noted.notes in
     let said = c.in-Err-Failed.ensures in
     let why = rw c.in-Err-Failed.field-0-is at said.answer in
