@@ -9,6 +9,7 @@ pub mod laws;
 mod line_readers;
 pub mod lines;
 mod phases;
+mod read_buffers;
 pub mod runners;
 mod script_limits;
 pub mod scripts;
