@@ -1,6 +1,7 @@
 //! Scripts: read line by line, run item by item by whatever runs items, and answered.
 #![tactic(auto)]
 
+mod answer_texts;
 pub mod faults;
 mod hosts;
 mod interruptions;
