@@ -63,7 +63,7 @@ impl<D: Disk + Drop> Runner for Held<D> {
         Held::configured(self, drive)
     }
 
-    fn run(&mut self, alloc: Global, item: &Item) -> Result<Vec<Reply>, NoMemory> {
+    fn run(&mut self, alloc: Global, item: &mut Item) -> Result<Vec<Reply>, NoMemory> {
         match item {
             Item::Phase(commands) => self.run_lines(alloc, commands.as_slice()),
             Item::Move { from, to } => self.run_move(alloc, *from, *to),

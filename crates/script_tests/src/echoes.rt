@@ -20,13 +20,14 @@ impl Echo {
     }
 }
 
-// GOOD, with the numbers of host and drive, the command block and the bytes that were sent.
-fn answer_of(alloc: Global, line: &Line) -> Result<Reply, AllocError> {
+// GOOD, with the numbers of host and drive, the command block and the bytes that were sent, which are taken.
+fn answer_of(alloc: Global, line: &mut Line) -> Result<Reply, AllocError> {
+    let sent = line.sent.take();
     let mut bytes = Vec::new(alloc);
     bytes.push(line.host.number())?;
     bytes.push(line.drive.number())?;
     bytes.extend_from_slice(line.cdb.as_slice())?;
-    bytes.extend_from_slice(line.sent.as_slice())?;
+    bytes.extend_from_slice(sent.as_slice())?;
     Ok(Reply::good(Bytes::from_vec(bytes)))
 }
 
@@ -44,7 +45,7 @@ fn answers_of_move(alloc: Global, from: u32, to: u32) -> Result<Vec<Reply>, Allo
     Ok(replies)
 }
 
-fn answers_of(alloc: Global, lines: &[Line]) -> Result<Vec<Reply>, AllocError> {
+fn answers_of(alloc: Global, lines: &mut [Line]) -> Result<Vec<Reply>, AllocError> {
     let mut replies = Vec::new(alloc);
     for line in lines {
         replies.push(answer_of(alloc, line)?)?;
@@ -63,10 +64,10 @@ impl Runner for Echo {
         drive.number() == 1
     }
 
-    fn run(&mut self, alloc: Global, item: &Item) -> Result<Vec<Reply>, NoMemory> {
+    fn run(&mut self, alloc: Global, item: &mut Item) -> Result<Vec<Reply>, NoMemory> {
         self.items = self.items.saturating_add(1);
         match item {
-            Item::Phase(commands) => Ok(answers_of(alloc, commands.as_slice())?),
+            Item::Phase(commands) => Ok(answers_of(alloc, commands.as_mut_slice())?),
             Item::Move { from, to } => Ok(answers_of_move(alloc, *from, *to)?),
         }
     }

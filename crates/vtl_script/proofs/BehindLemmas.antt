@@ -10,7 +10,7 @@ use Rattle.vtl_script.specs.declared.lines.ParsedLine.{ParsedLine}
 use Rattle.vtl_script.specs.Parsed.{parsed_lines}
 use Rattle.vtl_script.specs.Items.{items_to_run}
 use Rattle.vtl_script.specs.Text.{reply_text, text_of}
-use Rattle.vtl_script.specs.Runs.{WritesPart, RunsPart, WritesSome}
+use Rattle.vtl_script.specs.Runs.{WritesPart, RunsPart}
 use Rattle.vtl_script.specs.Inner.Reading.{Reading}
 use Rattle.vtl_script.specs.Inner.ReadItem.{rest_of, ParsesFirst, AreItems, ReadsLines}
 use Rattle.vtl_script.proofs.LineLemmas.{at_end}
@@ -72,20 +72,6 @@ runs_part_behind answers behind front text mid before during new now one two = r
   is = two.is;
   some = two.some;
   written = Appends-trans before during now front text one two.written;
-}
-
-pub writes_some_behind : {P : Type 0} (answers : P → List Item → List Reply → P → Type 0) (behind : List Item)
-    (front text : List ℕ) (mid : P) (before during : Option (List ℕ)) (new : P) (now : Option (List ℕ))
-    → Appends before during front → WritesSome answers behind text mid during new now
-    → WritesSome answers behind (front ++ text) mid before new now
-writes_some_behind answers behind front text mid before during new now one two = record {
-  item = two.item;
-  rest = two.rest;
-  is = two.is;
-  replies = two.replies;
-  answered = two.answered;
-  count = two.count;
-  written = longer before during now front text _ one two.written;
 }
 
 -- some items that were read are the first of those that a script runs

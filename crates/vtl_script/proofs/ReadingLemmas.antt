@@ -1,11 +1,12 @@
 -- Bytes that come from a reader.
-use Rattle.std.proofs.Common.{◌≡◌, ℕ, ◌+◌, ◌≤◌, List, [], ◌++◌, length, take, drop, Option, Some, None, Result, Ok, Err, OnOk, OnErr, IfErr, ◌⊎◌, inl, inr, position, refl, sym, ap, ◌∙◌, subst, arith, append_assoc, length-drop, ◌==◌}
-use Rattle.std.proofs.lemmas.List.{drop_at, take-append-drop, take-append-le, take_all, append-nil, drop-append-le, length-append}
+use Rattle.std.proofs.Common.{◌≡◌, ℕ, ◌+◌, ◌≤◌, List, [], ◌++◌, length, take, drop, Option, Some, None, Result, Ok, Err, OnOk, OnErr, IfErr, ◌⊎◌, inl, inr, position, refl, sym, ap, ◌∙◌, subst, arith, append_assoc, length-drop, length-take-le, ◌==◌}
+use Rattle.std.proofs.lemmas.List.{drop_at, take-append-le, take_all, append-nil, drop-append-le, length-append}
+use Rattle.std.proofs.Math.Seq.{take-add}
 use Rattle.std.specs.Io.KnownBytes.{Consumes}
 use Rattle.vtl_script.specs.declared.faults.ScriptFault.{ScriptFault}
 use Rattle.vtl_script.specs.declared.faults.ScriptFault.TheVariants.{ReadFault, NoMemory}
 use Rattle.vtl_script.specs.Runs.{TakesWithin}
-use Rattle.vtl_script.specs.Inner.Reading.{Reading, Comes}
+use Rattle.vtl_script.specs.Inner.Reading.{Reading, part, Brings, Comes}
 
 -- what holds anyway holds at Ok
 pub on_ok : {T E : Type 0} (r : Result T E) (P : Type 0) → P → OnOk r P
@@ -56,26 +57,43 @@ comes_none left reading = record {
   lines = refl;
 }
 
--- bytes that stand behind those of a buffer come to the unread ones
-pub comes_behind : (left left' : Option (List ℕ)) (old : Reading) (start count bytes reads lines : ℕ)
-    (items now : List ℕ) → old.unread ≡ drop start items → bytes ≡ old.bytes → old.reads ≤ reads → lines ≡ old.lines
-    → start ≤ length items → take (length items) now ≡ items → length now ≡ length items + count
-    → Consumes left left' (drop (length items) now)
-    → Comes left old left' (record { unread = drop start now; bytes = bytes + count; reads = reads; lines = lines })
-comes_behind left left' old start count bytes reads lines items now unread of_bytes of_reads of_lines within front more
-    taken =
-    let n = length items in
-    let all : now ≡ items ++ drop n now = sym (take-append-drop n now) ∙ ap (λ (xs : List ℕ). xs ++ drop n now) front in
-    let long : length (drop n now) ≡ count = omega (arith, length-drop n now, more) in
+-- nothing came
+pub brings_none : (left : Option (List ℕ)) (old new : List ℕ) → new ≡ old → Brings left old left new 0
+brings_none left old new same = record {
+  read = [];
+  taken = consumes_none left;
+  unread = same ∙ sym (append-nil old);
+  count_is = refl;
+}
+
+-- so many bytes were put behind those that fill a buffer up to a place
+pub brings_behind : (left left' : Option (List ℕ)) (start filled count : ℕ) (old now : List ℕ)
+    → part start filled now ≡ old → start ≤ filled → filled + count ≤ length now
+    → Consumes left left' (take count (drop filled now)) → Brings left old left' (part start (filled + count) now) count
+brings_behind left left' start filled count old now same order within taken =
+    let long : length (take filled now) ≡ filled = length-take-le filled now (omega (arith, within)) in
+    let rest = length-drop filled now in
     record {
-      read = drop n now;
+      read = take count (drop filled now);
       taken = taken;
-      unread = ap (drop start) all ∙ drop-append-le start items (drop n now) within
-          ∙ ap (λ (xs : List ℕ). xs ++ drop n now) (sym unread);
-      bytes = omega (arith, long, of_bytes);
-      reads = of_reads;
-      lines = of_lines;
+      unread = ap (drop start) (take-add filled count now)
+          ∙ drop-append-le start (take filled now) (take count (drop filled now)) (omega (arith, long, order))
+          ∙ ap (λ (xs : List ℕ). xs ++ take count (drop filled now)) same;
+      count_is = length-take-le count (drop filled now) (omega (arith, rest, within));
     }
+
+-- what a buffer was brought comes to what is unread
+pub comes_of : (left left' : Option (List ℕ)) (old new : Reading) (buffer : List ℕ) (some count : ℕ)
+    → Brings left buffer left' new.unread some → buffer ≡ old.unread → some ≡ count → new.bytes ≡ old.bytes + count
+    → old.reads ≤ new.reads → new.lines ≡ old.lines → Comes left old left' new
+comes_of left left' old new buffer some count brings same is bytes reads lines = record {
+  read = brings.read;
+  taken = brings.taken;
+  unread = brings.unread ∙ ap (λ (xs : List ℕ). xs ++ brings.read) same;
+  bytes = omega (arith, bytes, is, brings.count_is);
+  reads = reads;
+  lines = lines;
+}
 
 pub comes_on : (a b c : Option (List ℕ)) (old mid new : Reading) → Comes a old b mid → Comes b mid c new
     → Comes a old c new

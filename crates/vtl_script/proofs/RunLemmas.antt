@@ -1,5 +1,5 @@
 -- Items that are run one after another, and where that stops.
-use Rattle.std.proofs.Common.{◌≡◌, ℕ, List, [], ◌∷◌, ◌++◌, take, Option, Some, None, Result, Ok, Err, OnOk, IfErr, refl, sym, ap, ◌∙◌, append_assoc, ◌⊎◌, inl, inr}
+use Rattle.std.proofs.Common.{◌≡◌, ℕ, List, [], ◌∷◌, ◌++◌, Option, Some, None, Result, Ok, Err, OnOk, OnErr, IfErr, refl, sym, ap, ◌∙◌, append_assoc}
 use Rattle.std.proofs.KnownBytes.{Appends-nil, Appends-trans}
 use Rattle.std.specs.Io.KnownBytes.{Appends}
 use Rattle.scsi_sense.specs.declared.replies.Reply.{Reply}
@@ -7,10 +7,10 @@ use Rattle.vtl_script.specs.declared.items.Item.{Item}
 use Rattle.vtl_script.specs.declared.faults.ScriptFault.{ScriptFault}
 use Rattle.vtl_script.specs.declared.faults.ScriptFault.TheVariants.{BadLine, ReadFault, WriteFault, NoMemory}
 use Rattle.vtl_script.specs.Text.{text_of, AppendsPart}
-use Rattle.vtl_script.specs.Runs.{AnswersSome, WritesPart, RunsPart, WritesSome}
+use Rattle.vtl_script.specs.Runs.{AnswersSome, WritesPart, RunsPart}
 use Rattle.vtl_script.specs.Inner.ReadItem.{with_move}
 use Rattle.vtl_script.specs.Inner.RunItem.{StopsIn, RunsItems}
-use Rattle.vtl_script.proofs.BehindLemmas.{text_of-append, writes_part_behind, runs_part_behind, writes_some_behind}
+use Rattle.vtl_script.proofs.BehindLemmas.{text_of-append, writes_part_behind, runs_part_behind}
 
 -- more items behind those among which a run stops
 part_sooner : {P : Type 0} (answers : P → List Item → List Reply → P → Type 0) (behind more : List Item)
@@ -38,19 +38,6 @@ runs_sooner answers behind more text mid before new now part = record {
   written = part.written;
 }
 
-some_sooner : {P : Type 0} (answers : P → List Item → List Reply → P → Type 0) (behind more : List Item)
-    (text : List ℕ) (mid : P) (before : Option (List ℕ)) (new : P) (now : Option (List ℕ))
-    → WritesSome answers behind text mid before new now → WritesSome answers (behind ++ more) text mid before new now
-some_sooner answers behind more text mid before new now part = record {
-  item = part.item;
-  rest = part.rest ++ more;
-  is = ap (λ (xs : List Item). xs ++ more) part.is;
-  replies = part.replies;
-  answered = part.answered;
-  count = part.count;
-  written = part.written;
-}
-
 pub stops_sooner : {P : Type 0} (answers : P → List Item → List Reply → P → Type 0) (behind more : List Item)
     (text : List ℕ) (mid : P) (before : Option (List ℕ)) (new : P) (now : Option (List ℕ)) (fault : ScriptFault)
     → StopsIn answers behind text mid before new now fault
@@ -59,10 +46,8 @@ stops_sooner answers behind more text mid before new now (BadLine number) stops 
 stops_sooner answers behind more text mid before new now ReadFault stops = absurd stops
 stops_sooner answers behind more text mid before new now WriteFault stops = part_sooner answers behind more text mid
     before new now stops
-stops_sooner answers behind more text mid before new now NoMemory (inl runs) = inl
-    (runs_sooner answers behind more text mid before new now runs)
-stops_sooner answers behind more text mid before new now NoMemory (inr writes) = inr
-    (some_sooner answers behind more text mid before new now writes)
+stops_sooner answers behind more text mid before new now NoMemory stops = runs_sooner answers behind more text mid
+    before new now stops
 
 -- what was written before it
 stops_behind : {P : Type 0} (answers : P → List Item → List Reply → P → Type 0) (behind : List Item)
@@ -73,10 +58,8 @@ stops_behind answers behind front text mid before during new now (BadLine number
 stops_behind answers behind front text mid before during new now ReadFault one stops = absurd stops
 stops_behind answers behind front text mid before during new now WriteFault one stops = writes_part_behind answers
     behind front text mid before during new now one stops
-stops_behind answers behind front text mid before during new now NoMemory one (inl runs) = inl
-    (runs_part_behind answers behind front text mid before during new now one runs)
-stops_behind answers behind front text mid before during new now NoMemory one (inr writes) = inr
-    (writes_some_behind answers behind front text mid before during new now one writes)
+stops_behind answers behind front text mid before during new now NoMemory one stops = runs_part_behind answers
+    behind front text mid before during new now one stops
 
 module _ {P : Type 0} (answers : P → List Item → List Reply → P → Type 0)
     (nothing : (runner : P) → answers runner [] [] runner)
@@ -92,7 +75,7 @@ module _ {P : Type 0} (answers : P → List Item → List Reply → P → Type 0
     replies = [];
     mid = old;
     answered = nothing old;
-    stops = inl (record { item = item; rest = []; is = refl; some = some; written = Appends-nil before });
+    stops = record { item = item; rest = []; is = refl; some = some; written = Appends-nil before };
   }
 
   -- it was run, and a write failed
@@ -118,47 +101,16 @@ module _ {P : Type 0} (answers : P → List Item → List Reply → P → Type 0
     };
   }
 
-  -- it was run, and memory ran out as its replies were written
-  first_written : (old : P) (item : Item) (before : Option (List ℕ)) (new : P) (now : Option (List ℕ))
-      (replies : List Reply) → answers old (item ∷ []) replies new
-      → (count : ℕ) × Appends before now (text_of (take count replies))
-      → RunsItems answers old (item ∷ []) before new now (Err NoMemory)
-  first_written old item before new now replies answered written = record {
-    first = [];
-    behind = item ∷ [];
-    are = refl;
-    replies = [];
-    mid = old;
-    answered = nothing old;
-    stops = inr (record {
-      item = item;
-      rest = [];
-      is = refl;
-      replies = replies;
-      answered = answered;
-      count = written.0;
-      written = written.1;
-    });
-  }
-
   -- it was run, and its replies were written, or not all of them
   pub item_run : (old : P) (item : Item) (before : Option (List ℕ)) (new : P) (now : Option (List ℕ))
       (replies : List Reply) (result : Result (Unit {0}) ScriptFault) → answers old (item ∷ []) replies new
-      → OnOk result (Appends before now (text_of replies))
-      → IfErr result (λ fault. (fault ≡ WriteFault) ⊎ (fault ≡ NoMemory))
-      → (result ≡ Err WriteFault → AppendsPart before now (text_of replies))
-      → (result ≡ Err NoMemory → (count : ℕ) × Appends before now (text_of (take count replies)))
+      → OnOk result (Appends before now (text_of replies)) → IfErr result (λ fault. fault ≡ WriteFault)
+      → OnErr result (AppendsPart before now (text_of replies))
       → RunsItems answers old (item ∷ []) before new now result
-  item_run old item before new now replies (Ok done) answered written cause part some =
+  item_run old item before new now replies (Ok done) answered written cause part =
       record { replies = replies; answered = answered; written = written }
-  item_run old item before new now replies (Err (BadLine number)) answered written (inl is) part some = absurd (cc)
-  item_run old item before new now replies (Err (BadLine number)) answered written (inr is) part some = absurd (cc)
-  item_run old item before new now replies (Err ReadFault) answered written (inl is) part some = absurd (cc)
-  item_run old item before new now replies (Err ReadFault) answered written (inr is) part some = absurd (cc)
-  item_run old item before new now replies (Err WriteFault) answered written cause part some =
-      item_written_in_part old item before new now replies answered (part refl)
-  item_run old item before new now replies (Err NoMemory) answered written cause part some =
-      first_written old item before new now replies answered (some refl)
+  item_run old item before new now replies (Err fault) answered written is part =
+      rw is (item_written_in_part old item before new now replies answered part)
 
   -- some items were run, and then others
   pub runs_on : (old : P) (first rest : List Item) (before during now : Option (List ℕ)) (mid new : P)

@@ -14,12 +14,12 @@ use Rattle.vtl_script.specs.Parsed.{parsed_lines, is_refused}
 use Rattle.vtl_script.specs.Items.{items_to_run}
 use Rattle.vtl_script.specs.Text.{text_of}
 use Rattle.vtl_script.specs.Inner.Reading.{Reading, unbegun}
-use Rattle.vtl_script.specs.Runs.{ScriptEnds, RunsScript, RunsPart, WritesSome, Stops}
+use Rattle.vtl_script.specs.Runs.{ScriptEnds, RunsScript, RunsPart, Stops}
 use Rattle.vtl_script.specs.Inner.RunItem.{EndsFrom, FinishesScript, GoesOn}
 use Rattle.vtl_script.proofs.ReadingLemmas.{consumes_on, consumes_none}
 use Rattle.vtl_script.proofs.PhaseLemmas.{texts}
 use Rattle.vtl_script.proofs.RefusedLemmas.{refused_behind, none_behind}
-use Rattle.vtl_script.proofs.BehindLemmas.{known_on, text_of-append, items_behind, first_behind, writes_part_behind, runs_part_behind, writes_some_behind}
+use Rattle.vtl_script.proofs.BehindLemmas.{known_on, text_of-append, items_behind, first_behind, writes_part_behind, runs_part_behind}
 
 module _ {P : Type 0} (is_configured : ℕ → Bool) (answers : P → List Item → List Reply → P → Type 0)
     (nothing : (runner : P) → answers runner [] [] runner)
@@ -76,17 +76,12 @@ module _ {P : Type 0} (is_configured : ℕ → Bool) (answers : P → List Item 
   -- where memory ran out
   short_behind : (behind : List Item) (front text : List ℕ) (mid : P) (before during : Option (List ℕ)) (new : P)
       (now : Option (List ℕ)) → Appends before during front
-      → Stops text mid during new now ⊎
-      (RunsPart answers behind text mid during new now ⊎ WritesSome answers behind text mid during new now)
-      → Stops (front ++ text) mid before new now ⊎
-      (RunsPart answers behind (front ++ text) mid before new now ⊎ WritesSome answers behind (front ++ text) mid
-      before new now)
+      → Stops text mid during new now ⊎ RunsPart answers behind text mid during new now
+      → Stops (front ++ text) mid before new now ⊎ RunsPart answers behind (front ++ text) mid before new now
   short_behind behind front text mid before during new now one (inl stops) = inl
       (stops.0, Appends-trans before during now front text one stops.1)
-  short_behind behind front text mid before during new now one (inr (inl runs)) = inr
-      (inl (runs_part_behind answers behind front text mid before during new now one runs))
-  short_behind behind front text mid before during new now one (inr (inr writes)) = inr
-      (inr (writes_some_behind answers behind front text mid before during new now one writes))
+  short_behind behind front text mid before during new now one (inr runs) = inr
+      (runs_part_behind answers behind front text mid before during new now one runs)
 
   -- the end of a script, from its start on
   ends_behind : (reading mid : Reading) (old between new : P) (a b before during now : Option (List ℕ))

@@ -1,3 +1,4 @@
 pub mod ReadItem
 pub mod Reading
 pub mod RunItem
+pub mod Writing

@@ -53,18 +53,6 @@ pub record RunsPart {P : Type 0}
   pub some : AnswersSome answers mid item new
   pub written : Appends before now text
 
--- behind this text, the first of these items was run, and the first of its replies were written (own)
-pub record WritesSome {P : Type 0}
-    (answers : P → List Item → List Reply → P → Type 0) (behind : List Item) (text : List ℕ)
-    (mid : P) (before : Option (List ℕ)) (new : P) (now : Option (List ℕ)) : Type 0 where
-  pub item : Item
-  pub rest : List Item
-  pub is : behind ≡ item ∷ rest
-  pub replies : List Reply
-  pub answered : answers mid (item ∷ []) replies new
-  pub count : ℕ
-  pub written : Appends before now (text ++ text_of (take count replies))
-
 -- how the run of a script ends behind some items that were run, answered and written whole: `size` are the bytes of
 -- the script, `parsed_list` its lines, `text` is that of the replies to the items, which left `mid` (own)
 abbrev pub ScriptEnds : {P : Type 0} → (P → List Item → List Reply → P → Type 0) → ℕ → List ParsedLine → List Item
@@ -83,11 +71,10 @@ ScriptEnds answers size parsed_list items text mid before new now (Err ReadFault
 ScriptEnds answers size parsed_list items text mid before new now (Err WriteFault) =
     (behind : List Item) × (items_to_run parsed_list ≡ items ++ behind)
     × WritesPart answers behind text mid before new now
--- they are the first of the items, and the next may have been run and its replies written, each in part
+-- they are the first of the items, and the next may have been run in part, and nothing was written of its replies
 ScriptEnds answers size parsed_list items text mid before new now (Err NoMemory) =
     (behind : List Item) × (items_to_run parsed_list ≡ items ++ behind)
-    × (Stops text mid before new now
-    ⊎ (RunsPart answers behind text mid before new now ⊎ WritesSome answers behind text mid before new now))
+    × (Stops text mid before new now ⊎ RunsPart answers behind text mid before new now)
 
 -- what a call took of a reader, behind so many bytes of a script, is within the limit of its bytes (own)
 abbrev pub TakesWithin : Option (List ℕ) → ℕ → Option (List ℕ) → Type 0

@@ -42,6 +42,13 @@ impl Commands {
     {
         self.lines.as_slice()
     }
+
+    /// The commands, each of whose data may be taken.
+    pub fn as_mut_slice(&mut self) -> &mut [Line]
+        ensures { result.now ≡ self.old }
+    {
+        self.lines.as_mut_slice()
+    }
 }
 
 /// What of a script is run at once.

@@ -1,6 +1,7 @@
 //! Scripts: read line by line, run item by item by whatever runs items, and answered.
 #![tactic(auto)]
 
+mod answer_texts;
 pub mod faults;
 mod hosts;
 mod interruptions;
@@ -9,6 +10,7 @@ pub mod laws;
 pub mod line_readers;
 pub mod lines;
 mod phases;
+mod read_buffers;
 pub mod runners;
 pub mod script_limits;
 pub mod scripts;

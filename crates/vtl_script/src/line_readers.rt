@@ -4,7 +4,7 @@ ghost use Rattle.std.specs.Io.KnownBytes.{Consumes, IsAtEnd};
 ghost use Rattle.vtl_script.specs.Inner.Reading.{unbegun, bytes_read, Comes, Ends};
 
 use crate::faults::ScriptFault;
-use crate::interruptions::is_interrupted;
+use crate::read_buffers::ReadBuffer;
 use crate::script_limits::{within_bytes, within_reads};
 use crate::splits::place_of;
 use std::alloc::Global;
@@ -12,14 +12,10 @@ use std::io::Read;
 use std::marker::Model;
 use vtl_base::limits::{LINE_BYTES, SCRIPT_BYTES, SCRIPT_READS};
 
-// The bytes that a read asks for.
-const READ_CHUNK: usize = 65_536;
-
 /// The bytes of a script that were read, from the first line on that was not taken up.
 #[derive(Drop)]
 pub struct LineReader {
-    buffer: Vec<u8>,
-    start: usize,
+    buffer: ReadBuffer,
     bytes: u64,
     reads: u64,
     lines: u64,
@@ -37,95 +33,21 @@ pub enum Found {
 }
 
 impl Model for LineReader {
-    ghost use Rattle.std.specs.Prelude.{ℕ, ◌≤◌, ◌+◌, ◌-◌, drop, vec_len};
-    ghost use Rattle.vtl_base.specs.declared.limits.TheConstants.{LINE_BYTES, SCRIPT_BYTES, SCRIPT_READS};
-    ghost use Rattle.vtl_script.specs.declared.line_readers.TheConstants.{READ_CHUNK};
+    ghost use Rattle.std.specs.Prelude.{◌≤◌, ◌+◌, length};
+    ghost use Rattle.vtl_base.specs.declared.limits.TheConstants.{SCRIPT_BYTES, SCRIPT_READS};
     ghost use Rattle.vtl_script.specs.Inner.Reading.{Reading};
 
     ghost Value = { Reading };
 
     ghost view = { λ b. record {
-      unread = drop b.start b.buffer.items;
+      unread = b.buffer;
       bytes = b.bytes;
       reads = b.reads;
       lines = b.lines;
     } };
 
-    ghost invariant = { λ b. (b.start ≤ vec_len b.buffer) × (vec_len b.buffer ≤ LINE_BYTES + READ_CHUNK)
-        × (b.lines + (vec_len b.buffer - b.start) ≤ b.bytes)
+    ghost invariant = { λ b. (b.lines + length b.buffer ≤ b.bytes)
         × (b.bytes ≤ SCRIPT_BYTES) × (b.reads ≤ SCRIPT_READS) };
-}
-
-// One read into this slice: how many bytes came, or None where the read was interrupted.
-fn read_once<R: Read>(reader: &mut R, slice: &mut [u8]) -> Result<Option<usize>, ScriptFault>
-    requires { 0 < length slice.old }
-    ensures taken { Consumes (R.remaining reader.old) (R.remaining reader.new)
-        (take (bytes_read result) slice.new) }
-    ensures within { bytes_read result ≤ length slice.new }
-    ensures end { result ≡ Ok (Some 0) → IsAtEnd (R.remaining reader.new) }
-    ensures fault { IfErr result (λ fault. fault ≡ ScriptFault.ReadFault) }
-{
-    match reader.read(slice) {
-        Ok(count) => Ok(Some(count)),
-        Err(e) if is_interrupted(e.kind()) => Ok(None),
-        Err(_) => Err(ScriptFault::ReadFault),
-    }
-}
-
-// One read into a buffer, behind the bytes that fill it.
-fn read_behind<R: Read>(
-    reader: &mut R,
-    buffer: &mut [u8],
-    filled: usize,
-) -> Result<Option<usize>, ScriptFault>
-    requires { filled < length buffer.old }
-    ensures front { take filled buffer.new ≡ take filled buffer.old }
-    ensures taken { Consumes (R.remaining reader.old) (R.remaining reader.new)
-        (take (bytes_read result) (drop filled buffer.new)) }
-    ensures within { filled + bytes_read result ≤ length buffer.new }
-    ensures end { result ≡ Ok (Some 0) → IsAtEnd (R.remaining reader.new) }
-    ensures fault { IfErr result (λ fault. fault ≡ ScriptFault.ReadFault) }
-{
-    read_once(reader, &mut buffer[filled..])
-}
-
-// How many bytes a read gave.
-fn count(outcome: &Result<Option<usize>, ScriptFault>) -> usize
-    ensures { result ≡ bytes_read outcome.now }
-{
-    match outcome {
-        Ok(Some(count)) => *count,
-        Ok(None) | Err(_) => 0,
-    }
-}
-
-// One read, whose bytes are put behind those of the buffer.
-fn read_chunk<R: Read>(reader: &mut R, buffer: &mut Vec<u8>) -> Result<Option<usize>, ScriptFault>
-    ensures taken { OnOk result (Consumes (R.remaining reader.old) (R.remaining reader.new)
-        (drop (vec_len buffer.old) buffer.new.items)) }
-    ensures front { OnOk result (take (vec_len buffer.old) buffer.new.items ≡ buffer.old.items) }
-    ensures count { vec_len buffer.new ≡ vec_len buffer.old + bytes_read result }
-    ensures most { bytes_read result ≤ READ_CHUNK }
-    ensures end { result ≡ Ok (Some 0) → IsAtEnd (R.remaining reader.new) }
-    ensures fault { IfErr result (λ fault. (fault ≡ ScriptFault.ReadFault)
-        ⊎ ((fault ≡ ScriptFault.NoMemory)
-        × Consumes (R.remaining reader.old) (R.remaining reader.new) [])) }
-{
-    let filled = buffer.len();
-    buffer.resize(filled + READ_CHUNK, 0)?;
-    let outcome = read_behind(reader, buffer.as_mut_slice(), filled);
-    buffer.truncate(filled + count(&outcome));
-    outcome
-}
-
-// Gives up the room of the bytes before this place.
-fn close_up(buffer: &mut Vec<u8>, start: usize)
-    requires { start ≤ vec_len buffer.old }
-    ensures { buffer.new.items ≡ drop start buffer.old.items }
-{
-    let left = buffer.len() - start;
-    buffer.copy_within(start.., 0);
-    buffer.truncate(left);
 }
 
 impl LineReader {
@@ -133,7 +55,6 @@ impl LineReader {
     ghost use Rattle.vtl_base.specs.declared.limits.TheConstants.{SCRIPT_BYTES, SCRIPT_READS};
     ghost use Rattle.std.specs.Io.KnownBytes.{Consumes};
     ghost use Rattle.vtl_base.specs.declared.limits.TheConstants.{LINE_BYTES};
-    ghost use Rattle.vtl_script.specs.declared.line_readers.TheConstants.{READ_CHUNK};
     ghost use Rattle.vtl_script.specs.Inner.Reading.{unbegun, work_left, may_read, Comes, Ends};
     ghost use Rattle.vtl_script.specs.Runs.{TakesWithin};
 
@@ -142,8 +63,7 @@ impl LineReader {
         ensures { result ≡ unbegun }
     {
         LineReader {
-            buffer: Vec::new(alloc),
-            start: 0,
+            buffer: ReadBuffer::new(alloc),
             bytes: 0,
             reads: 0,
             lines: 0,
@@ -170,9 +90,7 @@ impl LineReader {
             return Err(ScriptFault::ReadFault);
         }
         self.reads += 1;
-        close_up(&mut self.buffer, self.start);
-        self.start = 0;
-        match read_chunk(reader, &mut self.buffer)? {
+        match self.buffer.read(reader)? {
             None => Ok(true),
             Some(0) => Ok(false),
             Some(count) if !within_bytes(self.bytes, count) => {
@@ -218,16 +136,16 @@ impl LineReader {
         requires { count ≤ length self.now.unread }
         ensures { result.now ≡ take count self.now.unread }
     {
-        &self.buffer[self.start..self.start + count]
+        &self.buffer.as_slice()[..count]
     }
 
-    /// All bytes that were not taken up: those of a line and of a read at most.
+    /// All bytes that were not taken up: those of a longest line and one more at most.
     pub fn unread(&self) -> &[u8]
         ensures bytes { result.now ≡ self.now.unread }
-        ensures most { length self.now.unread ≤ LINE_BYTES + READ_CHUNK }
+        ensures most { length self.now.unread ≤ LINE_BYTES + 1 }
         ensures within { self.now.bytes ≤ SCRIPT_BYTES }
     {
-        &self.buffer[self.start..]
+        self.buffer.as_slice()
     }
 
     /// How many lines were taken up.
@@ -254,8 +172,7 @@ impl LineReader {
         } }
         ensures less { work_left self.new < work_left self.old }
     {
-        let end = self.start + count;
-        self.start = end + 1;
+        self.buffer.pass(count + 1);
         self.lines += 1;
     }
 }

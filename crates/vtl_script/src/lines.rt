@@ -1,11 +1,13 @@
 //! One line of a script: its fields, and what it says.
-ghost use Rattle.std.specs.Prelude.{◌≡◌, ℕ, ◌<◌, ◌==◌, ◌∷◌, [], length, filter, MatchOption, Some, IfOk, IfSome};
+ghost use Rattle.std.specs.Prelude.{◌≡◌, ℕ, ◌<◌, ◌≤◌, ◌*◌, ◌==◌, ◌∷◌, [], length, filter, MatchOption, Some, IfOk, IfSome, IsOk};
 ghost use Rattle.std.specs.List.{slice_split};
+ghost use Rattle.vtl_base.specs.declared.bytes.TheConstants.{INLINE_BYTES};
 ghost use Rattle.vtl_script.specs.Lines.{line_fields, is_some_byte, decimal_of, host_of, drive_of, bytes_of, parsed_command, command_in, data_of, parse_command, parsed_move, parse_move, parse_fields};
 
 use crate::runners::Runner;
 use crate::splits::place_of;
 use std::alloc::Global;
+use vtl_base::bytes::INLINE_BYTES;
 use vtl_base::{Bytes, DriveNo, Nexus, NoMemory};
 
 /// A command of a script: a host sends a command block, and data with it, to a drive.
@@ -96,10 +98,28 @@ fn drive<P: Runner>(runner: &P, field: &[u8]) -> Option<DriveNo>
     }
 }
 
+// The bytes that few hex digits spell, at most 24, for which no memory is asked.
+fn short_bytes(alloc: Global, field: &[u8]) -> Result<Option<Bytes>, NoMemory>
+    requires { length field.now ≤ 2 * INLINE_BYTES }
+    ensures bytes { IfOk result (λ bytes. bytes ≡ bytes_of field.now) }
+    ensures ok { IsOk result }
+{
+    let mut room = [0; INLINE_BYTES];
+    let count = field.len() / 2;
+    match hex::decode_to_slice(field, &mut room[..count]) {
+        Ok(()) => Ok(Some(Bytes::from_slice(alloc, &room[..count])?)),
+        Err(_) => Ok(None),
+    }
+}
+
 // The bytes that hex digits spell.
 fn bytes(alloc: Global, field: &[u8]) -> Result<Option<Bytes>, NoMemory>
-    ensures { IfOk result (λ bytes. bytes ≡ bytes_of field.now) }
+    ensures bytes { IfOk result (λ bytes. bytes ≡ bytes_of field.now) }
+    ensures few { length field.now ≤ 2 * INLINE_BYTES → IsOk result }
 {
+    if field.len() <= 2 * INLINE_BYTES {
+        return short_bytes(alloc, field);
+    }
     match hex::decode(alloc, field) {
         Ok(bytes) => Ok(Some(Bytes::from_vec(bytes))),
         Err(hex::FromHexError::OutOfMemory) => Err(NoMemory),

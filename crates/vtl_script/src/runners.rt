@@ -24,12 +24,12 @@ pub trait Runner {
     fn configured(&self, drive: DriveNo) -> bool
         ensures { result ≡ is_configured self.now drive };
 
-    /// Runs an item: a reply for each command of a phase, in order, and one for a move. Where memory
-    /// runs out, only the first commands were run, and a move was run or not.
-    fn run(&mut self, alloc: Global, item: &Item) -> Result<Vec<Reply>, NoMemory>
-        requires { IsRunnable (is_configured self.old) item.now }
-        ensures ok { IfOk result (λ replies. answers self.old (item.now ∷ []) replies.items self.new) }
-        ensures err { OnErr result (AnswersSome answers self.old item.now self.new) }
+    /// Runs an item: a reply for each command of a phase, in order, and one for a move. Where memory runs out, only the
+    /// first commands were run, and a move was run or not. The data of each command may be taken (`Bytes::take`).
+    fn run(&mut self, alloc: Global, item: &mut Item) -> Result<Vec<Reply>, NoMemory>
+        requires { IsRunnable (is_configured self.old) item.old }
+        ensures ok { IfOk result (λ replies. answers self.old (item.old ∷ []) replies.items self.new) }
+        ensures err { OnErr result (AnswersSome answers self.old item.old self.new) }
         ensures same { is_configured self.new ≡ is_configured self.old };
 
     /// No item is answered by standing still.

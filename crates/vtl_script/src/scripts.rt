@@ -1,11 +1,12 @@
 //! Scripts: items that are read, run and answered.
-ghost use Rattle.std.specs.Prelude.{◌≡◌, ◌≢◌, ◌<◌, ◌∷◌, [], Ok, Err, IfSome, true};
+ghost use Rattle.std.specs.Prelude.{◌≡◌, ◌≢◌, ◌<◌, ◌∷◌, [], Ok, Err, IfSome, OnOk, true};
 ghost use Rattle.vtl_script.specs.Inner.Reading.{work_left};
 ghost use Rattle.vtl_script.specs.Inner.ReadItem.{with_move};
 ghost use Rattle.vtl_script.specs.Inner.RunItem.{RunsItems, RunsNext};
 ghost use Rattle.vtl_script.specs.Items.{IsRunnable};
 ghost use Rattle.vtl_script.specs.Runs.{RunsScript, TakesWithin};
 
+use crate::answer_texts::AnswerText;
 use crate::faults::ScriptFault;
 use crate::items::{Item, NextItems, read_items};
 use crate::line_readers::LineReader;
@@ -18,35 +19,41 @@ use std::io::{Read, Write};
 fn run_item<P: Runner, W: Write>(
     alloc: Global,
     runner: &mut P,
-    item: &Item,
+    item: &mut Item,
+    text: &mut AnswerText,
     writer: &mut W,
 ) -> Result<(), ScriptFault>
-    requires { IsRunnable (P.is_configured runner.old) item.now }
-    ensures runs { RunsItems P.answers runner.old (item.now ∷ []) (W.contents writer.old)
+    requires item { IsRunnable (P.is_configured runner.old) item.old }
+    requires text { text.old ≡ [] }
+    ensures runs { RunsItems P.answers runner.old (item.old ∷ []) (W.contents writer.old)
         runner.new (W.contents writer.new) result }
+    ensures text { OnOk result (text.new ≡ []) }
     ensures same { P.is_configured runner.new ≡ P.is_configured runner.old }
 {
     let replies = runner.run(alloc, item)?;
-    print_replies(alloc, writer, replies.as_slice())
+    print_replies(text, writer, replies.as_slice())
 }
 
 // Runs a phase and writes its replies, and then the move behind it, if there is one.
 fn run_items<P: Runner, W: Write>(
     alloc: Global,
     runner: &mut P,
-    phase: &Item,
-    moved: &Option<Item>,
+    mut phase: Item,
+    moved: Option<Item>,
+    text: &mut AnswerText,
     writer: &mut W,
 ) -> Result<(), ScriptFault>
-    requires phase { IsRunnable (P.is_configured runner.old) phase.now }
-    requires moved { IfSome moved.now (IsRunnable (P.is_configured runner.old)) }
-    ensures runs { RunsItems P.answers runner.old (with_move phase.now moved.now)
+    requires phase { IsRunnable (P.is_configured runner.old) phase }
+    requires moved { IfSome moved (IsRunnable (P.is_configured runner.old)) }
+    requires text { text.old ≡ [] }
+    ensures runs { RunsItems P.answers runner.old (with_move phase moved)
         (W.contents writer.old) runner.new (W.contents writer.new) result }
+    ensures text { OnOk result (text.new ≡ []) }
     ensures same { P.is_configured runner.new ≡ P.is_configured runner.old }
 {
-    run_item(alloc, runner, phase, writer)?;
+    run_item(alloc, runner, &mut phase, text, writer)?;
     match moved {
-        Some(moved) => run_item(alloc, runner, moved, writer),
+        Some(mut moved) => run_item(alloc, runner, &mut moved, text, writer),
         None => Ok(()),
     }
 }
@@ -58,11 +65,14 @@ fn run_next<P: Runner, R: Read, W: Write>(
     runner: &mut P,
     line_reader: &mut LineReader,
     reader: &mut R,
+    text: &mut AnswerText,
     writer: &mut W,
 ) -> Result<bool, ScriptFault>
+    requires { text.old ≡ [] }
     ensures runs { RunsNext (P.is_configured runner.old) P.answers
         line_reader.old runner.old (R.remaining reader.old) (W.contents writer.old)
         line_reader.new runner.new (R.remaining reader.new) (W.contents writer.new) result }
+    ensures text { OnOk result (text.new ≡ []) }
     ensures less { result ≡ Ok true → work_left line_reader.new < work_left line_reader.old }
     ensures same { P.is_configured runner.new ≡ P.is_configured runner.old }
     ensures past { result ≢ Err ScriptFault.ReadFault →
@@ -73,7 +83,7 @@ fn run_next<P: Runner, R: Read, W: Write>(
         moved,
         is_last,
     } = read_items(alloc, runner, line_reader, reader)?;
-    run_items(alloc, runner, &phase, &moved, writer)?;
+    run_items(alloc, runner, phase, moved, text, writer)?;
     Ok(!is_last)
 }
 
@@ -95,6 +105,7 @@ pub fn run_script<P: Runner, R: Read, W: Write>(
         TakesWithin (R.remaining reader.old) 0 (R.remaining reader.new) }
 {
     let mut line_reader = LineReader::new(alloc);
-    while run_next(alloc, runner, &mut line_reader, reader, writer)? {}
+    let mut text = AnswerText::new(alloc)?;
+    while run_next(alloc, runner, &mut line_reader, reader, &mut text, writer)? {}
     Ok(())
 }

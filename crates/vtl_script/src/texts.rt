@@ -1,45 +1,18 @@
 //! The text of answers.
-ghost use Rattle.std.specs.Prelude.{◌≡◌, ◌++◌, ◌⊎◌, [], ℕ, take, OnOk, OnErr, IfErr, Err};
+ghost use Rattle.std.specs.Prelude.{◌≡◌, ◌≤◌, ◌++◌, [], length, OnOk, OnErr, IfErr};
 ghost use Rattle.std.specs.Io.KnownBytes.{Appends};
-ghost use Rattle.vtl_script.specs.Text.{hex_word, reply_text, text_of, AppendsPart};
+ghost use Rattle.hex.specs.Hex.{encode_lower};
+ghost use Rattle.vtl_script.specs.Text.{hex_word, status_text, sense_text, reply_text, text_of, AppendsPart};
+ghost use Rattle.vtl_script.specs.Inner.Writing.{Adds};
 
+use crate::answer_texts::AnswerText;
 use crate::faults::ScriptFault;
 use crate::interruptions::is_interrupted;
-use scsi_sense::{Reply, Status};
-use std::alloc::{AllocError, Global};
+use scsi_sense::{Reply, Sense, Status};
 use std::io::Write;
 
-// The bytes that are written at once, but for one answer more.
-const WRITE_CHUNK: usize = 65_536;
-
-// Adds a space and these bytes in hex, where there are any.
-fn add_hex(alloc: Global, text: &mut Vec<u8>, bytes: &[u8]) -> Result<(), AllocError>
-    ensures { OnOk result (text.new.items ≡ text.old.items ++ hex_word bytes.now) }
-{
-    if bytes.is_empty() {
-        return Ok(());
-    }
-    let digits = hex::encode(alloc, bytes)?;
-    text.push(b' ')?;
-    text.extend_from_slice(digits.as_bytes())
-}
-
-// Adds the line of an answer.
-fn add_reply(alloc: Global, text: &mut Vec<u8>, reply: &Reply) -> Result<(), AllocError>
-    ensures { OnOk result (text.new.items ≡ text.old.items ++ reply_text reply.now) }
-{
-    match reply.status {
-        Status::Good => text.extend_from_slice(b"GOOD")?,
-        Status::Check => text.extend_from_slice(b"CHECK")?,
-        Status::Conflict => text.extend_from_slice(b"CONFLICT")?,
-    }
-    if let Some(sense) = &reply.sense {
-        add_hex(alloc, text, &sense.bytes())?;
-    }
-    add_hex(alloc, text, reply.bytes.as_slice())?;
-    text.push(b'\n')?;
-    Ok(())
-}
+// The bytes whose digits are added at once at most.
+const DIGITS_PIECE: usize = 4_096;
 
 /// Writes a text. Where a write fails, which is a `WriteFault`, a beginning of it is written. An interrupted write is
 /// made again; it is not flushed.
@@ -64,44 +37,108 @@ pub fn write_text<W: Write>(writer: &mut W, text: &[u8]) -> Result<(), ScriptFau
     Err(ScriptFault::WriteFault)
 }
 
-// Writes a text, and leaves it empty.
-fn put<W: Write>(writer: &mut W, text: &mut Vec<u8>) -> Result<(), ScriptFault>
-    ensures ok { OnOk result
-        (Appends (W.contents writer.old) (W.contents writer.new) text.old.items) }
+// Adds the digits of these bytes.
+fn add_digits<W: Write>(
+    text: &mut AnswerText,
+    writer: &mut W,
+    bytes: &[u8],
+) -> Result<(), ScriptFault>
+    ensures ok { OnOk result (Adds (W.contents writer.old) text.old (encode_lower bytes.now)
+        (W.contents writer.new) text.new) }
     ensures err { OnErr result
-        (AppendsPart (W.contents writer.old) (W.contents writer.new) text.old.items) }
-    ensures empty { OnOk result (text.new.items ≡ []) }
+        (AppendsPart (W.contents writer.old) (W.contents writer.new) (text.old ++ encode_lower bytes.now)) }
     ensures fault { IfErr result (λ fault. fault ≡ ScriptFault.WriteFault) }
 {
-    write_text(writer, text.as_slice())?;
-    text.clear();
+    let mut rest = bytes;
+    while !rest.is_empty() {
+        let (piece, behind) = rest.split_at(rest.len().min(DIGITS_PIECE));
+        text.add_digits(writer, piece)?;
+        rest = behind;
+    }
     Ok(())
 }
 
-/// Writes the lines of replies, in order, and flushes them. Where memory runs out, those of the first
-/// are written; where a write fails, a beginning of their text.
+// Adds a space and these bytes in hex, where there are any.
+fn add_hex<W: Write>(text: &mut AnswerText, writer: &mut W, bytes: &[u8]) -> Result<(), ScriptFault>
+    ensures ok { OnOk result (Adds (W.contents writer.old) text.old (hex_word bytes.now)
+        (W.contents writer.new) text.new) }
+    ensures err { OnErr result
+        (AppendsPart (W.contents writer.old) (W.contents writer.new) (text.old ++ hex_word bytes.now)) }
+    ensures fault { IfErr result (λ fault. fault ≡ ScriptFault.WriteFault) }
+{
+    if bytes.is_empty() {
+        return Ok(());
+    }
+    text.add(writer, b" ")?;
+    add_digits(text, writer, bytes)
+}
+
+// Adds the sense data of an answer, where it has some.
+fn add_sense<W: Write>(
+    text: &mut AnswerText,
+    writer: &mut W,
+    sense: &Option<Sense>,
+) -> Result<(), ScriptFault>
+    ensures ok { OnOk result (Adds (W.contents writer.old) text.old (sense_text sense.now)
+        (W.contents writer.new) text.new) }
+    ensures err { OnErr result
+        (AppendsPart (W.contents writer.old) (W.contents writer.new) (text.old ++ sense_text sense.now)) }
+    ensures fault { IfErr result (λ fault. fault ≡ ScriptFault.WriteFault) }
+{
+    match sense {
+        Some(sense) => add_hex(text, writer, &sense.bytes()),
+        None => Ok(()),
+    }
+}
+
+// The name of a status.
+fn name_of(status: Status) -> &'static [u8]
+    ensures name { result.now ≡ status_text status }
+    ensures most { length result.now ≤ 8 }
+{
+    match status {
+        Status::Good => b"GOOD",
+        Status::Check => b"CHECK",
+        Status::Conflict => b"CONFLICT",
+    }
+}
+
+// Adds the line of an answer.
+fn add_reply<W: Write>(
+    text: &mut AnswerText,
+    writer: &mut W,
+    reply: &Reply,
+) -> Result<(), ScriptFault>
+    ensures ok { OnOk result (Adds (W.contents writer.old) text.old (reply_text reply.now)
+        (W.contents writer.new) text.new) }
+    ensures err { OnErr result
+        (AppendsPart (W.contents writer.old) (W.contents writer.new) (text.old ++ reply_text reply.now)) }
+    ensures fault { IfErr result (λ fault. fault ≡ ScriptFault.WriteFault) }
+{
+    text.add(writer, name_of(reply.status))?;
+    add_sense(text, writer, &reply.sense)?;
+    add_hex(text, writer, reply.bytes.as_slice())?;
+    text.add(writer, b"\n")
+}
+
+/// Writes the lines of replies, in order, and flushes them. Where a write fails, a beginning of their text is written.
 pub fn print_replies<W: Write>(
-    alloc: Global,
+    text: &mut AnswerText,
     writer: &mut W,
     replies: &[Reply],
 ) -> Result<(), ScriptFault>
+    requires { text.old ≡ [] }
     ensures ok { OnOk result
         (Appends (W.contents writer.old) (W.contents writer.new) (text_of replies.now)) }
-    ensures some { result ≡ Err ScriptFault.NoMemory → (count : ℕ) × Appends
-        (W.contents writer.old) (W.contents writer.new) (text_of (take count replies.now)) }
-    ensures part { result ≡ Err ScriptFault.WriteFault →
-        AppendsPart (W.contents writer.old) (W.contents writer.new) (text_of replies.now) }
-    ensures fault { IfErr result (λ fault.
-        (fault ≡ ScriptFault.WriteFault) ⊎ (fault ≡ ScriptFault.NoMemory)) }
+    ensures empty { OnOk result (text.new ≡ []) }
+    ensures part { OnErr result
+        (AppendsPart (W.contents writer.old) (W.contents writer.new) (text_of replies.now)) }
+    ensures fault { IfErr result (λ fault. fault ≡ ScriptFault.WriteFault) }
 {
-    let mut text = Vec::new(alloc);
     for reply in replies {
-        add_reply(alloc, &mut text, reply)?;
-        if text.len() >= WRITE_CHUNK {
-            put(writer, &mut text)?;
-        }
+        add_reply(text, writer, reply)?;
     }
-    put(writer, &mut text)?;
+    text.write_out(writer)?;
     if writer.flush().is_err() {
         return Err(ScriptFault::WriteFault);
     }

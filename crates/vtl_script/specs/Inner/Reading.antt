@@ -1,5 +1,5 @@
 -- How far a script was read (own).
-use Rattle.std.specs.Prelude.{◌≡◌, ℕ, ◌+◌, ◌-◌, ◌<◌, ◌≤◌, ◌==◌, nat_le, nat_lt, Bool, List, [], ◌++◌, length, position, Option, Some, None, Result, Ok, Err}
+use Rattle.std.specs.Prelude.{◌≡◌, ℕ, ◌+◌, ◌-◌, ◌<◌, ◌≤◌, ◌==◌, nat_le, nat_lt, Bool, List, [], ◌++◌, length, take, drop, position, Option, Some, None, Result, Ok, Err}
 use Rattle.std.specs.Io.KnownBytes.{Consumes, IsAtEnd}
 use Rattle.vtl_base.specs.declared.limits.TheConstants.{SCRIPT_BYTES, SCRIPT_READS, LINE_BYTES}
 use Rattle.vtl_script.specs.declared.faults.ScriptFault.{ScriptFault}
@@ -34,6 +34,18 @@ abbrev pub bytes_read : Result (Option ℕ) ScriptFault → ℕ
 bytes_read (Ok (Some count)) = count
 bytes_read (Ok None) = 0
 bytes_read (Err fault) = 0
+
+-- the bytes from one place up to another (own)
+abbrev pub part : ℕ → ℕ → List ℕ → List ℕ
+part start filled bytes = drop start (take filled bytes)
+
+-- so many bytes came from a reader that knew the bytes `left`, and stand behind the others (own)
+pub record Brings (left : Option (List ℕ)) (old : List ℕ) (left' : Option (List ℕ)) (new : List ℕ) (count : ℕ)
+    : Type 0 where
+  pub read : List ℕ
+  pub taken : Consumes left left' read
+  pub unread : new ≡ old ++ read
+  pub count_is : length read ≡ count
 
 -- some bytes came from a reader that knew the bytes `left`, and stand behind the others (own)
 pub record Comes (left : Option (List ℕ)) (old : Reading) (left' : Option (List ℕ)) (new : Reading) : Type 0 where

@@ -1,5 +1,5 @@
 -- How a script is run from a place on, phase by phase (own).
-use Rattle.std.specs.Prelude.{◌≡◌, ◌⊎◌, ℕ, ◌+◌, Bool, true, false, List, ◌++◌, length, Option, Result, Ok, Err, IfSome}
+use Rattle.std.specs.Prelude.{◌≡◌, ℕ, ◌+◌, Bool, true, false, List, ◌++◌, length, Option, Result, Ok, Err, IfSome}
 use Rattle.std.specs.List.{list_any}
 use Rattle.std.specs.Io.KnownBytes.{Appends, Consumes}
 use Rattle.scsi_sense.specs.declared.replies.Reply.{Reply}
@@ -11,7 +11,7 @@ use Rattle.vtl_script.specs.Parsed.{parsed_lines, is_refused}
 use Rattle.vtl_script.specs.Items.{items_to_run}
 use Rattle.vtl_script.specs.Text.{text_of}
 use Rattle.vtl_script.specs.Inner.Reading.{Reading}
-use Rattle.vtl_script.specs.Runs.{ScriptEnds, WritesPart, RunsPart, WritesSome}
+use Rattle.vtl_script.specs.Runs.{ScriptEnds, WritesPart, RunsPart}
 
 -- as at the end of a script, where it is run from the place of a reading on: lines are counted from its
 -- lines on, and bytes from its bytes on (own)
@@ -73,14 +73,13 @@ pub record AnswersItems {P : Type 0}
   pub written : Appends before now (text_of replies)
 
 -- at a write fault the first of these items was run, and a beginning of its replies' text was written behind this text;
--- where memory ran out it was run in part, or run and its first replies written (own)
+-- where memory ran out it was run in part (own)
 abbrev pub StopsIn : {P : Type 0} → (P → List Item → List Reply → P → Type 0) → List Item → List ℕ → P
     → Option (List ℕ) → P → Option (List ℕ) → ScriptFault → Type 0
 StopsIn answers behind text mid before new now (BadLine number) = ⊥
 StopsIn answers behind text mid before new now ReadFault = ⊥
 StopsIn answers behind text mid before new now WriteFault = WritesPart answers behind text mid before new now
-StopsIn answers behind text mid before new now NoMemory =
-    RunsPart answers behind text mid before new now ⊎ WritesSome answers behind text mid before new now
+StopsIn answers behind text mid before new now NoMemory = RunsPart answers behind text mid before new now
 
 -- the first of some items were run and their replies written whole, and the next of them was not (own)
 pub record AnswersFirst {P : Type 0}

@@ -18,4 +18,4 @@ returns-clause-runs g c =
     item_run runner.answers laws.answers_none laws.answers_on c.args.runner.now c.args.item.now _ c.run.new.self
     (g.W.Write.contents c.print_replies.new.writer) c.in_ok-replies.replies.items c.print_replies.result
     c.in_ok-replies.ensures.ok (rw c.as_slice.ensures.value at printed.ok) printed.fault
-    (rw c.as_slice.ensures.value at printed.part) (rw c.as_slice.ensures.value at printed.some)
+    (rw c.as_slice.ensures.value at printed.part)

@@ -1,15 +1,30 @@
-use Rattle.std.proofs.Common.{Err, Ok, refl, ap, ◌∙◌}
+use Rattle.std.proofs.Common.{Err, Ok, [], refl, ap, ◌∙◌, arith}
 use Rattle.std.proofs.lemmas.Result.{err_from_is_err_and}
 use Rattle.vtl_script.specs.Inner.Reading.{unbegun}
+use Rattle.vtl_script.specs.declared.faults.ScriptFault.TheVariants.{NoMemory}
+use Rattle.vtl_script.proofs.ItemLemmas.{finish_short}
 use Rattle.vtl_script.proofs.ScriptLemmas.{begin, goes_on, finish_on, runs_script}
-use Rattle.vtl_script.proofs.ReadingLemmas.{takes_on, err_same, ok_other}
+use Rattle.vtl_script.proofs.ReadingLemmas.{takes_on, consumes_none, err_same, ok_other}
 use Rattle.vtl_script.proofs.scripts.run_script.Goals as goal
 
-pub loop-line_reader-init : goal.loop-line_reader-init
-loop-line_reader-init g c =
+pub returns-in_err-text-clause-runs : goal.returns-in_err-text-clause-runs
+returns-in_err-text-clause-runs g c =
     let runner = g.P.Runner in
     let laws = g.met.P.Runner in
-    rw c.new-line_reader.ensures (record {
+    let exit = err_from_is_err_and c.from_residual.result c.from_residual.ensures.1 in
+    rw (exit.1, exit.2) (runs_script (runner.is_configured c.args.runner.now) runner.answers laws.answers_none
+    laws.answers_empty laws.answers_on c.args.runner.now _ _ c.args.runner.now _ (Err NoMemory)
+    (finish_short (runner.is_configured c.args.runner.now) runner.answers laws.answers_none laws.answers_empty
+    laws.answers_on unbegun c.args.runner.now _ _))
+
+pub returns-in_err-text-clause-past : goal.returns-in_err-text-clause-past
+returns-in_err-text-clause-past g c = λ other. ([], consumes_none _, omega arith)
+
+pub loop-text-init : goal.loop-text-init
+loop-text-init g c =
+    let runner = g.P.Runner in
+    let laws = g.met.P.Runner in
+    rw c.new-line_reader.ensures (c.in_ok-text.ensures, record {
       goes = begin (runner.is_configured c.args.runner.now) runner.answers laws.answers_none laws.answers_empty
           laws.answers_on unbegun c.args.runner.now _ _;
       same = refl;
@@ -19,48 +34,48 @@ pub returns-in_err-run_next-clause-runs : goal.returns-in_err-run_next-clause-ru
 returns-in_err-run_next-clause-runs g c =
     let runner = g.P.Runner in
     let laws = g.met.P.Runner in
-    let exit = err_from_is_err_and c.from_residual.result c.from_residual.ensures.1 in
-    let last = rw c.loop-line_reader.invariant.same at c.in_err-run_next.ensures.runs in
+    let exit = err_from_is_err_and c.from_residual-in_err-run_next.result c.from_residual-in_err-run_next.ensures.1 in
+    let last = rw c.loop-text.invariant.1.same at c.in_err-run_next.ensures.runs in
     rw (exit.1, exit.2) (runs_script (runner.is_configured c.args.runner.now) runner.answers laws.answers_none
     laws.answers_empty laws.answers_on c.args.runner.now _ _ c.run_next.new.runner _
     (Err c.in_err-run_next.field-0.0)
     (finish_on (runner.is_configured c.args.runner.now) runner.answers laws.answers_none laws.answers_empty
-    laws.answers_on unbegun c.loop-line_reader.line_reader c.args.runner.now c.loop-line_reader.runner
-    c.run_next.new.runner _ _ _ _ _ (Err c.in_err-run_next.field-0.0) c.loop-line_reader.invariant.goes last))
+    laws.answers_on unbegun c.loop-text.line_reader c.args.runner.now c.loop-text.runner
+    c.run_next.new.runner _ _ _ _ _ (Err c.in_err-run_next.field-0.0) c.loop-text.invariant.1.goes last))
 
-pub loop-line_reader-preserved : goal.loop-line_reader-preserved
-loop-line_reader-preserved g c =
+pub loop-text-preserved : goal.loop-text-preserved
+loop-text-preserved g c =
     let runner = g.P.Runner in
     let laws = g.met.P.Runner in
-    let more = rw (c.if-branch.true, c.loop-line_reader.invariant.same) at c.in_ok-run_next.ensures.runs in
-    record {
+    let more = rw (c.if-branch.true, c.loop-text.invariant.1.same) at c.in_ok-run_next.ensures.runs in
+    (c.in_ok-run_next.ensures.text, record {
       goes = goes_on (runner.is_configured c.args.runner.now) runner.answers laws.answers_none laws.answers_empty
-          laws.answers_on unbegun c.loop-line_reader.line_reader c.run_next.new.line_reader c.args.runner.now
-          c.loop-line_reader.runner c.run_next.new.runner _ _ _ _ _ _ c.loop-line_reader.invariant.goes more;
-      same = c.run_next.ensures.same ∙ c.loop-line_reader.invariant.same;
-    }
+          laws.answers_on unbegun c.loop-text.line_reader c.run_next.new.line_reader c.args.runner.now
+          c.loop-text.runner c.run_next.new.runner _ _ _ _ _ _ c.loop-text.invariant.1.goes more;
+      same = c.run_next.ensures.same ∙ c.loop-text.invariant.1.same;
+    })
 
 pub returns-clause-runs : goal.returns-clause-runs
 returns-clause-runs g c =
     let runner = g.P.Runner in
     let laws = g.met.P.Runner in
-    let last = rw (c.if-branch.false, c.loop-line_reader.invariant.same) at c.in_ok-run_next.ensures.runs in
+    let last = rw (c.if-branch.false, c.loop-text.invariant.1.same) at c.in_ok-run_next.ensures.runs in
     runs_script (runner.is_configured c.args.runner.now) runner.answers laws.answers_none laws.answers_empty
     laws.answers_on c.args.runner.now _ _ c.run_next.new.runner _ (Ok tt)
     (finish_on (runner.is_configured c.args.runner.now) runner.answers laws.answers_none laws.answers_empty
-    laws.answers_on unbegun c.loop-line_reader.line_reader c.args.runner.now c.loop-line_reader.runner
-    c.run_next.new.runner _ _ _ _ _ (Ok tt) c.loop-line_reader.invariant.goes last)
+    laws.answers_on unbegun c.loop-text.line_reader c.args.runner.now c.loop-text.runner
+    c.run_next.new.runner _ _ _ _ _ (Ok tt) c.loop-text.invariant.1.goes last)
 
 pub returns-in_err-run_next-clause-past : goal.returns-in_err-run_next-clause-past
 returns-in_err-run_next-clause-past g c = λ other.
-    let exit = err_from_is_err_and c.from_residual.result c.from_residual.ensures.1 in
-    let goes = c.loop-line_reader.invariant.goes in
-    takes_on _ _ _ 0 c.loop-line_reader.line_reader.bytes goes.read goes.taken goes.bytes
+    let exit = err_from_is_err_and c.from_residual-in_err-run_next.result c.from_residual-in_err-run_next.ensures.1 in
+    let goes = c.loop-text.invariant.1.goes in
+    takes_on _ _ _ 0 c.loop-text.line_reader.bytes goes.read goes.taken goes.bytes
     (c.run_next.ensures.past (λ is. other
     (exit.1 ∙ ap Err (exit.2 ∙ err_same c.run_next.result _ _ c.in_err-run_next.was is))))
 
 pub returns-clause-past : goal.returns-clause-past
 returns-clause-past g c = λ other.
-    let goes = c.loop-line_reader.invariant.goes in
-    takes_on _ _ _ 0 c.loop-line_reader.line_reader.bytes goes.read goes.taken goes.bytes
+    let goes = c.loop-text.invariant.1.goes in
+    takes_on _ _ _ 0 c.loop-text.line_reader.bytes goes.read goes.taken goes.bytes
     (c.run_next.ensures.past (λ is. ok_other c.run_next.result _ _ c.in_ok-run_next.was is))

@@ -1,13 +1,14 @@
+use Rattle.std.proofs.Common.{◌≡◌, []}
 use Rattle.vtl_script.specs.Inner.Reading.{work_left}
 use Rattle.vtl_script.proofs.ScriptLemmas.{IsRunning}
 use Rattle.vtl_script.proofs.scripts.run_script.Given as goal
 
--- the phases so far were run and answered
-abbrev pub invariant-loop-line_reader : goal.invariant-loop-line_reader
-invariant-loop-line_reader g l =
-    IsRunning g.P.Runner.is_configured g.P.Runner.answers l.fn.runner (g.R.Read.remaining l.fn.reader)
+-- the phases so far were run and answered, and no text is held
+abbrev pub invariant-loop-text : goal.invariant-loop-text
+invariant-loop-text g l =
+    (l.text ≡ []) × IsRunning g.P.Runner.is_configured g.P.Runner.answers l.fn.runner (g.R.Read.remaining l.fn.reader)
     (g.W.Write.contents l.fn.writer) l.line_reader l.runner (g.R.Read.remaining l.reader)
     (g.W.Write.contents l.writer)
 
-abbrev pub decreases-loop-line_reader : goal.decreases-loop-line_reader
-decreases-loop-line_reader g l = work_left l.line_reader
+abbrev pub decreases-loop-text : goal.decreases-loop-text
+decreases-loop-text g l = work_left l.line_reader

@@ -1,7 +1,10 @@
-use Rattle.vtl_script.proofs.TextLemmas.{IsPrinted}
+use Rattle.std.proofs.Common.{take}
+use Rattle.vtl_script.specs.Text.{text_of}
+use Rattle.vtl_script.specs.Inner.Writing.{Adds}
 use Rattle.vtl_script.proofs.texts.print_replies.Given as goal
 
--- the answers so far are written or held
+-- the text of the answers so far was added
 abbrev pub invariant-loop-reply : goal.invariant-loop-reply
 invariant-loop-reply g l =
-    IsPrinted (g.W.Write.contents l.fn.writer) (g.W.Write.contents l.writer) l.text.items l.replies l.reply-index
+    Adds (g.W.Write.contents l.fn.writer) l.fn.text (text_of (take l.reply-index l.replies))
+    (g.W.Write.contents l.writer) l.text

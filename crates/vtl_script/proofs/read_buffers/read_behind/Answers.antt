@@ -1,7 +1,7 @@
 use Rattle.std.proofs.Common.{arith, length-take-le}
 use borrow.Rule.Slice.PartMut.{take_put}
 use Rattle.vtl_script.proofs.ReadingLemmas.{consumes_in_place}
-use Rattle.vtl_script.proofs.line_readers.read_behind.Goals as goal
+use Rattle.vtl_script.proofs.read_buffers.read_behind.Goals as goal
 
 pub returns-clause-front : goal.returns-clause-front
 returns-clause-front g c = take_put _ _ c.args.buffer.now _ (omega (arith, c.requires))
