@@ -48,7 +48,11 @@ fn assert_rows(
             Some(cause) => Err(ApplyError::Refused(*cause)),
             None => Ok(()),
         };
-        assert_equal!(rt; volume.apply(change), wanted; (add, at));
+        let applied = match volume.apply(change) {
+            Ok(()) => Ok(()),
+            Err(refused) => Err(refused.error),
+        };
+        assert_equal!(rt; applied, wanted; (add, at));
         assert_equal!(rt; volume.count(*part), *count; (add, at));
         assert_equal!(rt; volume.used(*part, u32::MAX), *used; (add, at));
         let is_early = is_in_early_zone(volume.capacity(*part), *used);
