@@ -5,7 +5,7 @@ use Rattle.volume_core.specs.Volume.{refusal_of}
 use Rattle.volume_core.specs.Medium.{volume_of}
 use Rattle.drive_core.specs.Write.{put_at}
 use Rattle.drive_core.proofs.AppendLemmas.{write_lacks_memory, write_lacks_side}
-use Rattle.drive_core.proofs.writes.write.Goals as goal
+use Rattle.drive_core.proofs.writes.write_copy.Goals as goal
 
 pub returns-then-not-has_room_for-clause-carries :
     goal.returns-then-not-has_room_for-clause-carries
@@ -23,8 +23,8 @@ returns-then-not-has_room_for-clause-carries g c =
       stores = g.met.M.Medium.stores_nowhere medium;
     }
 
-pub returns-in_err-block-clause-carries : goal.returns-in_err-block-clause-carries
-returns-in_err-block-clause-carries g c =
+pub returns-in_err-copy-clause-carries : goal.returns-in_err-copy-clause-carries
+returns-in_err-copy-clause-carries g c =
     let medium = c.args.medium.now in
     let some : 1 ≤ length c.args.sent.now = search rules in
     let none : refusal_of (volume_of (g.M.Catalog.state medium)) (put_at c.args.position.now c.args.sent.now) ≡ None =
@@ -39,3 +39,6 @@ returns-in_err-block-clause-carries g c =
       advances = g.met.M.Medium.advances_nowhere medium;
       stores = g.met.M.Medium.stores_nowhere medium;
     })
+
+pub returns-clause-carries : goal.returns-clause-carries
+returns-clause-carries g c = let written = rw c.in_ok-copy.ensures.copy at c.write.ensures.carries in written.0

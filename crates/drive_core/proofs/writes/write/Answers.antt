@@ -1,0 +1,46 @@
+use Rattle.std.proofs.Common.{◌≡◌, ◌∙◌, ℕ, List, [], Option, ap, refl}
+use Rattle.volume_core.specs.declared.changes.Change.{Change}
+use Rattle.scsi_sense.specs.Replies.{good_with}
+use Rattle.drive_core.specs.State.{mounted}
+use Rattle.drive_core.specs.Inner.Appending.{restored}
+use Rattle.drive_core.proofs.AppendLemmas.{nothing_written, restored_is, some_bytes, some_written}
+use Rattle.drive_core.proofs.writes.write.Goals as goal
+
+pub returns-then-is_empty-clause-carries : goal.returns-then-is_empty-clause-carries
+returns-then-is_empty-clause-carries g c =
+    let medium = c.args.medium.now in
+    let good : c.good.result ≡ good_with [] = c.good.ensures ∙ ap good_with c.new.ensures in (
+      record {
+        made = [];
+        work =
+            rw good
+            (nothing_written c.args.buffered c.args.sent.now (g.M.Catalog.state medium) c.args.position.now
+            c.is_empty.result c.is_empty.ensures c.if-is_empty.true);
+        advances = g.met.M.Medium.advances_nowhere medium;
+        stores = g.met.M.Medium.stores_nowhere medium;
+      },
+      refl,
+    )
+
+pub returns-clause-carries : goal.returns-clause-carries
+returns-clause-carries g c =
+    let sent = c.args.sent.now in
+    let position = c.args.position.now in
+    let state = g.M.Catalog.state in
+    let some = some_bytes sent c.is_empty.result c.is_empty.ensures c.if-is_empty.false in
+    let appended = rw c.take.ensures.taken at c.append-appended.ensures.carries in
+    let carries = appended.0 in (
+      record {
+        made = carries.made;
+        work =
+            some_written c.args.buffered sent (mounted (state c.args.medium.now) position)
+            c.append-appended.result.answer carries.made
+            (mounted (state c.append-appended.new.medium) c.append-appended.new.position) some carries.work;
+        advances = carries.advances;
+        stores = carries.stores;
+      },
+      c.restore.ensures
+          ∙ ap (λ (left : List ℕ). restored c.append-appended.result.returned left) c.take.ensures.left
+          ∙ ap (λ (returned : Option Change). restored returned []) appended.1
+          ∙ restored_is carries.made position.part position.obj sent,
+    )
