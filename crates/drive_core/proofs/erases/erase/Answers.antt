@@ -18,8 +18,8 @@ returns-clause-carries g c =
     record {
       made = given.made;
       work =
-          stored_first (Erases c.args.buffered) (state old) (state mid) c.args.position.now c.append.result.answer given.made
-          (mounted (state new) c.append.new.position) stored.answer (given.work, given.stores);
+          stored_first (Erases c.args.buffered) (state old) (state mid) c.args.position.now c.append.result.answer
+          given.made (mounted (state new) c.append.new.position) stored.answer (given.work, given.stores);
       advances =
           advances_on g.M.Medium.below g.met.M.Medium.moves_on old mid new [] given.made
           (is_device_fault c.append.result.answer) stored.advances given.advances;
