@@ -16,8 +16,9 @@ EDITS = [
      "    if pending.is_empty() {",
      ["writes_wait_for_one_frame", "a_turn_tells_how_many_waited", "what_waits_is_counted"]),
     ("each write is stored at once", "tape_buffer", "src/adding.rt",
-     "        Ok(()) => Ok(()),\n        Err(NoMemory) => Err(MediumError::NoMemory),",
-     "        Ok(()) => settle_over(cartridge, pending),\n        Err(NoMemory) => Err(MediumError::NoMemory),",
+     "    match add_over(cartridge, pending, change) {\n        Ok(()) => Ok(()),",
+     "    match add_over(cartridge, pending, change) {\n"
+     "        Ok(()) => { let _ = settle_over(cartridge, pending); Ok(()) }",
      ["writes_wait_for_one_frame", "a_turn_tells_how_many_waited", "what_waits_is_counted"]),
     ("a change is stored one change early", "tape_buffer", "src/adding.rt", "    if !pending.is_full_for(change) {",
      "    if pending.len() < 63 && !pending.is_full_for(change) {",

@@ -34,6 +34,7 @@ WORDS = {
     "data-in": ["good_with", "GivesBlock"],
     "data-out": ["sent_length", "fields_verdict"],
     "DBD": ["disables_descriptors"],
+    "data of a command, lent": ["AnswersLent", "data_left"],
     "deferred error": ["deferred_write_error", "deferred_due", "after_turn"],
     "deny a command": ["verdict", "denial_reply", "denied"],
     "DESC": ["asks_descriptors"],

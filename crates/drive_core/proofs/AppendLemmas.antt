@@ -1,11 +1,13 @@
 -- What a change at the position makes of a medium, and how it is answered.
-use Rattle.std.proofs.Common.{◌≡◌, ◌<◌, ◌≤◌, ◌+◌, ◌++◌, if◌then◌else◌, ℕ, zero, suc, List, [], ◌∷◌, Option, Some, None, Result, Ok, Err, Bool, true, false, IsTrue, length, take, nat_le, slice_get, slice_set, refl, arith, sym, ◌∙◌, ap, inl, inr, length-append, append-nil}
+use Rattle.std.proofs.Common.{◌≡◌, ◌<◌, ◌≤◌, ◌+◌, ◌++◌, if◌then◌else◌, ℕ, zero, suc, List, [], ◌∷◌, Option, Some, None, Result, Ok, Err, Bool, true, false, IsTrue, length, not, ◌==◌, take, nat_le, slice_get, slice_set, refl, arith, sym, ◌∙◌, ap, inl, inr, length-append, append-nil}
+use Rattle.std.proofs.lemmas.Bool.{eqb-true}
 use Rattle.std.proofs.lemmas.Bool.Decides.{nat_tests}
 use Rattle.std.proofs.lemmas.List.{length-take-le}
 use Rattle.std.proofs.lemmas.List.Sums.{sum_by_push}
 use Rattle.vtl_base.specs.declared.limits.TheConstants.{MAX_BLOCK, MAX_OBJECTS, OBJECT_COST}
 use Rattle.scsi_sense.specs.declared.replies.Reply.{Reply}
 use Rattle.volume_core.specs.declared.changes.Change.{Change}
+use Rattle.volume_core.specs.declared.changes.Change.TheVariants.{Put}
 use Rattle.volume_core.specs.declared.changes.Refusal.{Refusal}
 use Rattle.volume_core.specs.declared.changes.Refusal.TheVariants.{NoRoom}
 use Rattle.volume_core.specs.declared.media.MediumError.{MediumError}
@@ -17,15 +19,16 @@ use Rattle.volume_core.specs.Medium.{Accepts, Fits, HasRoomFor, IsFull, MediumSt
 use Rattle.positioning.specs.declared.positions.Pos.{Pos}
 use Rattle.drive_core.specs.declared.faults.Fault.{Fault}
 use Rattle.drive_core.specs.declared.faults.Fault.TheVariants.{Writing, NoMemory, Reading, SideFull, Saving, StoreFull}
-use Rattle.drive_core.specs.State.{mounted}
-use Rattle.scsi_sense.specs.Replies.{check_with}
+use Rattle.drive_core.specs.State.{Mounted, mounted}
+use Rattle.scsi_sense.specs.Replies.{check_with, good_with}
 use Rattle.scsi_sense.specs.Senses.{volume_overflow}
 use Rattle.drive_core.specs.Append.{AppendWork, LacksRoom, amount_of, behind, done_reply, is_warned}
 use Rattle.drive_core.specs.Erase.{erase_at}
 use Rattle.drive_core.specs.Write.{WriteWork, put_at}
 use Rattle.drive_core.specs.Execute.{is_device_fault}
+use Rattle.drive_core.specs.Data.{data_left}
 use Rattle.drive_core.specs.Inner.Carries.{IsReady}
-use Rattle.drive_core.specs.Inner.Appending.{IsAt, SettlesAfter, refused_as}
+use Rattle.drive_core.specs.Inner.Appending.{IsAt, SettlesAfter, refused_as, restored, returned_of}
 
 -- there is a partition at a number below their count
 part_at : (volume : List Part) (p : ℕ) → p < length volume → (part : Part) × (slice_get volume p ≡ Some part)
@@ -227,6 +230,34 @@ fits_where : (room : Option ℕ) (pending : List Change) (change : Change) (byte
 fits_where None pending change bytes size has = tt
 fits_where (Some room) pending change bytes size has =
     omega (arith, has, size, sum_by_push frame_size pending change)
+
+-- a WRITE of no bytes
+pub nothing_written : (buffered : Bool) (sent : List ℕ) (u : MediumState) (p : Pos) (none : Bool)
+    → none ≡ (length sent == 0) → none ≡ true
+    → WriteWork buffered sent (mounted u p) (Ok (good_with [])) [] (mounted u p)
+nothing_written buffered [] u p none tested is = (refl, refl, refl)
+nothing_written buffered (byte ∷ bytes) u p none tested is =
+    let long : length (byte ∷ bytes) ≡ 0 = eqb-true (length (byte ∷ bytes)) 0 (sym tested ∙ is) in
+    absurd (omega (arith, long))
+
+-- data that are not empty have a byte
+pub some_bytes : (sent : List ℕ) (none : Bool) → none ≡ (length sent == 0) → none ≡ false → 1 ≤ length sent
+some_bytes [] none tested is = let never : true ≡ false = sym tested ∙ is in absurd (cc)
+some_bytes (byte ∷ bytes) none tested is = omega arith
+
+-- a WRITE of some bytes makes a block of them
+pub some_written : (buffered : Bool) (sent : List ℕ) (old : Mounted) (answer : Result Reply Fault)
+    (made : List Change) (new : Mounted) → 1 ≤ length sent
+    → AppendWork (not buffered) (put_at old.position sent) old answer made new
+    → WriteWork buffered sent old answer made new
+some_written buffered [] old answer made new some work = absurd (omega (arith, some))
+some_written buffered (byte ∷ bytes) old answer made new some work = work
+
+-- where the block is returned its bytes are put back, and else none are left
+pub restored_is : (made : List Change) (part at : ℕ) (sent : List ℕ)
+    → restored (returned_of made (Put part at sent)) [] ≡ data_left made sent
+restored_is [] part at sent = refl
+restored_is (change ∷ changes) part at sent = refl
 
 -- a WRITE that the side has no room for
 pub write_lacks_side : (buffered : Bool) (sent : List ℕ) (u : MediumState) (p : Pos) (has : Bool) → 1 ≤ length sent

@@ -1,5 +1,6 @@
 pub mod FaultLemmas
 pub mod TakesLemmas
+pub mod DataLemmas
 pub mod OrderLemmas
 pub mod AlikeLemmas
 pub mod CommandLemmas

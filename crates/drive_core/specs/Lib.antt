@@ -25,6 +25,7 @@ pub mod Load
 pub mod Step
 pub mod Synchronize
 pub mod Execute
+pub mod Data
 pub mod Media
 pub mod Run
 pub mod Determined

@@ -8,7 +8,7 @@ ghost use Rattle.drive_core.specs.State.{IsPositioned, mounted};
 ghost use Rattle.drive_core.specs.Append.{AppendWork, amount_of, done_reply, is_warned};
 ghost use Rattle.drive_core.specs.Execute.{is_device_fault};
 ghost use Rattle.drive_core.specs.Inner.Carries.{Carries, IsReady};
-ghost use Rattle.drive_core.specs.Inner.Appending.{IsAt, refused_as, SettlesAfter};
+ghost use Rattle.drive_core.specs.Inner.Appending.{IsAt, refused_as, returned_of, SettlesAfter};
 
 use crate::faults::Fault;
 use crate::storing::store_pending;
@@ -18,9 +18,19 @@ use std::alloc::Global;
 use volume_core::{Catalog, Change, Medium, MediumError};
 use vtl_base::Bytes;
 
+/// What came of a change at the position.
+#[derive(Drop)]
+pub struct Appended {
+    /// The answer.
+    pub answer: Result<Reply, Fault>,
+    /// The change, where the medium did not accept it.
+    pub returned: Option<Change>,
+}
+
 /// Makes a change at the position, which is then behind what it adds. `amount` is what the host is
 /// told where the change does not fit, None for one that adds nothing, and so always fits and warns
-/// of nothing. `settles` is that all is stored before the answer.
+/// of nothing. `settles` is that all is stored before the answer. A change that is not accepted is
+/// returned.
 pub fn append<M: Medium>(
     alloc: Global,
     medium: &mut M,
@@ -28,7 +38,7 @@ pub fn append<M: Medium>(
     change: Change,
     amount: Option<u32>,
     settles: bool,
-) -> Result<Reply, Fault>
+) -> Appended
     requires hand { M.below.at_hand medium.old }
     requires ready { IsReady (mounted (M.state medium.old) position.old) }
     requires at { IsAt position.old change }
@@ -36,18 +46,25 @@ pub fn append<M: Medium>(
     requires amount { amount ≡ amount_of change }
     requires fits { amount_of change ≡ None
         → refusal_of (volume_of (M.state medium.old)) change ≡ None }
-    ensures carries { Carries M.state M.below
+    ensures carries { (carries : Carries M.state M.below
         (AppendWork settles change)
-        medium.old position.old result medium.new position.new }
+        medium.old position.old result.answer medium.new position.new)
+        × (result.returned ≡ returned_of carries.made change) }
     ensures on { IsPositioned (M.state medium.new) position.new }
 {
     match medium.accept(change) {
         Ok(()) => {
             position.obj = medium.count(position.part);
             let warned = is_warned(medium, *position, amount);
-            finish(alloc, medium, warned, settles)
+            Appended {
+                answer: finish(alloc, medium, warned, settles),
+                returned: None,
+            }
         }
-        Err(error) => refuse(alloc, error, amount),
+        Err(refused) => Appended {
+            answer: refuse(alloc, refused.error, amount),
+            returned: Some(refused.change),
+        },
     }
 }
 

@@ -16,7 +16,7 @@ use crate::reads::read;
 use crate::rewinds::rewind;
 use crate::spaces::space;
 use crate::telling::read_position;
-use crate::writes::write;
+use crate::writes::write_copy;
 use positioning::Pos;
 use scsi_sense::Reply;
 use scsi_wire::Command;
@@ -51,7 +51,7 @@ pub fn carry_out<M: Medium>(
             length,
             suppress_length,
         } => read(alloc, medium, position, length, suppress_length),
-        Command::Write { .. } => write(alloc, medium, position, buffered, sent),
+        Command::Write { .. } => write_copy(alloc, medium, position, buffered, sent),
         Command::WriteFilemarks { count, immediate } => {
             write_marks(alloc, medium, position, count, immediate)
         }

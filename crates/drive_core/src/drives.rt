@@ -8,6 +8,7 @@ ghost use Rattle.drive_core.specs.Synchronize.{IsSynchronizing, Acknowledges, No
 ghost use Rattle.drive_core.specs.Execute.{Answers, Takes, HonestIn, asked};
 ghost use Rattle.drive_core.specs.Media.{TakesTurn, TakesIn, InsertSteps, LoadSteps, GoesOut, UnloadSteps, SwitchesOn, PowerOnSteps};
 
+mod lending;
 mod loading;
 mod modes;
 mod performing;

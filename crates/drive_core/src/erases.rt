@@ -35,7 +35,7 @@ pub fn erase<M: Medium>(
         part: position.part,
         at: position.obj,
     };
-    append(alloc, medium, position, change, None, !buffered)
+    append(alloc, medium, position, change, None, !buffered).answer
 }
 
 // What stays of a partition fits it, by what the catalog says of what is there. Both calls are for

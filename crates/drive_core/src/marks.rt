@@ -37,7 +37,7 @@ pub fn write_marks<M: Medium>(
         at: position.obj,
         count,
     };
-    append(alloc, medium, position, change, Some(count), !immediate)
+    append(alloc, medium, position, change, Some(count), !immediate).answer
 }
 
 // No marks: stores what is pending, unless the answer is to be immediate.

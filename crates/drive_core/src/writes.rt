@@ -6,6 +6,8 @@ ghost use Rattle.volume_core.specs.Volume.{refusal_of};
 ghost use Rattle.volume_core.specs.Medium.{volume_of};
 ghost use Rattle.drive_core.specs.State.{IsPositioned, mounted};
 ghost use Rattle.drive_core.specs.Write.{WriteWork, put_at};
+ghost use Rattle.drive_core.specs.Data.{data_left};
+ghost use Rattle.drive_core.specs.Inner.Appending.{restored};
 ghost use Rattle.drive_core.specs.Inner.Carries.{Carries, IsReady};
 
 use crate::appends::append;
@@ -18,9 +20,51 @@ use vtl_base::Bytes;
 use vtl_base::limits::{MAX_OBJECTS, OBJECT_COST};
 
 /// Puts what was sent as a block at the position, which is then behind it and the end of data
-/// (SSC-4, WRITE(6)). Of no bytes nothing is done. A block that does not fit the partition, or the
-/// side, is not copied.
+/// (SSC-4, WRITE(6)). Of no bytes nothing is done. The bytes are taken where the medium accepts the
+/// block; else they stay.
 pub fn write<M: Medium>(
+    alloc: Global,
+    medium: &mut M,
+    position: &mut Pos,
+    buffered: bool,
+    sent: &mut Bytes,
+) -> Result<Reply, Fault>
+    requires hand { M.below.at_hand medium.old }
+    requires ready { IsReady (mounted (M.state medium.old) position.old) }
+    requires short { length sent.old ≤ MAX_BLOCK }
+    ensures carries { (carries : Carries M.state M.below
+        (WriteWork buffered sent.old)
+        medium.old position.old result medium.new position.new)
+        × (sent.new ≡ data_left carries.made sent.old) }
+    ensures on { IsPositioned (M.state medium.new) position.new }
+{
+    if sent.is_empty() {
+        return Ok(Reply::good(Bytes::new(alloc)));
+    }
+    let amount = sent.len() as u32;
+    let change = Change::Put {
+        part: position.part,
+        at: position.obj,
+        block: sent.take(),
+    };
+    let appended = append(alloc, medium, position, change, Some(amount), !buffered);
+    restore(sent, appended.returned);
+    appended.answer
+}
+
+// Puts the bytes of a block back, where it was returned.
+fn restore(sent: &mut Bytes, returned: Option<Change>)
+    ensures { sent.new ≡ restored returned sent.old }
+{
+    match returned {
+        Some(Change::Put { block, .. }) => *sent = block,
+        Some(Change::Marks { .. }) | Some(Change::Erase { .. }) | None => {}
+    }
+}
+
+/// Writes a copy of what was sent, as `write` does. A block that does not fit the partition, or the
+/// side, is not copied.
+pub fn write_copy<M: Medium>(
     alloc: Global,
     medium: &mut M,
     position: &mut Pos,
@@ -47,13 +91,8 @@ pub fn write<M: Medium>(
             residue: Some(amount),
         });
     }
-    let block = Bytes::from_slice(alloc, sent)?;
-    let change = Change::Put {
-        part: position.part,
-        at: position.obj,
-        block,
-    };
-    append(alloc, medium, position, change, Some(amount), !buffered)
+    let mut copy = Bytes::from_slice(alloc, sent)?;
+    write(alloc, medium, position, buffered, &mut copy)
 }
 
 // Whether these bytes fit as a block at the position.

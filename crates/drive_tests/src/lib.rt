@@ -8,6 +8,8 @@ mod asserted;
 #[cfg(test)]
 mod driving;
 #[cfg(test)]
+mod lending;
+#[cfg(test)]
 mod loading;
 #[cfg(test)]
 mod motions;

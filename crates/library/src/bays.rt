@@ -2,6 +2,7 @@
 ghost use Rattle.std.specs.Prelude.{◌≡◌, ◌↔◌, IsTrue, IfOk, IfErr, Err, false, is_some, option_map};
 ghost use Rattle.drive_core.specs.declared.bays.Bay.TheVariants as Bays;
 ghost use Rattle.drive_core.specs.State.{left_of, machine_of, medium_in};
+ghost use Rattle.drive_core.specs.Data.{AnswersLent};
 ghost use Rattle.drive_core.specs.Execute.{Answers, HonestIn, asked};
 ghost use Rattle.drive_core.specs.Media.{GoesOut, SwitchesOn, TakesIn, TakesTurn};
 ghost use Rattle.drive_core.specs.Synchronize.{Acknowledges, IsSynchronizing, NothingPending};
@@ -20,7 +21,7 @@ use std::marker::Model;
 use tape_buffer::Buffered;
 use tape_disk::Disk;
 use volume_core::{Medium, Turn};
-use vtl_base::{Nexus, NoMemory};
+use vtl_base::{Bytes, Nexus, NoMemory};
 
 /// Why a drive was not switched on: memory ran out. What was handed in comes back.
 #[derive(Drop)]
@@ -89,6 +90,19 @@ impl<D: Disk> Bay<D> {
             (machine_of (state_of D.state) store_kept self.new) }
     {
         self.drive.execute(nexus, cdb, sent)
+    }
+
+    /// Answers a command of a host whose data are lent, as `Drive::execute_lent` does.
+    pub fn execute_lent(&mut self, nexus: Nexus, cdb: &[u8], sent: &mut Bytes) -> Reply
+        ensures step { AnswersLent (state_of D.state) (buffer_below D.state) store_kept (store_below D.state)
+            self.old (asked nexus cdb.now sent.old) result self.new sent.new }
+
+        // All is stored before a synchronizing command is acknowledged.
+        ensures settled { IsSynchronizing (machine_of (state_of D.state) store_kept self.old) cdb.now
+            → Acknowledges result → NothingPending (HonestIn (buffer_below D.state) (medium_in self.old.bay))
+            (machine_of (state_of D.state) store_kept self.new) }
+    {
+        self.drive.execute_lent(nexus, cdb, sent)
     }
 
     /// A flusher's turn: stores what is pending. It takes no memory.

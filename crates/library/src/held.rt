@@ -2,6 +2,7 @@
 ghost use Rattle.std.specs.Prelude.{◌≡◌, ◌≢◌, [], ℕ, None, Some, true, IfOk, IfErr, OnOk, is_some, option_map, length};
 ghost use Rattle.vtl_base.specs.declared.limits.TheConstants.{DRIVES, SLOTS};
 ghost use Rattle.changer.specs.Slots.{Puts, held_at, refusal_of_placing};
+ghost use Rattle.drive_core.specs.Data.{data_left};
 ghost use Rattle.drive_core.specs.Execute.{asked};
 ghost use Rattle.library.specs.Commands.{Commands};
 ghost use Rattle.library.specs.Elements.{Becomes, bay_at};
@@ -14,7 +15,7 @@ use std::alloc::Global;
 use std::marker::Model;
 use tape_disk::Disk;
 use vtl_base::limits::DRIVES;
-use vtl_base::{DriveNo, Nexus, NoMemory};
+use vtl_base::{Bytes, DriveNo, Nexus, NoMemory};
 
 /// Where every cartridge of a library stands: 256 slots and 16 drives, whatever is configured.
 #[derive(Drop)]
@@ -109,6 +110,27 @@ impl<D: Disk + Drop> Held<D> {
         let _ = drive.number();
         match &mut self.bays[drive.place()] {
             Some(bay) => bay.execute(nexus, cdb, sent),
+            None => unreachable!(),
+        }
+    }
+
+    /// Answers a command of a host to a configured drive, as `command` does. Its data are lent: where they become a
+    /// block they are taken, and not copied; else they stay.
+    pub fn command_lent(
+        &mut self,
+        nexus: Nexus,
+        drive: DriveNo,
+        cdb: &[u8],
+        sent: &mut Bytes,
+    ) -> Reply
+        requires { is_some (bay_at self.old.bays drive) ≡ true }
+        ensures { (commands : Commands D.state drive (asked nexus cdb.now sent.old) self.old result self.new)
+            × (sent.new ≡ data_left commands.step.taken.made.changes sent.old) }
+    {
+        // Asked for the proof's sake: the numbers of drives begin with 1.
+        let _ = drive.number();
+        match &mut self.bays[drive.place()] {
+            Some(bay) => bay.execute_lent(nexus, cdb, sent),
             None => unreachable!(),
         }
     }

@@ -14,4 +14,6 @@ mod moving;
 #[cfg(test)]
 mod samples;
 #[cfg(test)]
+mod taking;
+#[cfg(test)]
 mod writing;

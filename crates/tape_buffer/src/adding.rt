@@ -1,8 +1,8 @@
 //! A change is accepted.
-ghost use Rattle.std.specs.Prelude.{◌≡◌, ◌≤◌, ◌+◌, ◌↔◌, ◌++◌, ◌∷◌, [], None, IsTrue, OnOk, OnErr, false, sum_by};
+ghost use Rattle.std.specs.Prelude.{◌≡◌, ◌≤◌, ◌+◌, ◌↔◌, ◌++◌, ◌∷◌, [], None, IsTrue, IfErr, OnOk, false, sum_by};
 ghost use Rattle.vtl_base.specs.Below.{Advances};
 ghost use Rattle.volume_core.specs.Volume.{after, refusal_of};
-ghost use Rattle.volume_core.specs.Medium.{Accepts, accepted_by, frame_size, met_fault};
+ghost use Rattle.volume_core.specs.Medium.{Accepts, accept_answer, accepted_by, frame_size, met_fault};
 ghost use Rattle.volume_core.specs.Stores.{Stores};
 ghost use Rattle.cartridge.specs.Contents.{volume_made};
 ghost use Rattle.tape_buffer.specs.Frames.{AcceptsInFrames};
@@ -16,43 +16,55 @@ use crate::pending::Pending;
 use crate::storing::{reserve_over, settle_over};
 use cartridge::Cartridge;
 use tape_disk::Disk;
-use volume_core::{Change, MediumError};
-use vtl_base::NoMemory;
+use volume_core::{Change, MediumError, NotAccepted};
 
 // Accepts a change over an open cartridge, or refuses it. Where no more may be pending, what is pending is stored
-// first.
+// first. A change that is not accepted is returned.
 pub(crate) fn accept_over<D: Disk>(
     cartridge: &mut Cartridge<D>,
     pending: &mut Pending,
     change: Change,
-) -> Result<(), MediumError>
+) -> Result<(), NotAccepted>
     requires { IsPendingOver cartridge.old pending.old }
     ensures held { IsPendingOver cartridge.new pending.new }
-    ensures answer { Accepts (open_state cartridge.old pending.old) change result
+    ensures answer { Accepts (open_state cartridge.old pending.old) change (accept_answer result)
         (open_state cartridge.new pending.new) }
-    ensures frames { AcceptsInFrames change result cartridge.old.contents.frames pending.old
+    ensures returned { IfErr result (λ refused. refused.change ≡ change) }
+    ensures frames { AcceptsInFrames change (accept_answer result) cartridge.old.contents.frames pending.old
         cartridge.new.contents.frames pending.new }
-    ensures stores { Stores (open_state cartridge.old pending.old) (accepted_by result change)
+    ensures stores { Stores (open_state cartridge.old pending.old) (accepted_by (accept_answer result) change)
         (open_state cartridge.new pending.new) }
     ensures advances { Advances (buffer_below D.state) (open_buffer cartridge.old pending.old)
-        (accepted_by result change) (met_fault result) (open_buffer cartridge.new pending.new) }
+        (accepted_by (accept_answer result) change) (met_fault (accept_answer result))
+        (open_buffer cartridge.new pending.new) }
 {
     if cartridge.has_failed() {
-        return Err(MediumError::Failed);
+        let error = MediumError::Failed;
+        return Err(NotAccepted { error, change });
     }
     match refusal_seen(cartridge, pending.as_slice(), &change) {
-        Some(cause) => return Err(MediumError::Refused(cause)),
+        Some(cause) => {
+            let error = MediumError::Refused(cause);
+            return Err(NotAccepted { error, change });
+        }
         None => {}
     }
     if !has_room_over(cartridge, pending, change.frame_size()) {
-        return Err(MediumError::SideFull);
+        let error = MediumError::SideFull;
+        return Err(NotAccepted { error, change });
     }
-    make_way(cartridge, pending, &change)?;
+    match make_way(cartridge, pending, &change) {
+        Ok(()) => {}
+        Err(error) => return Err(NotAccepted { error, change }),
+    }
     // Asked for the proof's sake: what it holds is a cartridge's contents.
     cartridge.known();
     match add_over(cartridge, pending, change) {
         Ok(()) => Ok(()),
-        Err(NoMemory) => Err(MediumError::NoMemory),
+        Err(change) => {
+            let error = MediumError::NoMemory;
+            Err(NotAccepted { error, change })
+        }
     }
 }
 
@@ -93,12 +105,13 @@ fn make_way<D: Disk>(
     }
 }
 
-// Adds a change that is not refused, and for which there is room on the side and among what is pending.
+// Adds a change that is not refused, and for which there is room on the side and among what is pending. It is returned
+// where memory runs out.
 fn add_over<D: Disk>(
     cartridge: &mut Cartridge<D>,
     pending: &mut Pending,
     change: Change,
-) -> Result<(), NoMemory>
+) -> Result<(), Change>
     requires held { IsPendingOver cartridge.old pending.old }
     requires works { cartridge.old.failed ≡ false }
     requires unrefused { refusal_of (after (volume_made cartridge.old.contents) pending.old) change ≡ None }
@@ -107,12 +120,14 @@ fn add_over<D: Disk>(
     ensures held { IsPendingOver cartridge.new pending.new }
     ensures same { cartridge.new ≡ record cartridge.old { reserved = cartridge.new.reserved } }
     ensures ok { OnOk result (pending.new ≡ pending.old ++ change ∷ []) }
-    ensures err { OnErr result (pending.new ≡ pending.old) }
+    ensures err { IfErr result (λ back. (back ≡ change) × (pending.new ≡ pending.old)) }
 {
     // Asked for the proof's sake: at rest nothing is under way, and the partition is there.
     cartridge.known();
     let _ = cartridge.parts();
-    reserve_over(cartridge, pending, &change)?;
+    let Ok(()) = reserve_over(cartridge, pending, &change) else {
+        return Err(change);
+    };
     pending.push(change)?;
     Ok(())
 }

@@ -2,7 +2,7 @@
 ghost use Rattle.std.specs.Prelude.{◌≡◌, ◌≢◌, [], true, IfErr, OnErr};
 ghost use Rattle.vtl_base.specs.Below.{Advances};
 ghost use Rattle.volume_core.specs.declared.media.MediumError.TheVariants as Errors;
-ghost use Rattle.volume_core.specs.Medium.{Accepts, Parks, Settles, Turns, Wakes, accepted_by, met_fault, turn_met_fault};
+ghost use Rattle.volume_core.specs.Medium.{Accepts, Parks, Settles, Turns, Wakes, accept_answer, accepted_by, met_fault, turn_met_fault};
 ghost use Rattle.volume_core.specs.Stores.{Stores};
 ghost use Rattle.tape_buffer.specs.State.{IsSettledIn, disk_in, state_of};
 ghost use Rattle.tape_buffer.specs.Frames.{AcceptsInFrames, IsOneFrame, IsOneFrameIn, ParksInFrames, frames_in};
@@ -16,7 +16,7 @@ use crate::holding::{Holding, hold};
 use crate::storing::{settle_over, turn_over};
 use std::mem;
 use tape_disk::Disk;
-use volume_core::{Change, Medium, MediumError, Turn};
+use volume_core::{Change, Medium, MediumError, NotAccepted, Turn};
 use vtl_base::{ObjNo, PartNo};
 
 impl<D: Disk> Medium for Buffered<D> {
@@ -29,15 +29,17 @@ impl<D: Disk> Medium for Buffered<D> {
 
     // The trait's clauses, and which frames are stored on the way: none while the change may wait beside what is
     // pending, else one.
-    fn accept(&mut self, change: Change) -> Result<(), MediumError>
+    fn accept(&mut self, change: Change) -> Result<(), NotAccepted>
         requires { (state_of D.state self.old).awake ≡ true }
-        ensures answer { Accepts (state_of D.state self.old) change result (state_of D.state self.new) }
-        ensures frames { AcceptsInFrames change result (frames_in self.old) self.old.pending
-            (frames_in self.new) self.new.pending }
-        ensures stores { Stores (state_of D.state self.old) (accepted_by result change)
+        ensures answer { Accepts (state_of D.state self.old) change (accept_answer result)
             (state_of D.state self.new) }
-        ensures advances { Advances (buffer_below D.state) self.old (accepted_by result change) (met_fault result)
-            self.new }
+        ensures returned { IfErr result (λ refused. refused.change ≡ change) }
+        ensures frames { AcceptsInFrames change (accept_answer result) (frames_in self.old) self.old.pending
+            (frames_in self.new) self.new.pending }
+        ensures stores { Stores (state_of D.state self.old) (accepted_by (accept_answer result) change)
+            (state_of D.state self.new) }
+        ensures advances { Advances (buffer_below D.state) self.old (accepted_by (accept_answer result) change)
+            (met_fault (accept_answer result)) self.new }
     {
         match &mut self.held {
             Holding::Open(cartridge) => accept_over(cartridge, &mut self.pending, change),

@@ -1,5 +1,5 @@
 //! The changes that were accepted and are not stored yet.
-ghost use Rattle.std.specs.Prelude.{◌≡◌, ◌≤◌, ◌+◌, ◌++◌, ◌↔◌, [], ◌∷◌, IsTrue, OnOk, OnErr, length, sum_by};
+ghost use Rattle.std.specs.Prelude.{◌≡◌, ◌≤◌, ◌+◌, ◌++◌, ◌↔◌, [], ◌∷◌, IsTrue, IfErr, OnOk, length, sum_by};
 ghost use Rattle.vtl_base.specs.declared.limits.TheConstants.{MAX_BODY};
 ghost use Rattle.volume_core.specs.Medium.{frame_size};
 ghost use Rattle.record_index.specs.Records.{spell_all};
@@ -8,7 +8,6 @@ ghost use Rattle.tape_buffer.specs.Limits.{block_bytes, FitsBuffer};
 use std::alloc::Global;
 use std::marker::Model;
 use volume_core::Change;
-use vtl_base::NoMemory;
 use vtl_base::limits::{BUFFER_BYTES, BUFFER_RECORDS};
 
 // Changes that are pending, in order: 64 at most, with 4,194,304 bytes of blocks at most.
@@ -99,13 +98,15 @@ impl Pending {
         10 * self.changes.len() + self.bytes as usize
     }
 
-    // Takes a change that passes no limit.
-    pub(crate) fn push(&mut self, change: Change) -> Result<(), NoMemory>
+    // Takes a change that passes no limit. It is returned where memory runs out.
+    pub(crate) fn push(&mut self, change: Change) -> Result<(), Change>
         requires { FitsBuffer (self.old ++ change ∷ []) }
         ensures ok { OnOk result (self.new ≡ self.old ++ change ∷ []) }
-        ensures err { OnErr result (self.new ≡ self.old) }
+        ensures err { IfErr result (λ back. (back ≡ change) × (self.new ≡ self.old)) }
     {
-        self.changes.reserve(1)?;
+        let Ok(()) = self.changes.reserve(1) else {
+            return Err(change);
+        };
         self.bytes += block_bytes(&change);
         self.changes.push_reserved(change);
         Ok(())

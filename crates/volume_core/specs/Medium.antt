@@ -4,6 +4,7 @@ use Rattle.volume_core.specs.declared.changes.Change.{Change}
 use Rattle.volume_core.specs.declared.changes.Change.TheVariants.{Put, Marks, Erase}
 use Rattle.volume_core.specs.declared.media.MediumError.{MediumError}
 use Rattle.volume_core.specs.declared.media.MediumError.TheVariants.{Refused, NoMemory, SideFull, Device, Failed, Unreadable}
+use Rattle.volume_core.specs.declared.media.NotAccepted.{NotAccepted}
 use Rattle.volume_core.specs.declared.media.Turn.{Turn}
 use Rattle.volume_core.specs.declared.media.Turn.TheVariants as turns
 use Rattle.volume_core.specs.Volume.{Part, refusal_of, changed, after}
@@ -102,6 +103,11 @@ Accepts old change (Err Device) new =
     × Breaks old new × Fits old.room (old.pending ++ change ∷ [])
 Accepts old change (Err Failed) new = (old.failed ≡ true) × (new ≡ old)
 Accepts old change (Err Unreadable) new = ⊥
+
+-- what a medium answers to a change, less the change that is returned (own)
+abbrev pub accept_answer : Result Unit NotAccepted → Result Unit MediumError
+accept_answer (Ok done) = Ok done
+accept_answer (Err refused) = Err refused.error
 
 -- the changes that an answer accepts (own)
 abbrev pub accepted_by : Result Unit MediumError → Change → List Change

@@ -12,6 +12,7 @@ use Rattle.volume_core.specs.declared.changes.Change.TheVariants.{Put, Marks, Er
 use Rattle.volume_core.specs.declared.changes.Refusal.{Refusal}
 use Rattle.volume_core.specs.declared.changes.Refusal.TheVariants.{NoPartition, PastEnd, NoRoom, TooLong}
 use Rattle.volume_core.specs.declared.volumes.ApplyError.{ApplyError}
+use Rattle.volume_core.specs.declared.volumes.NotApplied.{NotApplied}
 use Rattle.volume_core.specs.declared.volumes.ApplyError.TheVariants.{Refused, NoMemory}
 
 -- a partition: how many bytes it takes, and its objects from object 0 on (SSC-4, logical objects)
@@ -191,6 +192,11 @@ abbrev pub AppliesUnless : {V : Type 0} → Option Refusal → V → V → Resul
 AppliesUnless refusal old changed (Ok done) new = (refusal ≡ None) × (new ≡ changed)
 AppliesUnless refusal old changed (Err (Refused cause)) new = (refusal ≡ Some cause) × (new ≡ old)
 AppliesUnless refusal old changed (Err NoMemory) new = (refusal ≡ None) × (new ≡ old)
+
+-- what a volume answers to a change, less the change that is returned (own)
+abbrev pub apply_answer : Result Unit NotApplied → Result Unit ApplyError
+apply_answer (Ok done) = Ok done
+apply_answer (Err refused) = Err refused.error
 
 -- a volume is asked for a change, and returns this (own)
 abbrev pub Applies : List Part → Change → Result Unit ApplyError → List Part → Type 0

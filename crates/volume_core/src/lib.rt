@@ -12,8 +12,8 @@ pub mod staged;
 pub mod volumes;
 
 pub use changes::{Change, Refusal};
-pub use media::{Catalog, Medium, MediumError, Turn};
+pub use media::{Catalog, Medium, MediumError, NotAccepted, Turn};
 pub use objects::{Kind, Object};
 pub use plain::PlainMedium;
 pub use staged::{FaultPlan, StagedMedium};
-pub use volumes::{ApplyError, Volume, are_capacities, is_in_early_zone};
+pub use volumes::{ApplyError, NotApplied, Volume, are_capacities, is_in_early_zone};

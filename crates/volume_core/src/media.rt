@@ -1,12 +1,12 @@
 //! What stands below a drive: a volume that tells of itself, and takes changes.
-ghost use Rattle.std.specs.Prelude.{◌≡◌, ℕ, ◌≤◌, ◌↔◌, ◌++◌, [], List, IsTrue, true, false, Some, OnOk, OnErr, length};
+ghost use Rattle.std.specs.Prelude.{◌≡◌, ℕ, ◌≤◌, ◌↔◌, ◌++◌, [], List, IsTrue, true, false, Some, OnOk, OnErr, IfErr, length};
 ghost use Rattle.vtl_base.specs.declared.limits.TheConstants.{MAX_BLOCK, MAX_CAPACITY, MAX_OBJECTS, MAX_PARTITIONS};
 ghost use Rattle.vtl_base.specs.Below.{Below, Advances};
 ghost use Rattle.volume_core.specs.declared.changes.Change.{Change};
 ghost use Rattle.volume_core.specs.declared.changes.Change.TheVariants.{Put, Marks, Erase};
 ghost use Rattle.volume_core.specs.declared.objects.Kind.TheVariants as Kinds;
 ghost use Rattle.volume_core.specs.Volume.{block_at, capacity_of, count_of, kind_at, used_up_to};
-ghost use Rattle.volume_core.specs.Medium.{MediumState, volume_of, Accepts, HasRoomFor, Fetches, Settles, Turns, Parks, Wakes, accepted_by, met_fault, turn_met_fault};
+ghost use Rattle.volume_core.specs.Medium.{MediumState, volume_of, Accepts, HasRoomFor, Fetches, Settles, Turns, Parks, Wakes, accept_answer, accepted_by, met_fault, turn_met_fault};
 ghost use Rattle.volume_core.specs.Stores.{Stores};
 
 use crate::changes::{Change, Refusal};
@@ -38,6 +38,15 @@ pub enum MediumError {
     Unreadable,
 }
 
+/// A change that a medium did not accept, and why. The volume is as it was.
+#[derive(Drop)]
+pub struct NotAccepted {
+    /// Why it was not accepted.
+    pub error: MediumError,
+    /// The change, as it was.
+    pub change: Change,
+}
+
 /// What a flusher's turn did.
 #[derive(Clone, Copy, PartialEq, Eq, Debug)]
 pub enum Turn {
@@ -47,6 +56,16 @@ pub enum Turn {
     Stored(usize),
     /// The device failed in this turn. The volume is as it was, and the medium has failed.
     Device,
+}
+
+// What a medium answered; a change that was not accepted is dropped.
+fn without_change(accepted: Result<(), NotAccepted>) -> Result<(), MediumError>
+    ensures { result ≡ accept_answer accepted }
+{
+    match accepted {
+        Ok(()) => Ok(()),
+        Err(refused) => Err(refused.error),
+    }
 }
 
 /// A volume that tells of itself. Each call needs the medium awake.
@@ -94,15 +113,18 @@ pub trait Medium: Catalog {
     /// may be made, and which changes it accepted from one value to another.
     ghost below: { Below Self Change };
 
-    /// Carries a change out. What stood behind the objects that it keeps is gone.
-    fn accept(&mut self, change: Change) -> Result<(), MediumError>
+    /// Carries a change out. What stood behind the objects that it keeps is gone. A change that is not
+    /// accepted is returned.
+    fn accept(&mut self, change: Change) -> Result<(), NotAccepted>
         requires awake { (Self.state self.old).awake ≡ true }
         requires hand { below.at_hand self.old }
-        ensures answer { Accepts (Self.state self.old) change result (Self.state self.new) }
-        ensures stores { Stores (Self.state self.old) (accepted_by result change)
+        ensures answer { Accepts (Self.state self.old) change (accept_answer result)
             (Self.state self.new) }
-        ensures advances { Advances below
-            self.old (accepted_by result change) (met_fault result) self.new };
+        ensures returned { IfErr result (λ refused. refused.change ≡ change) }
+        ensures stores { Stores (Self.state self.old) (accepted_by (accept_answer result) change)
+            (Self.state self.new) }
+        ensures advances { Advances below self.old (accepted_by (accept_answer result) change)
+            (met_fault (accept_answer result)) self.new };
 
     /// Puts a block behind the first `at` objects of a partition. What stood there is gone.
     fn put(&mut self, part: PartNo, at: ObjNo, block: Bytes) -> Result<(), MediumError>
@@ -115,7 +137,7 @@ pub trait Medium: Catalog {
         ensures advances { Advances below
             self.old (accepted_by result (Put part at block)) (met_fault result) self.new }
     {
-        self.accept(Change::Put { part, at, block })
+        without_change(self.accept(Change::Put { part, at, block }))
     }
 
     /// Puts this many marks behind the first `at` objects of a partition. What stood there is gone.
@@ -129,7 +151,7 @@ pub trait Medium: Catalog {
         ensures advances { Advances below
             self.old (accepted_by result (Marks part at count)) (met_fault result) self.new }
     {
-        self.accept(Change::Marks { part, at, count })
+        without_change(self.accept(Change::Marks { part, at, count }))
     }
 
     /// Erases what stands behind the first `at` objects of a partition.
@@ -143,7 +165,7 @@ pub trait Medium: Catalog {
         ensures advances { Advances below
             self.old (accepted_by result (Erase part at)) (met_fault result) self.new }
     {
-        self.accept(Change::Erase { part, at })
+        without_change(self.accept(Change::Erase { part, at }))
     }
 
     /// Gives the bytes of the block of an object number, in the place of what `into` held. After an

@@ -1,5 +1,5 @@
 //! The objects of a partition, with what they take up to each place.
-ghost use Rattle.std.specs.Prelude.{◌≡◌, ◌+◌, ◌*◌, ◌≤◌, ◌<◌, ◌^◌, ◌++◌, ◌∷◌, [], OnOk, OnErr, vec_capacity, length, take, replicate, slice_get};
+ghost use Rattle.std.specs.Prelude.{◌≡◌, ◌+◌, ◌*◌, ◌≤◌, ◌<◌, ◌^◌, ◌++◌, ◌∷◌, [], IfErr, OnOk, OnErr, vec_capacity, length, take, replicate, slice_get};
 ghost use Rattle.std.specs.Option.{option_copied};
 ghost use Rattle.vtl_base.specs.declared.limits.TheConstants.{OBJECT_COST};
 ghost use Rattle.volume_core.specs.declared.objects.Object.TheVariants as Objects;
@@ -8,6 +8,7 @@ ghost use Rattle.volume_core.specs.Volume.{cost_of, used_of, kind_in, block_in};
 use crate::objects::{Kind, Object};
 use std::alloc::{AllocError, Global};
 use std::marker::Model;
+use vtl_base::Bytes;
 use vtl_base::limits::OBJECT_COST;
 
 // Objects in order. To a contract they are a list. Beside each stands what the objects up to it
@@ -69,20 +70,24 @@ impl ObjectList {
         if n == 0 { 0 } else { self.costs[n - 1] }
     }
 
-    // Keeps the first `at` objects, and puts this one behind them.
-    pub(crate) fn put(&mut self, at: usize, object: Object) -> Result<(), AllocError>
+    // Keeps the first `at` objects, and puts this block behind them. It is returned where memory runs out.
+    pub(crate) fn put(&mut self, at: usize, block: Bytes) -> Result<(), Bytes>
         requires at { at ≤ length self.old }
-        requires fits { used_of (take at self.old) + cost_of object < 2 ^ 64 }
-        ensures ok { OnOk result (self.new ≡ take at self.old ++ object ∷ []) }
-        ensures err { OnErr result (self.new ≡ self.old) }
+        requires fits { used_of (take at self.old) + cost_of (Objects.Block block) < 2 ^ 64 }
+        ensures ok { OnOk result (self.new ≡ take at self.old ++ Objects.Block block ∷ []) }
+        ensures err { IfErr result (λ back. (back ≡ block) × (self.new ≡ self.old)) }
     {
-        let cost = self.used(at) + object.cost();
+        let cost = self.used(at) + block.len() as u64 + OBJECT_COST;
         let count = at + 1;
-        make_room(&mut self.objects, count)?;
-        make_room(&mut self.costs, count)?;
+        let Ok(()) = make_room(&mut self.objects, count) else {
+            return Err(block);
+        };
+        let Ok(()) = make_room(&mut self.costs, count) else {
+            return Err(block);
+        };
         cut(&mut self.objects, at, count);
         cut(&mut self.costs, at, count);
-        self.objects.push_reserved(object);
+        self.objects.push_reserved(Object::Block(block));
         self.costs.push_reserved(cost);
         Ok(())
     }

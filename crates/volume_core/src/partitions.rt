@@ -1,14 +1,14 @@
 //! Partitions that are kept in memory.
-ghost use Rattle.std.specs.Prelude.{◌≡◌, ◌≤◌, IsTrue, Some, slice_get, take, length};
+ghost use Rattle.std.specs.Prelude.{◌≡◌, ◌≤◌, IsTrue, IfErr, Some, slice_get, take, length};
 ghost use Rattle.std.specs.Option.{option_copied};
 ghost use Rattle.vtl_base.specs.declared.limits.TheConstants.{MAX_CAPACITY, MAX_OBJECTS};
 ghost use Rattle.vtl_base.specs.Limits.{is_capacity};
-ghost use Rattle.volume_core.specs.Volume.{IsPart, empty_part, used_of, kind_in, block_in, refusal_in, part_after, AppliesUnless};
+ghost use Rattle.volume_core.specs.Volume.{IsPart, empty_part, used_of, kind_in, block_in, refusal_in, part_after, AppliesUnless, apply_answer};
 
 use crate::changes::{Change, Refusal};
 use crate::object_list::ObjectList;
-use crate::objects::{Kind, Object};
-use crate::volumes::ApplyError;
+use crate::objects::Kind;
+use crate::volumes::{ApplyError, NotApplied};
 use std::alloc::Global;
 use std::marker::Model;
 use vtl_base::limits::MAX_OBJECTS;
@@ -95,20 +95,37 @@ impl Partition {
     }
 
     // Carries a change out that is meant for this partition, or refuses it.
-    pub(crate) fn apply(&mut self, change: Change) -> Result<(), ApplyError>
+    pub(crate) fn apply(&mut self, change: Change) -> Result<(), NotApplied>
         ensures answer { AppliesUnless (refusal_in (Some self.old) change) self.old
-            (part_after self.old change) result self.new }
+            (part_after self.old change) (apply_answer result) self.new }
+        ensures returned { IfErr result (λ refused. refused.change ≡ change) }
         ensures limits { IsPart self.new }
     {
         if let Some(cause) = self.refusal(&change) {
-            return Err(ApplyError::Refused(cause));
+            return Err(NotApplied {
+                error: ApplyError::Refused(cause),
+                change,
+            });
         }
-        let at = change.kept() as usize;
         match change {
-            Change::Put { block, .. } => self.stock.put(at, Object::Block(block))?,
-            Change::Marks { count, .. } => self.stock.marks(at, count)?,
-            Change::Erase { .. } => self.stock.erase(at),
+            Change::Put { part, at, block } => match self.stock.put(at as usize, block) {
+                Ok(()) => Ok(()),
+                Err(block) => Err(NotApplied {
+                    error: ApplyError::NoMemory,
+                    change: Change::Put { part, at, block },
+                }),
+            },
+            Change::Marks { part, at, count } => match self.stock.marks(at as usize, count) {
+                Ok(()) => Ok(()),
+                Err(_) => Err(NotApplied {
+                    error: ApplyError::NoMemory,
+                    change: Change::Marks { part, at, count },
+                }),
+            },
+            Change::Erase { at, .. } => {
+                self.stock.erase(at as usize);
+                Ok(())
+            }
         }
-        Ok(())
     }
 }

@@ -1,15 +1,12 @@
 //! A medium that keeps all in memory.
 ghost use Rattle.std.specs.Prelude.{◌≡◌, IsTrue, IfOk, true, false};
-ghost use Rattle.vtl_base.specs.Below.{Advances};
 ghost use Rattle.volume_core.specs.Volume.{are_capacities, empty_volume};
-ghost use Rattle.volume_core.specs.Medium.{Accepts, accepted_by, met_fault};
-ghost use Rattle.volume_core.specs.Stores.{Stores};
 ghost use Rattle.volume_core.specs.Plain.{plain_state, plain_below};
 
 use crate::changes::Change;
-use crate::media::{Catalog, Medium, MediumError, Turn};
+use crate::media::{Catalog, Medium, MediumError, NotAccepted, Turn};
 use crate::objects::Kind;
-use crate::volumes::{ApplyError, Volume};
+use crate::volumes::{ApplyError, NotApplied, Volume};
 use std::alloc::Global;
 use std::marker::Model;
 use vtl_base::{NoMemory, ObjNo, PartNo};
@@ -79,11 +76,27 @@ impl Medium for PlainMedium {
 
     ghost below = { plain_below };
 
-    fn accept(&mut self, change: Change) -> Result<(), MediumError> {
+    fn accept(&mut self, change: Change) -> Result<(), NotAccepted> {
         match self.volume.apply(change) {
             Ok(()) => Ok(()),
-            Err(ApplyError::Refused(cause)) => Err(MediumError::Refused(cause)),
-            Err(ApplyError::NoMemory) => Err(MediumError::NoMemory),
+            Err(
+                NotApplied {
+                    error: ApplyError::Refused(cause),
+                    change,
+                },
+            ) => Err(NotAccepted {
+                error: MediumError::Refused(cause),
+                change,
+            }),
+            Err(
+                NotApplied {
+                    error: ApplyError::NoMemory,
+                    change,
+                },
+            ) => Err(NotAccepted {
+                error: MediumError::NoMemory,
+                change,
+            }),
         }
     }
 

@@ -1,5 +1,5 @@
 //! A medium for tests: its side has an end, and its device fails.
-ghost use Rattle.std.specs.Prelude.{◌≡◌, ◌≤◌, ◌+◌, ◌↔◌, IsTrue, IfOk, OnOk, OnErr, None, [], length, sum_by, true, false, if◌then◌else◌};
+ghost use Rattle.std.specs.Prelude.{◌≡◌, ◌≤◌, ◌+◌, ◌↔◌, IsTrue, IfOk, IfErr, OnOk, OnErr, None, [], length, sum_by, true, false, if◌then◌else◌};
 ghost use Rattle.volume_core.specs.Volume.{AllApply, after, are_capacities, empty_volume, refusal_of};
 ghost use Rattle.volume_core.specs.Medium.{frame_size, volume_of};
 ghost use Rattle.volume_core.specs.Staged.{staged_state};
@@ -10,7 +10,7 @@ mod medium;
 use crate::changes::Change;
 use crate::fuses::Fuse;
 use crate::media::MediumError;
-use crate::volumes::{ApplyError, Volume};
+use crate::volumes::{ApplyError, NotApplied, Volume};
 use std::alloc::Global;
 use std::marker::Model;
 use vtl_base::NoMemory;
@@ -82,8 +82,18 @@ fn replayed(alloc: Global, capacities: &[u64], changes: &[Change]) -> Result<Vol
     for change in changes {
         match volume.apply(change.copy(alloc)?) {
             Ok(()) => {}
-            Err(ApplyError::NoMemory) => return Err(NoMemory),
-            Err(ApplyError::Refused(_)) => unreachable!(),
+            Err(
+                NotApplied {
+                    error: ApplyError::NoMemory,
+                    ..
+                },
+            ) => return Err(NoMemory),
+            Err(
+                NotApplied {
+                    error: ApplyError::Refused(_),
+                    ..
+                },
+            ) => unreachable!(),
         }
     }
     Ok(volume)
@@ -143,21 +153,35 @@ impl StagedMedium {
         size <= self.free
     }
 
-    // Takes a change that is not refused and has room.
-    fn add(&mut self, change: Change) -> Result<(), NoMemory>
+    // Takes a change that is not refused and has room. It is returned where memory runs out.
+    fn add(&mut self, change: Change) -> Result<(), Change>
         requires awake { self.old.awake ≡ true }
         requires applies { refusal_of (volume_of (staged_state self.old)) change ≡ None }
         requires room { sum_by frame_size self.old.rest + frame_size change ≤ self.old.room }
         ensures ok { OnOk result (self.new ≡ with_pending change self.old) }
-        ensures err { OnErr result (self.new ≡ self.old) }
+        ensures err { IfErr result (λ back. (back ≡ change) × (self.new ≡ self.old)) }
     {
         let size = change.frame_size();
-        let copy = change.copy(self.alloc)?;
-        self.log.reserve(1)?;
+        let Ok(copy) = change.copy(self.alloc) else {
+            return Err(change);
+        };
+        let Ok(()) = self.log.reserve(1) else {
+            return Err(change);
+        };
         match self.seen.apply(copy) {
             Ok(()) => {}
-            Err(ApplyError::NoMemory) => return Err(NoMemory),
-            Err(ApplyError::Refused(_)) => unreachable!(),
+            Err(
+                NotApplied {
+                    error: ApplyError::NoMemory,
+                    ..
+                },
+            ) => return Err(change),
+            Err(
+                NotApplied {
+                    error: ApplyError::Refused(_),
+                    ..
+                },
+            ) => unreachable!(),
         }
         self.log.push_reserved(change);
         self.free -= size;

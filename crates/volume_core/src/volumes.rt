@@ -1,10 +1,10 @@
 //! Volumes that are kept in memory.
-ghost use Rattle.std.specs.Prelude.{◌≡◌, ◌≤◌, IsTrue, IfOk, IfSome, length, slice_get};
+ghost use Rattle.std.specs.Prelude.{◌≡◌, ◌≤◌, IsTrue, IfOk, IfErr, IfSome, length, slice_get};
 ghost use Rattle.std.specs.List.{list_all};
 ghost use Rattle.std.specs.Option.{option_copied};
 ghost use Rattle.vtl_base.specs.declared.limits.TheConstants.{MAX_BLOCK, MAX_CAPACITY, MAX_OBJECTS, MAX_PARTITIONS};
 ghost use Rattle.vtl_base.specs.Limits.{is_capacity};
-ghost use Rattle.volume_core.specs.Volume.{Applies, IsPart, are_capacities, block_at, capacity_of, count_of, empty_volume, is_in_early_zone, kind_at, refusal_of, used_up_to};
+ghost use Rattle.volume_core.specs.Volume.{Applies, IsPart, apply_answer, are_capacities, block_at, capacity_of, count_of, empty_volume, is_in_early_zone, kind_at, refusal_of, used_up_to};
 
 use crate::changes::{Change, Refusal};
 use crate::objects::Kind;
@@ -24,6 +24,15 @@ pub enum ApplyError {
     /// The change would not be refused, but memory ran out.
     #[error("out of memory")]
     NoMemory,
+}
+
+/// A change that a volume did not carry out, and why. Nothing has changed.
+#[derive(Drop)]
+pub struct NotApplied {
+    /// Why it was not carried out.
+    pub error: ApplyError,
+    /// The change, as it was.
+    pub change: Change,
 }
 
 impl From<AllocError> for ApplyError {
@@ -176,13 +185,17 @@ impl Volume {
     }
 
     /// Carries a change out, or refuses it for the first cause that holds. That memory runs out is
-    /// returned where none holds. Nothing has changed after an `Err`.
-    pub fn apply(&mut self, change: Change) -> Result<(), ApplyError>
-        ensures { Applies self.old change result self.new }
+    /// returned where none holds. Nothing has changed after an `Err`, which returns the change.
+    pub fn apply(&mut self, change: Change) -> Result<(), NotApplied>
+        ensures answer { Applies self.old change (apply_answer result) self.new }
+        ensures returned { IfErr result (λ refused. refused.change ≡ change) }
     {
         let part = change.part() as usize;
         if part >= self.partitions.len() {
-            return Err(ApplyError::Refused(Refusal::NoPartition));
+            return Err(NotApplied {
+                error: ApplyError::Refused(Refusal::NoPartition),
+                change,
+            });
         }
         let partition = &mut self.partitions[part];
         partition.apply(change)

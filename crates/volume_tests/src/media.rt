@@ -52,7 +52,10 @@ fn take<M: Medium>(alloc: Global, medium: &mut M, ask: Ask) -> Result<Answer, Fa
     ensures { OnOk result ((M.state medium.new).awake ≡ true) }
 {
     Ok(as_answer(match ask {
-        Ask::Accept(at, add) => medium.accept(make_change(alloc, 0, at, add)?),
+        Ask::Accept(at, add) => match medium.accept(make_change(alloc, 0, at, add)?) {
+            Ok(()) => Ok(()),
+            Err(refused) => Err(refused.error),
+        },
         Ask::Put(at, length) => { medium.put(0, at, Bytes::from_vec(vec![in alloc; 7u8; length]?)) }
         Ask::Marks(at, count) => medium.marks(0, at, count),
         Ask::Erase(at) => medium.erase(0, at),

@@ -43,7 +43,11 @@ fn is_applied(rt: &impl Abort, volume: &mut Volume, change: Change, row: &Row) {
         Some(cause) => Err(ApplyError::Refused(cause)),
         None => Ok(()),
     };
-    assert_equal!(rt; volume.apply(change), wanted; (add, at));
+    let applied = match volume.apply(change) {
+        Ok(()) => Ok(()),
+        Err(refused) => Err(refused.error),
+    };
+    assert_equal!(rt; applied, wanted; (add, at));
 }
 
 // What a volume has behind the change of a row.

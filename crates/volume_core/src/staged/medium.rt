@@ -1,7 +1,7 @@
 //! The calls of a medium for tests, as a drive makes them.
 use super::StagedMedium;
 use crate::changes::Change;
-use crate::media::{Catalog, Medium, MediumError, Turn};
+use crate::media::{Catalog, Medium, MediumError, NotAccepted, Turn};
 use crate::objects::Kind;
 use vtl_base::{NoMemory, ObjNo, PartNo};
 
@@ -39,19 +39,25 @@ impl Medium for StagedMedium {
 
     ghost below = { staged_below };
 
-    fn accept(&mut self, change: Change) -> Result<(), MediumError> {
+    fn accept(&mut self, change: Change) -> Result<(), NotAccepted> {
         if self.failed {
-            return Err(MediumError::Failed);
+            let error = MediumError::Failed;
+            return Err(NotAccepted { error, change });
         }
         if let Some(cause) = self.volume().refusal(&change) {
-            return Err(MediumError::Refused(cause));
+            let error = MediumError::Refused(cause);
+            return Err(NotAccepted { error, change });
         }
         if !self.has_room_for_frame(change.frame_size()) {
-            return Err(MediumError::SideFull);
+            let error = MediumError::SideFull;
+            return Err(NotAccepted { error, change });
         }
         match self.add(change) {
             Ok(()) => Ok(()),
-            Err(NoMemory) => Err(MediumError::NoMemory),
+            Err(change) => {
+                let error = MediumError::NoMemory;
+                Err(NotAccepted { error, change })
+            }
         }
     }
 

@@ -1,41 +1,46 @@
-use Rattle.std.proofs.Common.{◌≡◌, ◌≤◌, ◌∙◌, [], length, None, Some, Err, Bool, if◌then◌else◌, ap, rules}
-use Rattle.std.proofs.lemmas.Result.{err_from_is_err_and}
-use Rattle.volume_core.specs.declared.changes.Refusal.TheVariants as Refusals
-use Rattle.volume_core.specs.Volume.{refusal_of}
-use Rattle.volume_core.specs.Medium.{volume_of}
-use Rattle.drive_core.specs.Write.{put_at}
-use Rattle.drive_core.proofs.AppendLemmas.{write_lacks_memory, write_lacks_side}
+use Rattle.std.proofs.Common.{◌≡◌, ◌∙◌, ℕ, List, [], Option, ap, refl}
+use Rattle.volume_core.specs.declared.changes.Change.{Change}
+use Rattle.scsi_sense.specs.Replies.{good_with}
+use Rattle.drive_core.specs.State.{mounted}
+use Rattle.drive_core.specs.Inner.Appending.{restored}
+use Rattle.drive_core.proofs.AppendLemmas.{nothing_written, restored_is, some_bytes, some_written}
 use Rattle.drive_core.proofs.writes.write.Goals as goal
 
-pub returns-then-not-has_room_for-clause-carries :
-    goal.returns-then-not-has_room_for-clause-carries
-returns-then-not-has_room_for-clause-carries g c =
+pub returns-then-is_empty-clause-carries : goal.returns-then-is_empty-clause-carries
+returns-then-is_empty-clause-carries g c =
     let medium = c.args.medium.now in
-    let some : 1 ≤ length c.args.sent.now = search rules in
-    let none : refusal_of (volume_of (g.M.Catalog.state medium)) (put_at c.args.position.now c.args.sent.now) ≡ None =
-    c.has_room.ensures ∙ ap (λ (b : Bool). if b then None else Some Refusals.NoRoom) c.if-not-has_room.false in
-    record {
-      made = [];
-      work =
-          write_lacks_side c.args.buffered c.args.sent.now (g.M.Catalog.state medium) c.args.position.now
-          c.has_room_for.result some none c.has_room_for.ensures.1 c.if-not-has_room_for.true;
-      advances = g.met.M.Medium.advances_nowhere medium;
-      stores = g.met.M.Medium.stores_nowhere medium;
-    }
+    let good : c.good.result ≡ good_with [] = c.good.ensures ∙ ap good_with c.new.ensures in (
+      record {
+        made = [];
+        work =
+            rw good
+            (nothing_written c.args.buffered c.args.sent.now (g.M.Catalog.state medium) c.args.position.now
+            c.is_empty.result c.is_empty.ensures c.if-is_empty.true);
+        advances = g.met.M.Medium.advances_nowhere medium;
+        stores = g.met.M.Medium.stores_nowhere medium;
+      },
+      refl,
+    )
 
-pub returns-in_err-block-clause-carries : goal.returns-in_err-block-clause-carries
-returns-in_err-block-clause-carries g c =
-    let medium = c.args.medium.now in
-    let some : 1 ≤ length c.args.sent.now = search rules in
-    let none : refusal_of (volume_of (g.M.Catalog.state medium)) (put_at c.args.position.now c.args.sent.now) ≡ None =
-    c.has_room.ensures ∙ ap (λ (b : Bool). if b then None else Some Refusals.NoRoom) c.if-not-has_room.false in
-    let exit = err_from_is_err_and c.from_residual.result c.from_residual.ensures.1 in
-    rw (exit.1 ∙ ap Err exit.2)
-    (record {
-      made = [];
-      work =
-          write_lacks_memory c.args.buffered c.args.sent.now (g.M.Catalog.state medium) c.args.position.now
-          c.has_room_for.result some c.requires.ready none c.has_room_for.ensures.0 c.if-not-has_room_for.false;
-      advances = g.met.M.Medium.advances_nowhere medium;
-      stores = g.met.M.Medium.stores_nowhere medium;
-    })
+pub returns-clause-carries : goal.returns-clause-carries
+returns-clause-carries g c =
+    let sent = c.args.sent.now in
+    let position = c.args.position.now in
+    let state = g.M.Catalog.state in
+    let some = some_bytes sent c.is_empty.result c.is_empty.ensures c.if-is_empty.false in
+    let appended = rw c.take.ensures.taken at c.append-appended.ensures.carries in
+    let carries = appended.0 in (
+      record {
+        made = carries.made;
+        work =
+            some_written c.args.buffered sent (mounted (state c.args.medium.now) position)
+            c.append-appended.result.answer carries.made
+            (mounted (state c.append-appended.new.medium) c.append-appended.new.position) some carries.work;
+        advances = carries.advances;
+        stores = carries.stores;
+      },
+      c.restore.ensures
+          ∙ ap (λ (left : List ℕ). restored c.append-appended.result.returned left) c.take.ensures.left
+          ∙ ap (λ (returned : Option Change). restored returned []) appended.1
+          ∙ restored_is carries.made position.part position.obj sent,
+    )

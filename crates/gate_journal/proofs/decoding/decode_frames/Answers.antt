@@ -16,7 +16,7 @@ loop-frame-preserved g c =
     let old = g.D.Disk.state start.disk in
     let mid = g.D.Disk.state c.loop-frame.journal.disk in
     let new = g.D.Disk.state c.read_frame.new.journal.disk in
-    let reserved = c.in-Ok.ensures.ok.2 in
+    let reserved = c.in-Ok.ensures.ok.3 in
     let inside : frame < length start.extents =
     omega (
       arith,

@@ -1,5 +1,4 @@
-use Rattle.std.proofs.Common.{◌≡◌, List, None, Err, ap, sym, subst, ◌∙◌}
-use Rattle.std.proofs.lemmas.Result.{err_from_is_err_and}
+use Rattle.std.proofs.Common.{◌≡◌, List, None, ap, sym, subst, ◌∙◌}
 use Rattle.volume_core.specs.declared.changes.Change.{Change}
 use Rattle.volume_core.specs.Volume.{Part, after, refusal_of}
 use Rattle.volume_core.specs.Medium.{volume_of}
@@ -29,45 +28,43 @@ returns-then-not-has_room_over-clause-advances g c =
     rests g.D.Disk.state g.met.D.Disk.is_disk
     (open_buffer c.args.cartridge.now c.args.pending.now)
 
-unrefused : (g : Over) (c : goal.In-Ok g)
+unrefused : (g : Over) (c : goal.In-Ok-add_over g)
     → refusal_of (volume_of (open_state c.args.cartridge.now c.args.pending.now)) c.args.change ≡ None
 unrefused g c =
     ap (λ (l : List Change). refusal_of (after (volume_made c.args.cartridge.now.contents) l) c.args.change)
     (sym c.as_slice.ensures) ∙ sym c.refusal_seen.ensures ∙ c.in-None.is
 
-pub returns-in-Ok-clause-answer : goal.returns-in-Ok-clause-answer
-returns-in-Ok-clause-answer g c =
+pub returns-in-Ok-add_over-clause-answer : goal.returns-in-Ok-add_over-clause-answer
+returns-in-Ok-add_over-clause-answer g c =
     accepts_more c.args.cartridge.now c.make_way.new.cartridge c.add_over.new.cartridge c.args.pending.now
-    c.make_way.new.pending c.add_over.new.pending c.args.change c.in_ok-make_way.ensures.answer
-    c.in_ok-make_way.ensures.stores c.in-Ok.ensures.same c.in-Ok.ensures.ok (unrefused g c)
+    c.make_way.new.pending c.add_over.new.pending c.args.change c.in-Ok.ensures.answer
+    c.in-Ok.ensures.stores c.in-Ok-add_over.ensures.same c.in-Ok-add_over.ensures.ok (unrefused g c)
     (sym c.has_failed.ensures ∙ c.if-has_failed.false)
     (fits_more c.args.cartridge.now.room c.frame_size.result c.has_room_over.result c.args.pending.now c.args.change
     c.has_room_over.ensures.0 c.frame_size.ensures c.if-not-has_room_over.false)
 
-pub returns-in-Ok-clause-advances : goal.returns-in-Ok-clause-advances
-returns-in-Ok-clause-advances g c =
+pub returns-in-Ok-add_over-clause-advances : goal.returns-in-Ok-add_over-clause-advances
+returns-in-Ok-add_over-clause-advances g c =
     advances_more c.args.cartridge.now c.make_way.new.cartridge c.add_over.new.cartridge c.args.pending.now
-    c.make_way.new.pending c.add_over.new.pending c.args.change c.in_ok-make_way.ensures.answer
-    c.in_ok-make_way.ensures.stores c.in-Ok.ensures.same g.D.Disk.state g.met.D.Disk.is_disk
-    c.in_ok-make_way.ensures.advances c.in_ok-make_way.ensures.held
-    (ap (λ (v : List Part). refusal_of v c.args.change) c.in_ok-make_way.ensures.answer.volume_is ∙ unrefused g c)
-    c.known.ensures.contents c.in_ok-make_way.ensures.answer.works
-    c.in-Ok.ensures.ok
+    c.make_way.new.pending c.add_over.new.pending c.args.change c.in-Ok.ensures.answer
+    c.in-Ok.ensures.stores c.in-Ok-add_over.ensures.same g.D.Disk.state g.met.D.Disk.is_disk
+    c.in-Ok.ensures.advances c.in-Ok.ensures.held
+    (ap (λ (v : List Part). refusal_of v c.args.change) c.in-Ok.ensures.answer.volume_is ∙ unrefused g c)
+    c.known.ensures.contents c.in-Ok.ensures.answer.works
+    c.in-Ok-add_over.ensures.ok
 
-pub returns-in-Ok-clause-frames : goal.returns-in-Ok-clause-frames
-returns-in-Ok-clause-frames g c = (
+pub returns-in-Ok-add_over-clause-frames : goal.returns-in-Ok-add_over-clause-frames
+returns-in-Ok-add_over-clause-frames g c = (
   c.make_way.new.pending,
   subst (λ (frames : List (List Change)). MakesWay c.args.cartridge.now.contents.frames c.args.pending.now
       c.args.change frames c.make_way.new.pending)
-      (sym (ap (λ (k : OpenCartridge _). k.contents.frames) c.in-Ok.ensures.same)) c.in_ok-make_way.ensures.frames,
-  c.in-Ok.ensures.ok,
+      (sym (ap (λ (k : OpenCartridge _). k.contents.frames) c.in-Ok-add_over.ensures.same)) c.in-Ok.ensures.frames,
+  c.in-Ok-add_over.ensures.ok,
 )
 
-pub returns-in_err-make_way-clause-frames : goal.returns-in_err-make_way-clause-frames
-returns-in_err-make_way-clause-frames g c =
-    let exit = err_from_is_err_and c.from_residual.result c.from_residual.ensures.1 in
-    rw (exit.1 ∙ ap Err exit.2)
-    (frames_refused (open_state c.args.cartridge.now c.args.pending.now)
-    (open_state c.make_way.new.cartridge c.make_way.new.pending) c.args.change c.in_err-make_way.field-0.0
+pub returns-in-Err-clause-frames : goal.returns-in-Err-clause-frames
+returns-in-Err-clause-frames g c =
+    frames_refused (open_state c.args.cartridge.now c.args.pending.now)
+    (open_state c.make_way.new.cartridge c.make_way.new.pending) c.args.change c.in-Err.error
     c.args.cartridge.now.contents.frames c.make_way.new.cartridge.contents.frames c.args.pending.now
-    c.make_way.new.pending c.in_err-make_way.ensures.answer c.in_err-make_way.ensures.frames)
+    c.make_way.new.pending c.in-Err.ensures.answer c.in-Err.ensures.frames

@@ -20,4 +20,4 @@ pub returns-clause-held : goal.returns-clause-held
 returns-clause-held g c =
     pending_more c.args.cartridge.now c.reserve_over.new.cartridge c.args.pending.now c.push.new.self c.args.change
     c.requires.held (c.known.ensures.at_rest c.requires.works) c.reserve_over.ensures.same c.requires.unrefused
-    c.requires.room c.in_ok-reserve_over.ensures.ok c.in_ok-push.ensures.ok
+    c.requires.room c.in-Ok.ensures.ok c.in_ok-push.ensures.ok

@@ -1,0 +1,92 @@
+//! A command whose data are lent.
+ghost use Rattle.std.specs.Prelude.{◌≡◌, ◌≤◌, None, length};
+ghost use Rattle.vtl_base.specs.declared.limits.TheConstants.{MAX_BLOCK};
+ghost use Rattle.drive_core.specs.State.{IsAtHand, machine_of, medium_in};
+ghost use Rattle.drive_core.specs.OnMedium.{OnMedium};
+ghost use Rattle.drive_core.specs.Write.{WriteWork};
+ghost use Rattle.drive_core.specs.Work.{Work};
+ghost use Rattle.drive_core.specs.Checks.{Executes, medium_denial};
+ghost use Rattle.drive_core.specs.Synchronize.{IsSynchronizing, Acknowledges, NothingPending};
+ghost use Rattle.drive_core.specs.Execute.{Takes, HonestIn, asked};
+ghost use Rattle.drive_core.specs.Data.{AnswersLent, data_left};
+ghost use Rattle.drive_core.specs.Inner.Passing.{IsPassed};
+
+use super::Drive;
+use crate::bays::Bay;
+use crate::faults::Fault;
+use crate::writes::write;
+use pr_core::Keeper;
+use scsi_sense::Reply;
+use scsi_wire::Command;
+use volume_core::Medium;
+use vtl_base::{Bytes, Nexus};
+
+impl<M: Medium, K: Keeper> Drive<M, K> {
+    /// Answers a command, as `execute` does. Its data are lent: where they become a block they are taken, and not
+    /// copied; else they stay.
+    pub fn execute_lent(&mut self, nexus: Nexus, cdb: &[u8], sent: &mut Bytes) -> Reply
+        requires hand { IsAtHand M.below.at_hand self.old.bay }
+        ensures step { AnswersLent M.state M.below K.kept K.below
+            self.old (asked nexus cdb.now sent.old) result self.new sent.new }
+
+        // All is stored before a synchronizing command is acknowledged.
+        ensures settled { IsSynchronizing (machine_of M.state K.kept self.old) cdb.now
+            → Acknowledges result → NothingPending (HonestIn M.below (medium_in self.old.bay))
+            (machine_of M.state K.kept self.new) }
+    {
+        let alloc = self.alloc;
+        match self.check_lent(nexus, cdb, sent) {
+            Ok(reply) => reply,
+            Err(fault) => fault.reply(alloc),
+        }
+    }
+
+    // Checks a command, and carries it out where it passes all checks.
+    fn check_lent(&mut self, nexus: Nexus, cdb: &[u8], sent: &mut Bytes) -> Result<Reply, Fault>
+        requires hand { IsAtHand M.below.at_hand self.old.bay }
+        ensures { (takes : Takes M.state M.below K.kept K.below
+            (Executes (HonestIn M.below (medium_in self.old.bay))
+            (asked nexus cdb.now sent.old) (machine_of M.state K.kept self.old))
+            self.old result self.new) × (sent.new ≡ data_left takes.made.changes sent.old) }
+    {
+        match self.verdict(nexus, cdb, sent.as_slice()) {
+            Ok(command) => self.perform_lent(nexus, command, sent),
+            Err(denial) => Ok(self.deny(nexus, denial)),
+        }
+    }
+
+    // Carries a command out. A WRITE alone takes its data.
+    fn perform_lent(
+        &mut self,
+        nexus: Nexus,
+        command: Command,
+        sent: &mut Bytes,
+    ) -> Result<Reply, Fault>
+        requires hand { IsAtHand M.below.at_hand self.old.bay }
+        requires passed { IsPassed (machine_of M.state K.kept self.old) command sent.old }
+        ensures { (takes : Takes M.state M.below K.kept K.below
+            (Work (HonestIn M.below (medium_in self.old.bay)) command nexus sent.old
+            (machine_of M.state K.kept self.old))
+            self.old result self.new) × (sent.new ≡ data_left takes.made.changes sent.old) }
+    {
+        match command {
+            Command::Write { .. } => self.write_lent(sent),
+            _ => self.perform(nexus, command, sent.as_slice()),
+        }
+    }
+
+    // The work of a WRITE.
+    fn write_lent(&mut self, sent: &mut Bytes) -> Result<Reply, Fault>
+        requires hand { IsAtHand M.below.at_hand self.old.bay }
+        requires medium { medium_denial (machine_of M.state K.kept self.old).bay ≡ None }
+        requires short { length sent.old ≤ MAX_BLOCK }
+        ensures { (takes : Takes M.state M.below K.kept K.below
+            (OnMedium (WriteWork self.old.buffered sent.old) (machine_of M.state K.kept self.old))
+            self.old result self.new) × (sent.new ≡ data_left takes.made.changes sent.old) }
+    {
+        let Bay::Loaded(medium) = &mut self.bay else {
+            unreachable!()
+        };
+        write(self.alloc, medium, &mut self.position, self.buffered, sent)
+    }
+}

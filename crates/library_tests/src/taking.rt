@@ -1,0 +1,127 @@
+//! Commands whose data are lent: they are taken where they become a block; else they stay.
+use crate::samples::{Answer, Disk, GOOD, NEVER, asks, is_answer, library, store};
+use assertions::{assert_equal, assert_holds};
+use library::{Bay, Held};
+use pr_core::Reservations;
+use scsi_sense::{Reply, Status};
+use std::alloc::Global;
+use std::process::Abort;
+use std::test::Fail;
+use vtl_base::{Bytes, DriveNo, Nexus};
+
+const WRITE_1: &'static [u8] = &[0x0a, 0, 0, 0, 1, 0];
+
+const POWERED_ON: Answer = (Status::Check, 6, 0x29, 0);
+
+const CHANGED: Answer = (Status::Check, 6, 0x28, 0);
+
+const NO_MEDIUM: Answer = (Status::Check, 2, 0x3a, 0);
+
+const WRITE_ERROR: Answer = (Status::Check, 3, 0x0c, 0);
+
+// A WRITE of one byte to drive 1, which is there: the reply, and what is left of the data.
+fn write(rt: &impl Abort, alloc: Global, held: &mut Held<Disk>) -> Result<(Reply, Bytes), Fail> {
+    let nexus = Nexus::new(1).expect(rt, "a nexus");
+    let drive = DriveNo::new(1).expect(rt, "a drive");
+    let mut lent = Bytes::from_slice(alloc, b"x")?;
+    // `std`'s, since `command_lent` asks for what it says.
+    assert!(rt; held.configured(drive));
+    let reply = held.command_lent(nexus, drive, WRITE_1, &mut lent);
+    Ok((reply, lent))
+}
+
+// The answers to WRITEs in a row, and what is left of the data of each.
+static WRITES: &'static [(Answer, &'static [u8])] = &[
+    (POWERED_ON, b"x"),
+    (CHANGED, b"x"),
+    (GOOD, b""),
+    (GOOD, b""),
+];
+
+// What is read then.
+static READS: &'static [&'static [u8]] = &[b"x", b"x"];
+
+#[test]
+fn a_block_goes_to_its_drive(rt: HostRuntime) -> Result<(), Fail> {
+    let alloc = rt.alloc();
+    let mut held = library(alloc, NEVER)?;
+    is_answer(&rt, &held.move_medium(1001, 1), GOOD, 0);
+    for (at, &(wanted, left)) in WRITES.iter().enumerate() {
+        let (reply, lent) = write(&rt, alloc, &mut held)?;
+        is_answer(&rt, &reply, wanted, at);
+        assert_equal!(rt; lent.as_slice(), left; at);
+    }
+    asks(&rt, &mut held, (1, 1), &[0x01, 0, 0, 0, 0, 0], b"", GOOD);
+    for (at, &wanted) in READS.iter().enumerate() {
+        let reply = read(&rt, &mut held);
+        assert_equal!(rt; reply.bytes.as_slice(), wanted; at);
+    }
+    Ok(())
+}
+
+// A READ of one byte from drive 1.
+fn read(rt: &impl Abort, held: &mut Held<Disk>) -> Reply {
+    let nexus = Nexus::new(1).expect(rt, "a nexus");
+    let drive = DriveNo::new(1).expect(rt, "a drive");
+    assert!(rt; held.configured(drive));
+    held.command(nexus, drive, &[0x08, 0, 0, 0, 1, 0], b"")
+}
+
+// The 65th block waits until those before it are stored, in four calls of the disk. Where one fails the block is not
+// taken. Whether this call is one of them.
+fn is_met(rt: &impl Abort, alloc: Global, fails: u64) -> Result<bool, Fail> {
+    let mut held = library(alloc, fails)?;
+    if held.move_medium(1001, 1).sense.is_some() {
+        return Ok(false);
+    }
+    // Two unit attention conditions, and 64 blocks.
+    for _ in 0..66 {
+        let _ = write(rt, alloc, &mut held)?;
+    }
+    let (reply, lent) = write(rt, alloc, &mut held)?;
+    if reply.sense.is_none() {
+        assert_equal!(rt; lent.as_slice(), b""; fails);
+        return Ok(false);
+    }
+    is_answer(rt, &reply, WRITE_ERROR, fails as usize);
+    assert_equal!(rt; lent.as_slice(), b"x"; fails);
+    Ok(true)
+}
+
+#[test]
+fn a_block_stays_where_no_way_is_made_for_it(rt: HostRuntime) -> Result<(), Fail> {
+    let mut met = 0u32;
+    for fails in 5..30 {
+        if is_met(&rt, rt.alloc(), fails)? {
+            met = met.saturating_add(1);
+        }
+    }
+    assert_equal!(rt; met, 4);
+    Ok(())
+}
+
+#[test]
+fn a_drive_of_a_library_takes_none_without_a_cartridge(rt: HostRuntime) -> Result<(), Fail> {
+    let alloc = rt.alloc();
+    let number = DriveNo::new(1).expect(&rt, "a drive");
+    let nexus = Nexus::new(1).expect(&rt, "a nexus");
+    let Ok(bay) = Bay::power_on(alloc, store(alloc, number)?, Reservations::empty(), None) else {
+        return Err(Fail::from("not switched on"));
+    };
+    let mut bay = bay;
+    let mut lent = Bytes::from_slice(alloc, b"x")?;
+    is_answer(
+        &rt,
+        &bay.execute_lent(nexus, WRITE_1, &mut lent),
+        POWERED_ON,
+        0,
+    );
+    is_answer(
+        &rt,
+        &bay.execute_lent(nexus, WRITE_1, &mut lent),
+        NO_MEDIUM,
+        1,
+    );
+    assert_holds!(rt; lent.as_slice() == b"x");
+    Ok(())
+}
