@@ -2,7 +2,6 @@ pub mod AskedLemmas
 pub mod Bodies
 pub mod DecodingLemmas
 pub mod Extents
-pub mod FrameLemmas
 pub mod GateLemmas
 pub mod Marks
 pub mod Names
