@@ -17,6 +17,6 @@ returns-clause-brings g c =
     ∙ c.make_room.ensures.front) ∙ c.close_up-self-inside.ensures.bytes
     ∙ c.self.view_is in
     rw (items_is, c.count.ensures)
-    (brings_behind (g.R.Read.remaining c.args.reader.now) (g.R.Read.remaining c.read_behind-outcome.new.reader) at filled
-    (bytes_read c.read_behind-outcome.result) c.args.self.now now same (omega arith) c.read_behind-outcome.ensures.within
-    c.read_behind-outcome.ensures.taken)
+    (brings_behind _ (g.R.Read.remaining c.read_behind-outcome.new.reader) at filled
+    (bytes_read c.read_behind-outcome.result) c.args.self.now now same (omega arith)
+    c.read_behind-outcome.ensures.within c.read_behind-outcome.ensures.taken)
