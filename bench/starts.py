@@ -1,8 +1,9 @@
 #!/usr/bin/env python3
 """Time of starts of the built program over many files: of 1,000 in four starts, since a library has 288 at most, 16
 drives' stores and a cartridge at each of the 272 element addresses. The files are new and cached, the script is empty.
-The best of five rounds, beside a library of no file and a plain reading of the same files. With `strace` also the calls
-of a start over 288 files, and the bytes that it writes: one of each store and of each cartridge in a drive, no more.
+The best of five rounds, by the clock and in the processor's time, beside a library of no file and a plain reading of
+the same files. With `strace` also the calls of a start over 288 files, and the bytes that it writes: one of each store
+and of each cartridge in a drive, no more.
 
 --program PATH: another program than the proved one. The files lie in a new folder beside the repository's own, or in
 the one that a word names."""
@@ -10,6 +11,7 @@ import argparse
 import collections
 import os
 import re
+import resource
 import shutil
 import subprocess
 import sys
@@ -41,12 +43,18 @@ def made(program, folder, files):
     return folder
 
 
+def spent():
+    """The processor's seconds of the programs that have ended."""
+    usage = resource.getrusage(resource.RUSAGE_CHILDREN)
+    return usage.ru_utime + usage.ru_stime
+
+
 def start(words, folder):
-    """Seconds of a run with an empty script."""
-    begun = time.perf_counter()
+    """Seconds of a run with an empty script, by the clock and of the processor."""
+    before, begun = spent(), time.perf_counter()
     done = subprocess.run([*words, "run", "--config", "lib.toml"], cwd=folder, stdin=subprocess.DEVNULL,
                           capture_output=True)
-    seconds = time.perf_counter() - begun
+    seconds = time.perf_counter() - begun, spent() - before
     if done.returncode or done.stdout or done.stderr:
         sys.exit(f"a start ended with status {done.returncode}: {done.stderr.decode(errors='replace')}")
     return seconds
@@ -113,12 +121,13 @@ def main():
                   for _ in range(ROUNDS)]
         if [contents(folder) for folder in full] != before:
             sys.exit("a start changed a file")
-        whole, one = min(sum(times) for times, _, _ in rounds), min(times[0] for times, _, _ in rounds)
-        bare, read = min(it for _, it, _ in rounds), min(it for _, _, it in rounds)
-        print(f"{FILES:,} new files, {len(counts)} starts: {whole:.3f} s, of which a start without a file takes "
-              f"{bare * 1e3:.1f} ms each; {(whole - len(counts) * bare) / FILES * 1e6:.0f} us a file; a plain reading "
-              f"of the files {read / FILES * 1e6:.0f} us a file")
-        print(f"a start over {GREATEST} files: {one * 1e3:.1f} ms")
+        for at, what in enumerate(("by the clock", "of the processor")):
+            whole = min(sum(times[at] for times in starts) for starts, _, _ in rounds)
+            one, bare = min(starts[0][at] for starts, _, _ in rounds), min(it[at] for _, it, _ in rounds)
+            print(f"{FILES:,} new files, {len(counts)} starts: {whole:.3f} s {what}, of which a start without a file "
+                  f"takes {bare * 1e3:.1f} ms each; {(whole - len(counts) * bare) / FILES * 1e6:.0f} us a file; a "
+                  f"start over {GREATEST} files {one * 1e3:.1f} ms")
+        print(f"a plain reading of the files: {min(it for _, _, it in rounds) / FILES * 1e6:.0f} us a file")
         calls_of(program, full[0], empty)
 
 
