@@ -1,23 +1,20 @@
 -- A side is read, a body after the other.
-use Rattle.std.proofs.Common.{◌≡◌, inl, inr, ℕ, ◌≤◌, ◌<◌, List, [], ◌∷◌, ◌++◌, length, take, Bool, false, Option, is_some, refl, sym, ◌∙◌, ap, subst, arith, length-append}
+use Rattle.std.proofs.Common.{◌≡◌, inl, inr, ℕ, ◌<◌, List, [], ◌∷◌, ◌++◌, length, take, refl, sym, ◌∙◌, ap, subst, arith, length-append}
 use Rattle.std.specs.Prelude.{slice_index_or}
 use Rattle.std.proofs.lemmas.List.{length-map, length-take-le}
-use Rattle.std.proofs.lemmas.List.Elements.{All-nil, All-push}
-use Rattle.tape_disk.specs.Disk.{DiskState, Only}
+use Rattle.std.proofs.lemmas.List.Elements.{All-push}
+use Rattle.tape_disk.specs.Disk.{DiskState}
 use Rattle.gate_journal.specs.declared.error.OpenError.{OpenError}
 use Rattle.gate_journal.specs.declared.error.OpenError.TheVariants.{NotOurs, Damaged, BadRecord, Device, NoMemory}
-use Rattle.gate_journal.specs.declared.header.SideKind.TheVariants.{Store}
 use Rattle.gate_journal.specs.declared.header.SideKind.TheVariants as SideKinds
 use Rattle.gate_journal.specs.Decoding.{IsNotDecoded}
-use Rattle.gate_journal.specs.Side.{Heading, IsNotOf, StandsFor, spell}
+use Rattle.gate_journal.specs.Side.{Heading, IsNotOf, spell}
 use Rattle.pr_core.specs.declared.states.PrState.{PrState}
-use Rattle.pr_core.specs.States.{empty_state}
 use Rattle.aptpl_store.specs.Answers.{IsStoreNotOpened}
-use Rattle.aptpl_store.specs.Contents.{GivesStates, IsBadState, IsNoStore}
+use Rattle.aptpl_store.specs.Contents.{IsBadState, IsNoStore}
 use Rattle.aptpl_store.specs.Inner.Causes.{store_error}
-use Rattle.aptpl_store.specs.Inner.Open.{IsOpen, StoresStates}
 use Rattle.aptpl_store.specs.Inner.Reading.{HasRead, IsNoState}
-use Rattle.aptpl_store.specs.NotedStates.{NotedStates, no_notes, with_state}
+use Rattle.aptpl_store.specs.NotedStates.{NotedStates, with_state}
 use Rattle.aptpl_store.specs.Spelling.{IsSavable, SpellsState, spell_state}
 use Rattle.aptpl_store.proofs.ContentsLemmas.{bodies_more, latest_more}
 use Rattle.aptpl_store.proofs.SpellingLemmas.{spelling_short}
@@ -32,22 +29,9 @@ too_long body long state spells =
       spelling_short state spells.savable.sound.all,
     )
 
--- no body was read
-pub read_none : (notes : NotedStates) (last : PrState) (heading : Heading) → heading.kind ≡ Store → notes ≡ no_notes
-    → last ≡ empty_state → HasRead notes last heading [] []
-read_none notes last heading kind notes_are last_is =
-    subst (λ (n : NotedStates). HasRead n last heading [] []) (sym notes_are) (record {
-      kind = kind;
-      states = All-nil IsSavable;
-      none_torn = refl;
-      counted = refl;
-      last_is = last_is;
-      spelled = refl;
-    })
-
 module _ (notes : NotedStates) (last : PrState) (heading : Heading) (extents : List (ℕ × ℕ)) (bodies : List (List ℕ))
     (so_far : HasRead notes last heading extents bodies) where
-  -- one that spells a state is read behind the others, and noted
+  -- a body that spells a state is read behind the others, and noted
   pub read_behind : (notes' : NotedStates) (state : PrState) (place : ℕ) (body : List ℕ) → SpellsState state body
       → notes' ≡ with_state notes state
       → HasRead notes' state heading (extents ++ (place, length body) ∷ []) (bodies ++ body ∷ [])
@@ -126,33 +110,3 @@ module _ {T : Type 0} (notes : T → NotedStates) (last : T → PrState) where
   )
   not_opened (Device fault) old new why = why
   not_opened NoMemory old new why = why
-
--- what was read is what the store gives
-module _ (old new : DiskState) (heading : Heading) (bodies read : List (List ℕ))
-    (stands : StandsFor heading bodies old.seen) (only : Only old.seen new.may_leave) (is : read ≡ bodies)
-    (extents : List (ℕ × ℕ)) (notes : NotedStates) (last : PrState)
-    (found : HasRead notes last heading extents read) where
-  pub opened_gives : GivesStates heading notes.states old.seen
-  opened_gives = (
-    found.kind,
-    found.states,
-    subst (λ (b : List (List ℕ)). StandsFor heading b old.seen) (sym is ∙ found.spelled) stands,
-  )
-
-  pub opened_stores : StoresStates new heading bodies notes
-  opened_stores = record {
-    bodies_are = sym is ∙ found.spelled;
-    shows = λ image may. inl (subst (GivesStates heading notes.states) (sym (only image may)) opened_gives);
-  }
-
--- all frames were read
-pub read_all : (notes : NotedStates) (last : PrState) (heading : Heading) (extents : List (ℕ × ℕ))
-    (bodies : List (List ℕ)) (failed : Bool) (capacity : ℕ) → HasRead notes last heading extents bodies
-    → failed ≡ false → 580 ≤ capacity → IsOpen heading extents failed capacity notes
-read_all notes last heading extents bodies failed capacity found fine room = record {
-  kind = found.kind;
-  states = found.states;
-  at_rest = fine ∙ sym (ap (λ (t : Option PrState). is_some t) found.none_torn);
-  counted = found.counted;
-  body = room;
-}
