@@ -1,5 +1,5 @@
-//! The tests of the crates of plain values: vtl_base, scsi_attention, scsi_sense, scsi_wire, scsi_lists, positioning
-//! and changer.
+//! The tests of the crates of plain values: vtl_base, scsi_attention, scsi_sense, scsi_wire, scsi_lists, pr_core,
+//! positioning and changer.
 #![tactic(auto)]
 
 #[cfg(test)]
@@ -12,6 +12,8 @@ mod base;
 mod lists;
 #[cfg(test)]
 mod positions;
+#[cfg(test)]
+mod reservations;
 #[cfg(test)]
 mod senses;
 #[cfg(test)]

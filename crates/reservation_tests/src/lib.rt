@@ -1,7 +1,0 @@
-//! The tests of pr_core.
-#![tactic(auto)]
-
-#[cfg(test)]
-mod asserted;
-#[cfg(test)]
-mod reservations;
