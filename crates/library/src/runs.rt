@@ -3,10 +3,11 @@ ghost use Rattle.std.specs.Prelude.{◌≡◌, ◌≢◌, [], ◌∷◌, true, I
 ghost use Rattle.std.specs.List.{list_all};
 ghost use Rattle.vtl_script.specs.declared.items.Item.TheVariants as Kinds;
 ghost use Rattle.vtl_script.specs.Runs.{RunsScript, TakesWithin};
+ghost use Rattle.library.specs.Commands.{Commands};
 ghost use Rattle.library.specs.Inner.RunsOn.{held_none, held_on};
 ghost use Rattle.library.specs.Moves.{KeepsBays};
 ghost use Rattle.library.specs.OneHost.{LibraryAnswersHost};
-ghost use Rattle.library.specs.Runs.{LibraryAnswers, is_configured_in};
+ghost use Rattle.library.specs.Runs.{LibraryAnswers, is_configured_in, line_request};
 
 use crate::held::Held;
 use aptpl_store::AptplStore;
@@ -20,22 +21,30 @@ use vtl_base::{DriveNo, NoMemory};
 use vtl_script::{Item, Line, Runner, ScriptFault, run_script};
 
 impl<D: Disk + Drop> Held<D> {
+    // Carries the command of a line out, by the drive that it names. Its data are taken where they become a block.
+    fn run_line(&mut self, line: &mut Line) -> Reply
+        requires { is_configured_in self.old line.old.drive ≡ true }
+        ensures { Commands D.state line.old.drive (line_request line.old) self.old result self.new }
+    {
+        self.command_lent(
+            line.host,
+            line.drive,
+            line.cdb.as_slice(),
+            &mut line.sent,
+        )
+    }
+
     // Carries the commands of these lines out, in order, each by the drive that it names.
-    fn run_lines(&mut self, alloc: Global, lines: &[Line]) -> Result<Vec<Reply>, NoMemory>
-        requires { list_all (λ line. is_configured_in self.old line.drive) lines.now ≡ true }
+    fn run_lines(&mut self, alloc: Global, lines: &mut [Line]) -> Result<Vec<Reply>, NoMemory>
+        requires { list_all (λ line. is_configured_in self.old line.drive) lines.old ≡ true }
         ensures ok { IfOk result (λ replies.
-            LibraryAnswers D.state self.old (Kinds.Phase lines.now ∷ []) replies.items self.new) }
+            LibraryAnswers D.state self.old (Kinds.Phase lines.old ∷ []) replies.items self.new) }
         ensures err { OnErr result (self.new ≡ self.old) }
         ensures bays { KeepsBays self.old self.new }
     {
         let mut replies = Vec::with_capacity(alloc, lines.len())?;
         for line in lines {
-            let reply = self.command(
-                line.host,
-                line.drive,
-                line.cdb.as_slice(),
-                line.sent.as_slice(),
-            );
+            let reply = self.run_line(line);
             replies.push(reply).unwrap();
         }
         Ok(replies)
@@ -65,7 +74,7 @@ impl<D: Disk + Drop> Runner for Held<D> {
 
     fn run(&mut self, alloc: Global, item: &mut Item) -> Result<Vec<Reply>, NoMemory> {
         match item {
-            Item::Phase(commands) => self.run_lines(alloc, commands.as_slice()),
+            Item::Phase(commands) => self.run_lines(alloc, commands.as_mut_slice()),
             Item::Move { from, to } => self.run_move(alloc, *from, *to),
         }
     }
