@@ -18,12 +18,14 @@ static HEALED: &'static [(&'static [Turn], &'static [Row])] = &[
     ),
     // Two writes that touch or overlap are one range, and two others two.
     (
-        &[Turn::Whole, Turn::Whole, Turn::Failed],
+        &[Turn::Whole, Turn::Whole, Turn::Whole, Turn::Whole, Turn::Failed],
         &[
             (Step::Put(3, b"abc"), 0, 3, 3, 0),
             (Step::Put(5, b"def"), 0, 6, 5, 0),
-            (Step::Sync, 1, 6, 5, 0),
-            (Step::Sync, 0, 11, 3, 1),
+            (Step::Put(8, b"g"), 0, 7, 8, 0),
+            (Step::Put(0, b"xyz"), 0, 10, 0, 0),
+            (Step::Sync, 1, 10, 0, 0),
+            (Step::Sync, 0, 19, 0, 1),
         ],
     ),
     (

@@ -65,7 +65,8 @@ fn opened(
     Ok(())
 }
 
-// The last open gate alone, and only before the first good sync: a sync that fails behind it leaves the gate alone.
+// The last open gate alone, and only before the first good sync, or before a write that comes first: a sync that fails
+// behind it leaves the gate alone.
 static OF_A_SIDE: &'static [(&'static [&'static [u8]], &'static [Turn], &'static [Row])] = &[
     (
         &[],
@@ -80,6 +81,11 @@ static OF_A_SIDE: &'static [(&'static [&'static [u8]], &'static [Turn], &'static
         &[b"body"],
         &[],
         &[(Step::Sync, 0, 1, 27, 1), (Step::Sync, 0, 1, 27, 2)],
+    ),
+    (
+        &[b"body"],
+        &[],
+        &[(Step::Put(36, b"\0"), 0, 2, 36, 0), (Step::Sync, 0, 2, 36, 1)],
     ),
     (
         &[b"body", b"b"],
