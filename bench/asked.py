@@ -2,9 +2,9 @@
 """How many bytes of memory the proved program asks for, and that they stay within these limits: by a file that stands
 before the C library and notes each call of malloc and realloc (faults.c, which takes `cc`).
 
-A block of 1,048,576 bytes that is written to a file through a script: once for its data, once for its frame, and for the
-line. Later such blocks and frames ask for no more than that, and their lines for nothing. Lines without data, of which a
-phase has more: nothing for each. A library of 16 drives, each with a cartridge and a store, at rest.
+A block of 1,048,576 bytes that is written to a file through a script: once for its data, once for its frame, and for
+the line. Later such blocks and frames ask for no more than that, and their lines for nothing. Lines without data, of
+which a phase has more: nothing for each. A library of 16 drives, each with a cartridge and a store, at rest.
 
 --program PATH: another program than the proved one; --tell: prints the figures alone."""
 import argparse

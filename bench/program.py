@@ -194,8 +194,8 @@ def marks(folder):
     raw, through, start = best([lambda: raw_syncs(folder, MARKS), lambda: by_script(folder, script, wanted),
                                 lambda: by_script(folder, none, [(ATTENTION, 1)])])
     pair = (through.best - start.best) / MARKS
-    print(f"a byte and a filemark that is stored before its answer: {pair * 1e6:.0f} us, of which a sync of the raw file "
-          f"behind a byte is {raw.best / MARKS * 1e6:.0f} us; each takes two syncs", flush=True)
+    print(f"a byte and a filemark that is stored before its answer: {pair * 1e6:.0f} us, of which a sync of the raw "
+          f"file behind a byte is {raw.best / MARKS * 1e6:.0f} us; each takes two syncs", flush=True)
 
 
 def opening(folder):

@@ -166,8 +166,9 @@ impl ReadBuffer {
         self.start = self.filled;
     }
 
-    /// One read, for as many bytes as there is room for: how many came, or None where it was interrupted. The bytes move
-    /// only where others stood before them. So one who reads just where no line is whole moves each byte once at most.
+    /// One read, for as many bytes as there is room for: how many came, or None where it was interrupted. The bytes
+    /// move only where others stood before them. So one who reads just where no line is whole moves each byte once at
+    /// most.
     pub fn read<R: Read>(&mut self, reader: &mut R) -> Result<Option<usize>, ScriptFault>
         requires { length self.old ≤ LINE_BYTES }
         ensures brings { Brings (R.remaining reader.old) self.old
