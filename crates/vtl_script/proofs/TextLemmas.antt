@@ -163,7 +163,7 @@ word_some (x ∷ xs) none is so = refl
 pub encode-append : (t xs ys : List ℕ) → encode_with t (xs ++ ys) ≡ encode_with t xs ++ encode_with t ys
 unfolding encode_with
 encode-append t [] ys = refl
-encode-append t (x ∷ xs) ys = 
+encode-append t (x ∷ xs) ys =
     ap (λ (zs : List ℕ). slice_index t (x / 16) ∷ slice_index t (x % 16) ∷ zs) (encode-append t xs ys)
 
 -- the digits of the first bytes were added, and the rest is left

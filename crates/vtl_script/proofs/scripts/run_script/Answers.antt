@@ -24,11 +24,14 @@ pub loop-text-init : goal.loop-text-init
 loop-text-init g c =
     let runner = g.P.Runner in
     let laws = g.met.P.Runner in
-    rw c.new-line_reader.ensures (c.in_ok-text.ensures, record {
-      goes = begin (runner.is_configured c.args.runner.now) runner.answers laws.answers_none laws.answers_empty
-          laws.answers_on unbegun c.args.runner.now _ _;
-      same = refl;
-    })
+    rw c.new-line_reader.ensures (
+      c.in_ok-text.ensures,
+      record {
+        goes = begin (runner.is_configured c.args.runner.now) runner.answers laws.answers_none laws.answers_empty
+            laws.answers_on unbegun c.args.runner.now _ _;
+        same = refl;
+      },
+    )
 
 pub returns-in_err-run_next-clause-runs : goal.returns-in_err-run_next-clause-runs
 returns-in_err-run_next-clause-runs g c =
@@ -47,13 +50,15 @@ pub loop-text-preserved : goal.loop-text-preserved
 loop-text-preserved g c =
     let runner = g.P.Runner in
     let laws = g.met.P.Runner in
-    let more = rw (c.if-branch.true, c.loop-text.invariant.1.same) at c.in_ok-run_next.ensures.runs in
-    (c.in_ok-run_next.ensures.text, record {
-      goes = goes_on (runner.is_configured c.args.runner.now) runner.answers laws.answers_none laws.answers_empty
-          laws.answers_on unbegun c.loop-text.line_reader c.run_next.new.line_reader c.args.runner.now
-          c.loop-text.runner c.run_next.new.runner _ _ _ _ _ _ c.loop-text.invariant.1.goes more;
-      same = c.run_next.ensures.same ∙ c.loop-text.invariant.1.same;
-    })
+    let more = rw (c.if-branch.true, c.loop-text.invariant.1.same) at c.in_ok-run_next.ensures.runs in (
+      c.in_ok-run_next.ensures.text,
+      record {
+        goes = goes_on (runner.is_configured c.args.runner.now) runner.answers laws.answers_none laws.answers_empty
+            laws.answers_on unbegun c.loop-text.line_reader c.run_next.new.line_reader c.args.runner.now
+            c.loop-text.runner c.run_next.new.runner _ _ _ _ _ _ c.loop-text.invariant.1.goes more;
+        same = c.run_next.ensures.same ∙ c.loop-text.invariant.1.same;
+      },
+    )
 
 pub returns-clause-runs : goal.returns-clause-runs
 returns-clause-runs g c =
