@@ -78,7 +78,11 @@ module _ (d0 d1 d2 : DiskState) (none : NoneFailed d0 d1) (h : Heading) (ok : Is
         broken.3),
   )
   whole_found (Err (Device fault)) found = fault_since d0 d1 d2 fault none found
-  whole_found (Err NoMemory) found = (found.0 ∙ none, tt)
+  whole_found (Err NoMemory) found = (
+    found.0 ∙ none,
+    λ honest.
+        let rest = begins honest in omega (arith, ap length rest.1, length-append (spell_heading h) rest.0, here),
+  )
   whole_found (Err SideFull) found = absurd found
   whole_found (Err Failed) found = absurd found
 
@@ -97,6 +101,6 @@ none_found old new (Damaged at) result is found =
 none_found old new (Device fault) result is found =
     subst (λ (r : Result (Option Gates) JournalError). FindsGates r old new) (sym is) found
 none_found old new NoMemory result is found =
-    subst (λ (r : Result (Option Gates) JournalError). FindsGates r old new) (sym is) found.0
+    subst (λ (r : Result (Option Gates) JournalError). FindsGates r old new) (sym is) found
 none_found old new SideFull result is found = absurd found
 none_found old new Failed result is found = absurd found

@@ -23,8 +23,8 @@ pub struct Gates {
 }
 
 /// The last gates of the side that the disk holds, of either kind. None where it holds no side, or a
-/// damaged one. The disk is only read, and nothing is made sure. Else `Device`, or `NoMemory`: it
-/// needs what an opening needs.
+/// damaged one. The disk is only read, and nothing is made sure. Else `Device`, or `NoMemory`, where
+/// there are the 27 bytes of a heading: it needs what an opening needs.
 pub fn last_gates<D: Disk>(alloc: Global, disk: &mut D) -> Result<Option<Gates>, JournalError>
     ensures disk { Keeps (D.state disk.old) (D.state disk.new) }
     ensures reads { OnlyReads D.effect disk.old disk.new }

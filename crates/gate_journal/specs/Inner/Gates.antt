@@ -1,5 +1,5 @@
 -- How the last gates of a side are found.
-use Rattle.std.specs.Prelude.{◌≡◌, ◌==◌, if◌then◌else◌, ℕ, ◌-◌, List, length, Result, Ok, Err, Option, None, slice_index_or}
+use Rattle.std.specs.Prelude.{◌≡◌, ◌≤◌, ◌==◌, if◌then◌else◌, ℕ, ◌-◌, List, length, Result, Ok, Err, Option, None, slice_index_or}
 use Rattle.std.specs.List.{All}
 use Rattle.tape_disk.specs.Disk.{DiskState}
 use Rattle.gate_journal.specs.declared.error.JournalError.{JournalError}
@@ -23,7 +23,8 @@ FindsWhole (Ok frames) old new =
     × (frames.extents.items ≡ extents_from (length (spell_heading heading)) bodies)
     × (frames.end ≡ length (spell heading bodies)))
 FindsWhole (Err error) old new =
-    NotRead error (old.honest → IsNotOurs old.seen) (λ at. old.honest → IsDamagedAt old.seen at) (Unit {0}) old new
+    NotRead error (old.honest → IsNotOurs old.seen) (λ at. old.honest → IsDamagedAt old.seen at)
+    (old.honest → 27 ≤ length old.seen) old new
 
 -- bytes that are no side have no gates, and every other refusal stays one (own)
 abbrev pub HasNoGates : JournalError → Result (Option Gates) JournalError → Type 0
