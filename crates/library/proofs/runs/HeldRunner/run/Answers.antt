@@ -3,7 +3,7 @@ use Rattle.library.specs.Inner.RunsOn.{held_none}
 use Rattle.library.proofs.runs.HeldRunner.run.Goals as goal
 
 pub returns-in-Phase-clause-ok : goal.returns-in-Phase-clause-ok
-returns-in-Phase-clause-ok g c = rw c.in-Phase.is (rw c.as_slice.ensures at c.run_lines.ensures.ok)
+returns-in-Phase-clause-ok g c = rw c.in-Phase.is (rw c.as_mut_slice.ensures at c.run_lines.ensures.ok)
 
 pub returns-in-Phase-clause-err : goal.returns-in-Phase-clause-err
 returns-in-Phase-clause-err g c =
