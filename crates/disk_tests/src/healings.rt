@@ -18,7 +18,13 @@ static HEALED: &'static [(&'static [Turn], &'static [Row])] = &[
     ),
     // Two writes that touch or overlap are one range, and two others two.
     (
-        &[Turn::Whole, Turn::Whole, Turn::Whole, Turn::Whole, Turn::Failed],
+        &[
+            Turn::Whole,
+            Turn::Whole,
+            Turn::Whole,
+            Turn::Whole,
+            Turn::Failed,
+        ],
         &[
             (Step::Put(3, b"abc"), 0, 3, 3, 0),
             (Step::Put(5, b"def"), 0, 6, 5, 0),

@@ -85,7 +85,10 @@ static OF_A_SIDE: &'static [(&'static [&'static [u8]], &'static [Turn], &'static
     (
         &[b"body"],
         &[],
-        &[(Step::Put(36, b"\0"), 0, 2, 36, 0), (Step::Sync, 0, 2, 36, 1)],
+        &[
+            (Step::Put(36, b"\0"), 0, 2, 36, 0),
+            (Step::Sync, 0, 2, 36, 1),
+        ],
     ),
     (
         &[b"body", b"b"],

@@ -26,12 +26,7 @@ impl<D: Disk + Drop> Held<D> {
         requires { is_configured_in self.old line.old.drive ≡ true }
         ensures { Commands D.state line.old.drive (line_request line.old) self.old result self.new }
     {
-        self.command_lent(
-            line.host,
-            line.drive,
-            line.cdb.as_slice(),
-            &mut line.sent,
-        )
+        self.command_lent(line.host, line.drive, line.cdb.as_slice(), &mut line.sent)
     }
 
     // Carries the commands of these lines out, in order, each by the drive that it names.
