@@ -12,8 +12,8 @@ abbrev pub last_gate : Heading → List (List ℕ) → ℕ
 last_gate heading [] = 0
 last_gate heading (body ∷ bodies) = length (spell heading (take (length bodies) (body ∷ bodies)))
 
--- the last gates of the side that the bytes stand for; that they stand for none; a fault; or want of memory, where there
--- are the 27 bytes of a heading (own)
+-- the last gates of the side that the bytes stand for; that they stand for none; a fault; or out of memory, where
+-- there are the 27 bytes of a heading (own)
 abbrev pub FindsGates : Result (Option Gates) JournalError → DiskState → DiskState → Type 0
 FindsGates (Ok (Some gates)) old new =
     NoneFailed old new
