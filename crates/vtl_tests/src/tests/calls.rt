@@ -36,10 +36,14 @@ fn words_of(alloc: Global, line: &str) -> Result<Vec<String>, Fail> {
 
 fn assert_row(abort: &impl Abort, alloc: Global, row: Row, at: usize) -> Result<(), Fail> {
     let (failing, words, calls, text, (line, status)) = row;
+    let bad = match failing {
+        Failing::Write(call) => Some(call),
+        _ => None,
+    };
     let files = NotedFiles::new(alloc, failing);
     let words = words_of(alloc, words)?;
     let mut reader = BadReader::new(b"", None);
-    let mut writer = BadWriter::new(alloc, None);
+    let mut writer = BadWriter::new(alloc, bad);
     let mut lines = BadWriter::new(alloc, None);
     let ended = run(
         alloc,
