@@ -23,6 +23,10 @@ EDITS = [
     ("a change is stored one change early", "tape_buffer", "src/adding.rt", "    if !pending.is_full_for(change) {",
      "    if pending.len() < 63 && !pending.is_full_for(change) {",
      ["a_turn_tells_how_many_waited", "what_waits_is_counted"]),
+    ("what waits is stored before each write", "drive_core", "src/writes.rt",
+     "    let block = Bytes::from_slice(alloc, sent)?;\n",
+     "    crate::storing::store_pending(medium)?;\n    let block = Bytes::from_slice(alloc, sent)?;\n",
+     ["writes_wait_for_one_frame", "a_turn_tells_how_many_waited"]),
     ("a side that is refused at power on is told as memory that ran out", "drive_core", "src/opening.rt",
      "        Err(MediumError::Unreadable) => Ok(Bay::Unloaded(medium)),",
      "        Err(MediumError::Unreadable) => Err(medium),",
@@ -171,6 +175,19 @@ EDITS = [
      "        Err(error) => answer_words(error, writer),",
      "        Err(WordsError::Help(_)) => answer_words(WordsError::Help(String::new(alloc)), writer),\n"
      "        Err(error) => answer_words(error, writer),", ["help_is_written_as_it_was_given"]),
+    ("the files of cartridges are made before the first is told of", "vtl_program", "src/creating.rt",
+     "    for entry in entries {\n"
+     "        if let Err(fault) = make_cartridge::<D, F, W>(alloc, files, entry, writer) {\n"
+     "            return Err(fault);\n        }\n    }\n    Ok(())\n",
+     "    let mut made = Vec::new(alloc);\n    let mut end = Ok(());\n    for entry in entries {\n"
+     "        match create_cartridge::<D, F>(alloc, files, entry) {\n"
+     "            Ok(fate) => if made.push(fate).is_err() {\n                end = Err(VtlFault::NoMemory);\n"
+     "                break;\n            },\n"
+     "            Err(fault) => {\n                end = Err(fault);\n                break;\n            }\n"
+     "        }\n    }\n    for (fate, barcode) in made {\n"
+     "        if let Err(fault) = tell_fate(alloc, writer, fate, barcode.as_bytes()) {\n"
+     "            return Err(fault);\n        }\n    }\n    end\n",
+     ["a_creation_ends_where_a_line_is_not_out"]),
     ("the line of a fault that is out is said not to be out", "vtl_program", "src/programs.rt",
      "                is_reported: report(line, errors),",
      "                is_reported: report(line, errors) && false,", ["status_and_line_of_each_end"]),

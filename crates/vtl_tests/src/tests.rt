@@ -5,6 +5,7 @@ mod noted_files;
 mod programs;
 mod refusals;
 mod streams;
+mod unwritten;
 
 use assertions::assert_equal;
 use library::{Held, run_held};

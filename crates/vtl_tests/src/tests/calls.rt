@@ -47,9 +47,15 @@ fn ran_over(
     Ok(run(alloc, files, Ok(words), &mut reader, writer, lines))
 }
 
-// The text and the line that a run over these files writes, and how it ends.
-fn ran(alloc: Global, files: &NotedFiles, line: &str) -> Result<(Vec<u8>, Vec<u8>, Ended), Fail> {
-    let mut writer = BadWriter::new(alloc, None);
+// The text and the line that a run over these files writes, and how it ends. The call of the writer of this number
+// fails, if one does.
+fn ran(
+    alloc: Global,
+    files: &NotedFiles,
+    line: &str,
+    bad: Option<u32>,
+) -> Result<(Vec<u8>, Vec<u8>, Ended), Fail> {
+    let mut writer = BadWriter::new(alloc, bad);
     let mut lines = BadWriter::new(alloc, None);
     let ended = ran_over(alloc, files, line, &mut writer, &mut lines)?;
     Ok((writer.into_text(), lines.into_text(), ended))
@@ -62,8 +68,12 @@ fn is_told(
     row: Row,
     at: usize,
 ) -> Result<(), Fail> {
-    let (_, words, _, text, (line, status)) = row;
-    let (told, reported, ended) = ran(alloc, files, words)?;
+    let (failing, words, _, text, (line, status)) = row;
+    let bad = match failing {
+        Failing::Write(call) => Some(call),
+        _ => None,
+    };
+    let (told, reported, ended) = ran(alloc, files, words, bad)?;
     assert_equal!(abort; told.as_slice(), text.as_bytes(); at);
     assert_equal!(abort; reported.as_slice(), line.as_bytes(); at);
     let wanted = Ended {

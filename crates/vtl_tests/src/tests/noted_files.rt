@@ -23,7 +23,8 @@ pub const CARTRIDGE: &[u8] = b"\xa5VTLCART1\0\x01T00001L6        \0\0\0\0\0\0\x1
 const STORE: &[u8] = b"\xa5VTLRESV1\0\0DRIVE1          \0";
 
 /// What fails: nothing; the call for a file of this number (from 1 on), with what it answers; the memory for a text;
-/// the disk of this name after this many calls; or the side of this name, which has these bytes.
+/// the disk of this name after this many calls; the side of this name, which has these bytes; or the call of the writer
+/// of this number (from 1 on).
 #[derive(Clone, Copy)]
 pub enum Failing {
     Nothing,
@@ -31,6 +32,7 @@ pub enum Failing {
     Memory,
     Disk(&'static str, u64),
     Side(&'static str, &'static [u8]),
+    Write(u32),
 }
 
 /// Files in memory. Each call notes its word and the name.
