@@ -135,4 +135,4 @@ pub text_refused :
     (text : List ℕ) (root : Members) (error : ConfigError) → IsUtf8 text → parse_document text ≡ Some root
     → TableRefused root error → RefusesText text error
 text_refused text root (Refused place rule) utf8 parsed why = its_document root utf8 parsed why
-text_refused text root NoMemory utf8 parsed why = tt
+text_refused text root NoMemory utf8 parsed why = utf8

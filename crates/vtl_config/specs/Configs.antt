@@ -1,5 +1,5 @@
 -- When a text is a configuration, and when it is refused.
-use Rattle.std.specs.Prelude.{◌≡◌, ◌+◌, ℕ, true, false, Some, None, List, [], ◌∷◌, ◌++◌, length, MatchOption, IsUtf8, ⊤}
+use Rattle.std.specs.Prelude.{◌≡◌, ◌+◌, ℕ, true, false, Some, None, List, [], ◌∷◌, ◌++◌, length, MatchOption, IsUtf8}
 use Rattle.std.specs.List.{Contains, All}
 use Rattle.toml.specs.Data.{Data, array, Members}
 use Rattle.toml.specs.Parse.{parse_document}
@@ -95,7 +95,7 @@ pub data TextBreaks (text : List ℕ) (place : Place) (rule : Rule) : Type 0 whe
       (table : Members) → IsUtf8 text → parse_document text ≡ Some table → ConfigBreaks table place rule
       → TextBreaks text place rule
 
--- why a text gives no configuration; memory may run out at any (own)
+-- why a text gives no configuration; memory may run out at any that is UTF-8, whatever it says (own)
 abbrev pub RefusesText : List ℕ → ConfigError → Type 0
 RefusesText text (Refused place rule) = TextBreaks text place rule
-RefusesText text NoMemory = ⊤
+RefusesText text NoMemory = IsUtf8 text
