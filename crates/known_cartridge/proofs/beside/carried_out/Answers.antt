@@ -15,8 +15,8 @@ loop-change-preserved c =
     let next = taken_next changes here change c.loop-change-test.true c.change-item.is in
     let copied : c.in-Ok.copy ≡ change = c.in-Ok.ensures in
     let all = carried_next c.args.volume c.loop-change.volume c.apply.new.self done change inv.0 inv.1
-    (ap (refusal_of c.loop-change.volume) (sym copied) ∙ c.in-Ok-apply.ensures.0)
-    (c.in-Ok-apply.ensures.1 ∙ ap (changed c.loop-change.volume) copied) in (
+    (ap (refusal_of c.loop-change.volume) (sym copied) ∙ c.in-Ok-apply.ensures.answer.0)
+    (c.in-Ok-apply.ensures.answer.1 ∙ ap (changed c.loop-change.volume) copied) in (
       all.1 ∙ ap (after c.args.volume) (sym next),
       subst (AllApply c.args.volume) (sym next) all.0,
       omega (
