@@ -1,7 +1,7 @@
 # docs/GATE.md says what each target does.
 RT := $(shell command -v rt)
 
-.PHONY: demo vtl check wrong rows rows-wrong mutants faults endings examples stops kills bench gate definitions need-rt
+.PHONY: demo vtl check wrong rows rows-wrong mutants faults asked endings examples stops kills bench gate definitions need-rt
 .DEFAULT_GOAL := demo
 
 need-rt:
@@ -38,6 +38,9 @@ faults: vtl
 	@for crate in journal_bench cartridge_bench buffer_bench; do (cd crates/$$crate && rt run > /dev/null) || exit 1; done
 	python3 bench/faults.py --selftest
 	python3 bench/faults.py
+
+asked: vtl
+	python3 bench/asked.py
 
 endings: vtl
 	python3 bench/endings.py

@@ -20,7 +20,7 @@ BLOCK = 1_048_576
 FRAME = BLOCK + 4 + 10 + 1
 # the longest line, and the byte that shows that one is longer
 LINE = 2_200_001
-WRITE = f"1 1 0a{BLOCK:06x}00 " + "5a" * BLOCK + "\n1 1 100000000000\n--\n"
+WRITE = f"1 1 0a00{BLOCK:06x}00 " + "5a" * BLOCK + "\n1 1 100000000000\n--\n"
 READY = "1 1 000000000000\n"
 # what is less than this is not looked at one by one: replies, names, words of the command line
 SMALL = 4_096
@@ -60,6 +60,7 @@ def figures(program, shim, folder):
         with open(os.path.join(folder, name), "w", encoding="utf-8") as file:
             file.write(config(drives))
         subprocess.run([program, "create", "--config", name], cwd=folder, check=True, stdout=subprocess.DEVNULL)
+    yield "a library of 16 drives at rest, in all", sum(run(READY, "all.toml")), 16_000_000
     rest, one, many = run(READY), run(READY + WRITE), run(READY + WRITE * 9)
     block = large(more_than(one, rest))
     yield "a WRITE of a block of 1,048,576 bytes, in all", sum(block), BLOCK + FRAME + LINE
@@ -67,7 +68,6 @@ def figures(program, shim, folder):
     yield "eight such WRITEs more, in all", sum(large(more_than(many, one))), 8 * (BLOCK + FRAME)
     few, lines = run(READY * 1_001), run(READY * 10_001)
     yield "growths of a phase's lines, 10,000 and not 1,000 of them, in calls", len(lines) - len(few), 20
-    yield "a library of 16 drives at rest, in all", sum(run(READY, "all.toml")), 16_000_000
 
 
 def main():
