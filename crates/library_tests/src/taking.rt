@@ -1,12 +1,12 @@
 //! Commands whose data are lent: they are taken where they become a block; else they stay.
-use crate::samples::{Answer, Disk, GOOD, NEVER, asks, is_answer, library, store};
-use assertions::{assert_equal, assert_holds};
-use library::{Bay, Held};
-use pr_core::Reservations;
+use crate::samples::{Answer, GOOD, NEVER, asks, bay, drive_no, is_answer, library};
+use assertions::assert_equal;
+use library::Held;
 use scsi_sense::{Reply, Status};
 use std::alloc::Global;
 use std::process::Abort;
 use std::test::Fail;
+use tape_disk::Disk;
 use vtl_base::{Bytes, DriveNo, Nexus};
 
 const WRITE_1: &'static [u8] = &[0x0a, 0, 0, 0, 1, 0];
@@ -20,7 +20,11 @@ const NO_MEDIUM: Answer = (Status::Check, 2, 0x3a, 0);
 const WRITE_ERROR: Answer = (Status::Check, 3, 0x0c, 0);
 
 // A WRITE of one byte to drive 1, which is there: the reply, and what is left of the data.
-fn write(rt: &impl Abort, alloc: Global, held: &mut Held<Disk>) -> Result<(Reply, Bytes), Fail> {
+fn write<D: Disk + Drop>(
+    rt: &impl Abort,
+    alloc: Global,
+    held: &mut Held<D>,
+) -> Result<(Reply, Bytes), Fail> {
     let nexus = Nexus::new(1).expect(rt, "a nexus");
     let drive = DriveNo::new(1).expect(rt, "a drive");
     let mut lent = Bytes::from_slice(alloc, b"x")?;
@@ -51,7 +55,7 @@ fn a_block_goes_to_its_drive(rt: HostRuntime) -> Result<(), Fail> {
         is_answer(&rt, &reply, wanted, at);
         assert_equal!(rt; lent.as_slice(), left; at);
     }
-    asks(&rt, &mut held, (1, 1), &[0x01, 0, 0, 0, 0, 0], b"", GOOD);
+    asks(&rt, &mut held, &[0x01, 0, 0, 0, 0, 0], b"", GOOD);
     for (at, &wanted) in READS.iter().enumerate() {
         let reply = read(&rt, &mut held);
         assert_equal!(rt; reply.bytes.as_slice(), wanted; at);
@@ -60,7 +64,7 @@ fn a_block_goes_to_its_drive(rt: HostRuntime) -> Result<(), Fail> {
 }
 
 // A READ of one byte from drive 1.
-fn read(rt: &impl Abort, held: &mut Held<Disk>) -> Reply {
+fn read<D: Disk + Drop>(rt: &impl Abort, held: &mut Held<D>) -> Reply {
     let nexus = Nexus::new(1).expect(rt, "a nexus");
     let drive = DriveNo::new(1).expect(rt, "a drive");
     assert!(rt; held.configured(drive));
@@ -103,25 +107,21 @@ fn a_block_stays_where_no_way_is_made_for_it(rt: HostRuntime) -> Result<(), Fail
 #[test]
 fn a_drive_of_a_library_takes_none_without_a_cartridge(rt: HostRuntime) -> Result<(), Fail> {
     let alloc = rt.alloc();
-    let number = DriveNo::new(1).expect(&rt, "a drive");
     let nexus = Nexus::new(1).expect(&rt, "a nexus");
-    let Ok(bay) = Bay::power_on(alloc, store(alloc, number)?, Reservations::empty(), None) else {
-        return Err(Fail::from("not switched on"));
-    };
-    let mut bay = bay;
+    let mut drive = bay(alloc, drive_no(1)?, None)?;
     let mut lent = Bytes::from_slice(alloc, b"x")?;
     is_answer(
         &rt,
-        &bay.execute_lent(nexus, WRITE_1, &mut lent),
+        &drive.execute_lent(nexus, WRITE_1, &mut lent),
         POWERED_ON,
         0,
     );
     is_answer(
         &rt,
-        &bay.execute_lent(nexus, WRITE_1, &mut lent),
+        &drive.execute_lent(nexus, WRITE_1, &mut lent),
         NO_MEDIUM,
         1,
     );
-    assert_holds!(rt; lent.as_slice() == b"x");
+    assert_equal!(rt; lent.len(), 1);
     Ok(())
 }
