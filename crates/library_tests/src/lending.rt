@@ -10,7 +10,6 @@ use scsi_sense::Status;
 use std::alloc::Global;
 use std::process::Abort;
 use std::test::Fail;
-use tape_disk::Disk;
 
 // A reply's status, key, code and qualifier.
 const NO_ADDRESS: Answer = (Status::Check, 5, 0x21, 0x01);
@@ -20,12 +19,12 @@ const NO_SOURCE: Answer = (Status::Check, 5, 0x3b, 0x0e);
 const NO_ROOM: Answer = (Status::Check, 5, 0x3b, 0x0d);
 
 // A move on what is lent has this answer.
-fn is_moved<D: Disk + Drop>(
+fn is_moved(
     rt: &impl Abort,
     alloc: Global,
-    slots: &mut Slots<Parked<D>>,
-    source: Option<&mut Bay<D>>,
-    destination: Option<&mut Bay<D>>,
+    slots: &mut Slots<Parked<Once>>,
+    source: Option<&mut Bay<Once>>,
+    destination: Option<&mut Bay<Once>>,
     row: Row,
 )
     requires source { IfSome source (λ bay. IsDriveAddress row.0) }
@@ -34,34 +33,6 @@ fn is_moved<D: Disk + Drop>(
     let (from, to, wanted) = row;
     let reply = move_lent(alloc, slots, source, destination, from, to);
     is_answer(rt, &reply, wanted, from as usize);
-}
-
-// Moves on the slots and drive 1.
-fn goes_in<D: Disk + Drop>(
-    rt: &impl Abort,
-    alloc: Global,
-    slots: &mut Slots<Parked<D>>,
-    one: &mut Bay<D>,
-) {
-    is_moved(rt, alloc, slots, None, None, (1001, 1300, NO_ADDRESS));
-    is_moved(rt, alloc, slots, None, Some(one), (1002, 1, NO_SOURCE));
-    is_moved(rt, alloc, slots, None, Some(one), (1001, 1, GOOD));
-    is_moved(rt, alloc, slots, Some(one), None, (1, 1, NO_ROOM));
-}
-
-// Then through drive 2 into a slot, and back into the first one.
-fn goes_out<D: Disk + Drop>(
-    rt: &impl Abort,
-    alloc: Global,
-    slots: &mut Slots<Parked<D>>,
-    one: &mut Bay<D>,
-    two: &mut Bay<D>,
-) {
-    is_moved(rt, alloc, slots, Some(one), Some(two), (1, 2, GOOD));
-    is_moved(rt, alloc, slots, Some(two), None, (2, 1256, GOOD));
-    is_moved(rt, alloc, slots, None, None, (1256, 1001, GOOD));
-    assert_holds!(rt; one.is_empty() && two.is_empty());
-    assert_holds!(rt; slots.held(1001).is_some());
 }
 
 // Slots of which the first holds a cartridge.
@@ -73,30 +44,55 @@ fn slots(alloc: Global) -> Result<Slots<Parked<Once>>, Fail> {
     }
 }
 
-// Drive 2 is made behind the first moves.
-fn goes_round(
-    rt: &impl Abort,
-    alloc: Global,
-    slots: &mut Slots<Parked<Once>>,
-    one: &mut Bay<Once>,
-) -> Result<(), Fail> {
-    goes_in(rt, alloc, slots, one);
-    let mut two = bay(alloc, drive_no(2)?, None)?;
-    goes_out(rt, alloc, slots, one, &mut two);
-    Ok(())
-}
-
-fn with_drive_1(
-    rt: &impl Abort,
-    alloc: Global,
-    slots: &mut Slots<Parked<Once>>,
-) -> Result<(), Fail> {
-    let mut one = bay(alloc, drive_no(1)?, None)?;
-    goes_round(rt, alloc, slots, &mut one)
-}
-
 #[test]
 fn a_cartridge_goes_round_what_is_lent(rt: HostRuntime) -> Result<(), Fail> {
-    let mut slots = slots(rt.alloc())?;
-    with_drive_1(&rt, rt.alloc(), &mut slots)
+    let alloc = rt.alloc();
+    let mut slots = slots(alloc)?;
+    let mut one = bay(alloc, drive_no(1)?, None)?;
+    let mut two = bay(alloc, drive_no(2)?, None)?;
+    is_moved(&rt, alloc, &mut slots, None, None, (1001, 1300, NO_ADDRESS));
+    is_moved(
+        &rt,
+        alloc,
+        &mut slots,
+        None,
+        Some(&mut one),
+        (1002, 1, NO_SOURCE),
+    );
+    is_moved(
+        &rt,
+        alloc,
+        &mut slots,
+        None,
+        Some(&mut one),
+        (1001, 1, GOOD),
+    );
+    is_moved(
+        &rt,
+        alloc,
+        &mut slots,
+        Some(&mut one),
+        None,
+        (1, 1, NO_ROOM),
+    );
+    is_moved(
+        &rt,
+        alloc,
+        &mut slots,
+        Some(&mut one),
+        Some(&mut two),
+        (1, 2, GOOD),
+    );
+    is_moved(
+        &rt,
+        alloc,
+        &mut slots,
+        Some(&mut two),
+        None,
+        (2, 1256, GOOD),
+    );
+    is_moved(&rt, alloc, &mut slots, None, None, (1256, 1001, GOOD));
+    assert_holds!(rt; one.is_empty() && two.is_empty());
+    assert_holds!(rt; slots.held(1001).is_some());
+    Ok(())
 }
