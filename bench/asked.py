@@ -60,7 +60,7 @@ def figures(program, shim, folder):
         with open(os.path.join(folder, name), "w", encoding="utf-8") as file:
             file.write(config(drives))
         subprocess.run([program, "create", "--config", name], cwd=folder, check=True, stdout=subprocess.DEVNULL)
-    yield "a library of 16 drives at rest, in all", sum(run(READY, "all.toml")), 16_000_000
+    yield "a library of 16 drives at rest, in all", sum(run(READY, "all.toml")), 1_000_000
     rest, one, many = run(READY), run(READY + WRITE), run(READY + WRITE * 9)
     block = large(more_than(one, rest))
     yield "a WRITE of a block of 1,048,576 bytes, in all", sum(block), BLOCK + FRAME + LINE
