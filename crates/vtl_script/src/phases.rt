@@ -1,7 +1,8 @@
 //! A script, read phase by phase.
-ghost use Rattle.std.specs.Prelude.{◌≡◌, ◌≢◌, ◌++◌, ◌∷◌, [], ℕ, filter_map, IfOk, IfErr, OnOk, Err};
+ghost use Rattle.std.specs.Prelude.{◌≡◌, ◌≢◌, ◌++◌, ◌∷◌, [], ℕ, filter_map, true, IfOk, IfErr, OnOk, Err};
 ghost use Rattle.vtl_script.specs.Parsed.{without_return, parsed_line, is_phase_end, line_in};
 ghost use Rattle.vtl_script.specs.Runs.{TakesWithin};
+ghost use Rattle.vtl_script.specs.Inner.Reading.{shows_end};
 ghost use Rattle.vtl_script.specs.Inner.ReadItem.{ReportsRefused, ReadsLine, ReadsPhase, RefusesLine, RefusesItem, move_in};
 
 use crate::faults::ScriptFault;
@@ -66,7 +67,7 @@ fn accepted(parsed: ParsedLine, is_last: bool, line: u64) -> Result<NextLine, Sc
     }
 }
 
-// What the next line says.
+// What the next line says. Where the bytes that came show its end, the reader is not called.
 fn read_line<P: Runner, R: Read>(
     alloc: Global,
     runner: &P,
@@ -81,6 +82,7 @@ fn read_line<P: Runner, R: Read>(
     ensures fault { IfErr result (λ fault. fault ≢ ScriptFault.WriteFault) }
     ensures past { IfErr result (λ fault. fault ≢ ScriptFault.ReadFault →
         TakesWithin (R.remaining reader.old) line_reader.old.bytes (R.remaining reader.new)) }
+    ensures due { shows_end line_reader.old.unread ≡ true → reader.new ≡ reader.old }
 {
     let number = line_reader.lines() + 1;
     match line_reader.find(reader)? {
