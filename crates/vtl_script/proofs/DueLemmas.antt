@@ -72,8 +72,8 @@ shown_behind is_configured old mid new count parsed number (Ok next) same h pars
     (ap is_phase_end (sym told) ∙ inside) accepts.1 shown
 
 -- no line stands behind the last
-pub none_behind_last : (parsed : ParsedLine) (number : ℕ) (result : Result NextLine ScriptFault) (P Q : NextLine → Type 0)
-    → ReportsRefused parsed true number result
+pub none_behind_last : (parsed : ParsedLine) (number : ℕ) (result : Result NextLine ScriptFault)
+    (P Q : NextLine → Type 0) → ReportsRefused parsed true number result
     → IfOk result (λ next. P next → next.is_last ≡ false → Q next)
 none_behind_last parsed number (Err fault) P Q accepts = tt
 none_behind_last parsed number (Ok next) P Q accepts = λ p on.
