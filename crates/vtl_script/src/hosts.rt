@@ -20,7 +20,7 @@ fn are_sorted_by_host(lines: &[Line]) -> bool
 }
 
 /// Puts the commands of a phase in the order of their turns: by rising host, each host's in their
-/// order. Where they stand so, it asks for no memory.
+/// order. Where they stand so already, memory does not run out.
 pub fn sort_by_host(lines: &mut Vec<Line>) -> Result<(), AllocError>
     requires { list_all has_host lines.old.items ≡ true }
     ensures order { OnOk result (lines.new.items ≡ by_host lines.old.items) }
