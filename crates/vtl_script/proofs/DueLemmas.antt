@@ -1,5 +1,5 @@
 -- Bytes that show where a line and a phase end.
-use Rattle.std.proofs.Common.{◌≡◌, ℕ, ◌+◌, Bool, true, false, ◌||◌, nat_lt, List, ◌∷◌, [], length, take, drop, Option, Some, None, Result, Ok, Err, IfOk, position, refl, sym, ap, ◌∙◌, arith, length-take-le, ◌==◌}
+use Rattle.std.proofs.Common.{◌≡◌, ℕ, ◌+◌, Bool, true, false, ◌||◌, nat_lt, List, ◌∷◌, length, take, drop, Option, Some, None, Result, Ok, Err, IfOk, position, refl, sym, ap, ◌∙◌, arith, length-take-le, ◌==◌}
 use Rattle.std.specs.List.{slice_split}
 use Rattle.vtl_script.specs.declared.lines.ParsedLine.{ParsedLine}
 use Rattle.vtl_script.specs.declared.phases.NextLine.{NextLine}
