@@ -1,4 +1,5 @@
 pub mod BehindLemmas
+pub mod DueLemmas
 pub mod HostLemmas
 pub mod InOrderLemmas
 pub mod ItemLemmas

@@ -1,7 +1,7 @@
 -- Parts of a list, and the first element of a kind.
-use Rattle.std.proofs.Common.{◌≡◌, ℕ, ◌≤◌, Bool, true, false, not, ◌||◌, List, [], ◌∷◌, ◌++◌, length, Some, position, refl, sym, ap, ◌∙◌, arith}
+use Rattle.std.proofs.Common.{◌≡◌, ℕ, ◌≤◌, Bool, true, false, not, ◌||◌, List, [], ◌∷◌, ◌++◌, length, Some, position, refl, ap, ◌∙◌, arith}
 use Rattle.std.proofs.lemmas.Bool.Decides.{nat_tests}
-use Rattle.std.proofs.lemmas.List.{length-append, append-nil}
+use Rattle.std.proofs.lemmas.List.{length-append}
 use Rattle.std.proofs.lemmas.List.Splits.{slice_split-cons_yes, slice_split-cons_no}
 use Rattle.std.proofs.lemmas.List.Folds.{prefix_len-append}
 use Rattle.std.specs.List.{slice_split, onto_first, list_any, position_or_len}
@@ -36,16 +36,6 @@ pub split_front : {X : Type 0} (p : X → Bool) (xs ys part : List X) (parts : L
 split_front p [] ys part parts none h = h
 split_front p (x ∷ xs) ys part parts none h = front_with p x xs ys part parts (p x) refl none
     (λ rest. split_front p xs ys part parts rest h)
-
-pub split_end : {X : Type 0} (p : X → Bool) (xs : List X) (y : X) (ys : List X) → list_any p xs ≡ false → p y ≡ true
-    → slice_split p (xs ++ y ∷ ys) ≡ xs ∷ slice_split p ys
-split_end p xs y ys none is = rw
-    (split_front p xs (y ∷ ys) [] (slice_split p ys) none (slice_split-cons_yes p y ys is))
-    (ap (λ part. part ∷ slice_split p ys) (append-nil xs))
-
-pub split_all : {X : Type 0} (p : X → Bool) (xs : List X) → list_any p xs ≡ false → slice_split p xs ≡ xs ∷ []
-split_all p xs none = ap (slice_split p) (sym (append-nil xs)) ∙ split_front p xs [] [] [] none refl
-    ∙ ap (λ part. part ∷ []) (append-nil xs)
 
 none_with : {X : Type 0} (p : X → Bool) (x : X) (xs : List X) (b : Bool) → p x ≡ b
     → length (x ∷ xs) ≤ position_or_len p (x ∷ xs) → (length xs ≤ position_or_len p xs → list_any p xs ≡ false)

@@ -1,18 +1,15 @@
 -- Bytes that come from a reader.
-use Rattle.std.proofs.Common.{◌≡◌, ℕ, ◌+◌, ◌≤◌, List, [], ◌++◌, length, take, drop, Option, Some, None, Result, Ok, Err, OnOk, OnErr, IfErr, ◌⊎◌, inl, inr, position, refl, sym, ap, ◌∙◌, subst, arith, append_assoc, length-drop, length-take-le, ◌==◌}
-use Rattle.std.proofs.lemmas.List.{drop_at, take-append-le, take_all, append-nil, drop-append-le, length-append}
+use Rattle.std.proofs.Common.{◌≡◌, ℕ, ◌+◌, ◌≤◌, true, false, nat_lt, List, [], ◌++◌, length, take, drop, Option, Some, None, Result, Ok, Err, OnErr, IfErr, ◌⊎◌, inl, inr, position, refl, sym, ap, ◌∙◌, subst, arith, append_assoc, length-drop, length-take-le, ◌==◌}
+use Rattle.std.proofs.lemmas.Bool.Decides.{nat_tests}
+use Rattle.std.proofs.lemmas.List.{drop_at, take-append-le, take_all, drop-append-le, length-append}
 use Rattle.std.proofs.Math.Seq.{take-add}
 use Rattle.std.specs.Io.KnownBytes.{Consumes}
 use Rattle.vtl_script.specs.declared.faults.ScriptFault.{ScriptFault}
 use Rattle.vtl_script.specs.declared.faults.ScriptFault.TheVariants.{ReadFault, NoMemory}
 use Rattle.vtl_script.specs.Runs.{TakesWithin}
-use Rattle.vtl_script.specs.Inner.Reading.{Reading, part, Brings, Comes}
+use Rattle.vtl_script.specs.Inner.Reading.{Reading, part, shows_end, Brings, Comes}
 
--- what holds anyway holds at Ok
-pub on_ok : {T E : Type 0} (r : Result T E) (P : Type 0) → P → OnOk r P
-on_ok (Ok x) P p = p
-on_ok (Err e) P p = tt
-
+-- what holds anyway holds at an error
 pub on_err : {T E : Type 0} (r : Result T E) (P : Type 0) → P → OnErr r P
 on_err (Ok x) P p = tt
 on_err (Err e) P p = p
@@ -44,27 +41,6 @@ consumes_on (Some xs) (Some ys) (Some zs) first second h k = h ∙ ap (λ (rest 
 pub consumes_none : (a : Option (List ℕ)) → Consumes a a []
 consumes_none None = tt
 consumes_none (Some xs) = refl
-
--- nothing came
-pub comes_none : (left : Option (List ℕ)) (reading : Reading) → Comes left reading left reading
-comes_none left reading = record {
-  read = [];
-  taken = consumes_none left;
-  unread = sym (append-nil reading.unread);
-  bytes = omega arith;
-  reads =
-      omega arith;
-  lines = refl;
-}
-
--- nothing came
-pub brings_none : (left : Option (List ℕ)) (old new : List ℕ) → new ≡ old → Brings left old left new 0
-brings_none left old new same = record {
-  read = [];
-  taken = consumes_none left;
-  unread = same ∙ sym (append-nil old);
-  count_is = refl;
-}
 
 -- so many bytes were put behind those that fill a buffer up to a place
 pub brings_behind : (left left' : Option (List ℕ)) (start filled count : ℕ) (old now : List ℕ)
@@ -129,6 +105,20 @@ searched_on a b c old mid new s first none all second = record {
         (length mid.unread) mid.unread (omega arith),
   ) none;
 }
+
+shows_not : (unread : List ℕ) → position (λ byte. byte == 10) unread ≡ None → length unread ≤ 2200000
+    → shows_end unread ≡ false
+shows_not unread none short =
+    let fits : nat_lt 2200000 (length unread) ≡ false = grind (arith, nat_tests) in
+    rw (none, fits) refl
+
+-- bytes that do not show where the first line ends are not the first bytes, where those did
+pub not_shown : (old now : Reading) → position (λ byte. byte == 10) now.unread ≡ None → length now.unread ≤ 2200000
+    → (shows_end old.unread ≡ true → now ≡ old) → shows_end old.unread ≡ true → ⊥
+not_shown old now none short same shows =
+    let other : shows_end now.unread ≡ false = shows_not now.unread none short in
+    let shown : shows_end now.unread ≡ true = ap (λ (r : Reading). shows_end r.unread) (same shows) ∙ shows in
+    absurd (cc)
 
 -- what came is within the limit of bytes
 pub takes_comes : (left left' : Option (List ℕ)) (old new : Reading) → Comes left old left' new

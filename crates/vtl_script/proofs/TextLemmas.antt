@@ -16,23 +16,6 @@ use Rattle.vtl_script.specs.Inner.Writing.{Adds}
 pub adds_none : (known : Option (List ℕ)) (held : List ℕ) → Adds known held [] known held
 adds_none known held = record { written = []; same = sym (append-nil held); appended = Appends-nil known }
 
--- what was held was written, and nothing was added
-pub adds_written : (before now : Option (List ℕ)) (held left : List ℕ) → Appends before now held → left ≡ []
-    → Adds before held [] now left
-adds_written before now held left wrote empty =
-    record { written = held; same = ap (λ (xs : List ℕ). held ++ xs) empty; appended = wrote }
-
--- it was put behind what is held
-pub adds_held : (before now : Option (List ℕ)) (held mid more left : List ℕ) → Adds before held [] now mid
-    → left ≡ mid ++ more → Adds before held more now left
-adds_held before now held mid more left made is = record {
-  written = made.written;
-  same =
-      ap (λ (xs : List ℕ). made.written ++ xs) is ∙ sym (append_assoc made.written mid more)
-      ∙ ap (λ (xs : List ℕ). xs ++ more) (made.same ∙ append-nil held);
-  appended = made.appended;
-}
-
 -- one text was added, and then another
 pub adds_on : (before during now : Option (List ℕ)) (held mid left first second : List ℕ)
     → Adds before held first during mid → Adds during mid second now left
@@ -73,9 +56,6 @@ starts_longer text more part starts =
 pub record IsWritten (before now : Option (List ℕ)) (text : List ℕ) (at : ℕ) : Type 0 where
   pub within : at ≤ length text
   pub written : Appends before now (take at text)
-
-pub written_none : (known : Option (List ℕ)) (text : List ℕ) → IsWritten known known text 0
-written_none known text = record { within = omega arith; written = Appends-nil known }
 
 pub written_more : (before mid now : Option (List ℕ)) (text : List ℕ) (at count : ℕ)
     → count ≤ length (take (length text - at) (drop at text)) → IsWritten before mid text at
@@ -128,11 +108,6 @@ part_longer before now held first second part = (
   rw (← append_assoc held first second) (starts_longer (held ++ first) second part.0 part.1),
   part.2,
 )
-
--- a beginning of what was held is one of that and more
-pub part_held : (before now : Option (List ℕ)) (held more : List ℕ) → AppendsPart before now held
-    → AppendsPart before now (held ++ more)
-part_held before now held more part = (part.0, starts_longer held more part.0 part.1, part.2)
 
 -- a text was added, and what is held now was written in part
 pub part_after : (before during now : Option (List ℕ)) (held more mid : List ℕ) → Adds before held more during mid

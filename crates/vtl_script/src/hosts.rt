@@ -1,5 +1,5 @@
 //! The order in which the commands of a phase are run.
-ghost use Rattle.std.specs.Prelude.{◌≡◌, true, OnOk};
+ghost use Rattle.std.specs.Prelude.{◌≡◌, ◌↔◌, true, IsTrue, IsOk, OnOk};
 ghost use Rattle.std.specs.List.{list_all};
 ghost use Rattle.std.specs.List.Sorted.{IsNonDecreasingBy};
 ghost use Rattle.vtl_script.specs.Items.{by_host, has_host};
@@ -9,7 +9,7 @@ use std::alloc::AllocError;
 
 // Whether no host stands behind a higher one.
 fn are_sorted_by_host(lines: &[Line]) -> bool
-    ensures { result ≡ true → IsNonDecreasingBy (λ line. line.host) lines.now }
+    ensures { IsTrue result ↔ IsNonDecreasingBy (λ line. line.host) lines.now }
 {
     for i in 1..lines.len() {
         if lines[i].host.number() < lines[i - 1].host.number() {
@@ -20,10 +20,11 @@ fn are_sorted_by_host(lines: &[Line]) -> bool
 }
 
 /// Puts the commands of a phase in the order of their turns: by rising host, each host's in their
-/// order.
+/// order. Where they stand so already, memory does not run out.
 pub fn sort_by_host(lines: &mut Vec<Line>) -> Result<(), AllocError>
     requires { list_all has_host lines.old.items ≡ true }
-    ensures { OnOk result (lines.new.items ≡ by_host lines.old.items) }
+    ensures order { OnOk result (lines.new.items ≡ by_host lines.old.items) }
+    ensures sorted { IsNonDecreasingBy (λ line. line.host) lines.old.items → IsOk result }
 {
     if are_sorted_by_host(lines.as_slice()) {
         return Ok(());

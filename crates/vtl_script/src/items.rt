@@ -1,7 +1,7 @@
 //! The items of a script: phases and moves, each of which is run at once.
-ghost use Rattle.std.specs.Prelude.{◌≡◌, ◌≢◌, ℕ, IfOk, IfErr, Err};
+ghost use Rattle.std.specs.Prelude.{◌≡◌, ◌≢◌, ℕ, true, IfOk, IfErr, Err};
 ghost use Rattle.vtl_script.specs.Runs.{TakesWithin};
-ghost use Rattle.vtl_script.specs.Inner.ReadItem.{ReadsItems, RefusesItem};
+ghost use Rattle.vtl_script.specs.Inner.ReadItem.{ReadsItems, RefusesItem, shows_phase};
 
 use crate::faults::ScriptFault;
 use crate::hosts::sort_by_host;
@@ -69,7 +69,8 @@ pub struct NextItems {
     pub is_last: bool,
 }
 
-/// Reads a phase and the move that ends it, or up to the first line of them that is refused.
+/// Reads a phase and the move that ends it, or up to the first line of them that is refused. Where the bytes that came
+/// show its end, the reader is not called.
 pub fn read_items<P: Runner, R: Read>(
     alloc: Global,
     runner: &P,
@@ -84,6 +85,7 @@ pub fn read_items<P: Runner, R: Read>(
     ensures fault { IfErr result (λ fault. fault ≢ ScriptFault.WriteFault) }
     ensures past { IfErr result (λ fault. fault ≢ ScriptFault.ReadFault →
         TakesWithin (R.remaining reader.old) line_reader.old.bytes (R.remaining reader.new)) }
+    ensures due { shows_phase (P.is_configured runner.now) line_reader.old.unread ≡ true → reader.new ≡ reader.old }
 {
     let PhaseLines {
         mut lines,

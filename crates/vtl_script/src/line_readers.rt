@@ -1,7 +1,7 @@
 //! How far a script was read: its bytes come in chunks, within limits, and are taken up line by line.
-ghost use Rattle.std.specs.Prelude.{◌≡◌, ◌<◌, ◌≤◌, ◌+◌, ◌==◌, ◌++◌, ◌⊎◌, [], ℕ, length, take, drop, vec_len, position, Some, None, Ok, false, IfOk, IfErr, OnOk, OnErr};
+ghost use Rattle.std.specs.Prelude.{◌≡◌, ◌<◌, ◌≤◌, ◌+◌, ◌==◌, ◌++◌, ◌⊎◌, [], ℕ, length, take, drop, vec_len, position, Some, None, Ok, true, false, IsOk, IfOk, IfErr, OnOk, OnErr};
 ghost use Rattle.std.specs.Io.KnownBytes.{Consumes, IsAtEnd};
-ghost use Rattle.vtl_script.specs.Inner.Reading.{unbegun, bytes_read, Comes, Ends};
+ghost use Rattle.vtl_script.specs.Inner.Reading.{unbegun, bytes_read, shows_end, Comes, Ends};
 
 use crate::faults::ScriptFault;
 use crate::read_buffers::ReadBuffer;
@@ -51,11 +51,11 @@ impl Model for LineReader {
 }
 
 impl LineReader {
-    ghost use Rattle.std.specs.Prelude.{◌≡◌, ◌<◌, ◌≤◌, ◌+◌, ◌⊎◌, [], drop, take, length, Ok, Err, false, IfOk, IfErr, OnOk};
+    ghost use Rattle.std.specs.Prelude.{◌≡◌, ◌<◌, ◌≤◌, ◌+◌, ◌⊎◌, [], drop, take, length, Ok, Err, true, false, IsOk, IfOk, IfErr, OnOk};
     ghost use Rattle.vtl_base.specs.declared.limits.TheConstants.{SCRIPT_BYTES, SCRIPT_READS};
     ghost use Rattle.std.specs.Io.KnownBytes.{Consumes};
     ghost use Rattle.vtl_base.specs.declared.limits.TheConstants.{LINE_BYTES};
-    ghost use Rattle.vtl_script.specs.Inner.Reading.{unbegun, work_left, may_read, Comes, Ends};
+    ghost use Rattle.vtl_script.specs.Inner.Reading.{unbegun, work_left, may_read, shows_end, Comes, Ends};
     ghost use Rattle.vtl_script.specs.Runs.{TakesWithin};
 
     /// Nothing yet.
@@ -104,13 +104,14 @@ impl LineReader {
         }
     }
 
-    /// Brings the first line into the buffer. The reader is called only where the line feed is not
-    /// there.
+    /// Brings the first line into the buffer. Where the bytes that came show its end, the reader is not called.
     pub fn find<R: Read>(&mut self, reader: &mut R) -> Result<Found, ScriptFault>
         ensures comes { OnOk result
             (Comes (R.remaining reader.old) self.old (R.remaining reader.new) self.new) }
         ensures within { OnOk result (self.new.bytes ≤ SCRIPT_BYTES) }
         ensures found { IfOk result (λ found. Ends found self.new.unread (R.remaining reader.new)) }
+        ensures due { shows_end self.old.unread ≡ true →
+            IsOk result × (self.new ≡ self.old) × (reader.new ≡ reader.old) }
         ensures fault { IfErr result (λ fault. (fault ≡ ScriptFault.ReadFault)
             ⊎ ((fault ≡ ScriptFault.NoMemory)
             × TakesWithin (R.remaining reader.old) self.old.bytes (R.remaining reader.new))) }

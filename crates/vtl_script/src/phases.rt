@@ -1,8 +1,9 @@
 //! A script, read phase by phase.
-ghost use Rattle.std.specs.Prelude.{◌≡◌, ◌≢◌, ◌++◌, ◌∷◌, [], ℕ, filter_map, IfOk, IfErr, OnOk, Err};
+ghost use Rattle.std.specs.Prelude.{◌≡◌, ◌≢◌, ◌++◌, ◌∷◌, [], ℕ, filter_map, true, false, IfOk, IfErr, OnOk, Err};
 ghost use Rattle.vtl_script.specs.Parsed.{without_return, parsed_line, is_phase_end, line_in};
 ghost use Rattle.vtl_script.specs.Runs.{TakesWithin};
-ghost use Rattle.vtl_script.specs.Inner.ReadItem.{ReportsRefused, ReadsLine, ReadsPhase, RefusesLine, RefusesItem, move_in};
+ghost use Rattle.vtl_script.specs.Inner.Reading.{shows_end};
+ghost use Rattle.vtl_script.specs.Inner.ReadItem.{ReportsRefused, ReadsLine, ReadsPhase, RefusesLine, RefusesItem, move_in, shows_phase};
 
 use crate::faults::ScriptFault;
 use crate::items::Item;
@@ -66,7 +67,7 @@ fn accepted(parsed: ParsedLine, is_last: bool, line: u64) -> Result<NextLine, Sc
     }
 }
 
-// What the next line says.
+// What the next line says. Where the bytes that came show its end, the reader is not called.
 fn read_line<P: Runner, R: Read>(
     alloc: Global,
     runner: &P,
@@ -81,6 +82,12 @@ fn read_line<P: Runner, R: Read>(
     ensures fault { IfErr result (λ fault. fault ≢ ScriptFault.WriteFault) }
     ensures past { IfErr result (λ fault. fault ≢ ScriptFault.ReadFault →
         TakesWithin (R.remaining reader.old) line_reader.old.bytes (R.remaining reader.new)) }
+    ensures due { shows_end line_reader.old.unread ≡ true → reader.new ≡ reader.old }
+
+    // Behind a line that does not end its phase the bytes still show where it ends, where they did before.
+    ensures goes_on { IfOk result (λ next. shows_phase (P.is_configured runner.now) line_reader.old.unread ≡ true →
+        next.is_last ≡ false → is_phase_end next.parsed ≡ false →
+        shows_phase (P.is_configured runner.now) line_reader.new.unread ≡ true) }
 {
     let number = line_reader.lines() + 1;
     match line_reader.find(reader)? {
@@ -135,7 +142,7 @@ fn gather(lines: &mut Vec<Line>, parsed: ParsedLine) -> Result<bool, ScriptFault
 }
 
 /// Reads a phase: the commands up to its end, with the move that ends it, or up to the first line
-/// that is refused.
+/// that is refused. Where the bytes that came show its end, the reader is not called.
 pub fn read_phase<P: Runner, R: Read>(
     alloc: Global,
     runner: &P,
@@ -150,6 +157,7 @@ pub fn read_phase<P: Runner, R: Read>(
     ensures fault { IfErr result (λ fault. fault ≢ ScriptFault.WriteFault) }
     ensures past { IfErr result (λ fault. fault ≢ ScriptFault.ReadFault →
         TakesWithin (R.remaining reader.old) line_reader.old.bytes (R.remaining reader.new)) }
+    ensures due { shows_phase (P.is_configured runner.now) line_reader.old.unread ≡ true → reader.new ≡ reader.old }
 {
     let mut lines = Vec::new(alloc);
     loop {

@@ -94,7 +94,7 @@ fn move_down(bytes: &mut [u8], start: usize, count: usize)
 }
 
 // Moves the bytes from `start` up to `filled` to the front, where as many stand before them or there is no room behind
-// them. The answer is where they begin.
+// them; there those before them are moved too. The answer is where they begin.
 fn close_up(buffer: &mut Vec<u8>, start: usize, filled: usize) -> usize
     requires start { start ≤ filled }
     requires filled { filled ≤ vec_len buffer.old }
@@ -167,8 +167,8 @@ impl ReadBuffer {
     }
 
     /// One read, for as many bytes as there is room for: how many came, or None where it was interrupted. The bytes
-    /// move only where others stood before them. So one who reads just where no line is whole moves each byte once at
-    /// most.
+    /// move only where others stood before them, and as the buffer grows. So one who reads just where no line is whole
+    /// moves each byte once at most, and those of a line that outgrows the first buffer once more.
     pub fn read<R: Read>(&mut self, reader: &mut R) -> Result<Option<usize>, ScriptFault>
         requires { length self.old ≤ LINE_BYTES }
         ensures brings { Brings (R.remaining reader.old) self.old

@@ -1,7 +1,7 @@
 //! Scripts: items that are read, run and answered.
 ghost use Rattle.std.specs.Prelude.{◌≡◌, ◌≢◌, ◌<◌, ◌∷◌, [], Ok, Err, IfSome, OnOk, true};
 ghost use Rattle.vtl_script.specs.Inner.Reading.{work_left};
-ghost use Rattle.vtl_script.specs.Inner.ReadItem.{with_move};
+ghost use Rattle.vtl_script.specs.Inner.ReadItem.{with_move, shows_phase};
 ghost use Rattle.vtl_script.specs.Inner.RunItem.{RunsItems, RunsNext};
 ghost use Rattle.vtl_script.specs.Items.{IsRunnable};
 ghost use Rattle.vtl_script.specs.Runs.{RunsScript, TakesWithin};
@@ -59,7 +59,7 @@ fn run_items<P: Runner, W: Write>(
 }
 
 // Reads a phase and the move that ends it, runs them and writes their replies. At `true` the text
-// goes on.
+// goes on. Where the bytes that came show the end of the phase, the reader is not called.
 fn run_next<P: Runner, R: Read, W: Write>(
     alloc: Global,
     runner: &mut P,
@@ -77,6 +77,7 @@ fn run_next<P: Runner, R: Read, W: Write>(
     ensures same { P.is_configured runner.new ≡ P.is_configured runner.old }
     ensures past { result ≢ Err ScriptFault.ReadFault →
         TakesWithin (R.remaining reader.old) line_reader.old.bytes (R.remaining reader.new) }
+    ensures due { shows_phase (P.is_configured runner.old) line_reader.old.unread ≡ true → reader.new ≡ reader.old }
 {
     let NextItems {
         phase,

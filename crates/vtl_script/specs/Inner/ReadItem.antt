@@ -1,8 +1,8 @@
 -- What is read of a script, item by item (own).
-use Rattle.std.specs.Prelude.{◌≡◌, ◌⊎◌, ℕ, ◌+◌, ◌<◌, ◌≤◌, Bool, true, false, List, [], ◌∷◌, ◌++◌, length, Option, Some, None, IfSome, Result, Ok, Err, unwrap_or, filter_map}
-use Rattle.std.specs.List.{list_any, list_all}
+use Rattle.std.specs.Prelude.{◌≡◌, ◌⊎◌, ℕ, ◌+◌, ◌<◌, ◌≤◌, ◌==◌, ◌||◌, nat_lt, Bool, true, false, List, [], ◌∷◌, ◌++◌, length, Option, Some, None, IfSome, Result, Ok, Err, unwrap_or, filter_map}
+use Rattle.std.specs.List.{list_any, list_all, slice_split}
 use Rattle.std.specs.Io.KnownBytes.{Consumes, IsAtEnd}
-use Rattle.vtl_base.specs.declared.limits.TheConstants.{SCRIPT_BYTES}
+use Rattle.vtl_base.specs.declared.limits.TheConstants.{SCRIPT_BYTES, LINE_BYTES}
 use Rattle.vtl_script.specs.declared.lines.ParsedLine.{ParsedLine}
 use Rattle.vtl_script.specs.declared.lines.ParsedLine.TheVariants.{Move, Refused}
 use Rattle.vtl_script.specs.declared.phases.NextLine.{NextLine}
@@ -13,7 +13,7 @@ use Rattle.vtl_script.specs.declared.items.Item.TheVariants as item
 use Rattle.vtl_script.specs.declared.items.NextItems.{NextItems}
 use Rattle.vtl_script.specs.declared.faults.ScriptFault.{ScriptFault}
 use Rattle.vtl_script.specs.declared.faults.ScriptFault.TheVariants.{BadLine}
-use Rattle.vtl_script.specs.Parsed.{parsed_lines, is_refused, line_in}
+use Rattle.vtl_script.specs.Parsed.{parsed_line, parsed_lines, without_return, is_phase_end, is_refused, line_in}
 use Rattle.vtl_script.specs.Items.{has_host, by_host, items_to_run, IsRunnable}
 use Rattle.vtl_script.specs.Inner.Reading.{Reading, work_left}
 
@@ -26,6 +26,19 @@ abbrev pub ReportsRefused : ParsedLine → Bool → ℕ → Result NextLine Scri
 ReportsRefused parsed is_last number (Ok next) =
     (next ≡ record { parsed = parsed; is_last = is_last }) × (is_refused parsed ≡ false)
 ReportsRefused parsed is_last number (Err fault) = (fault ≡ BadLine number) × (parsed ≡ Refused)
+
+-- whether one of these lines, the last of which lacks its line feed, ends a phase or is refused (own)
+abbrev pub has_end : (ℕ → Bool) → List (List ℕ) → Bool
+has_end is_configured [] = false
+has_end is_configured (line ∷ []) = nat_lt LINE_BYTES (length line)
+has_end is_configured (line ∷ next ∷ lines) =
+    (is_phase_end (parsed_line is_configured (length line) (without_return line))
+    || is_refused (parsed_line is_configured (length line) (without_return line)))
+    || has_end is_configured (next ∷ lines)
+
+-- whether bytes show where the first phase ends: its lines came whole, up to the end or one that is refused (own)
+abbrev pub shows_phase : (ℕ → Bool) → List ℕ → Bool
+shows_phase is_configured unread = has_end is_configured (slice_split (λ byte. byte == 10) unread)
 
 -- what the bytes say that stand before the others of a text, whatever follows; at its end, with nothing behind them
 -- (own)

@@ -1,5 +1,5 @@
 -- How far a script was read (own).
-use Rattle.std.specs.Prelude.{◌≡◌, ℕ, ◌+◌, ◌-◌, ◌<◌, ◌≤◌, ◌==◌, nat_le, nat_lt, Bool, List, [], ◌++◌, length, take, drop, position, Option, Some, None, Result, Ok, Err}
+use Rattle.std.specs.Prelude.{◌≡◌, ℕ, ◌+◌, ◌-◌, ◌<◌, ◌≤◌, ◌==◌, ◌||◌, nat_le, nat_lt, Bool, List, [], ◌++◌, length, take, drop, position, Option, Some, None, is_some, Result, Ok, Err}
 use Rattle.std.specs.Io.KnownBytes.{Consumes, IsAtEnd}
 use Rattle.vtl_base.specs.declared.limits.TheConstants.{SCRIPT_BYTES, SCRIPT_READS, LINE_BYTES}
 use Rattle.vtl_script.specs.declared.faults.ScriptFault.{ScriptFault}
@@ -55,6 +55,10 @@ pub record Comes (left : Option (List ℕ)) (old : Reading) (left' : Option (Lis
   pub bytes : new.bytes ≡ old.bytes + length read
   pub reads : old.reads ≤ new.reads
   pub lines : new.lines ≡ old.lines
+
+-- whether bytes show where the first line ends: they have its line feed, or are more than it may have (own)
+abbrev pub shows_end : List ℕ → Bool
+shows_end unread = is_some (position (λ byte. byte == 10) unread) || nat_lt LINE_BYTES (length unread)
 
 -- where the first line ends: at its line feed, with the text, or not within its limit (own)
 abbrev pub Ends : Found → List ℕ → Option (List ℕ) → Type 0

@@ -5,6 +5,7 @@ use Rattle.vtl_script.proofs.LineLemmas.{line_says, says_last, tells, refuses, r
 use Rattle.std.proofs.lemmas.Result.{err_from_is_err_and}
 use Rattle.vtl_script.proofs.ReadingLemmas.{past_of, past_anyway, takes_comes}
 use Rattle.vtl_script.proofs.HostLemmas.{hosts_of, drives_of}
+use Rattle.vtl_script.proofs.DueLemmas.{shown_behind, none_behind_last}
 use Rattle.vtl_script.proofs.phases.read_line.Goals as goal
 
 pub returns-in_ok-parsed-in-Line-clause-ok : goal.returns-in_ok-parsed-in-Line-clause-ok
@@ -118,3 +119,23 @@ returns-in_ok-parsed-in-Last-clause-past g c =
 pub returns-in-TooLong-clause-past : goal.returns-in-TooLong-clause-past
 returns-in-TooLong-clause-past g c = λ other. takes_comes _ _ c.args.line_reader.now c.find.new.self
     c.in_ok-count.ensures.comes c.in_ok-count.ensures.within
+
+pub returns-in_ok-parsed-in-Line-clause-goes_on : goal.returns-in_ok-parsed-in-Line-clause-goes_on
+returns-in_ok-parsed-in-Line-clause-goes_on g c =
+    let is_configured = g.P.Runner.is_configured c.args.runner.now in
+    let mid = c.find.new.self in
+    let parsed = c.in_ok-parsed-in-Line.parsed in
+    let parsed_is : parsed ≡ parsed_line is_configured c.in-Line.count
+    (without_return (take c.in-Line.count mid.unread)) =
+    c.in_ok-parsed-in-Line.ensures
+    ∙ ap (parsed_line is_configured c.in-Line.count) (c.without_return.ensures ∙ ap without_return c.front.ensures)
+    in
+    shown_behind is_configured c.args.line_reader.now mid c.take_up.new.self c.in-Line.count parsed
+    (c.lines-number.result + 1) c.accepted.result (λ shows. (c.find.ensures.due shows).1)
+    (rw c.in-Line.is at c.in_ok-count.ensures.found) parsed_is
+    (ap (λ (r : Reading). r.unread) c.take_up.ensures.line) c.accepted.ensures
+
+pub returns-in_ok-parsed-in-Last-clause-goes_on : goal.returns-in_ok-parsed-in-Last-clause-goes_on
+returns-in_ok-parsed-in-Last-clause-goes_on g c =
+    none_behind_last c.in_ok-parsed-in-Last.parsed (c.lines-number.result + 1) c.accepted-in-Last.result _ _
+    c.accepted-in-Last.ensures
