@@ -27,6 +27,14 @@ EDITS = [
      "    let mut copy = Bytes::from_slice(alloc, sent)?;\n",
      "    crate::storing::store_pending(medium)?;\n    let mut copy = Bytes::from_slice(alloc, sent)?;\n",
      ["writes_wait_for_one_frame", "a_turn_tells_how_many_waited"]),
+    ("what waits is stored before each lent write", "drive_core", "src/drives/lending.rt",
+     "        write(self.alloc, medium, &mut self.position, self.buffered, sent)\n",
+     "        let (part, at, bytes) = (self.position.part, self.position.obj, sent.len() as u32);\n"
+     "        let fits = bytes > 0 && medium.has_room_for(bytes) && at < 16_000_000\n"
+     "            && medium.used(part, at) + bytes as u64 + 16 <= medium.capacity(part);\n"
+     "        if fits {\n            crate::storing::store_pending(medium)?;\n        }\n"
+     "        write(self.alloc, medium, &mut self.position, self.buffered, sent)\n",
+     ["writes_wait_for_one_frame", "a_turn_tells_how_many_waited"]),
     ("a side that is refused at power on is told as memory that ran out", "drive_core", "src/opening.rt",
      "        Err(MediumError::Unreadable) => Ok(Bay::Unloaded(medium)),",
      "        Err(MediumError::Unreadable) => Err(medium),",

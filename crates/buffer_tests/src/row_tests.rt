@@ -1,8 +1,8 @@
-//! Which commands cost a sync, by steps, each reply to the byte.
+//! Which commands cost a sync, by steps, each reply to the byte, whether their data are shown or lent.
 use crate::drives::Tape;
 use crate::samples::{
-    EMPTY, ERASE, GOOD, LOCATE_1, MARK_AT_ONCE, MODE_0, MODE_1, NONE, Row, SELECT_4, WRITE_1,
-    WRITE_OUT, ask, assert_turn, found, greeted, syncs, write,
+    EMPTY, ERASE, GOOD, LOCATE_1, MARK_AT_ONCE, MODE_0, MODE_1, NONE, Row, SELECT_4, Sending,
+    WRITE_1, WRITE_OUT, ask_by, assert_turn, found, greeted, syncs, write,
 };
 use assertions::assert_equal;
 use std::alloc::Global;
@@ -100,28 +100,45 @@ static AT_ONCE: &'static [Step<'static>] = &[
     Step::Turns(Turn::Stored(1), 2),
 ];
 
-fn writes(rt: &impl Abort, alloc: Global, drive: &mut Tape<MemDisk>, count: u32, size: u32) {
+// The ways in which each course is gone.
+static WAYS: &'static [Sending] = &[Sending::Shown, Sending::Lent];
+
+fn writes(
+    rt: &impl Abort,
+    alloc: Global,
+    drive: &mut Tape<MemDisk>,
+    way: Sending,
+    count: u32,
+    size: u32,
+) {
     for _ in 0..count {
-        write(rt, alloc, drive, size);
+        write(rt, alloc, drive, way, size);
     }
 }
 
-fn repeats(rt: &impl Abort, drive: &mut Tape<MemDisk>, row: Row, count: u32) {
+fn repeats(
+    rt: &impl Abort,
+    alloc: Global,
+    drive: &mut Tape<MemDisk>,
+    way: Sending,
+    row: Row,
+    count: u32,
+) {
     for _ in 0..count {
-        ask(rt, drive, row, 0);
+        ask_by(rt, alloc, drive, way, row, 0);
     }
 }
 
-fn goes(rt: &impl Abort, alloc: Global, drive: &mut Tape<MemDisk>, steps: &[Step]) {
+fn goes(rt: &impl Abort, alloc: Global, drive: &mut Tape<MemDisk>, way: Sending, steps: &[Step]) {
     for (at, step) in steps.iter().enumerate() {
         let before = syncs(drive);
         let wanted = match *step {
             Step::Asks(count, row, wanted) => {
-                repeats(rt, drive, row, count);
+                repeats(rt, alloc, drive, way, row, count);
                 wanted
             }
             Step::Writes(count, size, wanted) => {
-                writes(rt, alloc, drive, count, size);
+                writes(rt, alloc, drive, way, count, size);
                 wanted
             }
             Step::Turns(turn, wanted) => {
@@ -130,7 +147,7 @@ fn goes(rt: &impl Abort, alloc: Global, drive: &mut Tape<MemDisk>, steps: &[Step
             }
         };
         let taken = syncs(drive).saturating_sub(before);
-        assert_equal!(rt; taken, wanted; at);
+        assert_equal!(rt; taken, wanted; (way, at));
     }
 }
 
@@ -170,9 +187,12 @@ fn left(rt: &impl Abort, alloc: Global, drive: &Tape<MemDisk>, wanted: &[u8]) ->
 
 // Steps from an empty tape, and what a crash leaves behind them.
 fn course(rt: &impl Abort, alloc: Global, steps: &[Step], wanted: &[u8]) -> Result<(), Fail> {
-    let mut drive = greeted(rt, alloc, MemDisk::from_bytes(alloc, EMPTY)?)?;
-    goes(rt, alloc, &mut drive, steps);
-    left(rt, alloc, &drive, wanted)
+    for way in WAYS {
+        let mut drive = greeted(rt, alloc, MemDisk::from_bytes(alloc, EMPTY)?)?;
+        goes(rt, alloc, &mut drive, *way, steps);
+        left(rt, alloc, &drive, wanted)?;
+    }
+    Ok(())
 }
 
 #[test]
@@ -207,7 +227,9 @@ fn an_unbuffered_write_is_stored_at_once(rt: HostRuntime) -> Result<(), Fail> {
 
 // Steps from an empty tape.
 fn goes_alone(rt: &impl Abort, alloc: Global, steps: &[Step]) -> Result<(), Fail> {
-    let mut drive = greeted(rt, alloc, MemDisk::from_bytes(alloc, EMPTY)?)?;
-    goes(rt, alloc, &mut drive, steps);
+    for way in WAYS {
+        let mut drive = greeted(rt, alloc, MemDisk::from_bytes(alloc, EMPTY)?)?;
+        goes(rt, alloc, &mut drive, *way, steps);
+    }
     Ok(())
 }

@@ -8,7 +8,7 @@ use std::process::Abort;
 use std::test::Fail;
 use tape_disk::{Disk, MemDisk};
 use volume_core::{Kind, Turn};
-use vtl_base::Nexus;
+use vtl_base::{Bytes, Nexus};
 
 // What a reply is wanted to be: its sense data, if any, by bytes 0 and 2, INFORMATION, additional
 // code and qualifier; and the bytes that it gives.
@@ -89,6 +89,13 @@ pub const INQUIRED: Wanted<'static> = (
     b"\x01\x80\x06\x02\x1f\0\0\0VTLIB   TAPE DRIVE      0001",
 );
 
+/// How a drive is given what a host sends: it is shown, and copied where it is written, or lent, and taken.
+#[derive(Clone, Copy, Debug)]
+pub enum Sending {
+    Shown,
+    Lent,
+}
+
 // The status, the 18 bytes of sense data and the bytes that are wanted.
 type Told<'a> = (Status, Option<[u8; 18]>, &'a [u8]);
 
@@ -119,6 +126,36 @@ pub fn ask<D: Disk + Drop>(rt: &impl Abort, drive: &mut Tape<D>, row: Row, at: u
     let nexus = Nexus::new(host).expect(rt, "a nexus");
     let reply = drive.execute(nexus, cdb, sent);
     assert_equal!(rt; heard(&reply), told(wanted); at);
+}
+
+// So is one whose data are lent.
+fn ask_lent<D: Disk + Drop>(
+    rt: &impl Abort,
+    alloc: Global,
+    drive: &mut Tape<D>,
+    row: Row,
+    at: usize,
+) {
+    let (host, cdb, sent, wanted) = row;
+    let nexus = Nexus::new(host).expect(rt, "a nexus");
+    let mut lent = Bytes::from_slice(alloc, sent).expect(rt, "memory");
+    let reply = drive.execute_lent(nexus, cdb, &mut lent);
+    assert_equal!(rt; heard(&reply), told(wanted); at);
+}
+
+/// So is one whose data are given in this way.
+pub fn ask_by<D: Disk + Drop>(
+    rt: &impl Abort,
+    alloc: Global,
+    drive: &mut Tape<D>,
+    way: Sending,
+    row: Row,
+    at: usize,
+) {
+    match way {
+        Sending::Shown => ask(rt, drive, row, at),
+        Sending::Lent => ask_lent(rt, alloc, drive, row, at),
+    }
 }
 
 pub fn asks<D: Disk + Drop>(rt: &impl Abort, drive: &mut Tape<D>, rows: &[Row]) {
@@ -163,11 +200,17 @@ pub fn assert_turn<D: Disk + Drop>(rt: &impl Abort, drive: &mut Tape<D>, wanted:
 }
 
 /// Host 1 writes a block of so many bytes, which is GOOD.
-pub fn write<D: Disk + Drop>(rt: &impl Abort, alloc: Global, drive: &mut Tape<D>, size: u32) {
+pub fn write<D: Disk + Drop>(
+    rt: &impl Abort,
+    alloc: Global,
+    drive: &mut Tape<D>,
+    way: Sending,
+    size: u32,
+) {
     let [_, high, middle, low] = size.to_be_bytes();
     let block = vec![in alloc; 0x5a; size as usize].expect(rt, "memory");
     let cdb = [0x0a, 0, high, middle, low, 0];
-    ask(rt, drive, (1, &cdb, &block, GOOD), 0);
+    ask_by(rt, alloc, drive, way, (1, &cdb, &block, GOOD), 0);
 }
 
 /// The tape has these objects from the position on, blocks of one byte and `|` for a filemark, and

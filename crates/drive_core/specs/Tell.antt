@@ -1,5 +1,5 @@
 -- Commands that give data and change nothing: INQUIRY, READ BLOCK LIMITS, READ POSITION.
-use Rattle.std.specs.Prelude.{◌≡◌, ◌≤◌, ℕ, List, [], length, Result, Ok, Err}
+use Rattle.std.specs.Prelude.{◌≡◌, ◌<◌, ℕ, List, [], length, Result, Ok, Err}
 use Rattle.scsi_sense.specs.declared.replies.Reply.{Reply}
 use Rattle.scsi_sense.specs.Replies.{good_with}
 use Rattle.positioning.specs.Report.{report_of}
@@ -9,10 +9,11 @@ use Rattle.drive_core.specs.State.{contents_of}
 use Rattle.drive_core.specs.Relations.{MachineRelation, MediumRelation, made_nothing}
 use Rattle.drive_core.specs.StoredFirst.{StoredFirst}
 
--- GOOD with these bytes; memory runs out only where there are some (SAM-5; memory own)
+-- GOOD with these bytes; memory runs out only where there are more than 24: fewer stand in the reply itself
+-- (SAM-5; memory own)
 abbrev pub Gives : List ℕ → Result Reply Fault → Type 0
 Gives bytes (Ok reply) = reply ≡ good_with bytes
-Gives bytes (Err NoMemory) = 1 ≤ length bytes
+Gives bytes (Err NoMemory) = 24 < length bytes
 Gives bytes (Err _) = ⊥
 
 -- these bytes are given, and nothing changes (SPC-4, INQUIRY, PERSISTENT RESERVE IN; SSC-4, READ BLOCK LIMITS)

@@ -1,54 +1,76 @@
 //! What PERSISTENT RESERVE IN reads.
-ghost use Rattle.std.specs.Prelude.{◌≡◌, ◌++◌, ◌<◌, ◌≤◌, ◌*◌, ◌^◌, length, IfOk};
+ghost use Rattle.std.specs.Prelude.{◌≡◌, ◌++◌, ◌+◌, ◌≤◌, ◌*◌, [], length, take, IfOk, IsOk};
 ghost use Rattle.std.specs.List.{flat_map};
+ghost use Rattle.arrayvec.specs.ArrayVec.{array_vec_len};
 ghost use Rattle.vtl_base.specs.declared.limits.TheConstants.{NEXUSES};
+ghost use Rattle.pr_core.specs.declared.reads.TheConstants.{MAX_READ};
 ghost use Rattle.pr_core.specs.Reads.{headed, holder_key, key_bytes, keys_read, reservation_bytes, reservation_read};
 
 use crate::states::{PrState, Reservation};
-use std::alloc::{AllocError, Global};
+use arrayvec::ArrayVec;
+use std::alloc::Global;
 use vtl_base::{Bytes, Nexus, NoMemory};
 
-// Puts a key, where there is one, behind these bytes.
-fn push_key(bytes: &mut Vec<u8>, key: Option<u64>) -> Result<(), AllocError>
-    ensures { IfOk result (λ _. bytes.new.items ≡ bytes.old.items ++ key_bytes key) }
+// The data of READ KEYS where each nexus is registered: nothing that is read is longer. It is built in a row of so many
+// bytes, which takes no memory.
+const MAX_READ: usize = 520;
+
+// Puts bytes behind those that are there.
+fn push(row: &mut ArrayVec<u8, MAX_READ>, bytes: &[u8])
+    requires { array_vec_len row.old + length bytes.now ≤ MAX_READ }
+    ensures { row.new.items ≡ row.old.items ++ bytes.now }
 {
-    match key {
-        Some(key) => bytes.extend_from_slice(&key.to_be_bytes()),
-        None => Ok(()),
+    match row.try_extend_from_slice(bytes) {
+        Ok(()) => {}
+        Err(_) => unreachable!(),
+    }
+}
+
+// Puts a key, where there is one, behind these bytes.
+fn push_key(row: &mut ArrayVec<u8, MAX_READ>, key: Option<u64>)
+    requires { array_vec_len row.old + 8 ≤ MAX_READ }
+    ensures { row.new.items ≡ row.old.items ++ key_bytes key }
+{
+    if let Some(key) = key {
+        push(row, &key.to_be_bytes());
     }
 }
 
 // Puts all keys behind these bytes.
-fn push_keys(bytes: &mut Vec<u8>, keys: &[Option<u64>]) -> Result<(), AllocError>
-    ensures { IfOk result (λ _. bytes.new.items ≡ bytes.old.items ++ flat_map key_bytes keys.now) }
+fn push_keys(row: &mut ArrayVec<u8, MAX_READ>, keys: &[Option<u64>])
+    requires { array_vec_len row.old + 8 * length keys.now ≤ MAX_READ }
+    ensures { row.new.items ≡ row.old.items ++ flat_map key_bytes keys.now }
 {
     for key in keys {
-        push_key(bytes, *key)?;
+        push_key(row, *key);
     }
-    Ok(())
 }
 
-// Puts generation and length before these bytes.
-fn headed(alloc: Global, generation: u32, rest: &[u8]) -> Result<Bytes, NoMemory>
-    requires { length rest.now < 2 ^ 32 }
-    ensures { IfOk result (λ bytes. bytes ≡ headed generation rest.now) }
+// The first `room` of the bytes with generation and length before them. It takes memory only where these are more than
+// 24.
+fn cut_headed(alloc: Global, generation: u32, rest: &[u8], room: usize) -> Result<Bytes, NoMemory>
+    requires { 8 + length rest.now ≤ MAX_READ }
+    ensures bytes { IfOk result (λ bytes. bytes ≡ take room (headed generation rest.now)) }
+    ensures few { length (take room (headed generation rest.now)) ≤ 24 → IsOk result }
 {
-    let mut bytes = Vec::new(alloc);
-    bytes.extend_from_slice(&generation.to_be_bytes())?;
+    let mut row = ArrayVec::<u8, MAX_READ>::new();
+    push(&mut row, &generation.to_be_bytes());
     let length = rest.len() as u32;
-    bytes.extend_from_slice(&length.to_be_bytes())?;
-    bytes.extend_from_slice(rest)?;
-    Ok(Bytes::from_vec(bytes))
+    push(&mut row, &length.to_be_bytes());
+    push(&mut row, rest);
+    let bytes = row.as_slice();
+    Bytes::from_slice(alloc, &bytes[..room.min(bytes.len())])
 }
 
-// The data of READ KEYS.
-pub(crate) fn keys_read(alloc: Global, state: &PrState) -> Result<Bytes, NoMemory>
+// The data of READ KEYS, cut to `room` bytes.
+pub(crate) fn keys_read(alloc: Global, state: &PrState, room: usize) -> Result<Bytes, NoMemory>
     requires { length state.now.keys ≡ NEXUSES }
-    ensures { IfOk result (λ bytes. bytes ≡ keys_read state.now) }
+    ensures bytes { IfOk result (λ bytes. bytes ≡ take room (keys_read state.now)) }
+    ensures few { length (take room (keys_read state.now)) ≤ 24 → IsOk result }
 {
-    let mut keys = Vec::new(alloc);
-    push_keys(&mut keys, &state.keys)?;
-    headed(alloc, state.generation, keys.as_slice())
+    let mut keys = ArrayVec::new();
+    push_keys(&mut keys, &state.keys);
+    cut_headed(alloc, state.generation, keys.as_slice(), room)
 }
 
 // The key of the holder that is named, 0 where none is.
@@ -86,12 +108,22 @@ fn reservation_bytes(held: &Reservation, state: &PrState) -> [u8; 16]
     ]
 }
 
-// The data of READ RESERVATION.
-pub(crate) fn reservation_read(alloc: Global, state: &PrState) -> Result<Bytes, NoMemory>
-    ensures { IfOk result (λ bytes. bytes ≡ reservation_read state.now) }
+// The data of READ RESERVATION, cut to `room` bytes.
+pub(crate) fn reservation_read(
+    alloc: Global,
+    state: &PrState,
+    room: usize,
+) -> Result<Bytes, NoMemory>
+    ensures bytes { IfOk result (λ bytes. bytes ≡ take room (reservation_read state.now)) }
+    ensures few { length (take room (reservation_read state.now)) ≤ 24 → IsOk result }
 {
     match &state.reservation {
-        Some(held) => headed(alloc, state.generation, &reservation_bytes(held, state)),
-        None => headed(alloc, state.generation, &[]),
+        Some(held) => cut_headed(
+            alloc,
+            state.generation,
+            &reservation_bytes(held, state),
+            room,
+        ),
+        None => cut_headed(alloc, state.generation, &[], room),
     }
 }

@@ -1,5 +1,5 @@
 //! The reservations of a drive.
-ghost use Rattle.std.specs.Prelude.{◌≡◌, ◌↔◌, ◌||◌, not, is_some, IfOk, IfSome, IsSome};
+ghost use Rattle.std.specs.Prelude.{◌≡◌, ◌≤◌, ◌↔◌, ◌||◌, not, is_some, length, take, IfOk, IfSome, IsOk, IsSome};
 ghost use Rattle.pr_core.specs.Sound.{IsSound};
 ghost use Rattle.pr_core.specs.States.{empty_state, is_allowed, power_loss};
 ghost use Rattle.pr_core.specs.Orders.{Orders};
@@ -97,18 +97,22 @@ impl Reservations {
         self.state.needs_save(&old.state)
     }
 
-    /// The data of READ KEYS, whole: PRGENERATION, the length of what follows, the keys by rising nexus.
-    pub fn read_keys(&self, alloc: Global) -> Result<Bytes, NoMemory>
-        ensures { IfOk result (λ bytes. bytes ≡ keys_read self.now) }
+    /// The first `room` bytes of the data of READ KEYS: PRGENERATION, the length of what follows, the keys by
+    /// rising nexus. Of 24 bytes at most it takes no memory.
+    pub fn read_keys(&self, alloc: Global, room: usize) -> Result<Bytes, NoMemory>
+        ensures bytes { IfOk result (λ bytes. bytes ≡ take room (keys_read self.now)) }
+        ensures few { length (take room (keys_read self.now)) ≤ 24 → IsOk result }
     {
-        keys_read(alloc, &self.state)
+        keys_read(alloc, &self.state, room)
     }
 
-    /// The data of READ RESERVATION, whole: PRGENERATION, the length of what follows, the reservation.
-    pub fn read_reservation(&self, alloc: Global) -> Result<Bytes, NoMemory>
-        ensures { IfOk result (λ bytes. bytes ≡ reservation_read self.now) }
+    /// The first `room` bytes of the data of READ RESERVATION: PRGENERATION, the length of what follows, the
+    /// reservation. Of 24 bytes at most it takes no memory.
+    pub fn read_reservation(&self, alloc: Global, room: usize) -> Result<Bytes, NoMemory>
+        ensures bytes { IfOk result (λ bytes. bytes ≡ take room (reservation_read self.now)) }
+        ensures few { length (take room (reservation_read self.now)) ≤ 24 → IsOk result }
     {
-        reservation_read(alloc, &self.state)
+        reservation_read(alloc, &self.state, room)
     }
 
     /// What a loss of power leaves of them.

@@ -1,5 +1,5 @@
 -- Volumes: partitions of objects, what these take, and what changes make of them.
-use Rattle.std.specs.Prelude.{◌≡◌, ◌≤◌, ℕ, ◌+◌, ◌-◌, ◌/◌, List, [], ◌∷◌, ◌++◌, length, take, map, replicate, sum_by, All, Option, None, Some, Result, Ok, Err, slice_get, slice_set, nat_lt, nat_le, Bool, true, not, IsTrue, ◌&&◌, if◌then◌else◌}
+use Rattle.std.specs.Prelude.{◌≡◌, ◌<◌, ◌≤◌, ℕ, ◌+◌, ◌-◌, ◌/◌, List, [], ◌∷◌, ◌++◌, length, take, map, replicate, sum_by, All, Option, None, Some, Result, Ok, Err, slice_get, slice_set, nat_lt, nat_le, Bool, true, not, IsTrue, ◌&&◌, if◌then◌else◌}
 use Rattle.std.specs.List.{list_all}
 use Rattle.vtl_base.specs.declared.limits.TheConstants.{MAX_BLOCK, MAX_OBJECTS, MAX_PARTITIONS, OBJECT_COST}
 use Rattle.vtl_base.specs.Limits.{is_capacity}
@@ -132,6 +132,18 @@ abbrev pub added_by : Change → List Object
 added_by (Put part at block) = Block block ∷ []
 added_by (Marks part at count) = replicate count Mark
 added_by (Erase part at) = []
+
+-- a change that adds objects: a block or marks, and no erase (own)
+abbrev pub AddsObjects : Change → Type 0
+AddsObjects (Put part at block) = Unit {0}
+AddsObjects (Marks part at count) = Unit {0}
+AddsObjects (Erase part at) = ⊥
+
+-- the change has a block of more than 24 bytes, which stand in memory of their own (own)
+abbrev pub HasLongBlock : Change → Type 0
+HasLongBlock (Put part at block) = 24 < length block
+HasLongBlock (Marks part at count) = ⊥
+HasLongBlock (Erase part at) = ⊥
 
 -- the objects after a change: what stood behind those that stay is gone (SSC-4, WRITE, WRITE FILEMARKS, ERASE)
 abbrev pub objects_after : List Object → Change → List Object

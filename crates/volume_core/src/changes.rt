@@ -1,6 +1,6 @@
 //! Changes of a volume, and why one is refused.
-ghost use Rattle.std.specs.Prelude.{◌≡◌, IfOk, length};
-ghost use Rattle.volume_core.specs.Volume.{part_of, kept_of, added_by, used_of, is_well_formed};
+ghost use Rattle.std.specs.Prelude.{◌≡◌, IfOk, OnErr, length};
+ghost use Rattle.volume_core.specs.Volume.{part_of, kept_of, added_by, used_of, is_well_formed, HasLongBlock};
 ghost use Rattle.volume_core.specs.Medium.{frame_size};
 
 use std::alloc::Global;
@@ -50,9 +50,10 @@ pub enum Refusal {
 }
 
 impl Change {
-    /// A copy of it, with a copy of its block.
+    /// A copy of it, with a copy of its block. It takes memory only for a block of more than 24 bytes.
     pub fn copy(&self, alloc: Global) -> Result<Change, NoMemory>
-        ensures { IfOk result (λ copy. copy ≡ self.now) }
+        ensures copy { IfOk result (λ copy. copy ≡ self.now) }
+        ensures memory { OnErr result (HasLongBlock self.now) }
     {
         match self {
             Change::Put { part, at, block } => Ok(Change::Put {

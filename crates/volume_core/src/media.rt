@@ -1,10 +1,11 @@
 //! What stands below a drive: a volume that tells of itself, and takes changes.
-ghost use Rattle.std.specs.Prelude.{◌≡◌, ℕ, ◌≤◌, ◌↔◌, ◌++◌, [], List, IsTrue, true, false, Some, OnOk, OnErr, IfErr, length};
+ghost use Rattle.std.specs.Prelude.{◌≡◌, ℕ, ◌<◌, ◌≤◌, ◌↔◌, ◌++◌, [], List, IsTrue, true, false, Some, Err, OnOk, OnErr, IfErr, IfSome, length, vec_capacity};
 ghost use Rattle.vtl_base.specs.declared.limits.TheConstants.{MAX_BLOCK, MAX_CAPACITY, MAX_OBJECTS, MAX_PARTITIONS};
 ghost use Rattle.vtl_base.specs.Below.{Below, Advances};
 ghost use Rattle.volume_core.specs.declared.changes.Change.{Change};
 ghost use Rattle.volume_core.specs.declared.changes.Change.TheVariants.{Put, Marks, Erase};
 ghost use Rattle.volume_core.specs.declared.objects.Kind.TheVariants as Kinds;
+ghost use Rattle.volume_core.specs.declared.media.MediumError.TheVariants as Errors;
 ghost use Rattle.volume_core.specs.Volume.{block_at, capacity_of, count_of, kind_at, used_up_to};
 ghost use Rattle.volume_core.specs.Medium.{MediumState, volume_of, Accepts, HasRoomFor, Fetches, Settles, Turns, Parks, Wakes, accept_answer, accepted_by, met_fault, turn_met_fault};
 ghost use Rattle.volume_core.specs.Stores.{Stores};
@@ -168,8 +169,9 @@ pub trait Medium: Catalog {
         without_change(self.accept(Change::Erase { part, at }))
     }
 
-    /// Gives the bytes of the block of an object number, in the place of what `into` held. After an
-    /// `Err` it may hold anything.
+    /// Gives the bytes of the block of an object number, in the place of what `into` held. Memory runs
+    /// out only where the capacity of `into` is less than the block has bytes. After an `Err` it may
+    /// hold anything.
     fn fetch(&mut self, part: PartNo, at: ObjNo, into: &mut Vec<u8>) -> Result<(), MediumError>
         requires awake { (Self.state self.old).awake ≡ true }
         requires hand { below.at_hand self.old }
@@ -178,6 +180,9 @@ pub trait Medium: Catalog {
             (block_at (volume_of (Self.state self.old)) part at ≡ Some into.new.items) }
         ensures bound { OnOk result (length into.new.items ≤ MAX_BLOCK) }
         ensures answer { Fetches (Self.state self.old) result (Self.state self.new) }
+        ensures memory { result ≡ Err Errors.NoMemory →
+            IfSome (block_at (volume_of (Self.state self.old)) part at)
+            (λ block. vec_capacity into.old < length block) }
         ensures stores { Stores (Self.state self.old) [] (Self.state self.new) }
         ensures advances { Advances below self.old [] (met_fault result) self.new };
 

@@ -122,10 +122,11 @@ impl ObjectList {
     }
 }
 
-// Makes room for this many items in all.
+// Makes room for this many items in all. It takes memory only where the capacity is less.
 fn make_room<T>(row: &mut Vec<T>, count: usize) -> Result<(), AllocError>
     ensures same { row.new.items ≡ row.old.items }
     ensures ok { OnOk result (count ≤ vec_capacity row.new) }
+    ensures full { OnErr result (vec_capacity row.old < count) }
 {
     row.reserve(count.saturating_sub(row.len()))
 }

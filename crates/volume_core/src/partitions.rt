@@ -1,9 +1,10 @@
 //! Partitions that are kept in memory.
-ghost use Rattle.std.specs.Prelude.{◌≡◌, ◌≤◌, IsTrue, IfErr, Some, slice_get, take, length};
+ghost use Rattle.std.specs.Prelude.{◌≡◌, ◌≤◌, IsTrue, IfErr, Some, Err, slice_get, take, length};
 ghost use Rattle.std.specs.Option.{option_copied};
 ghost use Rattle.vtl_base.specs.declared.limits.TheConstants.{MAX_CAPACITY, MAX_OBJECTS};
 ghost use Rattle.vtl_base.specs.Limits.{is_capacity};
-ghost use Rattle.volume_core.specs.Volume.{IsPart, empty_part, used_of, kind_in, block_in, refusal_in, part_after, AppliesUnless, apply_answer};
+ghost use Rattle.volume_core.specs.Volume.{IsPart, empty_part, used_of, kind_in, block_in, refusal_in, part_after, AddsObjects, AppliesUnless, apply_answer};
+ghost use Rattle.volume_core.specs.declared.volumes.ApplyError.TheVariants as Errors;
 
 use crate::changes::{Change, Refusal};
 use crate::object_list::ObjectList;
@@ -94,11 +95,12 @@ impl Partition {
         None
     }
 
-    // Carries a change out that is meant for this partition, or refuses it.
+    // Carries a change out that is meant for this partition, or refuses it. An erase takes no memory.
     pub(crate) fn apply(&mut self, change: Change) -> Result<(), NotApplied>
         ensures answer { AppliesUnless (refusal_in (Some self.old) change) self.old
             (part_after self.old change) (apply_answer result) self.new }
         ensures returned { IfErr result (λ refused. refused.change ≡ change) }
+        ensures memory { apply_answer result ≡ Err Errors.NoMemory → AddsObjects change }
         ensures limits { IsPart self.new }
     {
         if let Some(cause) = self.refusal(&change) {

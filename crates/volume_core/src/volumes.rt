@@ -1,10 +1,11 @@
 //! Volumes that are kept in memory.
-ghost use Rattle.std.specs.Prelude.{◌≡◌, ◌≤◌, IsTrue, IfOk, IfErr, IfSome, length, slice_get};
+ghost use Rattle.std.specs.Prelude.{◌≡◌, ◌≤◌, IsTrue, IfOk, IfErr, IfSome, Err, length, slice_get};
 ghost use Rattle.std.specs.List.{list_all};
 ghost use Rattle.std.specs.Option.{option_copied};
 ghost use Rattle.vtl_base.specs.declared.limits.TheConstants.{MAX_BLOCK, MAX_CAPACITY, MAX_OBJECTS, MAX_PARTITIONS};
 ghost use Rattle.vtl_base.specs.Limits.{is_capacity};
-ghost use Rattle.volume_core.specs.Volume.{Applies, IsPart, apply_answer, are_capacities, block_at, capacity_of, count_of, empty_volume, is_in_early_zone, kind_at, refusal_of, used_up_to};
+ghost use Rattle.volume_core.specs.declared.volumes.ApplyError.TheVariants as Errors;
+ghost use Rattle.volume_core.specs.Volume.{AddsObjects, Applies, IsPart, apply_answer, are_capacities, block_at, capacity_of, count_of, empty_volume, is_in_early_zone, kind_at, refusal_of, used_up_to};
 
 use crate::changes::{Change, Refusal};
 use crate::objects::Kind;
@@ -185,10 +186,12 @@ impl Volume {
     }
 
     /// Carries a change out, or refuses it for the first cause that holds. That memory runs out is
-    /// returned where none holds. Nothing has changed after an `Err`, which returns the change.
+    /// returned where none holds, and not for an erase, which takes none. Nothing has changed after an
+    /// `Err`, which returns the change.
     pub fn apply(&mut self, change: Change) -> Result<(), NotApplied>
         ensures answer { Applies self.old change (apply_answer result) self.new }
         ensures returned { IfErr result (λ refused. refused.change ≡ change) }
+        ensures memory { apply_answer result ≡ Err Errors.NoMemory → AddsObjects change }
     {
         let part = change.part() as usize;
         if part >= self.partitions.len() {

@@ -78,7 +78,7 @@ impl<M: Medium, K: Keeper> Drive<M, K> {
     }
 }
 
-// What is read of these reservations, cut to the room that the host has. Of none it takes no memory.
+// What is read of these reservations, cut to the room that the host has. Of 24 bytes at most it takes no memory.
 fn read(
     alloc: Global,
     reservations: &Reservations,
@@ -87,14 +87,10 @@ fn read(
 ) -> Result<Reply, Fault>
     ensures { Gives (cut_to room (data_read action reservations.now)) result }
 {
-    if room == 0 {
-        return Ok(Reply::good(Bytes::new(alloc)));
-    }
-    let mut data = match action {
-        PrRead::ReadKeys => reservations.read_keys(alloc)?,
-        PrRead::ReadReservation => reservations.read_reservation(alloc)?,
+    let data = match action {
+        PrRead::ReadKeys => reservations.read_keys(alloc, room as usize)?,
+        PrRead::ReadReservation => reservations.read_reservation(alloc, room as usize)?,
     };
-    data.truncate(room as usize);
     Ok(Reply::good(data))
 }
 

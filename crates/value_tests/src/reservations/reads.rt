@@ -7,7 +7,7 @@ use std::alloc::Global;
 use std::process::Abort;
 use std::test::Fail;
 
-// These are read so: the keys, and the reservation.
+// These are read so, cut to each room: the keys, and the reservation.
 fn reads(
     rt: &impl Abort,
     alloc: Global,
@@ -15,8 +15,12 @@ fn reads(
     keys: &[u8],
     reservation: &[u8],
 ) -> Result<(), Fail> {
-    assert_equal!(rt; reservations.read_keys(alloc)?.as_slice(), keys);
-    assert_equal!(rt; reservations.read_reservation(alloc)?.as_slice(), reservation);
+    for room in 0..522 {
+        let wanted = &keys[..room.min(keys.len())];
+        assert_equal!(rt; reservations.read_keys(alloc, room)?.as_slice(), wanted; room);
+        let wanted = &reservation[..room.min(reservation.len())];
+        assert_equal!(rt; reservations.read_reservation(alloc, room)?.as_slice(), wanted; room);
+    }
     Ok(())
 }
 

@@ -1,9 +1,9 @@
-use Rattle.std.proofs.Common.{arith}
+use Rattle.std.proofs.Common.{arith, rules}
 use Rattle.pr_core.proofs.ReadLemmas.{keys_short}
 use Rattle.pr_core.proofs.reads.keys_read.Goals as goal
 
-pub headed-requires : goal.headed-requires
-headed-requires c =
+pub cut_headed-requires : goal.cut_headed-requires
+cut_headed-requires c =
     let short = keys_short c.args.state.now.keys in
-    rw (c.as_slice.ensures.value, c.in_ok-push_keys.ensures, c.new-keys.ensures.items)
+    rw (c.as_slice.ensures.value, c.push_keys.ensures, c.new-keys.ensures)
     (omega (arith, short, c.requires))

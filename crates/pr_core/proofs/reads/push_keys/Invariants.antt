@@ -5,4 +5,4 @@ use Rattle.pr_core.proofs.reads.push_keys.Given as goal
 
 abbrev pub invariant-loop-key : goal.invariant-loop-key
 invariant-loop-key l =
-    l.bytes.items ≡ l.initial.bytes.items ++ flat_map key_bytes (take l.key-index l.keys)
+    l.row.items ≡ l.initial.row.items ++ flat_map key_bytes (take l.key-index l.keys)
