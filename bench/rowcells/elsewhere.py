@@ -40,7 +40,7 @@ CELLS = {
     "fault | the power comes on, and the medium in the drive cannot be opened for one of these causes":
         ["a_side_that_is_refused", FAULTS],
     "memory | READ": [FAULTS], "memory | WRITE, WRITE FILEMARKS, ERASE": [FAULTS],
-    "memory | READ POSITION, INQUIRY, READ BLOCK LIMITS, REQUEST SENSE, MODE SENSE, PERSISTENT RESERVE IN": [FAULTS],
+    "memory | INQUIRY, READ KEYS": [FAULTS],
     "memory | PERSISTENT RESERVE OUT": ["memory_runs_out_in_a_save", FAULTS],
     "memory | LOAD UNLOAD, LOAD 1": [OPENS, FAULTS],
     # a line too many for a script: what waits is seen from outside
