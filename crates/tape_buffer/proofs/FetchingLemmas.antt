@@ -1,5 +1,5 @@
 -- A block is read: from a pending change, or from the disk.
-use Rattle.std.specs.Prelude.{◌≡◌, ◌<◌, ◌≤◌, ℕ, zero, suc, List, [], ◌∷◌, true, false, Some, Result, Ok, Err, OnOk, length, slice_get, slice_index_or, refl}
+use Rattle.std.specs.Prelude.{◌≡◌, ◌<◌, ◌≤◌, ℕ, zero, suc, List, [], ◌∷◌, true, false, Bool, Option, Some, Result, Ok, Err, OnOk, IfSome, length, slice_get, slice_index_or, refl}
 use Rattle.std.proofs.Common.{sym, ◌∙◌, ap, subst, arith}
 use Rattle.std.proofs.lemmas.Bool.{and_parts, leb-true}
 use Rattle.std.proofs.lemmas.Option.{get_or_from_slice_get, slice_get_within}
@@ -50,30 +50,36 @@ module _ (volume : List Part) (pending : List Change) (part at i : ℕ) (all : A
     pub can_copy : IsPut change
     can_copy = subst IsPut (sym is_put) tt
 
-    pub copied_block : (result : Result Unit MediumError) (bytes : List ℕ) → IsCopied change result bytes
+    pub copied_block : (capacity : ℕ) (result : Result Unit MediumError) (bytes : List ℕ)
+        → IsCopied change capacity result bytes
         → OnOk result (block_at (after volume pending) part at ≡ Some bytes)
-    copied_block result bytes copied = by result (subst (λ (c : Change). IsCopied c result bytes) is_put copied)
+    copied_block capacity result bytes copied =
+        by result (subst (λ (c : Change). IsCopied c capacity result bytes) is_put copied)
       where
-        by : (result : Result Unit MediumError) → IsCopied (Put part seen.0 seen.1) result bytes
+        by : (result : Result Unit MediumError) → IsCopied (Put part seen.0 seen.1) capacity result bytes
             → OnOk result (block_at (after volume pending) part at ≡ Some bytes)
         by (Ok done) same = ap block_in seen.3 ∙ ap Some (sym same)
         by (Err error) same = tt
 
-    pub copied_short : (result : Result Unit MediumError) (bytes : List ℕ) → IsCopied change result bytes
+    pub copied_short : (capacity : ℕ) (result : Result Unit MediumError) (bytes : List ℕ)
+        → IsCopied change capacity result bytes
         → OnOk result (length bytes ≤ MAX_BLOCK)
-    copied_short result bytes copied = by result (subst (λ (c : Change). IsCopied c result bytes) is_put copied)
+    copied_short capacity result bytes copied =
+        by result (subst (λ (c : Change). IsCopied c capacity result bytes) is_put copied)
       where
-        by : (result : Result Unit MediumError) → IsCopied (Put part seen.0 seen.1) result bytes
+        by : (result : Result Unit MediumError) → IsCopied (Put part seen.0 seen.1) capacity result bytes
             → OnOk result (length bytes ≤ MAX_BLOCK)
         by (Ok done) same =
             omega (arith, ap length same, short_block volume pending i part seen.0 seen.1 all seen.2)
         by (Err error) same = tt
 
-    pub copied_well : (result : Result Unit MediumError) (bytes : List ℕ) → IsCopied change result bytes
+    pub copied_well : (capacity : ℕ) (result : Result Unit MediumError) (bytes : List ℕ)
+        → IsCopied change capacity result bytes
         → met_fault result ≡ false
-    copied_well result bytes copied = by result (subst (λ (c : Change). IsCopied c result bytes) is_put copied)
+    copied_well capacity result bytes copied =
+        by result (subst (λ (c : Change). IsCopied c capacity result bytes) is_put copied)
       where
-        by : (result : Result Unit MediumError) → IsCopied (Put part seen.0 seen.1) result bytes
+        by : (result : Result Unit MediumError) → IsCopied (Put part seen.0 seen.1) capacity result bytes
             → met_fault result ≡ false
         by (Ok done) same = refl
         by (Err NoMemory) same = refl
@@ -82,6 +88,20 @@ module _ (volume : List Part) (pending : List Change) (part at i : ℕ) (all : A
         by (Err Failed) same = refl
         by (Err Unreadable) same = refl
         by (Err Device) same = absurd same
+
+    pub copied_lack : (capacity : ℕ) (result : Result Unit MediumError) (bytes : List ℕ)
+        → IsCopied change capacity result bytes → result ≡ Err NoMemory
+        → IfSome (block_at (after volume pending) part at) (λ block. capacity < length block)
+    copied_lack capacity result bytes copied none =
+        subst (λ (o : Option (List ℕ)). IfSome o (λ block. capacity < length block)) (sym (ap block_in seen.3))
+        (subst (λ (r : Result Unit MediumError). IsCopied (Put part seen.0 seen.1) capacity r bytes) none
+        (subst (λ (c : Change). IsCopied c capacity result bytes) is_put copied))
+
+-- memory ran out for its cause
+pub fetched_lack : (memory : Type 0) (failed : Bool) (old new : DiskState) (result : Result Unit MediumError)
+    → IsFetched result memory failed old new → result ≡ Err NoMemory → memory
+fetched_lack memory failed old new result told none =
+    (subst (λ (r : Result Unit MediumError). IsFetched r memory failed old new) none told).2
 
 module _ {D : Type 0} (state : D → DiskState) (is_disk : (disk : D) → (state disk).honest → IsDisk (state disk))
     (c c' : OpenCartridge D) (pending : List Change) (works : c.failed ≡ false)
@@ -125,12 +145,13 @@ module _ {D : Type 0} (state : D → DiskState) (is_disk : (disk : D) → (state
         hand = (λ h. h, λ h. h);
       })
 
-  pub fetched : (result : Result Unit MediumError) → IsFetched result c'.failed (state c.disk) (state c'.disk)
+  pub fetched : (memory : Type 0) (result : Result Unit MediumError)
+      → IsFetched result memory c'.failed (state c.disk) (state c'.disk)
       → Advances (buffer_below state) (open_buffer c pending) [] (met_fault result) (open_buffer c' pending)
-  fetched (Ok done) told = fetched_well told.0 told.1
-  fetched (Err NoMemory) told = fetched_well told.0 told.1
-  fetched (Err Device) told = fetched_badly told.0 told.1
-  fetched (Err (Refused cause)) told = absurd told
-  fetched (Err SideFull) told = absurd told
-  fetched (Err Failed) told = absurd told
-  fetched (Err Unreadable) told = absurd told
+  fetched memory (Ok done) told = fetched_well told.0 told.1
+  fetched memory (Err NoMemory) told = fetched_well told.0 told.1
+  fetched memory (Err Device) told = fetched_badly told.0 told.1
+  fetched memory (Err (Refused cause)) told = absurd told
+  fetched memory (Err SideFull) told = absurd told
+  fetched memory (Err Failed) told = absurd told
+  fetched memory (Err Unreadable) told = absurd told

@@ -1,11 +1,12 @@
 //! A block is read: from what is pending, or from the disk.
-ghost use Rattle.std.specs.Prelude.{◌≡◌, ◌≤◌, [], Some, OnOk, length, false};
+ghost use Rattle.std.specs.Prelude.{◌≡◌, ◌<◌, ◌≤◌, [], Some, Err, OnOk, IfSome, length, vec_capacity, false};
 ghost use Rattle.tape_disk.specs.Disk.{Keeps};
 ghost use Rattle.gate_journal.specs.Crash.{Unwritten};
 ghost use Rattle.tape_buffer.specs.Inner.Fetching.{IsCopied, IsFetched, IsPut};
 ghost use Rattle.vtl_base.specs.Below.{Advances};
 ghost use Rattle.vtl_base.specs.declared.limits.TheConstants.{MAX_BLOCK};
 ghost use Rattle.volume_core.specs.declared.objects.Kind.TheVariants as Kinds;
+ghost use Rattle.volume_core.specs.declared.media.MediumError.TheVariants as Errors;
 ghost use Rattle.volume_core.specs.Volume.{after, block_at, kind_at};
 ghost use Rattle.volume_core.specs.Medium.{Fetches, met_fault};
 ghost use Rattle.volume_core.specs.Stores.{Stores};
@@ -34,6 +35,9 @@ pub(crate) fn fetch_over<D: Disk>(
         (block_at (after (volume_made cartridge.old.contents) pending.now) part at ≡ Some into.new.items) }
     ensures bound { OnOk result (length into.new.items ≤ MAX_BLOCK) }
     ensures answer { Fetches (open_state cartridge.old pending.now) result (open_state cartridge.new pending.now) }
+    ensures memory { result ≡ Err Errors.NoMemory →
+        IfSome (block_at (after (volume_made cartridge.old.contents) pending.now) part at)
+        (λ block. vec_capacity into.old < length block) }
     ensures stores { Stores (open_state cartridge.old pending.now) [] (open_state cartridge.new pending.now) }
     ensures advances { Advances (buffer_below D.state) (open_buffer cartridge.old pending.now) [] (met_fault result)
         (open_buffer cartridge.new pending.now) }
@@ -53,7 +57,7 @@ pub(crate) fn fetch_over<D: Disk>(
 // Copies the block of a change.
 fn copy_block(change: &Change, into: &mut Vec<u8>) -> Result<(), MediumError>
     requires { IsPut change.now }
-    ensures { IsCopied change.now result into.new.items }
+    ensures { IsCopied change.now (vec_capacity into.old) result into.new.items }
 {
     into.clear();
     match change {
@@ -79,8 +83,10 @@ fn fetch_stored<D: Disk>(
       disk = cartridge.new.disk;
       failed = cartridge.new.failed;
     } }
-    ensures answer { IsFetched result cartridge.new.failed
-        (D.state cartridge.old.disk) (D.state cartridge.new.disk) }
+    ensures answer { IsFetched result
+        (IfSome (block_at (volume_made cartridge.old.contents) part at)
+        (λ block. vec_capacity into.old < length block))
+        cartridge.new.failed (D.state cartridge.old.disk) (D.state cartridge.new.disk) }
     ensures bytes { (D.state cartridge.old.disk).honest → OnOk result
         (block_at (volume_made cartridge.old.contents) part at ≡ Some into.new.items) }
     ensures bound { OnOk result (length into.new.items ≤ MAX_BLOCK) }

@@ -1,5 +1,5 @@
 -- How a block is read, from a change or from the disk.
-use Rattle.std.specs.Prelude.{◌≡◌, ◌<◌, ℕ, List, Bool, true, false, Result, Ok, Err}
+use Rattle.std.specs.Prelude.{◌≡◌, ◌<◌, ℕ, List, length, Bool, true, false, Result, Ok, Err}
 use Rattle.tape_disk.specs.Disk.{DiskState}
 use Rattle.gate_journal.specs.Answers.{NoneFailed}
 use Rattle.volume_core.specs.declared.changes.Change.{Change}
@@ -12,15 +12,16 @@ abbrev pub IsPut : Change → Type 0
 IsPut (Put part at block) = Unit {0}
 IsPut _ = ⊥
 
--- these bytes are a copy of the change's block, or memory ran out (own)
-abbrev pub IsCopied : Change → Result Unit MediumError → List ℕ → Type 0
-IsCopied (Put part at block) (Ok done) bytes = bytes ≡ block
-IsCopied (Put part at block) (Err NoMemory) bytes = Unit {0}
-IsCopied _ _ bytes = ⊥
+-- these bytes are a copy of the change's block, or memory ran out, since the capacity of what was given is less than
+-- the block has bytes (own)
+abbrev pub IsCopied : Change → ℕ → Result Unit MediumError → List ℕ → Type 0
+IsCopied (Put part at block) capacity (Ok done) bytes = bytes ≡ block
+IsCopied (Put part at block) capacity (Err NoMemory) bytes = capacity < length block
+IsCopied _ capacity _ bytes = ⊥
 
--- a block was read from the disk, memory ran out, or the disk failed (own)
-abbrev pub IsFetched : Result Unit MediumError → Bool → DiskState → DiskState → Type 0
-IsFetched (Ok done) failed old new = (failed ≡ false) × NoneFailed old new
-IsFetched (Err NoMemory) failed old new = (failed ≡ false) × NoneFailed old new
-IsFetched (Err Device) failed old new = (failed ≡ true) × (old.failures < new.failures)
-IsFetched (Err _) failed old new = ⊥
+-- a block was read from the disk, memory ran out, for this cause, or the disk failed (own)
+abbrev pub IsFetched : Result Unit MediumError → Type 0 → Bool → DiskState → DiskState → Type 0
+IsFetched (Ok done) memory failed old new = (failed ≡ false) × NoneFailed old new
+IsFetched (Err NoMemory) memory failed old new = (failed ≡ false) × NoneFailed old new × memory
+IsFetched (Err Device) memory failed old new = (failed ≡ true) × (old.failures < new.failures)
+IsFetched (Err _) memory failed old new = ⊥
