@@ -1,5 +1,12 @@
 -- What a contract sees of two ledgers, one of the bays and one of the hosts.
-use Rattle.std.specs.Prelude.{ℕ, ◌+◌}
+use Rattle.std.specs.Prelude.{◌≡◌, ℕ, ◌+◌}
+use Rattle.std.specs.declared.sync.ledger.Blank.{Blank}
+
+-- the blank ledger has this name and these parts, one for each of all its parties (own)
+pub record IsBlankOf (blank : Blank) (name parts all : ℕ) : Type 0 where
+  pub named : blank.name ≡ name
+  pub cut : blank.parts ≡ parts
+  pub one_each : parts ≡ all
 
 -- Both ledgers while changes are entered: how many were, the same number in each, and how many bays and how many hosts
 -- have no share yet (own).

@@ -1,6 +1,6 @@
 //! One ledger, while changes are entered and while its shares are gathered. It takes no bytes.
 ghost use Rattle.std.specs.Prelude.{◌≡◌, ◌+◌, ◌-◌, ◌^◌, ◌<◌, ◌≤◌};
-ghost use Rattle.ledgers.specs.Ledgers.{and_share, no_share};
+ghost use Rattle.ledgers.specs.Ledgers.{IsBlankOf, and_share, no_share};
 
 use crate::parties::Parties;
 use crate::shares::PartyShare;
@@ -28,8 +28,7 @@ impl<L: Parties> Model for OpenBook<L> {
 impl<L: Parties> OpenBook<L> {
     /// Of a ledger in which nothing is entered.
     pub(crate) fn open(blank: Blank) -> OpenBook<L>
-        requires blank { (blank.name ≡ L.name) × (blank.parts ≡ L.parts) }
-        requires all { L.all ≡ L.parts }
+        requires { IsBlankOf blank L.name L.parts L.all }
         ensures { result ≡ record { total = 0; left = L.all } }
     {
         let (book, left) = blank.open::<L>();

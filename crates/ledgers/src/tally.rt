@@ -1,6 +1,6 @@
 //! Both ledgers, while changes are entered.
 ghost use Rattle.std.specs.Prelude.{◌≡◌, ◌+◌, ◌-◌, ◌^◌, ◌<◌};
-ghost use Rattle.ledgers.specs.Ledgers.{no_share};
+ghost use Rattle.ledgers.specs.Ledgers.{IsBlankOf, no_share};
 
 use crate::books::OpenBook;
 use crate::gathering::Gathering;
@@ -35,8 +35,8 @@ impl<B: Parties, H: Parties> Model for Tally<B, H> {
 impl<B: Parties, H: Parties> Tally<B, H> {
     /// Opens both ledgers. Nothing is entered, and no party has its share yet.
     pub fn open(bay_ledger: Blank, host_ledger: Blank) -> Tally<B, H>
-        requires bays { (bay_ledger.name ≡ B.name) × (bay_ledger.parts ≡ B.parts) × (B.all ≡ B.parts) }
-        requires hosts { (host_ledger.name ≡ H.name) × (host_ledger.parts ≡ H.parts) × (H.all ≡ H.parts) }
+        requires bays { IsBlankOf bay_ledger B.name B.parts B.all }
+        requires hosts { IsBlankOf host_ledger H.name H.parts H.all }
         ensures { result ≡ record { total = 0; bays_left = B.all; hosts_left = H.all } }
     {
         Tally {

@@ -1,5 +1,6 @@
 //! Changes entered for bays and for hosts, and what is gathered of them at the end.
 ghost use Rattle.std.specs.Prelude.{◌≡◌};
+ghost use Rattle.ledgers.specs.Ledgers.{IsBlankOf};
 
 use assertions::assert_equal;
 use ledgers::{Gathering, Parties, PartyShare, Seat, SeatsMissing, Tally};
@@ -17,7 +18,7 @@ fn host(rt: &impl Abort, number: u8) -> Nexus {
 
 // Two bays and three hosts, for which five changes were entered.
 #[derive(Drop)]
-struct Entered<B: Parties, H: Parties> {
+struct Day<B: Parties, H: Parties> {
     tally: Tally<B, H>,
     bays: (PartyShare<B>, PartyShare<B>),
     seats: (Seat<H>, Seat<H>, Seat<H>),
@@ -27,10 +28,10 @@ fn entered<B: Parties, H: Parties, R: Abort + Wait>(
     rt: &R,
     bay_ledger: Blank,
     host_ledger: Blank,
-) -> Entered<B, H>
-    requires bays { (bay_ledger.name ≡ B.name) × (bay_ledger.parts ≡ B.parts) × (B.all ≡ B.parts) }
+) -> Day<B, H>
+    requires bays { IsBlankOf bay_ledger B.name B.parts B.all }
     requires two { bay_ledger.parts ≡ 2 }
-    requires hosts { (host_ledger.name ≡ H.name) × (host_ledger.parts ≡ H.parts) × (H.all ≡ H.parts) }
+    requires hosts { IsBlankOf host_ledger H.name H.parts H.all }
     requires three { host_ledger.parts ≡ 3 }
 {
     let mut tally = Tally::open(bay_ledger, host_ledger);
@@ -44,7 +45,7 @@ fn entered<B: Parties, H: Parties, R: Abort + Wait>(
     tally.enter(rt, &mut right, &mut second);
     tally.enter(rt, &mut left, &mut second);
     tally.enter(rt, &mut right, &mut first);
-    Entered {
+    Day {
         tally,
         bays: (left, right),
         seats: (first, second, third),
@@ -56,8 +57,12 @@ fn of_seat<H: Parties>(seat: &Seat<H>) -> (u8, u64) {
     (seat.nexus().number(), seat.amount())
 }
 
-fn are_entered<B: Parties, H: Parties>(rt: &impl Abort, entered: &Entered<B, H>) {
-    let Entered { tally: _, bays, seats } = entered;
+fn are_entered<B: Parties, H: Parties>(rt: &impl Abort, day: &Day<B, H>) {
+    let Day {
+        tally: _,
+        bays,
+        seats,
+    } = day;
     assert_equal!(rt; (bays.0.amount(), bays.1.amount()), (3, 2));
     assert_equal!(rt; (of_seat(&seats.0), of_seat(&seats.1), of_seat(&seats.2)), ((1, 2), (2, 3), (64, 0)));
 }
@@ -76,14 +81,14 @@ fn gathered<B: Parties, H: Parties, R: Abort + Wait>(
     host_ledger: Blank,
     missing: u8,
 ) -> Result<u64, SeatsMissing>
-    requires bays { (bay_ledger.name ≡ B.name) × (bay_ledger.parts ≡ B.parts) × (B.all ≡ B.parts) }
+    requires bays { IsBlankOf bay_ledger B.name B.parts B.all }
     requires two { bay_ledger.parts ≡ 2 }
-    requires hosts { (host_ledger.name ≡ H.name) × (host_ledger.parts ≡ H.parts) × (H.all ≡ H.parts) }
+    requires hosts { IsBlankOf host_ledger H.name H.parts H.all }
     requires three { host_ledger.parts ≡ 3 }
 {
-    let entered = entered::<B, H, R>(rt, bay_ledger, host_ledger);
-    are_entered(rt, &entered);
-    let Entered { tally, bays, seats } = entered;
+    let day = entered::<B, H, R>(rt, bay_ledger, host_ledger);
+    are_entered(rt, &day);
+    let Day { tally, bays, seats } = day;
     let mut gathering = tally.gather();
     gathering.take_bay(bays.0);
     take_but(&mut gathering, seats.0, missing);
@@ -104,7 +109,12 @@ static MISSING: &'static [(u8, Result<u64, SeatsMissing>)] = &[
 #[test]
 fn a_missing_seat_is_told_by_its_changes(rt: HostRuntime) {
     for &(missing, answer) in MISSING {
-        let found = gathered::<Brand, Brand, HostRuntime>(&rt, Blank::new(2), Blank::new(3), missing);
+        let found = gathered::<Brand, Brand, HostRuntime>(
+            &rt,
+            Blank::new(2),
+            Blank::new(3),
+            missing,
+        );
         assert_equal!(rt; found, answer; missing);
     }
 }
@@ -124,14 +134,14 @@ fn entered_a_hundred<B: Parties, H: Parties, R: Wait>(
     seat
 }
 
-fn entered_by_two<B: Parties + Send + Sync, H: Parties + Send + Sync, R: Threads + Wait + Abort + Sync>(
-    rt: &R,
-    bay_ledger: Blank,
-    host_ledger: Blank,
-) -> Result<u64, SeatsMissing>
-    requires bays { (bay_ledger.name ≡ B.name) × (bay_ledger.parts ≡ B.parts) × (B.all ≡ B.parts) }
+fn entered_by_two<
+    B: Parties + Send + Sync,
+    H: Parties + Send + Sync,
+    R: Threads + Wait + Abort + Sync,
+>(rt: &R, bay_ledger: Blank, host_ledger: Blank) -> Result<u64, SeatsMissing>
+    requires bays { IsBlankOf bay_ledger B.name B.parts B.all }
     requires one { bay_ledger.parts ≡ 1 }
-    requires hosts { (host_ledger.name ≡ H.name) × (host_ledger.parts ≡ H.parts) × (H.all ≡ H.parts) }
+    requires hosts { IsBlankOf host_ledger H.name H.parts H.all }
     requires two { host_ledger.parts ≡ 2 }
 {
     let mut tally = Tally::<B, H>::open(bay_ledger, host_ledger);
