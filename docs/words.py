@@ -80,6 +80,7 @@ WORDS = {
     "journal": ["OpenSide", "StoresSide"],
     "keeper": ["KeeperState", "Saves"],
     "key, registration": ["key_of", "is_registered", "register"],
+    "ledger": ["TallyState", "GatheringState", "SeatState"],
     "limits": ["LimitsInNumbers"],
     "line of a script": ["parsed_line", "LINE_BYTES"],
     "load": ["Loads", "LoadsInto", "loaded"],

@@ -1,5 +1,5 @@
-//! The tests of the crates of plain values: vtl_base, scsi_attention, scsi_sense, scsi_wire, scsi_lists, pr_core,
-//! positioning and changer.
+//! The tests of the crates of plain values: vtl_base, ledgers, scsi_attention, scsi_sense, scsi_wire, scsi_lists,
+//! pr_core, positioning and changer.
 #![tactic(auto)]
 
 #[cfg(test)]
@@ -8,6 +8,8 @@ mod asserted;
 mod attentions;
 #[cfg(test)]
 mod base;
+#[cfg(test)]
+mod entries;
 #[cfg(test)]
 mod lists;
 #[cfg(test)]

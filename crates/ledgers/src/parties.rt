@@ -1,0 +1,16 @@
+//! A ledger, and how many parties it has.
+ghost use Rattle.std.specs.Prelude.{ℕ};
+
+use std::marker::Brand;
+use std::sync::ledger::Ledger;
+
+/// A ledger with one part for each of its parties, which are bays or hosts. The type of a value can
+/// speak of `all`, and not of a ledger's `parts`. Own.
+pub trait Parties: Ledger {
+    /// How many parties there are, each with one part.
+    ghost all: { ℕ };
+}
+
+impl Parties for Brand {
+    ghost all = { 0 };
+}

@@ -1,0 +1,63 @@
+//! A host's seat.
+ghost use Rattle.std.specs.Prelude.{◌≡◌, ◌+◌, ◌^◌, ◌<◌, ◌≤◌};
+
+use crate::books::OpenBook;
+use crate::parties::Parties;
+use crate::shares::PartyShare;
+use std::marker::Model;
+use vtl_base::Nexus;
+
+/// A host's place in a library: its nexus, and its share of the ledger of the hosts. It goes where
+/// the host goes, to another thread too. A seat that is dropped is missing at the end. Own.
+#[derive(Drop)]
+pub struct Seat<H: Parties> {
+    nexus: Nexus,
+    share: PartyShare<H>,
+}
+
+impl<H: Parties> Model for Seat<H> {
+    ghost use Rattle.ledgers.specs.Ledgers.{SeatState};
+
+    ghost Value = { SeatState };
+
+    ghost view = { λ s. record { nexus = s.nexus; amount = s.share } };
+}
+
+impl<H: Parties> Seat<H> {
+    /// The host's number, from 1 to 64.
+    pub fn nexus(&self) -> Nexus
+        ensures { result ≡ self.now.nexus }
+    {
+        self.nexus
+    }
+
+    /// How many changes its commands had accepted, as they were entered for it.
+    pub fn amount(&self) -> u64
+        ensures { result ≡ self.now.amount }
+    {
+        self.share.amount()
+    }
+    // The seat of the host of this nexus.
+    pub(crate) fn of(nexus: Nexus, share: PartyShare<H>) -> Seat<H>
+        ensures { result ≡ record { nexus = nexus; amount = share } }
+    {
+        Seat { nexus, share }
+    }
+
+    // Enters one change for the host in its ledger.
+    pub(crate) fn enter(&mut self, hosts: &mut OpenBook<H>)
+        requires { hosts.old.total + 1 < 2 ^ 64 }
+        ensures seat { self.new ≡ record self.old { amount = self.old.amount + 1 } }
+        ensures book { hosts.new ≡ record hosts.old { total = hosts.old.total + 1 } }
+        ensures bound { self.new.amount ≤ hosts.new.total }
+    {
+        hosts.enter(&mut self.share);
+    }
+
+    // Its share, which stands at its amount.
+    pub(crate) fn into_share(self) -> PartyShare<H>
+        ensures { result ≡ self.amount }
+    {
+        self.share
+    }
+}
