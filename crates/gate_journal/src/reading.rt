@@ -175,7 +175,11 @@ fn numbers(alloc: Global, bytes: &[u8]) -> Result<Vec<u64>, AllocError>
 
 // Gate and length at that place, which lies inside the disk: the body's length, or None where the
 // gate is closed.
-pub(crate) fn read_mark<D: Disk>(disk: &mut D, at: u64, len: u64) -> Result<Option<u32>, JournalError>
+pub(crate) fn read_mark<D: Disk>(
+    disk: &mut D,
+    at: u64,
+    len: u64,
+) -> Result<Option<u32>, JournalError>
     requires inside { at < len }
     requires len { (D.state disk.old).honest → len ≡ length (D.state disk.old).seen }
     ensures disk { Keeps (D.state disk.old) (D.state disk.new) }

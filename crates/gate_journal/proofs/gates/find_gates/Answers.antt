@@ -1,4 +1,4 @@
-use Rattle.std.proofs.Common.{◌≤◌, length, arith, ap, length-append}
+use Rattle.std.proofs.Common.{length, arith, ap, length-append}
 use Rattle.gate_journal.specs.Reads.{reads_then}
 use Rattle.gate_journal.specs.Side.{spell_heading}
 use Rattle.gate_journal.proofs.GateLemmas.{whole_found}

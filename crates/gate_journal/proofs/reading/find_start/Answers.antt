@@ -1,4 +1,4 @@
-use Rattle.std.proofs.Common.{ℕ, List, ◌≡◌, ◌≤◌, ◌++◌, ◌+◌, ◌*◌, arith, ◌∙◌, ap, length, sym, take}
+use Rattle.std.proofs.Common.{ℕ, List, ◌≤◌, ◌++◌, arith, ◌∙◌, ap, length, sym, take}
 use Rattle.std.proofs.lemmas.Bool.{false≢true}
 use Rattle.std.proofs.lemmas.List.{length-take-le}
 use Rattle.gate_journal.proofs.SpelledLemmas.{front_sized, no_header}

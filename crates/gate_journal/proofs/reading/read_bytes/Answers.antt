@@ -1,4 +1,4 @@
-use Rattle.std.proofs.Common.{◌≡◌, ℕ, List, ◌++◌, ◌+◌, ◌-◌, ◌*◌, ◌≤◌, length, get_or, take, drop, replicate, arith, sym, ◌∙◌, ap, length-append}
+use Rattle.std.proofs.Common.{◌≡◌, ℕ, List, ◌++◌, ◌+◌, ◌-◌, ◌*◌, ◌≤◌, length, get_or, take, replicate, arith, sym, ◌∙◌, ap, length-append}
 use Rattle.std.specs.Prelude.{slice_range}
 use Rattle.std.proofs.lemmas.List.{get_or_append_left, get_or-take, length-take-le, take_at}
 use Rattle.std.proofs.lemmas.Slice.{take-put_mid}

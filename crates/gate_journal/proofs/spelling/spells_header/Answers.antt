@@ -7,6 +7,7 @@ use Rattle.std.proofs.lemmas.List.Elements.{All-same}
 use Rattle.vtl_base.specs.Limits.{is_capacity}
 use Rattle.gate_journal.specs.Side.{IsName}
 use Rattle.gate_journal.specs.Inner.Reading.{numbers_of}
+use Rattle.gate_journal.proofs.Numbers.{AreBytes}
 use Rattle.gate_journal.proofs.SpelledLemmas.{parts_of, spelled_by}
 use Rattle.gate_journal.proofs.spelling.spells_header.Goals as goal
 use Rattle.gate_journal.proofs.spelling.spells_header.Goals.{then-eq, else-eq, then-is_name, else-is_name}
@@ -18,10 +19,11 @@ pub returns-then-is_count : goal.returns-then-is_count
 returns-then-is_count c =
     let bytes = c.args.bytes.now in
     let kind = c.kind_by_letter-kind in
+    let fits : AreBytes bytes = λ i. omega (arith, c.type_inv.bytes i) in
     let same = bytes_decides c.copy_from_slice.new.self c.start.result in (
       λ yes. elim c.if-is_name.branch [
         | then-is_name v ↦ elim c.if-eq.branch [
-          | then-eq w ↦ spelled_by bytes c.requires kind.result kind.ensures (λ i. omega (arith, c.type_inv.bytes i)) (record {
+          | then-eq w ↦ spelled_by bytes c.requires kind.result kind.ensures fits (record {
             begins = sym c.copy_from_slice.ensures.after ∙ same.0 (sym c.eq.ensures ∙ w.if-eq.true) ∙ c.start.ensures;
             name = subst (λ (name : List ℕ). IsName kind.result name) w.name_in.ensures
                 (w.is_name.ensures.0 (sym w.value-is ∙ v.if-is_name.true));
