@@ -47,7 +47,8 @@ FOUND = [
     ("fault", 0, {MARK: HAS_FAILED, **each(range(MARK + 1, 15), HAS_FAILED)}),
     # another status than the answers ask for
     ("fault", 2, FIRST_FAILED), ("fault", 0, SECOND_FAILED), ("fault", 0, STAYS), ("fault", 2, UNREAD),
-    ("memory", 3, {WRITE: ABORTED}), ("memory", 2, {}), ("fault", 3, {}, 8), ("fault", 1, {}), ("memory", 0, {}, 8),
+    ("memory", 3, {WRITE: ABORTED}), ("memory", 2, {}), ("memory", 2, {}, 0), ("fault", 3, {}, 8), ("fault", 1, {}),
+    ("memory", 0, {}, 8),
     # what was written is no beginning of the answers
     ("memory", 3, {WRITE: "CONFLICT"}, 8), ("fault", 2, {MARK: WRITE_ERROR}, 8), ("fault", 2, {0: "GOOD"}, 8),
     ("fault", 2, {WRITE: f"GOOD\n{READ_ERROR}"}, 8), ("fault", 0, {END: "GOOD\nGOOD"}), ("fault", 2, {7: "GOO"}, 8),

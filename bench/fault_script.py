@@ -119,9 +119,6 @@ def ill_ended(kind, drive, run):
     # a stream has failed, or the writing out at the end, or no command was answered for want of memory
     if not drive.is_hit and end == STATUS.get(kind) and text.startswith(run.out):
         return None
-    # the first sync of an opened file had no memory to look for its gates
-    if kind == "memory" and end == STATUS["fault"] and not run.out:
-        return None
     return "its end"
 
 

@@ -17,6 +17,13 @@ pub fn side_of(alloc: Global, bodies: &[&[u8]]) -> Result<MemDisk, Fail> {
         name: *b"DRIVE1          ",
         capacities: Vec::new(alloc),
     };
+    side_with(alloc, header, bodies)
+}
+
+fn side_with(alloc: Global, header: Header, bodies: &[&[u8]]) -> Result<MemDisk, Fail> {
+    if !header.can_be_spelled() {
+        return Err(Fail::from("no header of these tests"));
+    }
     let mut journal = Journal::create(alloc, MemDisk::new(alloc), header).map_err(
         |refused| refused.error,
     )?;
@@ -59,7 +66,7 @@ fn opened(
     turns: &[Turn],
     rows: &[Row],
 ) -> Result<(), Fail> {
-    let mut disk = DiskOver::opened(alloc, noted(alloc, bytes, turns)?);
+    let mut disk = DiskOver::opened(noted(alloc, bytes, turns)?);
     are_written(rt, &mut disk, rows);
     assert_equal!(rt; disk.file().file().disk().len(), bytes.len() as u64);
     Ok(())
@@ -127,6 +134,28 @@ fn an_opening_writes_one_byte(rt: HostRuntime) -> Result<(), Fail> {
     for &(bodies, turns, rows) in OF_A_SIDE {
         let side = side_of(rt.alloc(), bodies)?;
         opened(&rt, rt.alloc(), side.bytes(), turns, rows)?;
+    }
+    Ok(())
+}
+
+// The capacities of a cartridge stand before its first frame.
+#[test]
+fn the_gate_of_a_cartridge(rt: HostRuntime) -> Result<(), Fail> {
+    for count in 1..5 {
+        let header = Header {
+            kind: SideKind::Cartridge,
+            name: *b"T00001L6        ",
+            capacities: vec![in rt.alloc(); 4_096; count]?,
+        };
+        let side = side_with(rt.alloc(), header, &[b"body"])?;
+        let gate = 27 + 8 * count as u64;
+        opened(
+            &rt,
+            rt.alloc(),
+            side.bytes(),
+            &[],
+            &[(Step::Sync, 0, 1, gate, 1)],
+        )?;
     }
     Ok(())
 }
@@ -223,7 +252,7 @@ fn gate_in_doubt(
 fn a_gate_in_doubt(rt: HostRuntime) -> Result<(), Fail> {
     let side = side_of(rt.alloc(), &[b"body"])?;
     let file = gate_in_doubt(&rt, rt.alloc(), side.bytes())?;
-    let mut disk = DiskOver::opened(rt.alloc(), file);
+    let mut disk = DiskOver::opened(file);
     assert_equal!(rt; failures(disk.sync()), 0);
     assert_equal!(rt; (disk.file().bytes, disk.file().last), (2, 27));
     leaves(&rt, disk.file().file().disk(), side.bytes())

@@ -21,7 +21,7 @@ module _ (seen seen' : List ℕ) (passed passed' unsynced unsynced' : ℕ → Ty
       λ place gone. is.0 place (still place gone),
       λ place new. covers place (⊎_elim (λ old. inl (is.1 place old)) inr (adds place new)),
     )
-    wrote_in_doubt (Opened alloc) written written' from to looked is adds covers = absurd looked
+    wrote_in_doubt Opened written written' from to looked is adds covers = absurd looked
     wrote_in_doubt SyncFailed written written' from to looked is adds covers = (
       λ place gone. covers place (inl (is.0 place (still place gone))),
       λ place new. covers place (⊎_elim (λ old. inl (is.1 place old)) inr (adds place new)),
@@ -33,7 +33,7 @@ module _ (seen seen' : List ℕ) (passed passed' unsynced unsynced' : ℕ → Ty
           → IsInDoubt doubt written seen passed unsynced → IsInDoubt doubt written seen' passed' unsynced'
       cut_in_doubt Nothing written looked is =
           (λ place gone. is.0 place (still place gone), λ place new. is.1 place (none place new))
-      cut_in_doubt (Opened alloc) written looked is = absurd looked
+      cut_in_doubt Opened written looked is = absurd looked
       cut_in_doubt SyncFailed written looked is =
           (λ place gone. is.0 place (still place gone), λ place new. is.1 place (none place new))
 
@@ -42,7 +42,7 @@ module _ (seen seen' : List ℕ) (passed passed' unsynced unsynced' : ℕ → Ty
           → IsInDoubt doubt written seen passed unsynced → IsInDoubt doubt written seen' passed' unsynced'
       read_in_doubt Nothing written same is =
           (λ place gone. is.0 place (still place gone), λ place new. is.1 place (none place new))
-      read_in_doubt (Opened alloc) written same is = record {
+      read_in_doubt Opened written same is = record {
         side = λ heading bodies stands place doubted.
             is.side heading bodies (subst (λ (l : List ℕ). StandsFor heading bodies l) same stands) place
             (⊎_elim (λ gone. inl (still place gone)) (λ new. inr (none place new)) doubted);

@@ -11,7 +11,6 @@ use crate::looked::Looked;
 use crate::raw::RawFile;
 use crate::transfers::{read_all, write_all};
 use crate::written::Written;
-use std::alloc::Global;
 use std::marker::Model;
 use tape_disk::{Disk, Failures};
 use vtl_base::DevFault;
@@ -104,9 +103,8 @@ impl<F: RawFile> DiskOver<F> {
     }
 
     /// A disk over a file that was just opened for change, with no failure yet. Nothing is read or
-    /// written. Its first sync, or a write or a cut before it, looks for the last gates, which takes
-    /// memory, and where it runs out is a failure.
-    pub fn opened(alloc: Global, file: F) -> DiskOver<F>
+    /// written. Its first sync, or a write or a cut before it, looks for the last gates.
+    pub fn opened(file: F) -> DiskOver<F>
         requires { (F.state file).honest →
             IsLeftWell (F.state file).seen (F.passed_over file) (F.unsynced file) }
         ensures file { result.file ≡ file }
@@ -117,7 +115,7 @@ impl<F: RawFile> DiskOver<F> {
             looked: Looked::new(file),
             size,
             failures: Failures::none(),
-            doubt: Doubt::Opened(alloc),
+            doubt: Doubt::Opened,
             written: Written::none(),
         }
     }
@@ -167,7 +165,7 @@ impl<F: RawFile> DiskOver<F> {
         self.doubt = doubt;
         self.written = written;
         match doubt {
-            Doubt::Opened(_) => None,
+            Doubt::Opened => None,
             _ => Some((doubt, written)),
         }
     }

@@ -11,7 +11,6 @@ use crate::looked::Looked;
 use crate::raw::{CallFailed, RawFile};
 use crate::written::{Span, Written};
 use gate_journal::{Gates, last_gates};
-use std::alloc::Global;
 
 /// What a sync may pass over.
 #[derive(Clone, Copy)]
@@ -19,7 +18,7 @@ pub(crate) enum Doubt {
     /// No place.
     Nothing,
     /// What an earlier process left, of which nothing was looked at.
-    Opened(Global),
+    Opened,
     /// What was written since the last good sync, or what was found at the opening.
     SyncFailed,
 }
@@ -47,14 +46,14 @@ fn doubt_of(gates: Gates, bytes: u64) -> Option<Written>
 }
 
 // Looks at a file of so many bytes that was just opened. None where that failed.
-fn look<F: RawFile>(alloc: Global, looked: &mut Looked<F>, bytes: u64) -> Option<(Doubt, Written)>
+fn look<F: RawFile>(looked: &mut Looked<F>, bytes: u64) -> Option<(Doubt, Written)>
     ensures read { OnlyRead F.state F.passed_over F.unsynced looked.old.file looked.new.file }
     ensures found { (F.state looked.old.file).honest → bytes ≡ length (F.state looked.old.file).seen →
         IsLeftWell (F.state looked.old.file).seen (F.passed_over looked.old.file) (F.unsynced looked.old.file) →
         IfSome result (λ found. IsInDoubt found.0 found.1 (F.state looked.new.file).seen
         (F.passed_over looked.new.file) (F.unsynced looked.new.file)) }
 {
-    let Ok(found) = last_gates(alloc, looked) else {
+    let Ok(found) = last_gates(looked) else {
         return None;
     };
     let Some(gates) = found else {
@@ -98,7 +97,7 @@ fn looked_at<F: RawFile>(
         (F.passed_over looked.new.file) (F.unsynced looked.new.file) }
 {
     match doubt {
-        Doubt::Opened(alloc) => match look(alloc, looked, bytes) {
+        Doubt::Opened => match look(looked, bytes) {
             Some(found) => found,
             None => (doubt, written),
         },
@@ -163,7 +162,7 @@ pub(crate) fn begun<F: RawFile>(
         (F.passed_over looked.new.file) (F.unsynced looked.new.file) }
 {
     match doubt {
-        Doubt::Opened(_) => settled(looked, doubt, written, bytes),
+        Doubt::Opened => settled(looked, doubt, written, bytes),
         _ => (doubt, written),
     }
 }

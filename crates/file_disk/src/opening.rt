@@ -10,7 +10,6 @@ use crate::disk::DiskOver;
 use crate::error::FileError;
 use crate::raw::RawFile;
 use crate::system::SystemFile;
-use std::alloc::Global;
 use std::fs::{File, OpenOptions, TryLockError};
 use std::io::ErrorKind;
 use std::os::fd::AsRawFd;
@@ -145,13 +144,13 @@ fn open_as(rt: &HostRuntime, path: &str, access: Access) -> Result<FileDisk, Fil
     let mut options = OpenOptions::new();
     options.read(true).write(access == Access::Change);
     match options.open(rt, path) {
-        Ok(file) => prepared(rt.alloc(), file, access),
+        Ok(file) => prepared(file, access),
         Err(error) => Err(error_of(&error)),
     }
 }
 
 // A disk over an open file, which is locked, and synced where it is only read.
-fn prepared(alloc: Global, file: File, access: Access) -> Result<FileDisk, FileError>
+fn prepared(file: File, access: Access) -> Result<FileDisk, FileError>
     ensures ok { IfOk result (λ disk. disk.failures ≡ 0) }
     ensures device { IfErr result IsOneFailure }
 {
@@ -160,7 +159,7 @@ fn prepared(alloc: Global, file: File, access: Access) -> Result<FileDisk, FileE
         Err(error) => return Err(error),
     };
     match access {
-        Access::Change => Ok(DiskOver::opened(alloc, file)),
+        Access::Change => Ok(DiskOver::opened(file)),
         Access::Read => match file.sync() {
             Ok(()) => Ok(DiskOver::new(file)),
             Err(_) => Err(device()),

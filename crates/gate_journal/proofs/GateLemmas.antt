@@ -1,20 +1,19 @@
 -- The last gates of a side, by where its bodies lie.
-use Rattle.std.proofs.Common.{◌≡◌, ℕ, suc, ◌+◌, ◌-◌, ◌*◌, List, [], ◌∷◌, ◌++◌, length, get_or, take, refl, sym, ◌∙◌, ap, subst, arith, length-append, Ok, Err, Option, Bool, false}
+use Rattle.std.proofs.Common.{◌≡◌, ℕ, suc, ◌+◌, ◌-◌, List, [], ◌∷◌, ◌++◌, length, get_or, take, refl, sym, ◌∙◌, ap, subst, arith, length-append, Ok, Err, Bool, false}
 use Rattle.std.specs.Prelude.{Result, ◌==◌, if◌then◌else◌}
 use Rattle.std.proofs.Math.Dec.{eqb-suc-zero}
 use Rattle.std.specs.List.{flat_map}
+use Rattle.std.proofs.lemmas.List.{get_or_push}
 use Rattle.tape_disk.specs.Disk.{DiskState}
 use Rattle.gate_journal.specs.declared.error.JournalError.{JournalError}
 use Rattle.gate_journal.specs.declared.error.JournalError.TheVariants.{NotOurs, Damaged, SideFull, Device, Failed, NoMemory}
 use Rattle.gate_journal.specs.declared.gates.Gates.{Gates}
-use Rattle.gate_journal.specs.declared.reading.Frames.{Frames}
 use Rattle.gate_journal.specs.Answers.{NoneFailed}
 use Rattle.gate_journal.specs.Crash.{Unwritten}
-use Rattle.gate_journal.specs.Gates.{FindsGates, last_gate}
-use Rattle.gate_journal.specs.Inner.Found.{FindsFrames}
-use Rattle.gate_journal.specs.Inner.Gates.{FindsWhole, HasNoGates, gate_before}
-use Rattle.gate_journal.specs.Inner.Sides.{never_ours, sound, stands}
-use Rattle.gate_journal.specs.Side.{Heading, IsHeading, IsDamagedAt, StandsFor, frame, spell_heading}
+use Rattle.gate_journal.specs.Gates.{last_gate}
+use Rattle.gate_journal.specs.Inner.Gates.{FindsLast, FindsWhole, gate_before}
+use Rattle.gate_journal.specs.Inner.Sides.{never_ours, stands}
+use Rattle.gate_journal.specs.Side.{Heading, IsHeading, IsDamagedAt, IsNotOurs, StandsFor, frame, spell_heading}
 use Rattle.gate_journal.specs.State.{extents_from}
 use Rattle.gate_journal.proofs.Parts.{place_of}
 use Rattle.gate_journal.proofs.Walks.{damaged_there, fault_since, far_is, stands_for}
@@ -42,28 +41,43 @@ gate_place heading (body ∷ bodies) =
     ∙ (let less : start + length front + 5 - 5 ≡ start + length front = omega arith in less)
     ∙ sym (length-append (spell_heading heading) front)
 
-module _ (d0 d1 d2 : DiskState) (none : NoneFailed d0 d1) (h : Heading) (ok : IsHeading h) (count : ℕ)
-    (here : 27 + 8 * count ≡ length (spell_heading h)) (stays : d0.honest → d1.honest)
-    (begins : d0.honest → (rest : List ℕ) × (d0.seen ≡ spell_heading h ++ rest))
+-- and so it is where a body is added
+pub gate_pushed : (extents : List (ℕ × ℕ)) (at size : ℕ) → gate_before (extents ++ (at + 5, size) ∷ []) ≡ at
+gate_pushed extents at size =
+    let more : List (ℕ × ℕ) = extents ++ (at + 5, size) ∷ [] in
+    let count : length more ≡ suc (length extents) = omega (arith, length-append extents ((at + 5, size) ∷ [])) in
+    let index : length more - 1 ≡ length extents = omega (arith, count) in
+    let some : (length more == 0) ≡ false
+    = ap (λ (n : ℕ). n == 0) count ∙ eqb-suc-zero (length extents) in
+    ap (λ (none : Bool). if none then 0 else (get_or more (length more - 1) (0, 0)).0 - 5) some
+    ∙ ap (λ (n : ℕ). (get_or more n (0, 0)).0 - 5) index
+    ∙ ap (λ (p : ℕ × ℕ). p.0 - 5) (get_or_push extents (at + 5, size) (0, 0) (length extents) refl)
+    ∙ (let less : at + 5 - 5 ≡ at = omega arith in less)
+
+module _ (d0 d1 d2 : DiskState) (none : NoneFailed d0 d1) (start : ℕ) (stays : d0.honest → d1.honest)
+    (begins : d0.honest → (h : Heading) × (rest : List ℕ) × IsHeading h × (d0.seen ≡ spell_heading h ++ rest)
+    × (start ≡ length (spell_heading h)))
     (unwritten : d0.honest → Unwritten d0 d1) where
   -- the frames behind a header are a side, or break off
-  pub whole_found : (result : Result Frames JournalError) → FindsFrames result (27 + 8 * count) d1 d2
-      → FindsWhole result d0 d2
-  whole_found (Ok frames) found = (
+  pub whole_found : (result : Result Gates JournalError) → FindsLast result start d1 d2 → FindsWhole result d0 d2
+  whole_found (Ok gates) found = (
     found.0 ∙ none,
-    found.3,
     λ honest.
         let same = (unwritten honest).seen in
-        let rest = begins honest in
-        let walk = found.4 (stays honest) in
-        let is : d1.seen ≡ spell_heading h ++ rest.0 = same ∙ rest.1 in
-        let there = stands_for d1.seen (27 + 8 * count) walk.0.0 frames.extents.items frames.end walk.0.1 h ok rest.0 is
-        here walk.1.0 walk.1.1 walk.1.2 walk.1.3 in (
+        let side = begins honest in
+        let h = side.0 in
+        let walk = found.1 (stays honest) in
+        let bodies = walk.0.0 in
+        let extents = walk.0.1 in
+        let is : d1.seen ≡ spell_heading h ++ side.1 = same ∙ side.3 in
+        let there = stands_for d1.seen start bodies extents gates.end walk.0.2 h side.2 side.1 is side.4 walk.1.0
+        walk.1.1 walk.1.2 walk.1.3 in (
           h,
-          walk.0.0,
-          subst (λ (l : List ℕ). StandsFor h walk.0.0 l) same there,
-          walk.0.1.extents_are ∙ ap (λ (n : ℕ). extents_from n walk.0.0) here,
-          sym (far_is d1.seen (27 + 8 * count) walk.0.0 frames.extents.items frames.end walk.0.1 h ok rest.0 is here),
+          bodies,
+          subst (λ (l : List ℕ). StandsFor h bodies l) same there,
+          walk.0.3 ∙ ap gate_before walk.0.2.extents_are
+              ∙ ap (λ (n : ℕ). gate_before (extents_from n bodies)) side.4 ∙ gate_place h bodies,
+          sym (far_is d1.seen start bodies extents gates.end walk.0.2 h side.2 side.1 is side.4),
         ),
   )
   whole_found (Err NotOurs) found = absurd found.1
@@ -71,36 +85,18 @@ module _ (d0 d1 d2 : DiskState) (none : NoneFailed d0 d1) (h : Heading) (ok : Is
     found.0 ∙ none,
     λ honest.
         let same = (unwritten honest).seen in
-        let rest = begins honest in
+        let side = begins honest in
         let broken = found.1 (stays honest) in
         subst (λ (l : List ℕ). IsDamagedAt l at) same
-        (damaged_there d1.seen (27 + 8 * count) broken.0 broken.1 at broken.2 h ok rest.0 (same ∙ rest.1) here
+        (damaged_there d1.seen start broken.0 broken.1 at broken.2 side.0 side.2 side.1 (same ∙ side.3) side.4
         broken.3),
   )
   whole_found (Err (Device fault)) found = fault_since d0 d1 d2 fault none found
-  whole_found (Err NoMemory) found = (
-    found.0 ∙ none,
-    λ honest.
-        let rest = begins honest in omega (arith, ap length rest.1, length-append (spell_heading h) rest.0, here),
-  )
+  whole_found (Err NoMemory) found = absurd found.1
   whole_found (Err SideFull) found = absurd found
   whole_found (Err Failed) found = absurd found
 
 -- what is no side has no gates
-pub none_found : (old new : DiskState) (error : JournalError) (result : Result (Option Gates) JournalError)
-    → HasNoGates error result → FindsWhole (Err error) old new → FindsGates result old new
-none_found old new NotOurs result is found =
-    subst (λ (r : Result (Option Gates) JournalError). FindsGates r old new) (sym is) (
-      found.0,
-      λ honest h bodies there.
-          never_ours old.seen h bodies (there.1.0 ∷ there.1.1) (stands old.seen h bodies there) (found.1 honest),
-    )
-none_found old new (Damaged at) result is found =
-    subst (λ (r : Result (Option Gates) JournalError). FindsGates r old new) (sym is)
-    (found.0, λ honest h bodies there. sound old.seen h bodies at there (found.1 honest))
-none_found old new (Device fault) result is found =
-    subst (λ (r : Result (Option Gates) JournalError). FindsGates r old new) (sym is) found
-none_found old new NoMemory result is found =
-    subst (λ (r : Result (Option Gates) JournalError). FindsGates r old new) (sym is) found
-none_found old new SideFull result is found = absurd found
-none_found old new Failed result is found = absurd found
+pub none_ours : (old : List ℕ) → IsNotOurs old → (h : Heading) (bodies : List (List ℕ)) → StandsFor h bodies old → ⊥
+none_ours old never h bodies there =
+    never_ours old h bodies (there.1.0 ∷ there.1.1) (stands old h bodies there) never

@@ -8,5 +8,6 @@ pub mod Names
 pub mod Numbers
 pub mod Parts
 pub mod Smears
+pub mod SpelledLemmas
 pub mod Walks
 pub mod Writing

@@ -14,8 +14,7 @@ use Rattle.gate_journal.specs.Crash.{Unwritten}
 use Rattle.gate_journal.specs.Inner.Found.{NotRead, Walked}
 use Rattle.gate_journal.specs.Side.{OPEN, Heading, IsHeading, IsBody, IsSide, IsBroken, BeginsWithFrame, IsNotOurs, IsDamagedAt, StandsFor, frame, spell_heading, spell}
 use Rattle.gate_journal.specs.State.{StoresSide, bodies_at, extents_from}
-use Rattle.std.proofs.lemmas.List.{get_or_read, get_or-take}
-use Rattle.gate_journal.specs.Inner.Headings.{count_there, heading_there, long_enough}
+use Rattle.gate_journal.specs.Inner.Headings.{count_there, long_enough}
 use Rattle.gate_journal.specs.Inner.Frames.{length-frame}
 use Rattle.gate_journal.proofs.Bodies.{frames_push, extents_push, as_view}
 
@@ -177,7 +176,7 @@ broken_there seen seen1 same start bodies extents at place walked here broken = 
 )
 
 -- two reads in a row have the front of what is there
-pub front_two : (image start capacities : List ℕ) (n : ℕ) → start ≡ slice_range image 0 27 →
+front_two : (image start capacities : List ℕ) (n : ℕ) → start ≡ slice_range image 0 27 →
     capacities ≡ slice_range image 27 (27 + n) → start ++ capacities ≡ take (27 + n) image
 front_two image start capacities n first second =
     (λ i. first i ++ second i)
@@ -192,27 +191,13 @@ too_short image count told short h rest ok is =
     let begins = is ∙ ap (λ (l : List ℕ). l ++ rest) (append-nil (spell_heading h)) in
     omega (arith, told, short, count_there h rest image ok begins, long_enough h rest image ok begins)
 
-module _ (image bytes capacities all : List ℕ) (count : ℕ) (first : bytes ≡ slice_range image 0 27)
-    (second : capacities ≡ slice_range image 27 (27 + 8 * count)) (whole : all ≡ bytes ++ capacities) where
-  all_is : all ≡ take (27 + 8 * count) image
-  all_is = whole ∙ front_two image bytes capacities (8 * count) first second
-
-  pub header_there : (h : Heading) → all ≡ spell_heading h → (rest : List ℕ) × (image ≡ spell_heading h ++ rest)
-  header_there h is = (
+-- two reads in a row filled the front of a buffer: with what the image begins
+module _ (image first second : List ℕ) (count : ℕ) (first_is : first ≡ slice_range image 0 27)
+    (second_is : second ≡ slice_range image 27 (27 + 8 * count)) where
+  pub begins_with : (front : List ℕ) → front ≡ first ++ second → (rest : List ℕ) × (image ≡ front ++ rest)
+  begins_with front is = (
     drop (27 + 8 * count) image,
     sym (take-append-drop (27 + 8 * count) image)
-        ∙ ap (λ (l : List ℕ). l ++ drop (27 + 8 * count) image) (sym all_is ∙ is),
+        ∙ ap (λ (l : List ℕ). l ++ drop (27 + 8 * count) image)
+        (sym (is ∙ front_two image first second (8 * count) first_is second_is)),
   )
-
-  pub no_header : count ≡ get_or image 10 0 → ((h : Heading) → IsHeading h → all ≡ spell_heading h → ⊥) →
-      IsNotOurs image
-  no_header told never h rest ok is =
-      let begins = is ∙ ap (λ (l : List ℕ). l ++ rest) (append-nil (spell_heading h)) in
-      never h ok (all_is ∙ ap (λ (n : ℕ). take (27 + 8 * n) image) (told ∙ count_there h rest image ok begins)
-      ∙ heading_there h rest image ok begins)
-
-pub count_read : (image bytes : List ℕ) (count : ℕ) → length bytes ≡ 27 → bytes ≡ slice_range image 0 27 →
-    count ≡ get_or bytes 10 count → count ≡ get_or image 10 0
-count_read image bytes count sized first read =
-    get_or_read bytes 10 count (omega (arith, sized)) read 0 ∙ ap (λ (l : List ℕ). get_or l 10 0) first
-    ∙ get_or-take 27 image 10 0 (omega arith)

@@ -1,8 +1,7 @@
 -- The last gates of a side.
-use Rattle.std.specs.Prelude.{◌≡◌, ◌≤◌, ℕ, List, [], ◌∷◌, length, take, Result, Ok, Err, Option, Some, None}
+use Rattle.std.specs.Prelude.{◌≡◌, ℕ, List, [], ◌∷◌, length, take, Result, Ok, Err, Option, Some, None}
+use Rattle.vtl_base.specs.declared.faults.DevFault.{DevFault}
 use Rattle.tape_disk.specs.Disk.{DiskState}
-use Rattle.gate_journal.specs.declared.error.JournalError.{JournalError}
-use Rattle.gate_journal.specs.declared.error.JournalError.TheVariants.{NotOurs, Damaged, SideFull, Device, Failed, NoMemory}
 use Rattle.gate_journal.specs.declared.gates.Gates.{Gates}
 use Rattle.gate_journal.specs.Answers.{IsFault, NoneFailed}
 use Rattle.gate_journal.specs.Side.{Heading, StandsFor, spell}
@@ -12,9 +11,8 @@ abbrev pub last_gate : Heading → List (List ℕ) → ℕ
 last_gate heading [] = 0
 last_gate heading (body ∷ bodies) = length (spell heading (take (length bodies) (body ∷ bodies)))
 
--- the last gates of the side that the bytes stand for; that they stand for none; a fault; or out of memory, where
--- there are the 27 bytes of a heading (own)
-abbrev pub FindsGates : Result (Option Gates) JournalError → DiskState → DiskState → Type 0
+-- the last gates of the side that the bytes stand for; that they stand for none; or a fault (own)
+abbrev pub FindsGates : Result (Option Gates) DevFault → DiskState → DiskState → Type 0
 FindsGates (Ok (Some gates)) old new =
     NoneFailed old new
     × (old.honest → (heading : Heading) × (bodies : List (List ℕ)) × StandsFor heading bodies old.seen
@@ -22,9 +20,4 @@ FindsGates (Ok (Some gates)) old new =
 FindsGates (Ok None) old new =
     NoneFailed old new
     × (old.honest → (heading : Heading) (bodies : List (List ℕ)) → StandsFor heading bodies old.seen → ⊥)
-FindsGates (Err (Device fault)) old new = IsFault fault old new
-FindsGates (Err NoMemory) old new = NoneFailed old new × (old.honest → 27 ≤ length old.seen)
-FindsGates (Err NotOurs) old new = ⊥
-FindsGates (Err (Damaged at)) old new = ⊥
-FindsGates (Err SideFull) old new = ⊥
-FindsGates (Err Failed) old new = ⊥
+FindsGates (Err fault) old new = IsFault fault old new

@@ -54,7 +54,7 @@ impl Header {
     }
 }
 
-fn is_name(kind: SideKind, name: &[u8; NAME_BYTES]) -> bool
+pub(crate) fn is_name(kind: SideKind, name: &[u8; NAME_BYTES]) -> bool
     ensures { IsTrue result ↔ IsName kind name.now }
 {
     match kind {
@@ -63,7 +63,7 @@ fn is_name(kind: SideKind, name: &[u8; NAME_BYTES]) -> bool
     }
 }
 
-fn is_count(kind: SideKind, count: usize) -> bool
+pub(crate) fn is_count(kind: SideKind, count: usize) -> bool
     ensures { IsTrue result ↔ IsCount kind count }
 {
     match kind {
@@ -75,7 +75,13 @@ fn is_count(kind: SideKind, count: usize) -> bool
 fn are_capacities(capacities: &[u64]) -> bool
     ensures { IsTrue result ↔ All (λ bytes. IsTrue (is_capacity bytes)) capacities.now }
 {
-    capacities.iter().all(|&capacity| capacity >= MIN_CAPACITY && capacity <= MAX_CAPACITY)
+    capacities.iter().all(|&capacity| is_capacity(capacity))
+}
+
+pub(crate) fn is_capacity(capacity: u64) -> bool
+    ensures { IsTrue result ↔ IsTrue (is_capacity capacity) }
+{
+    capacity >= MIN_CAPACITY && capacity <= MAX_CAPACITY
 }
 
 fn is_barcode_name(name: &[u8; NAME_BYTES]) -> bool

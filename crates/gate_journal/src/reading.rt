@@ -2,21 +2,27 @@
 ghost use Rattle.std.specs.Prelude.{◌≡◌, ◌≢◌, ◌+◌, ◌*◌, ◌<◌, ◌≤◌, ◌^◌, ◌++◌, [], ◌∷◌, ℕ, List, length, drop, true, false, take, ◌==◌, if◌then◌else◌, OnOk, IfOk, IfSome, IfNone, MatchResult, slice_index};
 ghost use Rattle.tape_disk.specs.Disk.{Elapses, Keeps, Passes, Syncs};
 ghost use Rattle.gate_journal.specs.Side.{Heading, IsHeading, OPEN, heading_of, spell_heading};
-ghost use Rattle.gate_journal.specs.Inner.Reading.{numbers_of, heading_within, kind_by_letter};
+ghost use Rattle.gate_journal.specs.Inner.Reading.{numbers_of, heading_within};
 ghost use Rattle.std.specs.Int.{to_be_bytes, w32};
 ghost use Rattle.gate_journal.specs.Crash.{Unwritten};
 ghost use Rattle.gate_journal.specs.Reads.{OnlyReads};
-ghost use Rattle.gate_journal.specs.Inner.Found.{FindsRow, FindsHeader, FindsAsked, FindsMark, FindsFrames, FindsSide};
+ghost use Rattle.gate_journal.specs.Inner.Found.{FindsBytes, FindsStart, FindsHeader, FindsAsked, FindsMark, FindsFrames, FindsSide};
 ghost use Rattle.tape_disk.specs.Moments.{LeavesOnly};
 
 use crate::error::JournalError;
-use crate::header::{Header, NAME_BYTES, SideKind};
-use crate::spelling::{OPEN, START_BYTES, spell_header};
+use crate::header::{Header, SideKind};
+use crate::spelling::{HEADER_BYTES, OPEN, START_BYTES, kind_by_letter, name_in, spells_header};
 use byteorder::{BigEndian, ByteOrder};
 use std::alloc::{AllocError, Global};
 use tape_disk::Disk;
 use vtl_base::DevFault;
 use vtl_base::limits::{MAX_BODY, MAX_PARTITIONS};
+
+// The bytes that a header has, in front of others, and how many they are.
+struct HeaderBytes {
+    bytes: [u8; HEADER_BYTES],
+    len: usize,
+}
 
 /// Where the bodies of a side lie, and its end gate.
 #[derive(Drop)]
@@ -80,47 +86,55 @@ fn read_header<D: Disk>(alloc: Global, disk: &mut D) -> Result<Header, JournalEr
     ensures reads { OnlyReads D.effect disk.old disk.new }
     ensures answer { FindsHeader result (D.state disk.old) (D.state disk.new) }
 {
-    let len = disk.len();
-    if len < START_BYTES as u64 {
-        return Err(JournalError::NotOurs);
-    }
-    let mut bytes = read_row(alloc, disk, 0, START_BYTES)?;
-    let count = bytes[10];
-    if count > MAX_PARTITIONS {
-        return Err(JournalError::NotOurs);
-    }
-    if len - (START_BYTES as u64) < 8 * u64::from(count) {
-        return Err(JournalError::NotOurs);
-    }
-    let capacities = read_row(alloc, disk, START_BYTES as u64, 8 * count as usize)?;
-    bytes.extend_from_slice(&capacities)?;
-    match header_of(alloc, &bytes)? {
+    let HeaderBytes { bytes, len } = read_bytes(disk)?;
+    match header_of(alloc, &bytes[..len])? {
         Some(header) => Ok(header),
         None => Err(JournalError::NotOurs),
     }
 }
 
-// That many bytes from that place on.
-fn read_row<D: Disk>(
-    alloc: Global,
-    disk: &mut D,
-    at: u64,
-    count: usize,
-) -> Result<Vec<u8>, JournalError>
-    requires { (D.state disk.old).honest → at + count ≤ length (D.state disk.old).seen }
+// The place behind the header that the disk begins with, of either kind. It takes no memory.
+pub(crate) fn find_start<D: Disk>(disk: &mut D) -> Result<u64, JournalError>
     ensures disk { Keeps (D.state disk.old) (D.state disk.new) }
     ensures unwritten { (D.state disk.old).honest →
         Unwritten (D.state disk.old) (D.state disk.new) }
     ensures reads { OnlyReads D.effect disk.old disk.new }
-    ensures answer { FindsRow result at count (D.state disk.old) (D.state disk.new) }
+    ensures answer { FindsStart result (D.state disk.old) (D.state disk.new) }
 {
-    let mut bytes = vec![in alloc; 0; count]?;
-    disk.read_at(at, &mut bytes)?;
-    Ok(bytes)
+    let HeaderBytes { bytes, len } = read_bytes(disk)?;
+    if !spells_header(&bytes[..len]) {
+        return Err(JournalError::NotOurs);
+    }
+    Ok(len as u64)
 }
 
-// The header that these bytes spell, where they spell one: what is taken for it has to spell them
-// again.
+// The bytes that the disk begins with, as many as a header with their count of capacities has.
+fn read_bytes<D: Disk>(disk: &mut D) -> Result<HeaderBytes, JournalError>
+    ensures disk { Keeps (D.state disk.old) (D.state disk.new) }
+    ensures unwritten { (D.state disk.old).honest →
+        Unwritten (D.state disk.old) (D.state disk.new) }
+    ensures reads { OnlyReads D.effect disk.old disk.new }
+    ensures answer { FindsBytes result (D.state disk.old) (D.state disk.new) }
+{
+    let size = disk.len();
+    if size < START_BYTES as u64 {
+        return Err(JournalError::NotOurs);
+    }
+    let mut bytes = [0; HEADER_BYTES];
+    disk.read_at(0, &mut bytes[..START_BYTES])?;
+    let count = bytes[10];
+    if count > MAX_PARTITIONS {
+        return Err(JournalError::NotOurs);
+    }
+    if size - (START_BYTES as u64) < 8 * u64::from(count) {
+        return Err(JournalError::NotOurs);
+    }
+    let len = START_BYTES + 8 * count as usize;
+    disk.read_at(START_BYTES as u64, &mut bytes[START_BYTES..len])?;
+    Ok(HeaderBytes { bytes, len })
+}
+
+// The header that these bytes spell, where they spell one.
 fn header_of(alloc: Global, bytes: &[u8]) -> Result<Option<Header>, AllocError>
     requires { length bytes.now ≡ 27 + 8 * slice_index bytes.now 10 }
     ensures found { IfOk result (λ header. IfSome header (λ h.
@@ -128,16 +142,10 @@ fn header_of(alloc: Global, bytes: &[u8]) -> Result<Option<Header>, AllocError>
     ensures none { IfOk result (λ header. IfNone header
         ((h : Heading) → IsHeading h → bytes.now ≡ spell_heading h → ⊥)) }
 {
-    let header = header_within(alloc, bytes)?;
-    if !header.can_be_spelled() {
+    if !spells_header(bytes) {
         return Ok(None);
     }
-    let spelled = spell_header(alloc, &header)?;
-    if spelled.as_slice() == bytes {
-        Ok(Some(header))
-    } else {
-        Ok(None)
-    }
+    Ok(Some(header_within(alloc, bytes)?))
 }
 
 // What the bytes may be taken for.
@@ -145,24 +153,11 @@ fn header_within(alloc: Global, bytes: &[u8]) -> Result<Header, AllocError>
     requires { 27 ≤ length bytes.now }
     ensures { IfOk result (λ header. heading_of header ≡ heading_within bytes.now) }
 {
-    let mut name = [0; NAME_BYTES];
-    name.copy_from_slice(&bytes[11..START_BYTES]);
     Ok(Header {
         kind: kind_by_letter(bytes[4]),
-        name,
+        name: name_in(bytes),
         capacities: numbers(alloc, &bytes[START_BYTES..])?,
     })
-}
-
-// The kind that this byte of a mark tells.
-fn kind_by_letter(byte: u8) -> SideKind
-    ensures { result ≡ kind_by_letter byte }
-{
-    if byte == b'C' {
-        SideKind::Cartridge
-    } else {
-        SideKind::Store
-    }
 }
 
 // Eight bytes at a time as numbers.
@@ -180,7 +175,11 @@ fn numbers(alloc: Global, bytes: &[u8]) -> Result<Vec<u64>, AllocError>
 
 // Gate and length at that place, which lies inside the disk: the body's length, or None where the
 // gate is closed.
-fn read_mark<D: Disk>(disk: &mut D, at: u64, len: u64) -> Result<Option<u32>, JournalError>
+pub(crate) fn read_mark<D: Disk>(
+    disk: &mut D,
+    at: u64,
+    len: u64,
+) -> Result<Option<u32>, JournalError>
     requires inside { at < len }
     requires len { (D.state disk.old).honest → len ≡ length (D.state disk.old).seen }
     ensures disk { Keeps (D.state disk.old) (D.state disk.new) }

@@ -21,14 +21,17 @@
 //! at the first closed one: what lies behind it counts for nothing. So a frame is added in four
 //! calls of the disk: behind the gate at the end, which stands closed, go length, body and the next
 //! closed gate in one write; a sync; A5h into the gate; a sync.
-ghost use Rattle.std.specs.Prelude.{◌≡◌, ◌≤◌, [], ◌∷◌, ◌++◌, length, drop, IfOk};
-ghost use Rattle.std.specs.List.{flat_map};
+ghost use Rattle.std.specs.Prelude.{◌≡◌, ◌↔◌, ◌+◌, ◌*◌, ◌≤◌, [], ◌∷◌, ◌++◌, length, take, drop, slice_index, IfOk, IsTrue};
+ghost use Rattle.std.specs.List.{All, flat_map};
 ghost use Rattle.std.specs.Int.{to_be_bytes, w64};
-ghost use Rattle.gate_journal.specs.Side.{CLOSED, IsHeading, heading_of, spell_heading};
+ghost use Rattle.vtl_base.specs.Limits.{is_capacity};
+ghost use Rattle.gate_journal.specs.Side.{CLOSED, IsHeading, OPEN, heading_of, spell_heading, start};
+ghost use Rattle.gate_journal.specs.Inner.Reading.{IsSpelled, kind_by_letter, numbers_of};
 
-use crate::header::{Header, NAME_BYTES};
+use crate::header::{Header, NAME_BYTES, SideKind, is_capacity, is_count, is_name};
 use byteorder::{BigEndian, ByteOrder};
 use std::alloc::{AllocError, Global};
+use vtl_base::limits::MAX_PARTITIONS;
 
 /// An open gate.
 pub(crate) const OPEN: u8 = 0xa5;
@@ -39,15 +42,26 @@ pub(crate) const CLOSED: u8 = 0x00;
 /// The bytes of a header before the capacities.
 pub(crate) const START_BYTES: usize = 27;
 
+/// The bytes of a header with the most capacities.
+pub(crate) const HEADER_BYTES: usize = START_BYTES + 8 * MAX_PARTITIONS as usize;
+
+// The ten bytes that a side of this kind begins with, where its gate is open.
+fn start(kind: SideKind) -> [u8; 10]
+    ensures { result ≡ start OPEN kind CLOSED }
+{
+    let mut bytes = [CLOSED; 10];
+    bytes[0] = OPEN;
+    bytes[1..9].copy_from_slice(kind.mark());
+    bytes
+}
+
 // A header in bytes.
 pub(crate) fn spell_header(alloc: Global, header: &Header) -> Result<Vec<u8>, AllocError>
     requires { length header.now.capacities.items ≤ 4 }
     ensures { IfOk result (λ bytes. bytes.items ≡ spell_heading (heading_of header.now)) }
 {
     let mut bytes = Vec::new(alloc);
-    bytes.push(OPEN)?;
-    bytes.extend_from_slice(header.kind.mark())?;
-    bytes.push(CLOSED)?;
+    bytes.extend_from_slice(&start(header.kind))?;
     bytes.push(header.capacities.len() as u8)?;
     bytes.extend_from_slice(&header.name)?;
     spell_capacities(&mut bytes, &header.capacities)?;
@@ -77,4 +91,53 @@ pub(crate) fn spell_closed(alloc: Global, header: &Header) -> Result<Vec<u8>, Al
     bytes[0] = CLOSED;
     bytes.push(CLOSED)?;
     Ok(bytes)
+}
+
+// Whether the bytes spell a header. It takes no memory.
+pub(crate) fn spells_header(bytes: &[u8]) -> bool
+    requires { length bytes.now ≡ 27 + 8 * slice_index bytes.now 10 }
+    ensures { IsTrue result ↔ IsSpelled bytes.now }
+{
+    let kind = kind_by_letter(bytes[4]);
+    let mut begins = [0; 10];
+    begins.copy_from_slice(&bytes[..10]);
+    begins == start(kind)
+        && is_name(kind, &name_in(bytes))
+        && is_count(kind, bytes[10] as usize)
+        && hold_capacities(&bytes[START_BYTES..])
+}
+
+// The kind that this byte of a mark tells.
+pub(crate) fn kind_by_letter(byte: u8) -> SideKind
+    ensures { result ≡ kind_by_letter byte }
+{
+    if byte == b'C' {
+        SideKind::Cartridge
+    } else {
+        SideKind::Store
+    }
+}
+
+// The name that stands in a header's bytes.
+pub(crate) fn name_in(bytes: &[u8]) -> [u8; NAME_BYTES]
+    requires { 27 ≤ length bytes.now }
+    ensures { result ≡ take 16 (drop 11 bytes.now) }
+{
+    let mut name = [0; NAME_BYTES];
+    name.copy_from_slice(&bytes[11..START_BYTES]);
+    name
+}
+
+// Whether eight bytes at a time are capacities.
+fn hold_capacities(bytes: &[u8]) -> bool
+    ensures { IsTrue result ↔ All (λ bytes. IsTrue (is_capacity bytes)) (numbers_of bytes.now) }
+{
+    let mut rest = bytes;
+    while rest.len() >= 8 {
+        if !is_capacity(BigEndian::read_u64(rest)) {
+            return false;
+        }
+        rest = &rest[8..];
+    }
+    true
 }

@@ -23,11 +23,11 @@ LieIn written places = (place : ℕ) → places place → Covers written place
 -- finds; or what was written (own).
 abbrev pub IsInDoubt : Doubt → Written → List ℕ → (ℕ → Type 0) → (ℕ → Type 0) → Type 0
 IsInDoubt Nothing written seen passed_over unsynced = ReachesAll passed_over × LieIn written unsynced
-IsInDoubt (Opened alloc) written seen passed_over unsynced = IsLeftWell seen passed_over unsynced
+IsInDoubt Opened written seen passed_over unsynced = IsLeftWell seen passed_over unsynced
 IsInDoubt SyncFailed written seen passed_over unsynced = LieIn written passed_over × LieIn written unsynced
 
 -- the file was looked at (own)
 abbrev pub IsLookedAt : Doubt → Type 0
 IsLookedAt Nothing = Unit {0}
-IsLookedAt (Opened alloc) = ⊥
+IsLookedAt Opened = ⊥
 IsLookedAt SyncFailed = Unit {0}

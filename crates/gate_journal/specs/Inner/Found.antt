@@ -1,15 +1,16 @@
 -- What reading a side finds.
-use Rattle.std.specs.Prelude.{◌≡◌, ◌≢◌, ◌<◌, ◌≤◌, ◌+◌, ◌^◌, ℕ, List, ◌∷◌, ◌++◌, length, drop, Result, Ok, Err, Option, Some, None, false, slice_range, Vec}
-use Rattle.std.specs.declared.alloc.Global.{Global}
+use Rattle.std.specs.Prelude.{◌≡◌, ◌≢◌, ◌<◌, ◌≤◌, ◌+◌, ◌*◌, ◌^◌, ℕ, List, ◌∷◌, ◌++◌, length, take, drop, slice_index, Result, Ok, Err, Option, Some, None, false}
 use Rattle.std.specs.List.{All, flat_map}
 use Rattle.vtl_base.specs.declared.limits.TheConstants.{MAX_BODY}
 use Rattle.tape_disk.specs.Disk.{DiskState, Only}
 use Rattle.gate_journal.specs.declared.header.Header.{Header}
 use Rattle.gate_journal.specs.declared.header.SideKind.{SideKind}
 use Rattle.gate_journal.specs.declared.reading.Frames.{Frames}
+use Rattle.gate_journal.specs.declared.reading.HeaderBytes.{HeaderBytes}
+use Rattle.gate_journal.specs.declared.spelling.TheConstants.{HEADER_BYTES}
 use Rattle.gate_journal.specs.declared.error.JournalError.{JournalError}
 use Rattle.gate_journal.specs.declared.error.JournalError.TheVariants.{NotOurs, Damaged, SideFull, Device, Failed, NoMemory}
-use Rattle.gate_journal.specs.Side.{OPEN, IsBody, IsHeading, StandsFor, IsNotOurs, IsBroken, BeginsWithFrame, frame, heading_of, spell_heading}
+use Rattle.gate_journal.specs.Side.{OPEN, Heading, IsBody, IsHeading, StandsFor, IsNotOurs, IsBroken, BeginsWithFrame, frame, heading_of, spell_heading}
 use Rattle.gate_journal.specs.Answers.{IsFault, NoneFailed}
 use Rattle.gate_journal.specs.Inner.Asked.{IsAsked, IsNotAsked, NotOpenedAsked}
 use Rattle.gate_journal.specs.State.{StoresSide, IsExtent, bodies_at, extents_from}
@@ -23,12 +24,21 @@ NotRead NoMemory not_ours damaged memory old new = NoneFailed old new × memory
 NotRead SideFull not_ours damaged memory old new = ⊥
 NotRead Failed not_ours damaged memory old new = ⊥
 
--- that many bytes from that place on (own)
-abbrev pub FindsRow : Result (Vec ℕ Global) JournalError → ℕ → ℕ → DiskState → DiskState → Type 0
-FindsRow (Ok bytes) at count old new =
-    NoneFailed old new × (length bytes.items ≡ count)
-    × (old.honest → bytes.items ≡ slice_range old.seen at (at + count))
-FindsRow (Err error) at count old new = NotRead error ⊥ (λ place. ⊥) (Unit {0}) old new
+-- the bytes that the disk begins with, as many as a header with their count of capacities has; or no header has place
+-- there (own)
+abbrev pub FindsBytes : Result HeaderBytes JournalError → DiskState → DiskState → Type 0
+FindsBytes (Ok found) old new =
+    NoneFailed old new × (found.len ≡ 27 + 8 * slice_index found.bytes 10) × (found.len ≤ HEADER_BYTES)
+    × (old.honest → (rest : List ℕ) × (old.seen ≡ take found.len found.bytes ++ rest))
+FindsBytes (Err error) old new = NotRead error (old.honest → IsNotOurs old.seen) (λ at. ⊥) ⊥ old new
+
+-- the place behind the heading that the disk begins with, or none (own)
+abbrev pub FindsStart : Result ℕ JournalError → DiskState → DiskState → Type 0
+FindsStart (Ok start) old new =
+    NoneFailed old new
+    × (old.honest → (heading : Heading) × (rest : List ℕ) × IsHeading heading
+    × (old.seen ≡ spell_heading heading ++ rest) × (start ≡ length (spell_heading heading)))
+FindsStart (Err error) old new = NotRead error (old.honest → IsNotOurs old.seen) (λ at. ⊥) ⊥ old new
 
 -- the header that the disk begins with, or none (own)
 abbrev pub FindsHeader : Result Header JournalError → DiskState → DiskState → Type 0
@@ -68,6 +78,12 @@ pub record Walked (seen : List ℕ) (start : ℕ) (bodies : List (List ℕ)) (ex
   pub extents_are : extents ≡ extents_from start bodies
   pub at_is : at ≡ start + length (flat_map frame bodies)
 
+-- whole frames lie from the start up to that place, and break off there (own)
+abbrev pub BreaksOff : List ℕ → ℕ → ℕ → Type 0
+BreaksOff seen start at =
+    (bodies : List (List ℕ)) × (extents : List (ℕ × ℕ)) × Walked seen start bodies extents at
+    × IsBroken bodies (drop at seen)
+
 -- the frames up to a closed gate, or the place where they break off (own)
 abbrev pub FindsFrames : Result Frames JournalError → ℕ → DiskState → DiskState → Type 0
 FindsFrames (Ok frames) start old new =
@@ -76,10 +92,7 @@ FindsFrames (Ok frames) start old new =
     × (old.honest → ((bodies : List (List ℕ)) × Walked old.seen start bodies frames.extents.items frames.end)
     × ((gate : ℕ) × (rest : List ℕ) × (gate ≢ OPEN) × (drop frames.end old.seen ≡ gate ∷ rest)))
 FindsFrames (Err error) start old new =
-    NotRead error ⊥
-    (λ at. old.honest → (bodies : List (List ℕ)) × (extents : List (ℕ × ℕ))
-    × Walked old.seen start bodies extents at × IsBroken bodies (drop at old.seen))
-    (Unit {0}) old new
+    NotRead error ⊥ (λ at. old.honest → BreaksOff old.seen start at) (Unit {0}) old new
 
 -- an open side of the kind that is asked for and why it is one, or why it is none (own)
 abbrev pub FindsSide : Option SideKind → Result (Header × Frames) JournalError → DiskState → DiskState → Type 0

@@ -1,9 +1,9 @@
 -- What a reader takes for a heading, before it is known to be one.
-use Rattle.std.specs.Prelude.{ℕ, List, [], ◌∷◌, take, drop, slice_index, ◌==◌, if◌then◌else◌}
+use Rattle.std.specs.Prelude.{◌≡◌, ℕ, List, [], ◌∷◌, take, drop, slice_index, ◌==◌, if◌then◌else◌}
 use Rattle.byteorder.specs.Endian.{big_number}
 use Rattle.gate_journal.specs.declared.header.SideKind.{SideKind}
 use Rattle.gate_journal.specs.declared.header.SideKind.TheVariants.{Cartridge, Store}
-use Rattle.gate_journal.specs.Side.{Heading}
+use Rattle.gate_journal.specs.Side.{Heading, IsHeading, spell_heading}
 
 -- eight bytes at a time as numbers (own)
 abbrev pub numbers_of : List ℕ → List ℕ
@@ -22,3 +22,7 @@ heading_within bytes = record {
   name = take 16 (drop 11 bytes);
   capacities = numbers_of (drop 27 bytes);
 }
+
+-- the bytes are the spelling of some heading (own)
+abbrev pub IsSpelled : List ℕ → Type 0
+IsSpelled bytes = (heading : Heading) × IsHeading heading × (bytes ≡ spell_heading heading)

@@ -1,4 +1,3 @@
-use Rattle.file_disk.specs.declared.doubt.Doubt.TheVariants.{Opened}
 use Rattle.file_disk.proofs.DoubtLemmas.{read_in_doubt}
 use Rattle.file_disk.proofs.doubt.looked_at.Goals as goal
 
@@ -9,5 +8,4 @@ returns-in-None-clause-known g c = λ honest sized is.
     let read = c.look.ensures.read in
     read_in_doubt (g.F.RawFile.state old).seen (g.F.RawFile.state new).seen (g.F.RawFile.passed_over old)
     (g.F.RawFile.passed_over new) (g.F.RawFile.unsynced old) (g.F.RawFile.unsynced new) (read.rested.reaches honest)
-    (read.adds_none honest) (Opened c.in-Opened.alloc) c.args.written (read.rested.rests honest).seen
-    (rw c.in-Opened.is at is)
+    (read.adds_none honest) c.args.doubt c.args.written (read.rested.rests honest).seen is

@@ -1,23 +1,18 @@
-use Rattle.std.proofs.Common.{◌∙◌, ap}
-use Rattle.gate_journal.specs.Inner.Gates.{gate_before}
-use Rattle.gate_journal.proofs.GateLemmas.{gate_place, none_found}
+use Rattle.gate_journal.specs.Inner.Sides.{sound}
+use Rattle.gate_journal.proofs.GateLemmas.{none_ours}
 use Rattle.gate_journal.proofs.gates.last_gates.Goals as goal
 
-pub returns-in-Ok-clause-answer : goal.returns-in-Ok-clause-answer
-returns-in-Ok-clause-answer g c =
-    let found = c.in-Ok.ensures.answer in (
+pub returns-in-Err-NotOurs-clause-answer : goal.returns-in-Err-NotOurs-clause-answer
+returns-in-Err-NotOurs-clause-answer g c =
+    let found = rw c.in-Err-NotOurs.field-0-is at c.in-Err-NotOurs.ensures.answer in
+    (found.0, λ honest. none_ours (g.D.Disk.state c.args.disk.now).seen (found.1 honest))
+
+pub returns-in-Err-Damaged-clause-answer : goal.returns-in-Err-Damaged-clause-answer
+returns-in-Err-Damaged-clause-answer g c =
+    let found = rw c.in-Err-Damaged.field-0-is at c.in-Err-Damaged.ensures.answer in (
       found.0,
-      λ honest.
-          let side = found.2 honest in (
-            side.0,
-            side.1,
-            side.2,
-            c.gates_of.ensures.last ∙ ap gate_before side.3 ∙ gate_place side.0 side.1,
-            c.gates_of.ensures.end ∙ side.4,
-          ),
+      λ honest h bodies there. sound (g.D.Disk.state c.args.disk.now).seen h bodies _ there (found.1 honest),
     )
 
-pub returns-in-Err-clause-answer : goal.returns-in-Err-clause-answer
-returns-in-Err-clause-answer g c =
-    none_found (g.D.Disk.state c.args.disk.now) (g.D.Disk.state c.find_frames.new.disk) c.in-Err.error
-    c.no_gates.result c.no_gates.ensures c.in-Err.ensures.answer
+pub returns-in-Err-Device-clause-answer : goal.returns-in-Err-Device-clause-answer
+returns-in-Err-Device-clause-answer g c = rw c.in-Err-Device.field-0-is at c.in-Err-Device.ensures.answer
