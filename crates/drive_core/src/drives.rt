@@ -44,6 +44,7 @@ pub struct Drive<M: Medium, K: Keeper> {
     attentions: Attentions,
     reservations: Reservations,
     keeper: K,
+    accepted: u64,
 }
 
 impl<M: Medium, K: Keeper> Model for Drive<M, K> {
@@ -59,6 +60,7 @@ impl<M: Medium, K: Keeper> Model for Drive<M, K> {
       attentions = d.attentions;
       reservations = d.reservations;
       keeper = d.keeper;
+      accepted = d.accepted;
     } };
 
     ghost invariant = { λ d. IsBayPositioned M.state d.bay d.position };
@@ -259,5 +261,6 @@ fn switch_on<M: Medium, K: Keeper>(
         attentions: Attentions::all(pending),
         reservations,
         keeper,
+        accepted: 0,
     })
 }

@@ -45,6 +45,14 @@ impl<M: Medium, K: Keeper> Drive<M, K> {
         self.reservations.is_held()
     }
 
+    /// How many changes were accepted since it was switched on, whatever cartridge was in it. The count stays at
+    /// 18,446,744,073,709,551,615.
+    pub fn accepted(&self) -> u64
+        ensures { result ≡ self.now.accepted }
+    {
+        self.accepted
+    }
+
     /// Whether what is loaded has failed: nothing more of it is stored until it is unloaded and loaded.
     pub fn has_failed(&self) -> bool
         ensures { result ≡ has_failed_in M.state self.now.bay }
