@@ -5,6 +5,7 @@ WORDS = {
     "action of PERSISTENT RESERVE OUT": ["action_of"],
     "APTPL, power loss": ["power_loss", "needs_save"],
     "accept, what was accepted": ["Core", "CoreMoves", "Rules"],
+    "accepted changes, their count": ["counted_up", "TellsChanges", "IsChanging"],
     "acknowledge": ["Acknowledges", "NothingPending", "CanAcknowledge", "AcknowledgedIsKept"],
     "additional sense code, qualifier (ASC, ASCQ)": ["plain_sense", "sense_bytes"],
     "append a frame": ["Appended", "WithOrWithout"],

@@ -1,5 +1,7 @@
+pub mod CountLemmas
 pub mod FaultLemmas
 pub mod TakesLemmas
+pub mod QuietLemmas
 pub mod DataLemmas
 pub mod OrderLemmas
 pub mod AlikeLemmas
@@ -14,6 +16,7 @@ pub mod DeterminedLemmas
 pub mod DeterminedRuns
 pub mod CleanLemmas
 pub mod SettledLemmas
+pub mod ToldLemmas
 pub mod AppendLemmas
 pub mod ReadLemmas
 pub mod PassLemmas

@@ -75,27 +75,28 @@ module _ {M K : Type 0}
       (old now : DriveState M K) (same : old ≡ now) where
     -- a command that makes no changes takes its step, where it leaves this in the bay
     bay_takes : (new : DriveState M K) (answer : Result Reply Fault) (bay left : Bay M) → old.bay ≡ bay
-        → new.bay ≡ left → new.keeper ≡ old.keeper → is_keeper_fault answer ≡ false
+        → new.bay ≡ left → new.keeper ≡ old.keeper → new.accepted ≡ old.accepted → is_keeper_fault answer ≡ false
         → AdvancesIn below (medium_in bay) [] (is_device_fault answer) (medium_in left) → StoresIn state bay [] left
         → (S : Result Reply Fault → Made → Machine → Type 0) → S answer made_nothing (machine_of state kept new)
         → Takes state below kept keeps S old answer new
-    bay_takes new answer bay left is left_is keeper sound advances stores S step =
+    bay_takes new answer bay left is left_is keeper accepted sound advances stores S step =
         record {
           made = made_nothing;
           step = step;
           advances = rw (is, left_is) advances;
           stores = rw (is, left_is) stores;
           saves = rw (keeper, sound) (keeps_nowhere old.keeper);
+          counted = accepted;
         }
 
     unload_takes : (new : DriveState M K) (answer : Result Reply Fault) (bay left : Bay M) → old.bay ≡ bay
-        → new.bay ≡ left → new.keeper ≡ old.keeper → is_keeper_fault answer ≡ false
+        → new.bay ≡ left → new.keeper ≡ old.keeper → new.accepted ≡ old.accepted → is_keeper_fault answer ≡ false
         → AdvancesIn below (medium_in bay) [] (is_device_fault answer) (medium_in left) → StoresIn state bay [] left
         → UnloadsInto unloaded (HonestIn below (medium_in bay)) (bay_of state bay) (machine_of state kept old) answer
         made_nothing (machine_of state kept new) → Unloads now answer new
-    unload_takes new answer bay left is left_is keeper sound advances stores step =
+    unload_takes new answer bay left is left_is keeper accepted sound advances stores step =
         subst (λ (d : DriveState M K). Unloads d answer new) same
-        (bay_takes new answer bay left is left_is keeper sound advances stores
+        (bay_takes new answer bay left is left_is keeper accepted sound advances stores
         (UnloadsInto unloaded (HonestIn below (medium_in old.bay)) (bay_of state old.bay) (machine_of state kept old))
         (subst
         (λ (b : Bay M).
@@ -103,13 +104,13 @@ module _ {M K : Type 0}
         made_nothing (machine_of state kept new)) (sym is) step))
 
     load_takes : (nexus : ℕ) (new : DriveState M K) (answer : Result Reply Fault) (bay left : Bay M) → old.bay ≡ bay
-        → new.bay ≡ left → new.keeper ≡ old.keeper → is_keeper_fault answer ≡ false
+        → new.bay ≡ left → new.keeper ≡ old.keeper → new.accepted ≡ old.accepted → is_keeper_fault answer ≡ false
         → AdvancesIn below (medium_in bay) [] (is_device_fault answer) (medium_in left) → StoresIn state bay [] left
         → LoadsIn (HonestIn below (medium_in bay)) (bay_of state bay) nexus (machine_of state kept old) answer
         made_nothing (machine_of state kept new) → Loads nexus now answer new
-    load_takes nexus new answer bay left is left_is keeper sound advances stores step =
+    load_takes nexus new answer bay left is left_is keeper accepted sound advances stores step =
         subst (λ (d : DriveState M K). Loads nexus d answer new) same
-        (bay_takes new answer bay left is left_is keeper sound advances stores
+        (bay_takes new answer bay left is left_is keeper accepted sound advances stores
         (LoadsIn (HonestIn below (medium_in old.bay)) (bay_of state old.bay) nexus (machine_of state kept old))
         (subst
         (λ (b : Bay M).
@@ -127,25 +128,25 @@ module _ {M K : Type 0}
         → Unloads now (Ok (check_with medium_not_present [])) (record old { bay = slot })
     unload_none slot is e =
         unload_takes (record old { bay = slot }) (Ok (check_with medium_not_present [])) Empty Empty is e refl refl
-        (refl, refl) tt (refl, refl, stays slot Empty is e)
+        refl (refl, refl) tt (refl, refl, stays slot Empty is e)
 
     pub unload_still : (given : M) (slot : Bay M) → old.bay ≡ Unloaded given → slot ≡ Unloaded given
         → Unloads now (Ok (good_with [])) (record old { bay = slot })
     unload_still given slot is e =
         unload_takes (record old { bay = slot }) (Ok (good_with [])) (Unloaded given) (Unloaded given) is e refl refl
-        (nowhere given) tt (refl, refl, bay_machine old slot (Unloaded given) e)
+        refl (nowhere given) tt (refl, refl, bay_machine old slot (Unloaded given) e)
 
     pub unload_parked : (given parked : M) (slot : Bay M) → old.bay ≡ Loaded given → slot ≡ Unloaded parked
         → ParksFrom state below given (Ok parked) → Unloads now (Ok (good_with [])) (record old { bay = slot })
     unload_parked given parked slot is e h =
-        unload_takes (record old { bay = slot }) (Ok (good_with [])) (Loaded given) (Unloaded parked) is e refl refl h.1
-        tt (Ok tt, state parked, h.0, (refl, bay_machine old slot (Unloaded parked) e), refl)
+        unload_takes (record old { bay = slot }) (Ok (good_with [])) (Loaded given) (Unloaded parked) is e refl refl
+        refl h.1 tt (Ok tt, state parked, h.0, (refl, bay_machine old slot (Unloaded parked) e), refl)
 
     pub unload_broken : (given broken : M) (slot : Bay M) → old.bay ≡ Loaded given → slot ≡ Loaded broken
         → ParksFrom state below given (Err broken) → Unloads now (Err Writing) (record old { bay = slot })
     unload_broken given broken slot is e h =
-        unload_takes (record old { bay = slot }) (Err Writing) (Loaded given) (Loaded broken) is e refl refl h.2 h.1
-        (Err Errors.Device, state broken, h.0, (refl, bay_machine old slot (Loaded broken) e), refl)
+        unload_takes (record old { bay = slot }) (Err Writing) (Loaded given) (Loaded broken) is e refl refl refl h.2
+        h.1 (Err Errors.Device, state broken, h.0, (refl, bay_machine old slot (Loaded broken) e), refl)
 
     -- LOAD of an empty drive, of a medium that has failed, and of one that is not loaded
     module _ (nexus : ℕ) where
@@ -153,14 +154,14 @@ module _ {M K : Type 0}
           → Loads nexus now (Ok (check_with medium_not_present [])) (record old { bay = slot })
       load_none slot is e =
           load_takes nexus (record old { bay = slot }) (Ok (check_with medium_not_present [])) Empty Empty is e refl
-          refl (refl, refl) tt (refl, refl, stays slot Empty is e)
+          refl refl (refl, refl) tt (refl, refl, stays slot Empty is e)
 
       pub load_failed : (given : M) (slot : Bay M) → old.bay ≡ Loaded given → slot ≡ Loaded given
           → (state given).failed ≡ true → Loads nexus now (Ok (check_with medium_failed [])) (record old { bay = slot })
       load_failed given slot is e failed =
           load_takes nexus (record old { bay = slot }) (Ok (check_with medium_failed [])) (Loaded given) (Loaded
           given) is
-          e refl refl (nowhere given) (stores_nowhere (state given))
+          e refl refl refl (nowhere given) (stores_nowhere (state given))
           (rw failed (refl, refl, stays slot (Loaded given) is e))
 
       pub load_opened : (given opened : M) (slot : Bay M) (position : Pos) (attentions : List AttentionSet)
@@ -171,7 +172,7 @@ module _ {M K : Type 0}
           (record old { bay = slot; position = position; attentions = attentions })
       load_opened given opened slot position attentions is e at told h =
           load_takes nexus (record old { bay = slot; position = position; attentions = attentions })
-          (Ok (good_with [])) (Unloaded given) (Loaded opened) is e refl refl h.0.advances tt (
+          (Ok (good_with [])) (Unloaded given) (Loaded opened) is e refl refl refl h.0.advances tt (
             Ok tt,
             state opened,
             h.0.answer,
@@ -191,24 +192,24 @@ module _ {M K : Type 0}
           → Loads nexus now (wake_answer error) (record old { bay = slot })
       load_refused given parked error slot is e h =
           load_takes nexus (record old { bay = slot }) (wake_answer error) (Unloaded given) (Unloaded parked) is e refl
-          (wake_sound error) (rw (sym (wake_fault error)) h.0.advances) tt
+          refl (wake_sound error) (rw (sym (wake_fault error)) h.0.advances) tt
           (Err error, state parked, h.0.answer, (refl, bay_machine old slot (Unloaded parked) e), refl)
 
       -- and of one that works: what is pending is stored, and the position is the start
       pub load_again : (given left : M) (position : Pos) (answer : Result Reply Fault) → old.bay ≡ Loaded given
           → (state given).failed ≡ false
-          → Carries state below (StoredFirst (GoesTo (λ m. start))) given old.position answer left position
+          → Carries state below (StoredFirst (GoesTo (λ m. start))) given old.position answer [] left position
           → Loads nexus now answer (record old { bay = Loaded left; position = position })
       load_again given left position answer is works carries =
           let sound =
-          faultless_start (mounted (state given) old.position) answer carries.made (mounted (state left) position)
+          faultless_start (mounted (state given) old.position) answer [] (mounted (state left) position)
           carries.work in
           subst
           (λ (d : DriveState M K). Loads nexus d answer (record old { bay = Loaded left; position = position }))
           same
           (carried_takes state below kept keeps nowhere keeps_nowhere (StoredFirst (GoesTo (λ m. start)))
           (LoadsIn (HonestIn below (medium_in old.bay)) (bay_of state old.bay) nexus (machine_of state kept old)) old
-          given left position answer is sound carries
+          given left position old.accepted answer is sound (record { made = []; carries = carries; counted = refl })
           (λ made h. subst
           (λ (b : Bay M).
           LoadsIn (HonestIn below (medium_in b)) (bay_of state b) nexus (machine_of state kept old) answer made

@@ -46,7 +46,7 @@ module _ {M K : Type 0}
   unsaved_takes due =
       still_takes state below kept keeps nowhere keeps_nowhere (OrderWork order nexus (machine_of state kept old)) old
       (ordered old left told) (Ok (order_reply brought)) (record { medium = refl; keeper = refl })
-      (record { bay = refl; keeper = refl }) (brought, told, left, orders, rw due (refl, refl, refl))
+      (record { bay = refl; keeper = refl; accepted = refl }) (brought, told, left, orders, rw due (refl, refl, refl))
 
   module _ (keeper : K) (due : needs_save old.reservations left ≡ true) where
     -- one that was saved stands
@@ -61,6 +61,7 @@ module _ {M K : Type 0}
           advances = advances_nowhere_in state below kept keeps nowhere keeps_nowhere (medium_in old.bay);
           stores = stores_nowhere_in state below kept keeps nowhere keeps_nowhere old.bay;
           saves = advances;
+          counted = refl;
         }
 
     -- and one that was not saved does not
@@ -78,6 +79,7 @@ module _ {M K : Type 0}
               (advances_nowhere_in state below kept keeps nowhere keeps_nowhere (medium_in old.bay));
           stores = stores_nowhere_in state below kept keeps nowhere keeps_nowhere old.bay;
           saves = rw (keeper_fault (kept old.keeper) left error (kept keeper) works saves) advances;
+          counted = refl;
         }
 
 -- the same of a drive that is equal to it

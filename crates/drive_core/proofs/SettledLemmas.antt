@@ -50,7 +50,7 @@ attention_key ReservationsReleased = λ e. cc
 attention_key ModeChanged = λ e. cc
 
 -- CHECK CONDITION with a key acknowledges nothing
-unacknowledged : (sense : Sense) (bytes : List ℕ) → sense.key ≢ NoSense → Acknowledges (check_with sense bytes) → ⊥
+pub unacknowledged : (sense : Sense) (bytes : List ℕ) → sense.key ≢ NoSense → Acknowledges (check_with sense bytes) → ⊥
 unacknowledged sense bytes other (inl good) = cc
 unacknowledged sense bytes other (inr warning) = other warning.1.0
 
@@ -60,7 +60,7 @@ conflict_unacknowledged (inl good) = cc
 conflict_unacknowledged (inr warning) = cc warning.0
 
 -- want of room acknowledges nothing
-lacks_unacknowledged : (amount : Option ℕ) (old : Mounted) (reply : Reply) (made : List Change) (new : Mounted)
+pub lacks_unacknowledged : (amount : Option ℕ) (old : Mounted) (reply : Reply) (made : List Change) (new : Mounted)
     → LacksRoom amount old reply made new → Acknowledges reply → ⊥
 lacks_unacknowledged None old reply made new h acknowledged = absurd h
 lacks_unacknowledged (Some amount) old reply made new h acknowledged =
@@ -185,7 +185,7 @@ module _ (H : Type 0) where
     command_settled (LoadUnload load) sure counted h = load_unload_settled H old reply made new load nexus sure h
 
 -- a command that is denied is not acknowledged, one that is carried out is the block's and came with its bytes
-abbrev Judged : Request → Result Command Denial → Type 0
+abbrev pub Judged : Request → Result Command Denial → Type 0
 Judged request (Err denial) = Acknowledges (denial_reply denial) → ⊥
 Judged request (Ok command) =
     (decoded request.cdb ≡ Ok command) × (length request.sent ≡ sent_length command)
@@ -249,7 +249,7 @@ module _ (machine : Machine) (request : Request) where
   fields_judged (Some command) is =
       both_hold (suits machine command) (length request.sent == sent_length command) command refl is
 
-  code_judged : (found : Option Opcode) → opcode_of request.cdb ≡ found → Judged request (verdict_at machine request
+  pub code_judged : (found : Option Opcode) → opcode_of request.cdb ≡ found → Judged request (verdict_at machine request
       found)
   code_judged None is = unacknowledged invalid_operation_code [] (λ e. cc)
   code_judged (Some opcode) is =

@@ -30,7 +30,7 @@ use Rattle.drive_core.specs.Tell.{Gives, Tells}
 use Rattle.drive_core.specs.Work.{Request, Work, WorkBy}
 use Rattle.drive_core.specs.OnMedium.{OnMediumIn}
 use Rattle.drive_core.specs.Checks.{Executes, verdict}
-use Rattle.drive_core.specs.Inner.Carries.{Carries}
+use Rattle.drive_core.specs.Inner.Carries.{Tallies}
 use Rattle.drive_core.specs.Execute.{Takes, AdvancesIn, StoresIn, HonestIn, is_device_fault, is_keeper_fault}
 
 -- what neither device failed in
@@ -48,10 +48,11 @@ gives_faultless bytes (Err (SideFull residue)) h = absurd h
 gives_faultless bytes (Err Saving) h = absurd h
 gives_faultless bytes (Err StoreFull) h = absurd h
 
--- what is in the bay and the keeper are not touched
+-- what is in the bay and the keeper are not touched, and nothing is counted
 pub record IsUntouched {M K : Type 0} (old new : DriveState M K) : Type 0 where
   pub bay : new.bay ≡ old.bay
   pub keeper : new.keeper ≡ old.keeper
+  pub accepted : new.accepted ≡ old.accepted
 
 module _ {M K : Type 0}
     (state : M → MediumState) (below : Below M Change) (kept : K → KeeperState) (keeps : Below K PrState)
@@ -78,6 +79,7 @@ module _ {M K : Type 0}
         advances = rw (same.bay, sound.medium) (advances_nowhere_in (medium_in old.bay));
         stores = rw same.bay (stores_nowhere_in old.bay);
         saves = rw (same.keeper, sound.keeper) (keeps_nowhere old.keeper);
+        counted = same.accepted;
       }
 
   -- a condition that was reported is cleared in the machine as in the drive
@@ -96,14 +98,14 @@ module _ {M K : Type 0}
   -- and bay and keeper are not touched
   without_untouched : (condition : Condition) (nexus : ℕ) (drive : DriveState M K)
       → IsUntouched drive (without_condition condition nexus drive)
-  without_untouched DeferredError nexus drive = record { bay = refl; keeper = refl }
-  without_untouched (UnitAttention attention) nexus drive = record { bay = refl; keeper = refl }
+  without_untouched DeferredError nexus drive = record { bay = refl; keeper = refl; accepted = refl }
+  without_untouched (UnitAttention attention) nexus drive = record { bay = refl; keeper = refl; accepted = refl }
 
   denied_untouched : (denial : Denial) (nexus : ℕ) (drive : DriveState M K)
       → IsUntouched drive (denied denial nexus drive)
-  denied_untouched (Refused sense) nexus drive = record { bay = refl; keeper = refl }
+  denied_untouched (Refused sense) nexus drive = record { bay = refl; keeper = refl; accepted = refl }
   denied_untouched (Reported condition) nexus drive = without_untouched condition nexus drive
-  denied_untouched Conflict nexus drive = record { bay = refl; keeper = refl }
+  denied_untouched Conflict nexus drive = record { bay = refl; keeper = refl; accepted = refl }
 
   -- a command that is denied takes its step
   pub denied_takes :
@@ -138,6 +140,7 @@ module _ {M K : Type 0}
         advances = h.advances;
         stores = h.stores;
         saves = h.saves;
+        counted = h.counted;
       }
 
   -- by whether the command needs a medium
@@ -153,6 +156,7 @@ module _ {M K : Type 0}
         advances = h.advances;
         stores = h.stores;
         saves = h.saves;
+        counted = h.counted;
       }
 
   pub tells_takes :
@@ -160,7 +164,7 @@ module _ {M K : Type 0}
       → Takes state below kept keeps (Tells bytes (machine_of state kept old)) old answer old
   tells_takes bytes old answer given =
       still_takes (Tells bytes (machine_of state kept old)) old old answer (gives_faultless bytes answer given)
-      (record { bay = refl; keeper = refl }) (given, refl, refl)
+      (record { bay = refl; keeper = refl; accepted = refl }) (given, refl, refl)
 
   -- sense data that is reported
   pub senses_takes :
@@ -177,7 +181,7 @@ module _ {M K : Type 0}
   -- the drive once the condition that was due, if any, was cleared
   pub cleared_untouched : (due : Option Condition) (nexus : ℕ) (drive : DriveState M K)
       → IsUntouched drive (once_reported due nexus drive)
-  cleared_untouched None nexus drive = record { bay = refl; keeper = refl }
+  cleared_untouched None nexus drive = record { bay = refl; keeper = refl; accepted = refl }
   cleared_untouched (Some condition) nexus drive = without_untouched condition nexus drive
 
   pub cleared_in_machine : (due : Option Condition) (nexus : ℕ) (drive : DriveState M K)
@@ -188,35 +192,38 @@ module _ {M K : Type 0}
   -- the work on a loaded medium is a step of the drive that it is in
   pub carried_takes :
       (W : MediumRelation) (S : Result Reply Fault → Made → Machine → Type 0)
-      → (old : DriveState M K) (medium now : M) (position : Pos) (answer : Result Reply Fault)
+      → (old : DriveState M K) (medium now : M) (position : Pos) (tally : ℕ) (answer : Result Reply Fault)
       → old.bay ≡ Loaded medium → is_keeper_fault answer ≡ false
-      → Carries state below W medium old.position answer now position
+      → Tallies state below W medium old.position old.accepted answer now position tally
       → ((made : Made)
       → OnMediumIn (Loaded (state medium)) W (machine_of state kept old) answer made
-      (machine_of state kept (record old { bay = Loaded now; position = position }))
-      → S answer made (machine_of state kept (record old { bay = Loaded now; position = position })))
-      → Takes state below kept keeps S old answer (record old { bay = Loaded now; position = position })
-  carried_takes W S old medium now position answer in_bay sound carries means =
+      (machine_of state kept (record old { bay = Loaded now; position = position; accepted = tally }))
+      → S answer made (machine_of state kept (record old { bay = Loaded now; position = position; accepted = tally })))
+      → Takes state below kept keeps S old answer
+      (record old { bay = Loaded now; position = position; accepted = tally })
+  carried_takes W S old medium now position tally answer in_bay sound tallies means =
       record {
-        made = made_on_medium carries.made;
-        step = means (made_on_medium carries.made) (mounted (state now) position, carries.work, refl, refl);
-        advances = rw in_bay carries.advances;
-        stores = rw in_bay carries.stores;
+        made = made_on_medium tallies.made;
+        step =
+            means (made_on_medium tallies.made) (mounted (state now) position, tallies.carries.work, refl, refl);
+        advances = rw in_bay tallies.carries.advances;
+        stores = rw in_bay tallies.carries.stores;
         saves = rw sound (keeps_nowhere old.keeper);
+        counted = tallies.counted;
       }
 
 -- another mode changes neither bay nor keeper, and the machine's is the drive's
 module _ {M K : Type 0} (state : M → MediumState) (kept : K → KeeperState) where
   mode_untouched : (was asked : Bool) (nexus : ℕ) (drive : DriveState M K)
       → IsUntouched drive (in_mode was asked nexus drive)
-  mode_untouched true true nexus drive = record { bay = refl; keeper = refl }
-  mode_untouched false false nexus drive = record { bay = refl; keeper = refl }
-  mode_untouched true false nexus drive = record { bay = refl; keeper = refl }
-  mode_untouched false true nexus drive = record { bay = refl; keeper = refl }
+  mode_untouched true true nexus drive = record { bay = refl; keeper = refl; accepted = refl }
+  mode_untouched false false nexus drive = record { bay = refl; keeper = refl; accepted = refl }
+  mode_untouched true false nexus drive = record { bay = refl; keeper = refl; accepted = refl }
+  mode_untouched false true nexus drive = record { bay = refl; keeper = refl; accepted = refl }
 
   pub asked_untouched : (asked : Option Bool) (nexus : ℕ) (drive : DriveState M K)
       → IsUntouched drive (in_asked_mode asked nexus drive)
-  asked_untouched None nexus drive = record { bay = refl; keeper = refl }
+  asked_untouched None nexus drive = record { bay = refl; keeper = refl; accepted = refl }
   asked_untouched (Some buffered) nexus drive = mode_untouched drive.buffered buffered nexus drive
 
   mode_in_machine : (was asked : Bool) (nexus : ℕ) (drive : DriveState M K)

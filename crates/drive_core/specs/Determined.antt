@@ -66,6 +66,7 @@ seen_of machine = record {
   attentions = machine.attentions;
   reservations = machine.reservations;
   keeper = without_room machine.keeper;
+  accepted = 0;
 }
 
 -- the changes that a side which is shown may give, or may not (own)

@@ -16,6 +16,7 @@ use Rattle.drive_core.specs.Faults.{reply_of}
 use Rattle.drive_core.specs.Relations.{Made}
 use Rattle.drive_core.specs.Work.{Request}
 use Rattle.drive_core.specs.Step.{Execute, Answered, Step}
+use Rattle.drive_core.specs.Counted.{counted_up}
 
 -- the device below the medium failed (own)
 abbrev pub is_device_fault : {R : Type 0} → Result R Fault → Bool
@@ -46,7 +47,7 @@ abbrev pub HonestIn : {M : Type 0} → Below M Change → Option M → Type 0
 HonestIn below None = Unit {0}
 HonestIn below (Some m) = below.honest m
 
--- a drive takes such a step of its machine, and its medium and its keeper follow (own)
+-- a drive takes such a step of its machine, its medium and its keeper follow, and the changes are counted (own)
 pub record Takes {M K : Type 0}
     (state : M → MediumState) (below : Below M Change) (kept : K → KeeperState) (keeps : Below K PrState)
     (S : Result Reply Fault → Made → Machine → Type 0)
@@ -57,6 +58,7 @@ pub record Takes {M K : Type 0}
       AdvancesIn below (medium_in old.bay) made.changes (is_device_fault answer) (medium_in new.bay)
   pub stores : StoresIn state old.bay made.changes new.bay
   pub saves : Advances keeps old.keeper made.saved (is_keeper_fault answer) new.keeper
+  pub counted : new.accepted ≡ counted_up old.accepted made.changes
 
 -- a host is answered by a step of the machine, in which a block's bytes are those that stand on the medium where it is
 -- honest (own)

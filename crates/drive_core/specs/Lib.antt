@@ -24,8 +24,10 @@ pub mod Turn
 pub mod Load
 pub mod Step
 pub mod Synchronize
+pub mod Counted
 pub mod Execute
 pub mod Data
+pub mod Told
 pub mod Media
 pub mod Run
 pub mod Determined

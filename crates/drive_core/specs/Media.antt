@@ -88,7 +88,8 @@ module _ {M : Type 0} (state : M → MediumState) (below : Below M Change) where
         (opened : M) × WakesAs given (Err Errors.NoMemory) opened × (back.0 ≡ Some opened) × (back.1 ≡ keeper)
 
     module _ (kept : K → KeeperState) where
-      -- a flusher's turn is a step of the machine, the medium follows, and the keeper is not touched (own)
+      -- a flusher's turn is a step of the machine, the medium follows, the keeper is not touched, and nothing counts
+      -- (own)
       pub record TakesTurn (old : DriveState M K) (turn : Turn) (new : DriveState M K) : Type 0 where
         pub step :
             Step (HonestIn below (medium_in old.bay)) (machine_of state kept old)
@@ -97,6 +98,7 @@ module _ {M : Type 0} (state : M → MediumState) (below : Below M Change) where
         pub told : TurnsIn (bay_of state old.bay) (machine_of state kept old) turn (machine_of state kept new)
         pub stores : StoresIn state old.bay [] new.bay
         pub keeper : new.keeper ≡ old.keeper
+        pub accepted : new.accepted ≡ old.accepted
 
       -- what a loading does is a step of the machine (own)
       pub record LoadSteps

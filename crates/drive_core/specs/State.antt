@@ -1,5 +1,5 @@
 -- What a drive is in.
-use Rattle.std.specs.Prelude.{◌≡◌, List, [], replicate, Option, None, Some, Bool, true, false}
+use Rattle.std.specs.Prelude.{◌≡◌, ℕ, List, [], replicate, Option, None, Some, Bool, true, false}
 use Rattle.vtl_base.specs.declared.limits.TheConstants.{NEXUSES}
 use Rattle.scsi_attention.specs.declared.attention_sets.Attention.TheVariants.{PowerOn, MediumChanged}
 use Rattle.scsi_attention.specs.AttentionSets.{AttentionSet, no_attentions, with_attention}
@@ -16,7 +16,8 @@ use Rattle.positioning.specs.Motion.{IsOnTape}
 
 -- a drive whose medium is known as an M, and whose keeper as a K: what is in it, where on the medium the next command
 -- works, the buffered mode, whether a deferred error is to be reported, the unit attention conditions of each nexus,
--- the reservations, and what keeps these (SSC-4, SPC-4; the last own)
+-- the reservations, what keeps these, and how many changes were accepted since it was switched on (SSC-4, SPC-4; the
+-- last two own)
 pub record DriveState (M K : Type 0) : Type 0 where
   pub bay : Bay M
   pub position : Pos
@@ -25,8 +26,10 @@ pub record DriveState (M K : Type 0) : Type 0 where
   pub attentions : List AttentionSet
   pub reservations : PrState
   pub keeper : K
+  pub accepted : ℕ
 
--- the drive as the standards speak of it: of its medium and its keeper the state alone (SSC-4, SPC-4; the keeper own)
+-- the drive as the standards speak of it: of its medium and its keeper the state alone, and nothing is counted (SSC-4,
+-- SPC-4; the keeper own)
 abbrev pub Machine : Type 0
 Machine = DriveState MediumState KeeperState
 
@@ -46,6 +49,7 @@ machine_of state kept drive = record {
   attentions = drive.attentions;
   reservations = drive.reservations;
   keeper = kept drive.keeper;
+  accepted = 0;
 }
 
 -- the medium in a bay, loaded or not (own)
@@ -103,7 +107,8 @@ left_of None = empty_state
 left_of (Some saved) = power_loss saved
 
 -- a drive that was just switched on with this in it, these reservations and this keeper: at the start, in buffered
--- mode, and for every nexus the power on condition is established, and nothing else (SPC-4, SSC-4; the mode own)
+-- mode, and for every nexus the power on condition is established, and nothing else; no change was accepted yet (SPC-4,
+-- SSC-4; mode and count own)
 abbrev pub powered_on : {M K : Type 0} → Bay M → PrState → K → DriveState M K
 powered_on bay reservations keeper = record {
   bay = bay;
@@ -113,6 +118,7 @@ powered_on bay reservations keeper = record {
   attentions = replicate NEXUSES (with_attention PowerOn no_attentions);
   reservations = reservations;
   keeper = keeper;
+  accepted = 0;
 }
 
 -- a drive that this medium was just loaded into: at the start, and for every nexus it is established that the medium

@@ -7,7 +7,7 @@ ghost use Rattle.volume_core.specs.Stores.{Stores};
 ghost use Rattle.drive_core.specs.State.{IsPositioned, mounted};
 ghost use Rattle.drive_core.specs.Append.{AppendWork, amount_of, done_reply, is_warned};
 ghost use Rattle.drive_core.specs.Execute.{is_device_fault};
-ghost use Rattle.drive_core.specs.Inner.Carries.{Carries, IsReady};
+ghost use Rattle.drive_core.specs.Inner.Carries.{IsReady, Tallies};
 ghost use Rattle.drive_core.specs.Inner.Appending.{IsAt, refused_as, returned_of, SettlesAfter};
 
 use crate::faults::Fault;
@@ -27,7 +27,7 @@ pub struct Appended {
     pub returned: Option<Change>,
 }
 
-/// Makes a change at the position, which is then behind what it adds. `amount` is what the host is
+/// Makes a change at the position, which is then behind what it adds, and counts it. `amount` is what the host is
 /// told where the change does not fit, None for one that adds nothing, and so always fits and warns
 /// of nothing. `settles` is that all is stored before the answer. A change that is not accepted is
 /// returned.
@@ -35,6 +35,7 @@ pub fn append<M: Medium>(
     alloc: Global,
     medium: &mut M,
     position: &mut Pos,
+    accepted: &mut u64,
     change: Change,
     amount: Option<u32>,
     settles: bool,
@@ -46,14 +47,15 @@ pub fn append<M: Medium>(
     requires amount { amount ≡ amount_of change }
     requires fits { amount_of change ≡ None
         → refusal_of (volume_of (M.state medium.old)) change ≡ None }
-    ensures carries { (carries : Carries M.state M.below
+    ensures carries { (tallies : Tallies M.state M.below
         (AppendWork settles change)
-        medium.old position.old result.answer medium.new position.new)
-        × (result.returned ≡ returned_of carries.made change) }
+        medium.old position.old accepted.old result.answer medium.new position.new accepted.new)
+        × (result.returned ≡ returned_of tallies.made change) }
     ensures on { IsPositioned (M.state medium.new) position.new }
 {
     match medium.accept(change) {
         Ok(()) => {
+            *accepted = accepted.saturating_add(1);
             position.obj = medium.count(position.part);
             let warned = is_warned(medium, *position, amount);
             Appended {

@@ -4,7 +4,7 @@ ghost use Rattle.vtl_base.specs.declared.limits.TheConstants.{MAX_BLOCK};
 ghost use Rattle.scsi_wire.specs.Commands.{code_of, sent_length, written_length};
 ghost use Rattle.scsi_wire.specs.Opcodes.{needs_medium};
 ghost use Rattle.drive_core.specs.State.{IsPositioned, mounted};
-ghost use Rattle.drive_core.specs.Inner.Carries.{Carries, IsReady};
+ghost use Rattle.drive_core.specs.Inner.Carries.{IsReady, Tallies};
 ghost use Rattle.drive_core.specs.Inner.Passing.{HasPart};
 ghost use Rattle.drive_core.specs.Work.{MediumWork};
 
@@ -24,11 +24,12 @@ use std::alloc::Global;
 use volume_core::Medium;
 use vtl_base::Bytes;
 
-/// Carries a command out on a medium that is ready.
+/// Carries a command out on a medium that is ready, and counts the changes that it accepts.
 pub fn carry_out<M: Medium>(
     alloc: Global,
     medium: &mut M,
     position: &mut Pos,
+    accepted: &mut u64,
     buffered: bool,
     command: Command,
     sent: &[u8],
@@ -39,9 +40,9 @@ pub fn carry_out<M: Medium>(
     requires part { HasPart (M.state medium.old) command }
     requires sent { length sent.now ≡ sent_length command }
     requires short { written_length command ≤ MAX_BLOCK }
-    ensures carries { Carries M.state M.below
+    ensures carries { Tallies M.state M.below
         (MediumWork (M.below.honest medium.old) command buffered sent.now)
-        medium.old position.old result medium.new position.new }
+        medium.old position.old accepted.old result medium.new position.new accepted.new }
     ensures on { IsPositioned (M.state medium.new) position.new }
 {
     match command {
@@ -51,12 +52,12 @@ pub fn carry_out<M: Medium>(
             length,
             suppress_length,
         } => read(alloc, medium, position, length, suppress_length),
-        Command::Write { .. } => write_copy(alloc, medium, position, buffered, sent),
+        Command::Write { .. } => write_copy(alloc, medium, position, accepted, buffered, sent),
         Command::WriteFilemarks { count, immediate } => {
-            write_marks(alloc, medium, position, count, immediate)
+            write_marks(alloc, medium, position, accepted, count, immediate)
         }
         Command::Space { code, count } => space(alloc, medium, position, code, count),
-        Command::Erase => erase(alloc, medium, position, buffered),
+        Command::Erase => erase(alloc, medium, position, accepted, buffered),
         Command::Locate { object, part } => locate(alloc, medium, position, object, part),
         Command::ReadPosition => read_position(alloc, medium, position),
         Command::RequestSense { .. }

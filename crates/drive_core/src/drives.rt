@@ -1,7 +1,7 @@
 //! Drives.
-ghost use Rattle.std.specs.Prelude.{◌≡◌, ◌↔◌, IsTrue, IfOk, IfSome, false, is_some, option_copied};
+ghost use Rattle.std.specs.Prelude.{◌≡◌, IfOk, IfSome, false};
 ghost use Rattle.drive_core.specs.declared.bays.Bay.TheVariants as Bays;
-ghost use Rattle.drive_core.specs.State.{IsAtHand, has_failed_in, machine_of, medium_in, left_of, IsBayPositioned};
+ghost use Rattle.drive_core.specs.State.{IsAtHand, machine_of, medium_in, left_of};
 ghost use Rattle.drive_core.specs.Conditions.{denial_reply, denied, without_condition};
 ghost use Rattle.drive_core.specs.Checks.{Executes};
 ghost use Rattle.drive_core.specs.Synchronize.{IsSynchronizing, Acknowledges, NothingPending};
@@ -10,6 +10,7 @@ ghost use Rattle.drive_core.specs.Media.{TakesTurn, TakesIn, InsertSteps, LoadSt
 
 mod lending;
 mod loading;
+mod looking;
 mod modes;
 mod performing;
 mod reserving;
@@ -43,6 +44,7 @@ pub struct Drive<M: Medium, K: Keeper> {
     attentions: Attentions,
     reservations: Reservations,
     keeper: K,
+    accepted: u64,
 }
 
 impl<M: Medium, K: Keeper> Model for Drive<M, K> {
@@ -58,6 +60,7 @@ impl<M: Medium, K: Keeper> Model for Drive<M, K> {
       attentions = d.attentions;
       reservations = d.reservations;
       keeper = d.keeper;
+      accepted = d.accepted;
     } };
 
     ghost invariant = { λ d. IsBayPositioned M.state d.bay d.position };
@@ -83,35 +86,6 @@ impl<M: Medium, K: Keeper> Drive<M, K> {
         switch_on(alloc, keeper, reservations, medium)
     }
 
-    /// Whether there is no cartridge in it, loaded or not.
-    pub fn is_empty(&self) -> bool
-        ensures { IsTrue result ↔ (self.now.bay ≡ Bays.Empty) }
-    {
-        match self.bay {
-            Bay::Empty => true,
-            Bay::Unloaded(_) | Bay::Loaded(_) => false,
-        }
-    }
-
-    /// The medium in it, for tests. A loaded one is awake, and the position is on it; one that is
-    /// not loaded is parked.
-    pub fn medium(&self) -> Option<&M>
-        ensures medium { option_copied result ≡ medium_in self.now.bay }
-        ensures on { IsBayPositioned M.state self.now.bay self.now.position }
-    {
-        match &self.bay {
-            Bay::Empty => None,
-            Bay::Unloaded(medium) | Bay::Loaded(medium) => Some(medium),
-        }
-    }
-
-    /// What keeps its reservations, for tests.
-    pub fn keeper(&self) -> &K
-        ensures { result.now ≡ self.now.keeper }
-    {
-        &self.keeper
-    }
-
     /// Opens a medium, awake or parked, and loads it into an empty drive: it stands at its start,
     /// and for every nexus it is established that the medium may have changed. One that can't be
     /// opened comes back with the reply: 4, 44/00 where it has failed, 3, 11/00 where its side is
@@ -134,23 +108,6 @@ impl<M: Medium, K: Keeper> Drive<M, K> {
         ensures step { InsertSteps M.state M.below K.kept self.old medium self.new }
     {
         fill(&mut self.bay, Bay::Unloaded(medium));
-    }
-
-    /// Whether a reservation is held at the drive.
-    pub fn held(&self) -> bool
-        ensures { result ≡ is_some self.now.reservations.reservation }
-    {
-        self.reservations.is_held()
-    }
-
-    /// Whether what is loaded has failed: nothing more of it is stored until it is unloaded and loaded.
-    pub fn has_failed(&self) -> bool
-        ensures { result ≡ has_failed_in M.state self.now.bay }
-    {
-        match &self.bay {
-            Bay::Loaded(medium) => medium.has_failed(),
-            Bay::Empty | Bay::Unloaded(_) => false,
-        }
     }
 
     /// Unloads what is in the drive, as UNLOAD does, and gives it out, parked. Where there is nothing
@@ -304,5 +261,6 @@ fn switch_on<M: Medium, K: Keeper>(
         attentions: Attentions::all(pending),
         reservations,
         keeper,
+        accepted: 0,
     })
 }

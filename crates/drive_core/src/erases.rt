@@ -4,7 +4,7 @@ ghost use Rattle.volume_core.specs.Volume.{refusal_of};
 ghost use Rattle.volume_core.specs.Medium.{volume_of};
 ghost use Rattle.drive_core.specs.State.{IsPositioned, mounted};
 ghost use Rattle.drive_core.specs.Erase.{EraseWork, erase_at};
-ghost use Rattle.drive_core.specs.Inner.Carries.{Carries, IsReady};
+ghost use Rattle.drive_core.specs.Inner.Carries.{IsReady, Tallies};
 
 use crate::appends::append;
 use crate::faults::Fault;
@@ -20,13 +20,14 @@ pub fn erase<M: Medium>(
     alloc: Global,
     medium: &mut M,
     position: &mut Pos,
+    accepted: &mut u64,
     buffered: bool,
 ) -> Result<Reply, Fault>
     requires hand { M.below.at_hand medium.old }
     requires ready { IsReady (mounted (M.state medium.old) position.old) }
-    ensures carries { Carries M.state M.below
+    ensures carries { Tallies M.state M.below
         (EraseWork buffered)
-        medium.old position.old result medium.new position.new }
+        medium.old position.old accepted.old result medium.new position.new accepted.new }
     ensures on { IsPositioned (M.state medium.new) position.new }
 {
     store_pending(medium)?;
@@ -35,7 +36,7 @@ pub fn erase<M: Medium>(
         part: position.part,
         at: position.obj,
     };
-    append(alloc, medium, position, change, None, !buffered).answer
+    append(alloc, medium, position, accepted, change, None, !buffered).answer
 }
 
 // What stays of a partition fits it, by what the catalog says of what is there. Both calls are for

@@ -1,6 +1,8 @@
 //! Laws of the drive machine.
+ghost use Rattle.drive_core.specs.Counted.{CountsAreHeld};
 ghost use Rattle.drive_core.specs.Determined.{HonestStepsAreSteps, StepsAreDetermined, RunsAreDetermined, RunsStaySure};
 ghost use Rattle.drive_core.specs.Run.{EventsAreRuns, RunsAppend, ServedByRuns};
+ghost use Rattle.drive_core.specs.Told.{RepliesTellChanges};
 
 use positioning::laws::{each_locate_has_one_end, each_space_has_one_end};
 use pr_core::Keeper;
@@ -41,4 +43,15 @@ pub fn served_hosts_run<M: Medium, K: Keeper>()
 /// which each turn stands where it was taken.
 pub fn events_run<M: Medium, K: Keeper>()
     ensures { EventsAreRuns M.state M.below K.kept K.below }
+{}
+
+/// What a reply tells of the changes that its command made: one where a WRITE of some bytes, a WRITE FILEMARKS of some
+/// or an ERASE is acknowledged; none or one where it is a write error; else none.
+pub fn replies_tell_changes<M: Medium, K: Keeper>()
+    ensures { RepliesTellChanges M.state M.below K.kept K.below }
+{}
+
+/// The count of a drive rises by the number of the changes that are accepted, and stays at its limit.
+pub fn counts_are_held()
+    ensures { CountsAreHeld }
 {}

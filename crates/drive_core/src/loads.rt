@@ -1,5 +1,5 @@
 //! LOAD of a medium that is loaded.
-ghost use Rattle.std.specs.Prelude.{◌≡◌};
+ghost use Rattle.std.specs.Prelude.{◌≡◌, []};
 ghost use Rattle.drive_core.specs.State.{IsPositioned, mounted, start};
 ghost use Rattle.drive_core.specs.StoredFirst.{GoesTo, StoredFirst};
 ghost use Rattle.drive_core.specs.Inner.Carries.{Carries, IsReady};
@@ -23,7 +23,7 @@ pub fn go_to_start<M: Medium>(
     requires ready { IsReady (mounted (M.state medium.old) position.old) }
     ensures carries { Carries M.state M.below
         (StoredFirst (GoesTo (λ m. start)))
-        medium.old position.old result medium.new position.new }
+        medium.old position.old result [] medium.new position.new }
     ensures on { IsPositioned (M.state medium.new) position.new }
 {
     store_pending(medium)?;

@@ -1,5 +1,5 @@
 //! LOCATE.
-ghost use Rattle.std.specs.Prelude.{◌≡◌, ◌<◌, length, IfSome};
+ghost use Rattle.std.specs.Prelude.{◌≡◌, ◌<◌, [], length, IfSome};
 ghost use Rattle.volume_core.specs.Medium.{volume_of};
 ghost use Rattle.drive_core.specs.State.{IsPositioned, mounted};
 ghost use Rattle.drive_core.specs.Locate.{LocateWork, locate_reply};
@@ -27,7 +27,7 @@ pub fn locate<M: Medium>(
     requires part { IfSome part (λ number. number < length (volume_of (M.state medium.old))) }
     ensures carries { Carries M.state M.below
         (LocateWork object part)
-        medium.old position.old result medium.new position.new }
+        medium.old position.old result [] medium.new position.new }
     ensures on { IsPositioned (M.state medium.new) position.new }
 {
     store_pending(medium)?;

@@ -1,8 +1,8 @@
 //! WRITE FILEMARKS.
-ghost use Rattle.std.specs.Prelude.{◌≡◌};
+ghost use Rattle.std.specs.Prelude.{◌≡◌, []};
 ghost use Rattle.drive_core.specs.State.{IsPositioned, mounted};
 ghost use Rattle.drive_core.specs.Marks.{MarksWork};
-ghost use Rattle.drive_core.specs.Inner.Carries.{Carries, IsReady};
+ghost use Rattle.drive_core.specs.Inner.Carries.{Carries, IsReady, Tallies};
 
 use crate::appends::append;
 use crate::faults::Fault;
@@ -19,14 +19,15 @@ pub fn write_marks<M: Medium>(
     alloc: Global,
     medium: &mut M,
     position: &mut Pos,
+    accepted: &mut u64,
     count: u32,
     immediate: bool,
 ) -> Result<Reply, Fault>
     requires hand { M.below.at_hand medium.old }
     requires ready { IsReady (mounted (M.state medium.old) position.old) }
-    ensures carries { Carries M.state M.below
+    ensures carries { Tallies M.state M.below
         (MarksWork count immediate)
-        medium.old position.old result medium.new position.new }
+        medium.old position.old accepted.old result medium.new position.new accepted.new }
     ensures on { IsPositioned (M.state medium.new) position.new }
 {
     if count == 0 {
@@ -37,7 +38,16 @@ pub fn write_marks<M: Medium>(
         at: position.obj,
         count,
     };
-    append(alloc, medium, position, change, Some(count), !immediate).answer
+    append(
+        alloc,
+        medium,
+        position,
+        accepted,
+        change,
+        Some(count),
+        !immediate,
+    )
+    .answer
 }
 
 // No marks: stores what is pending, unless the answer is to be immediate.
@@ -51,7 +61,7 @@ fn write_none<M: Medium>(
     requires ready { IsReady (mounted (M.state medium.old) position.now) }
     ensures carries { Carries M.state M.below
         (MarksWork 0 immediate)
-        medium.old position.now result medium.new position.now }
+        medium.old position.now result [] medium.new position.now }
     ensures on { IsPositioned (M.state medium.new) position.now }
 {
     if immediate {

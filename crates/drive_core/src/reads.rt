@@ -33,7 +33,7 @@ pub fn read<M: Medium>(
     requires ready { IsReady (mounted (M.state medium.old) position.old) }
     ensures carries { Carries M.state M.below
         (ReadWork (M.below.honest medium.old) suppress_length length)
-        medium.old position.old result medium.new position.new }
+        medium.old position.old result [] medium.new position.new }
     ensures on { IsPositioned (M.state medium.new) position.new }
 {
     if length == 0 {
@@ -55,7 +55,7 @@ fn give<M: Medium>(
     requires ready { IsReady (mounted (M.state medium.old) position.old) }
     ensures carries { Carries M.state M.below
         (GivesObject (M.below.honest medium.old) suppress_length length)
-        medium.old position.old result medium.new position.new }
+        medium.old position.old result [] medium.new position.new }
     ensures on { IsPositioned (M.state medium.new) position.new }
 {
     if position.obj >= medium.count(position.part) {

@@ -1,5 +1,5 @@
 //! REWIND.
-ghost use Rattle.std.specs.Prelude.{◌≡◌};
+ghost use Rattle.std.specs.Prelude.{◌≡◌, []};
 ghost use Rattle.drive_core.specs.State.{IsPositioned, mounted};
 ghost use Rattle.drive_core.specs.Rewind.{RewindWork};
 ghost use Rattle.drive_core.specs.Inner.Carries.{Carries, IsReady};
@@ -18,7 +18,7 @@ pub fn rewind<M: Medium>(alloc: Global, medium: &mut M, position: &mut Pos) -> R
     requires ready { IsReady (mounted (M.state medium.old) position.old) }
     ensures carries { Carries M.state M.below
         RewindWork
-        medium.old position.old result medium.new position.new }
+        medium.old position.old result [] medium.new position.new }
     ensures on { IsPositioned (M.state medium.new) position.new }
 {
     store_pending(medium)?;

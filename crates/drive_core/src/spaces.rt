@@ -1,5 +1,5 @@
 //! SPACE.
-ghost use Rattle.std.specs.Prelude.{◌≡◌};
+ghost use Rattle.std.specs.Prelude.{◌≡◌, []};
 ghost use Rattle.drive_core.specs.State.{IsPositioned, mounted};
 ghost use Rattle.drive_core.specs.Space.{SpaceWork, is_over_nothing, space_reply};
 ghost use Rattle.drive_core.specs.Inner.Carries.{Carries, IsReady};
@@ -25,7 +25,7 @@ pub fn space<M: Medium>(
     requires ready { IsReady (mounted (M.state medium.old) position.old) }
     ensures carries { Carries M.state M.below
         (SpaceWork code count)
-        medium.old position.old result medium.new position.new }
+        medium.old position.old result [] medium.new position.new }
     ensures on { IsPositioned (M.state medium.new) position.new }
 {
     if is_over_nothing(code, count) {

@@ -1,5 +1,5 @@
 //! Commands that give data: READ POSITION, and the giving that INQUIRY, READ BLOCK LIMITS and REQUEST SENSE share.
-ghost use Rattle.std.specs.Prelude.{◌≡◌};
+ghost use Rattle.std.specs.Prelude.{◌≡◌, []};
 ghost use Rattle.drive_core.specs.State.{IsPositioned, mounted};
 ghost use Rattle.drive_core.specs.Tell.{Gives, ReadPositionWork};
 ghost use Rattle.drive_core.specs.Inner.Carries.{Carries, IsReady};
@@ -29,7 +29,7 @@ pub fn read_position<M: Medium>(
     requires ready { IsReady (mounted (M.state medium.old) position.now) }
     ensures carries { Carries M.state M.below
         ReadPositionWork
-        medium.old position.now result medium.new position.now }
+        medium.old position.now result [] medium.new position.now }
     ensures on { IsPositioned (M.state medium.new) position.now }
 {
     store_pending(medium)?;

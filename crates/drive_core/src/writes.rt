@@ -8,7 +8,7 @@ ghost use Rattle.drive_core.specs.State.{IsPositioned, mounted};
 ghost use Rattle.drive_core.specs.Write.{WriteWork, put_at};
 ghost use Rattle.drive_core.specs.Data.{data_left};
 ghost use Rattle.drive_core.specs.Inner.Appending.{restored};
-ghost use Rattle.drive_core.specs.Inner.Carries.{Carries, IsReady};
+ghost use Rattle.drive_core.specs.Inner.Carries.{IsReady, Tallies};
 
 use crate::appends::append;
 use crate::faults::Fault;
@@ -26,16 +26,17 @@ pub fn write<M: Medium>(
     alloc: Global,
     medium: &mut M,
     position: &mut Pos,
+    accepted: &mut u64,
     buffered: bool,
     sent: &mut Bytes,
 ) -> Result<Reply, Fault>
     requires hand { M.below.at_hand medium.old }
     requires ready { IsReady (mounted (M.state medium.old) position.old) }
     requires short { length sent.old ≤ MAX_BLOCK }
-    ensures carries { (carries : Carries M.state M.below
+    ensures carries { (tallies : Tallies M.state M.below
         (WriteWork buffered sent.old)
-        medium.old position.old result medium.new position.new)
-        × (sent.new ≡ data_left carries.made sent.old) }
+        medium.old position.old accepted.old result medium.new position.new accepted.new)
+        × (sent.new ≡ data_left tallies.made sent.old) }
     ensures on { IsPositioned (M.state medium.new) position.new }
 {
     if sent.is_empty() {
@@ -47,7 +48,15 @@ pub fn write<M: Medium>(
         at: position.obj,
         block: sent.take(),
     };
-    let appended = append(alloc, medium, position, change, Some(amount), !buffered);
+    let appended = append(
+        alloc,
+        medium,
+        position,
+        accepted,
+        change,
+        Some(amount),
+        !buffered,
+    );
     restore(sent, appended.returned);
     appended.answer
 }
@@ -68,15 +77,16 @@ pub fn write_copy<M: Medium>(
     alloc: Global,
     medium: &mut M,
     position: &mut Pos,
+    accepted: &mut u64,
     buffered: bool,
     sent: &[u8],
 ) -> Result<Reply, Fault>
     requires hand { M.below.at_hand medium.old }
     requires ready { IsReady (mounted (M.state medium.old) position.old) }
     requires short { length sent.now ≤ MAX_BLOCK }
-    ensures carries { Carries M.state M.below
+    ensures carries { Tallies M.state M.below
         (WriteWork buffered sent.now)
-        medium.old position.old result medium.new position.new }
+        medium.old position.old accepted.old result medium.new position.new accepted.new }
     ensures on { IsPositioned (M.state medium.new) position.new }
 {
     if sent.is_empty() {
@@ -92,7 +102,7 @@ pub fn write_copy<M: Medium>(
         });
     }
     let mut copy = Bytes::from_slice(alloc, sent)?;
-    write(alloc, medium, position, buffered, &mut copy)
+    write(alloc, medium, position, accepted, buffered, &mut copy)
 }
 
 // Whether these bytes fit as a block at the position.

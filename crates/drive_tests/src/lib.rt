@@ -6,6 +6,8 @@ mod asking;
 #[cfg(test)]
 mod asserted;
 #[cfg(test)]
+mod counting;
+#[cfg(test)]
 mod driving;
 #[cfg(test)]
 mod lending;

@@ -2,6 +2,7 @@ pub mod BayLemmas
 pub mod CarriedLemmas
 pub mod CartridgeLemmas
 pub mod CoreLemmas
+pub mod CountLemmas
 pub mod DrivesLemmas
 pub mod EndLemmas
 pub mod FinishLemmas

@@ -37,6 +37,12 @@ module _ {D : Type 0} where
     pub at_destination : from ≢ to → bay_at bays to ≡ destination
     pub once : from ≡ to → destination ≡ None
 
+  -- a drive that is lent, if one is, has counted nothing (own)
+  abbrev pub KeepsCount : Option (BayState D) → Option (BayState D) → Type 0
+  KeepsCount None None = Unit {0}
+  KeepsCount (Some bay) (Some left) = left.accepted ≡ bay.accepted
+  KeepsCount _ _ = ⊥
+
   -- in each library that has these slots, and these drives where the addresses name them, this holds of it before and
   -- after, its other drives being what they were (own)
   abbrev pub InEach :

@@ -161,6 +161,13 @@ impl<D: Disk> Bay<D> {
         self.drive.held()
     }
 
+    /// How many changes were accepted since it was switched on, as `Drive::accepted` says.
+    pub fn accepted(&self) -> u64
+        ensures { result ≡ self.now.accepted }
+    {
+        self.drive.accepted()
+    }
+
     /// The drive, to be looked at.
     pub fn drive(&self) -> &Drive<Buffered<D>, AptplStore<D>>
         ensures { result.now ≡ self.now }

@@ -2,7 +2,7 @@
 ghost use Rattle.std.specs.Prelude.{◌≡◌, ◌≢◌, IfSome, None, Some, true, false, is_some};
 ghost use Rattle.changer.specs.Slots.{Puts, held_at, is_slot};
 ghost use Rattle.library.specs.Inner.Carried.{MovesLent, drive_end, end_beside, refusal_between, slot_end};
-ghost use Rattle.library.specs.Lent.{InEach, IsDriveAddress, back, lent};
+ghost use Rattle.library.specs.Lent.{InEach, IsDriveAddress, KeepsCount, back, lent};
 ghost use Rattle.library.specs.Moves.{KeepsCartridges, MovesMedium};
 
 use crate::bays::Bay;
@@ -128,7 +128,9 @@ fn out_of_drive<D: Disk + Drop>(
     to: u32,
 ) -> Reply
     requires { IsDriveAddress from }
-    ensures { MovesLent D.state from to slots.old (Some source.old) None result slots.new (Some source.new) None }
+    ensures moved { MovesLent D.state from to slots.old (Some source.old) None result
+        slots.new (Some source.new) None }
+    ensures counted { source.new.accepted ≡ source.old.accepted }
 {
     if let Some(reply) = refusal_between(
         alloc,
@@ -155,8 +157,9 @@ fn into_drive<D: Disk + Drop>(
 ) -> Reply
     requires destination { IsDriveAddress to }
     requires apart { from ≢ to }
-    ensures { MovesLent D.state from to slots.old None (Some destination.old) result
+    ensures moved { MovesLent D.state from to slots.old None (Some destination.old) result
         slots.new None (Some destination.new) }
+    ensures counted { destination.new.accepted ≡ destination.old.accepted }
 {
     if let Some(reply) = refusal_between(alloc, slot_end(slots, from), drive_end(destination)) {
         return reply;
@@ -183,8 +186,10 @@ fn between_drives<D: Disk + Drop>(
     requires source { IsDriveAddress from }
     requires destination { IsDriveAddress to }
     requires apart { from ≢ to }
-    ensures { MovesLent D.state from to slots.old (Some source.old) (Some destination.old) result
+    ensures moved { MovesLent D.state from to slots.old (Some source.old) (Some destination.old) result
         slots.new (Some source.new) (Some destination.new) }
+    ensures counted_out { source.new.accepted ≡ source.old.accepted }
+    ensures counted_in { destination.new.accepted ≡ destination.old.accepted }
 {
     if let Some(reply) = refusal_between(alloc, drive_end(source), drive_end(destination)) {
         return reply;
@@ -206,7 +211,8 @@ fn between_drives<D: Disk + Drop>(
 /// `Held::move_medium` (own): `source` is the drive that `from` names and `destination` that of `to`, and `None` where
 /// the address is no configured drive's; a drive that both name is lent as the source alone. So a drive is lent only
 /// under an address of 1 to 16, and a destination only where the addresses differ. In every library of 16 places that
-/// has these slots, and these drives at these addresses, reply and outcome are those of `Held::move_medium`.
+/// has these slots, and these drives at these addresses, reply and outcome are those of `Held::move_medium`. A move
+/// counts no change.
 pub fn move_lent<D: Disk + Drop>(
     alloc: Global,
     slots: &mut Slots<Parked<D>>,
@@ -223,6 +229,8 @@ pub fn move_lent<D: Disk + Drop>(
     ensures kept { InEach from to slots.old (lent source.entry) (lent destination.entry)
         slots.new (back source.entry source.exit) (back destination.entry destination.exit)
         (λ old new. KeepsCartridges D.state old from to result new) }
+    ensures counted_out { KeepsCount (lent source.entry) (back source.entry source.exit) }
+    ensures counted_in { KeepsCount (lent destination.entry) (back destination.entry destination.exit) }
 {
     let Some(source) = source else {
         let Some(destination) = destination else {

@@ -45,7 +45,9 @@ fn is_taken_back<D: Disk + Drop>(alloc: Global, bay: &mut Bay<D>) -> bool {
 fn keeps<D: Disk + Drop>(rt: &impl Abort, alloc: Global, bay: &mut Bay<D>) {
     is_told(rt, bay, POWERED_ON, 0);
     gives(rt, bay, &[0x0a, 0, 0, 0, 5, 0], b"hello", b"");
+    assert_equal!(rt; bay.accepted(), 1);
     assert_holds!(rt; is_taken_back(alloc, bay));
+    assert_equal!(rt; bay.accepted(), 1);
     is_told(rt, bay, MEDIUM_CHANGED, 1);
     gives(rt, bay, &[0x08, 0, 0, 0, 5, 0], b"", b"hello");
 }

@@ -87,6 +87,13 @@ impl<M: Medium, K: Keeper> Drive<M, K> {
         let Bay::Loaded(medium) = &mut self.bay else {
             unreachable!()
         };
-        write(self.alloc, medium, &mut self.position, self.buffered, sent)
+        write(
+            self.alloc,
+            medium,
+            &mut self.position,
+            &mut self.accepted,
+            self.buffered,
+            sent,
+        )
     }
 }

@@ -60,6 +60,7 @@ impl<M: Medium, K: Keeper> Drive<M, K> {
             self.alloc,
             medium,
             &mut self.position,
+            &mut self.accepted,
             self.buffered,
             command,
             sent,

@@ -19,17 +19,20 @@ returns-in-Ok-clause-carries g c =
     let done = c.finish.ensures in (
       record {
         made = change ∷ [];
-        work =
-            append_accepted c.args.settles change (state old) (state mid) (state new) c.args.position.now
-            c.count-position.result c.is_warned-warned.result c.finish.result
-            c.requires.ready c.requires.at accepted.answer c.count-position.ensures.count
-            (c.is_warned-warned.ensures ∙ ap (λ (a : Option ℕ). is_warned a (volume_of (state mid)) (record
-            c.args.position.now { obj = c.count-position.result })) c.requires.amount)
-            done.answer;
-        advances =
-            advances_on g.M.Medium.below g.met.M.Medium.moves_on old mid new (change ∷ []) []
-            (is_device_fault c.finish.result) accepted.advances done.advances;
-        stores = stores_on (state old) (state mid) (state new) (change ∷ []) [] accepted.stores done.stores;
+        carries = record {
+          work =
+              append_accepted c.args.settles change (state old) (state mid) (state new) c.args.position.now
+              c.count-position.result c.is_warned-warned.result c.finish.result
+              c.requires.ready c.requires.at accepted.answer c.count-position.ensures.count
+              (c.is_warned-warned.ensures ∙ ap (λ (a : Option ℕ). is_warned a (volume_of (state mid)) (record
+              c.args.position.now { obj = c.count-position.result })) c.requires.amount)
+              done.answer;
+          advances =
+              advances_on g.M.Medium.below g.met.M.Medium.moves_on old mid new (change ∷ []) []
+              (is_device_fault c.finish.result) accepted.advances done.advances;
+          stores = stores_on (state old) (state mid) (state new) (change ∷ []) [] accepted.stores done.stores;
+        };
+        counted = c.saturating_add.ensures;
       },
       refl,
     )
@@ -48,12 +51,15 @@ returns-in-Err-clause-carries g c =
     c.requires.ready c.requires.at c.requires.formed c.requires.fits refused.answer in (
       record {
         made = [];
-        work = rw replied work;
-        advances =
-            rw c.refuse.ensures
-            (subst (λ (fault : Bool). Advances g.M.Medium.below old [] fault new)
-            (fault_refused error c.args.amount) refused.advances);
-        stores = refused.stores;
+        carries = record {
+          work = rw replied work;
+          advances =
+              rw c.refuse.ensures
+              (subst (λ (fault : Bool). Advances g.M.Medium.below old [] fault new)
+              (fault_refused error c.args.amount) refused.advances);
+          stores = refused.stores;
+        };
+        counted = refl;
       },
       ap Some refused.returned,
     )

@@ -14,14 +14,18 @@ returns-clause-carries g c =
     let mid = c.store_pending.new.medium in
     let new = c.append.new.medium in
     let stored = c.in_ok-store_pending.ensures in
-    let given = c.append.ensures.carries.0 in
+    let tallies = c.append.ensures.carries.0 in
+    let given = tallies.carries in
     record {
-      made = given.made;
-      work =
-          stored_first (Erases c.args.buffered) (state old) (state mid) c.args.position.now c.append.result.answer
-          given.made (mounted (state new) c.append.new.position) stored.answer (given.work, given.stores);
-      advances =
-          advances_on g.M.Medium.below g.met.M.Medium.moves_on old mid new [] given.made
-          (is_device_fault c.append.result.answer) stored.advances given.advances;
-      stores = stores_on (state old) (state mid) (state new) [] given.made stored.stores given.stores;
+      made = tallies.made;
+      carries = record {
+        work =
+            stored_first (Erases c.args.buffered) (state old) (state mid) c.args.position.now c.append.result.answer
+            tallies.made (mounted (state new) c.append.new.position) stored.answer (given.work, given.stores);
+        advances =
+            advances_on g.M.Medium.below g.met.M.Medium.moves_on old mid new [] tallies.made
+            (is_device_fault c.append.result.answer) stored.advances given.advances;
+        stores = stores_on (state old) (state mid) (state new) [] tallies.made stored.stores given.stores;
+      };
+      counted = tallies.counted;
     }

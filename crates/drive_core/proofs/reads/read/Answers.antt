@@ -22,16 +22,15 @@ returns-clause-carries g c =
     let left = mounted (state new) c.give.new.position in
     let work =
     object_where (below.honest old) (below.honest mid) stored.advances.honesty.0 suppress asked
-    (mounted (state mid) position) c.give.result given.made left given.work in
+    (mounted (state mid) position) c.give.result [] left given.work in
     record {
-      made = given.made;
       work =
           read_some (below.honest old) suppress asked c.if-length-eq0.false (mounted (state old) position)
-          c.give.result given.made left
+          c.give.result [] left
           (stored_first (GivesObject (below.honest old) suppress asked) (state old) (state mid) position c.give.result
-          given.made left stored.answer work);
+          [] left stored.answer work);
       advances =
-          advances_on below g.met.M.Medium.moves_on old mid new [] given.made (is_device_fault c.give.result)
+          advances_on below g.met.M.Medium.moves_on old mid new [] [] (is_device_fault c.give.result)
           stored.advances given.advances;
-      stores = stores_on (state old) (state mid) (state new) [] given.made stored.stores given.stores;
+      stores = stores_on (state old) (state mid) (state new) [] [] stored.stores given.stores;
     }

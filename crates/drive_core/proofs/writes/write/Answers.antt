@@ -12,12 +12,15 @@ returns-then-is_empty-clause-carries g c =
     let good : c.good.result ≡ good_with [] = c.good.ensures ∙ ap good_with c.new.ensures in (
       record {
         made = [];
-        work =
-            rw good
-            (nothing_written c.args.buffered c.args.sent.now (g.M.Catalog.state medium) c.args.position.now
-            c.is_empty.result c.is_empty.ensures c.if-is_empty.true);
-        advances = g.met.M.Medium.advances_nowhere medium;
-        stores = g.met.M.Medium.stores_nowhere medium;
+        carries = record {
+          work =
+              rw good
+              (nothing_written c.args.buffered c.args.sent.now (g.M.Catalog.state medium) c.args.position.now
+              c.is_empty.result c.is_empty.ensures c.if-is_empty.true);
+          advances = g.met.M.Medium.advances_nowhere medium;
+          stores = g.met.M.Medium.stores_nowhere medium;
+        };
+        counted = refl;
       },
       refl,
     )
@@ -29,18 +32,22 @@ returns-clause-carries g c =
     let state = g.M.Catalog.state in
     let some = some_bytes sent c.is_empty.result c.is_empty.ensures c.if-is_empty.false in
     let appended = rw c.take.ensures.taken at c.append-appended.ensures.carries in
-    let carries = appended.0 in (
+    let tallies = appended.0 in (
       record {
-        made = carries.made;
-        work =
-            some_written c.args.buffered sent (mounted (state c.args.medium.now) position)
-            c.append-appended.result.answer carries.made
-            (mounted (state c.append-appended.new.medium) c.append-appended.new.position) some carries.work;
-        advances = carries.advances;
-        stores = carries.stores;
+        made = tallies.made;
+        carries = record {
+          work =
+              some_written c.args.buffered sent (mounted (state c.args.medium.now) position)
+              c.append-appended.result.answer tallies.made
+              (mounted (state c.append-appended.new.medium) c.append-appended.new.position) some
+              tallies.carries.work;
+          advances = tallies.carries.advances;
+          stores = tallies.carries.stores;
+        };
+        counted = tallies.counted;
       },
       c.restore.ensures
           ∙ ap (λ (left : List ℕ). restored c.append-appended.result.returned left) c.take.ensures.left
           ∙ ap (λ (returned : Option Change). restored returned []) appended.1
-          ∙ restored_is carries.made position.part position.obj sent,
+          ∙ restored_is tallies.made position.part position.obj sent,
     )

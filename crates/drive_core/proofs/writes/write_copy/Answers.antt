@@ -1,4 +1,4 @@
-use Rattle.std.proofs.Common.{◌≡◌, ◌≤◌, ◌∙◌, [], length, None, Some, Err, Bool, if◌then◌else◌, ap, rules}
+use Rattle.std.proofs.Common.{◌≡◌, ◌≤◌, ◌∙◌, [], length, None, Some, Err, Bool, if◌then◌else◌, ap, refl, rules}
 use Rattle.std.proofs.lemmas.Result.{err_from_is_err_and}
 use Rattle.volume_core.specs.declared.changes.Refusal.TheVariants as Refusals
 use Rattle.volume_core.specs.Volume.{refusal_of}
@@ -16,11 +16,14 @@ returns-then-not-has_room_for-clause-carries g c =
     c.has_room.ensures ∙ ap (λ (b : Bool). if b then None else Some Refusals.NoRoom) c.if-not-has_room.false in
     record {
       made = [];
-      work =
-          write_lacks_side c.args.buffered c.args.sent.now (g.M.Catalog.state medium) c.args.position.now
-          c.has_room_for.result some none c.has_room_for.ensures.1 c.if-not-has_room_for.true;
-      advances = g.met.M.Medium.advances_nowhere medium;
-      stores = g.met.M.Medium.stores_nowhere medium;
+      carries = record {
+        work =
+            write_lacks_side c.args.buffered c.args.sent.now (g.M.Catalog.state medium) c.args.position.now
+            c.has_room_for.result some none c.has_room_for.ensures.1 c.if-not-has_room_for.true;
+        advances = g.met.M.Medium.advances_nowhere medium;
+        stores = g.met.M.Medium.stores_nowhere medium;
+      };
+      counted = refl;
     }
 
 pub returns-in_err-copy-clause-carries : goal.returns-in_err-copy-clause-carries
@@ -33,11 +36,14 @@ returns-in_err-copy-clause-carries g c =
     rw (exit.1 ∙ ap Err exit.2)
     (record {
       made = [];
-      work =
-          write_lacks_memory c.args.buffered c.args.sent.now (g.M.Catalog.state medium) c.args.position.now
-          c.has_room_for.result some c.requires.ready none c.has_room_for.ensures.0 c.if-not-has_room_for.false;
-      advances = g.met.M.Medium.advances_nowhere medium;
-      stores = g.met.M.Medium.stores_nowhere medium;
+      carries = record {
+        work =
+            write_lacks_memory c.args.buffered c.args.sent.now (g.M.Catalog.state medium) c.args.position.now
+            c.has_room_for.result some c.requires.ready none c.has_room_for.ensures.0 c.if-not-has_room_for.false;
+        advances = g.met.M.Medium.advances_nowhere medium;
+        stores = g.met.M.Medium.stores_nowhere medium;
+      };
+      counted = refl;
     })
 
 pub returns-clause-carries : goal.returns-clause-carries

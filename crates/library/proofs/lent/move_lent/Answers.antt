@@ -41,11 +41,13 @@ returns g c =
       answer = each_answer g.D.Disk.state given.from given.to given.slots.now (Some c.in-Some.source.now) (Some
           c.in-Some-destination-2.destination.now)
           c.between_drives.result c.between_drives.new.slots (Some c.between_drives.new.source) (Some
-          c.between_drives.new.destination) c.between_drives.ensures;
+          c.between_drives.new.destination) c.between_drives.ensures.moved;
       kept = each_kept g.D.Disk.state given.from given.to given.slots.now (Some c.in-Some.source.now) (Some
           c.in-Some-destination-2.destination.now)
           c.between_drives.result c.between_drives.new.slots (Some c.between_drives.new.source) (Some
-          c.between_drives.new.destination) g.met.D.Disk.is_disk c.between_drives.ensures;
+          c.between_drives.new.destination) g.met.D.Disk.is_disk c.between_drives.ensures.moved;
+      counted_out = c.between_drives.ensures.counted_out;
+      counted_in = c.between_drives.ensures.counted_in;
     })
 
 pub returns-in_default-destination-2 : goal.returns-in_default-destination-2
@@ -85,10 +87,13 @@ returns-in_default-destination-2 g c =
     ))
     (record {
       answer = each_answer g.D.Disk.state given.from given.to given.slots.now (Some c.in-Some.source.now) None
-          c.out_of_drive.result c.out_of_drive.new.slots (Some c.out_of_drive.new.source) None c.out_of_drive.ensures;
+          c.out_of_drive.result c.out_of_drive.new.slots (Some c.out_of_drive.new.source) None
+          c.out_of_drive.ensures.moved;
       kept = each_kept g.D.Disk.state given.from given.to given.slots.now (Some c.in-Some.source.now) None
           c.out_of_drive.result c.out_of_drive.new.slots (Some c.out_of_drive.new.source) None g.met.D.Disk.is_disk
-          c.out_of_drive.ensures;
+          c.out_of_drive.ensures.moved;
+      counted_out = c.out_of_drive.ensures.counted;
+      counted_in = tt;
     })
 
 pub returns-in_default : goal.returns-in_default
@@ -111,11 +116,14 @@ returns-in_default g c =
     (record {
       answer = each_answer g.D.Disk.state given.from given.to given.slots.now None (Some
           c.in-Some-destination.destination.now)
-          c.into_drive.result c.into_drive.new.slots None (Some c.into_drive.new.destination) c.into_drive.ensures;
+          c.into_drive.result c.into_drive.new.slots None (Some c.into_drive.new.destination)
+          c.into_drive.ensures.moved;
       kept = each_kept g.D.Disk.state given.from given.to given.slots.now None (Some
           c.in-Some-destination.destination.now)
           c.into_drive.result c.into_drive.new.slots None (Some c.into_drive.new.destination) g.met.D.Disk.is_disk
-          c.into_drive.ensures;
+          c.into_drive.ensures.moved;
+      counted_out = tt;
+      counted_in = c.into_drive.ensures.counted;
     })
 
 pub returns-in_default-destination : goal.returns-in_default-destination
@@ -158,4 +166,6 @@ returns-in_default-destination g c =
           c.between_slots.result c.between_slots.new.slots None None c.between_slots.ensures;
       kept = each_kept g.D.Disk.state given.from given.to given.slots.now None None
           c.between_slots.result c.between_slots.new.slots None None g.met.D.Disk.is_disk c.between_slots.ensures;
+      counted_out = tt;
+      counted_in = tt;
     })

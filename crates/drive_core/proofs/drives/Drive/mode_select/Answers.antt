@@ -28,5 +28,5 @@ returns-in-Err g c =
     let old = c.args.self.now in
     still_takes state g.M.Medium.below kept g.K.Keeper.below g.met.M.Medium.advances_nowhere
     g.met.K.Keeper.advances_nowhere (ModeSelectWork c.args.nexus c.args.sent.now (machine_of state kept old)) old old _
-    (record { medium = refl; keeper = refl }) (record { bay = refl; keeper = refl })
+    (record { medium = refl; keeper = refl }) (record { bay = refl; keeper = refl; accepted = refl })
     (rw (sym c.decode.ensures ∙ c.in-Err.is) (ap Ok c.check.ensures, refl, refl))

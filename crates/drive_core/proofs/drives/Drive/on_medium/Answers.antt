@@ -25,17 +25,23 @@ returns g c =
       attentions = inside.attentions;
       reservations = inside.reservations;
       keeper = inside.keeper;
+      accepted = inside.accepted;
     } in
     let same : old ≡ c.args.self.now =
     ap (λ (bay : Bay g.row.M.Denot). record old { bay = bay }) (sym c.in-Loaded.is) ∙ c.self.view_is in
     let H = HonestIn below (medium_in old.bay) in
     let W = MediumWork H c.args.command inside.buffered c.args.sent.now in
     let new : DriveState g.row.M.Denot g.row.K.Denot =
-    record old { bay = Loaded c.carry_out.new.medium; position = c.carry_out.new.position } in
-    let carries = c.carry_out.ensures.carries in
+    record old {
+      bay = Loaded c.carry_out.new.medium;
+      position = c.carry_out.new.position;
+      accepted = c.carry_out.new.accepted;
+    } in
+    let tallies = c.carry_out.ensures.carries in
     let sound =
     faultless_keeper H c.args.command inside.buffered c.args.sent.now (mounted (state medium) inside.position)
-    c.carry_out.result carries.made (mounted (state c.carry_out.new.medium) c.carry_out.new.position) carries.work in
+    c.carry_out.result tallies.made (mounted (state c.carry_out.new.medium) c.carry_out.new.position)
+    tallies.carries.work in
     subst
     (λ (d : DriveState g.row.M.Denot g.row.K.Denot).
     Takes state below kept keeps
@@ -45,4 +51,4 @@ returns g c =
     same
     (carried_takes state below kept keeps g.met.M.Medium.advances_nowhere g.met.K.Keeper.advances_nowhere W
     (OnMedium W (machine_of state kept old)) old medium c.carry_out.new.medium c.carry_out.new.position
-    c.carry_out.result refl sound carries (λ made work. work))
+    c.carry_out.new.accepted c.carry_out.result refl sound tallies (λ made work. work))

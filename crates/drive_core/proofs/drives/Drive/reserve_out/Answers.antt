@@ -14,7 +14,7 @@ returns-in-Err g c =
     still_takes state g.M.Medium.below kept g.K.Keeper.below g.met.M.Medium.advances_nowhere
     g.met.K.Keeper.advances_nowhere
     (ReserveOutWork c.args.action c.args.nexus c.args.sent.now (machine_of state kept old)) old old _
-    (record { medium = refl; keeper = refl }) (record { bay = refl; keeper = refl })
+    (record { medium = refl; keeper = refl }) (record { bay = refl; keeper = refl; accepted = refl })
     (rw (sym c.decode.ensures ∙ c.in-Err.is) (ap Ok c.check.ensures, refl, refl))
 
 pub returns-then-has_failed : goal.returns-then-has_failed
@@ -28,6 +28,6 @@ returns-then-has_failed g c =
     still_takes state g.M.Medium.below kept g.K.Keeper.below g.met.M.Medium.advances_nowhere
     g.met.K.Keeper.advances_nowhere
     (ReserveOutWork c.args.action c.args.nexus c.args.sent.now (machine_of state kept old)) old old _
-    (record { medium = refl; keeper = refl }) (record { bay = refl; keeper = refl })
+    (record { medium = refl; keeper = refl }) (record { bay = refl; keeper = refl; accepted = refl })
     (rw (sym c.decode.ensures ∙ c.in-Ok.is, failed)
     (ap Ok (c.check-then-has_failed.ensures ∙ ap (λ (s : Sense). check_with s []) c.keeper_failed.ensures), refl, refl))

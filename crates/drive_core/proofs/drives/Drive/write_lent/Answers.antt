@@ -26,17 +26,22 @@ returns g c =
       attentions = inside.attentions;
       reservations = inside.reservations;
       keeper = inside.keeper;
+      accepted = inside.accepted;
     } in
     let same : old ≡ c.args.self.now =
     ap (λ (bay : Bay g.row.M.Denot). record old { bay = bay }) (sym c.in-Loaded.is) ∙ c.self.view_is in
     let W = WriteWork inside.buffered c.args.sent.now in
     let new : DriveState g.row.M.Denot g.row.K.Denot =
-    record old { bay = Loaded c.write.new.medium; position = c.write.new.position } in
-    let carries = c.write.ensures.carries.0 in
+    record old {
+      bay = Loaded c.write.new.medium;
+      position = c.write.new.position;
+      accepted = c.write.new.accepted;
+    } in
+    let tallies = c.write.ensures.carries.0 in
     let sound =
     faultless_keeper (HonestIn below (medium_in old.bay)) (Write 0) inside.buffered c.args.sent.now
-    (mounted (state medium) inside.position) c.write.result carries.made
-    (mounted (state c.write.new.medium) c.write.new.position) carries.work in
+    (mounted (state medium) inside.position) c.write.result tallies.made
+    (mounted (state c.write.new.medium) c.write.new.position) tallies.carries.work in
     subst
     (λ (d : DriveState g.row.M.Denot g.row.K.Denot).
     TakesLent state below kept keeps g.met.K.Keeper.advances_nowhere
@@ -45,4 +50,5 @@ returns g c =
     same
     (carried_lent state below kept keeps g.met.K.Keeper.advances_nowhere W
     (OnMedium W (machine_of state kept old)) old medium c.write.new.medium c.write.new.position
-    c.write.result c.args.sent.now c.write.new.sent refl sound carries c.write.ensures.carries.1 (λ made work. work))
+    c.write.new.accepted c.write.result c.args.sent.now c.write.new.sent refl sound tallies
+    c.write.ensures.carries.1 (λ made work. work))

@@ -1,0 +1,65 @@
+//! What is seen of a drive, which no look changes.
+ghost use Rattle.std.specs.Prelude.{◌≡◌, ◌↔◌, IsTrue, is_some, option_copied};
+ghost use Rattle.drive_core.specs.declared.bays.Bay.TheVariants as Bays;
+ghost use Rattle.drive_core.specs.State.{has_failed_in, medium_in, IsBayPositioned};
+
+use super::Drive;
+use crate::bays::Bay;
+use pr_core::Keeper;
+use volume_core::Medium;
+
+impl<M: Medium, K: Keeper> Drive<M, K> {
+    /// Whether there is no cartridge in it, loaded or not.
+    pub fn is_empty(&self) -> bool
+        ensures { IsTrue result ↔ (self.now.bay ≡ Bays.Empty) }
+    {
+        match self.bay {
+            Bay::Empty => true,
+            Bay::Unloaded(_) | Bay::Loaded(_) => false,
+        }
+    }
+
+    /// The medium in it, for tests. A loaded one is awake, and the position is on it; one that is
+    /// not loaded is parked.
+    pub fn medium(&self) -> Option<&M>
+        ensures medium { option_copied result ≡ medium_in self.now.bay }
+        ensures on { IsBayPositioned M.state self.now.bay self.now.position }
+    {
+        match &self.bay {
+            Bay::Empty => None,
+            Bay::Unloaded(medium) | Bay::Loaded(medium) => Some(medium),
+        }
+    }
+
+    /// What keeps its reservations, for tests.
+    pub fn keeper(&self) -> &K
+        ensures { result.now ≡ self.now.keeper }
+    {
+        &self.keeper
+    }
+
+    /// Whether a reservation is held at the drive.
+    pub fn held(&self) -> bool
+        ensures { result ≡ is_some self.now.reservations.reservation }
+    {
+        self.reservations.is_held()
+    }
+
+    /// How many changes were accepted since it was switched on, whatever cartridge was in it. The count stays at
+    /// 18,446,744,073,709,551,615.
+    pub fn accepted(&self) -> u64
+        ensures { result ≡ self.now.accepted }
+    {
+        self.accepted
+    }
+
+    /// Whether what is loaded has failed: nothing more of it is stored until it is unloaded and loaded.
+    pub fn has_failed(&self) -> bool
+        ensures { result ≡ has_failed_in M.state self.now.bay }
+    {
+        match &self.bay {
+            Bay::Loaded(medium) => medium.has_failed(),
+            Bay::Empty | Bay::Unloaded(_) => false,
+        }
+    }
+}
