@@ -88,7 +88,7 @@ module _ {M : Type 0} (state : M → MediumState) (below : Below M Change) where
         (opened : M) × WakesAs given (Err Errors.NoMemory) opened × (back.0 ≡ Some opened) × (back.1 ≡ keeper)
 
     module _ (kept : K → KeeperState) where
-      -- a flusher's turn is a step of the machine, the medium follows, the keeper is not touched, and nothing counts
+      -- a flusher's turn is a step of the machine, the medium follows, the keeper is not touched, and the count stays
       -- (own)
       pub record TakesTurn (old : DriveState M K) (turn : Turn) (new : DriveState M K) : Type 0 where
         pub step :

@@ -37,7 +37,7 @@ module _ {D : Type 0} where
     pub at_destination : from ≢ to → bay_at bays to ≡ destination
     pub once : from ≡ to → destination ≡ None
 
-  -- a drive that is lent, if one is, has counted nothing (own)
+  -- the count of a drive that is lent, if one is, stays (own)
   abbrev pub KeepsCount : Option (BayState D) → Option (BayState D) → Type 0
   KeepsCount None None = Unit {0}
   KeepsCount (Some bay) (Some left) = left.accepted ≡ bay.accepted

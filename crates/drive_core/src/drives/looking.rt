@@ -45,8 +45,8 @@ impl<M: Medium, K: Keeper> Drive<M, K> {
         self.reservations.is_held()
     }
 
-    /// How many changes were accepted since it was switched on, whatever cartridge was in it. The count stays at
-    /// 18,446,744,073,709,551,615.
+    /// How many changes were accepted since it was switched on, by whatever medium was in it. At
+    /// 18,446,744,073,709,551,615 the count stays.
     pub fn accepted(&self) -> u64
         ensures { result ≡ self.now.accepted }
     {
