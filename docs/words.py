@@ -140,6 +140,7 @@ WORDS = {
     "SPACE": ["SpaceWork", "IsSpaced", "SpacesTo", "Reaches"],
     "status of a reply": ["status_text", "good_with"],
     "status of the program": ["status_of", "EndsProgram"],
+    "stop, what it leaves": ["KeepsBoth", "EveryMoment", "StopsKeepAccepted", "RunKeeps"],
     "stored": ["Stores", "StoredFirst", "stored_after"],
     "sync": ["Syncs", "syncs_of"],
     "sync, what it passes over": ["SyncsFile", "ReachesAll", "IsLeftWell"],

@@ -1,5 +1,5 @@
 -- The drives of a library, in a row.
-use Rattle.std.proofs.Common.{◌≡◌, ◌≢◌, ◌⊎◌, inl, inr, ℕ, ◌-◌, ◌≤◌, ◌<◌, nat_le, Bool, true, false, Result, Ok, Err, List, length, set, get_or, Option, None, Some, is_some, is_ok, is_err, [], ◌∷◌, ◌++◌, OnOk, IfErr, replicate, nat_lt, refl, sym, ap, ◌∙◌, arith, cond, subst}
+use Rattle.std.proofs.Common.{◌≡◌, ◌≢◌, ◌⊎◌, ◌&&◌, inl, inr, ℕ, ◌-◌, ◌≤◌, ◌<◌, nat_le, Bool, true, false, Result, Ok, Err, List, length, set, get_or, Option, None, Some, is_some, is_ok, is_err, [], ◌∷◌, ◌++◌, OnOk, IfErr, replicate, nat_lt, refl, sym, ap, ◌∙◌, arith, cond, subst}
 use Rattle.std.proofs.lemmas.Bool.Decides.{nat_tests}
 use Rattle.std.proofs.lemmas.List.{get_or-replicate, get_or_default, get_or-set_same, get_or-set_other, length-replicate}
 use Rattle.std.proofs.Math.ListN.{get_or-eq_default}
@@ -79,6 +79,12 @@ module _ {D : Type 0} where
   no_drive bays address long slot =
       let from : 1001 ≤ address = grind (arith, nat_tests) in
       at_no_place bays address long (inr (omega (arith, from)))
+
+-- the number of a drive is no address of a slot
+pub no_slot : (number : ℕ) → number ≤ 16 → is_slot number ≡ false
+no_slot number most =
+    let before : nat_le 1001 number ≡ false = grind (arith, nat_tests) in
+    ap (λ (b : Bool). b && nat_lt (number - 1001) 256) before
 
 -- what a call answers says, in other words
 pub on_ok : {T E : Type 0} {A B : Type 0} (result : Result T E) → (A → B) → OnOk result A → OnOk result B

@@ -36,6 +36,38 @@ use Rattle.library.specs.Reservations.{Asked, Call, CallDoes, ChangesBay, IsHold
 use Rattle.library.proofs.MachineLemmas.{Goes, step_goes}
 use Rattle.library.proofs.StoreCoreLemmas.{none_torn}
 
+module _ {M D : Type 0} (medium : M → MediumState) (below : Below M Change) (disk : D → DiskState) where
+  -- what is equal to one with the same keeper and reservations
+  both : (one new : DriveState M (OpenStore D)) → new ≡ one
+      → (new.keeper ≡ one.keeper) × (new.reservations ≡ one.reservations)
+  both one new same = (
+    ap (λ (d : DriveState M (OpenStore D)). d.keeper) same,
+    ap (λ (d : DriveState M (OpenStore D)). d.reservations) same,
+  )
+
+  -- what goes in or out leaves keeper and reservations
+  out_stays : (bay : Bay M) (old : DriveState M (OpenStore D)) (result : Result M Reply)
+      (new : DriveState M (OpenStore D)) → GoesOutOf medium below bay old result new
+      → (new.keeper ≡ old.keeper) × (new.reservations ≡ old.reservations)
+  out_stays Empty old (Ok out) new goes = absurd goes
+  out_stays Empty old (Err reply) new goes = both old new goes.1
+  out_stays (Unloaded m) old (Ok out) new goes = both (emptied old m) new goes.1
+  out_stays (Unloaded m) old (Err reply) new goes = absurd goes
+  out_stays (Loaded m) old (Ok out) new goes = both (emptied old m) new goes.1
+  out_stays (Loaded m) old (Err reply) new goes = both (record old { bay = Loaded goes.0 }) new goes.3
+
+  in_stays : (old : DriveState M (OpenStore D)) (given : M) (result : Result Unit (M × Reply))
+      (new : DriveState M (OpenStore D)) → TakesIn medium below old given result new
+      → (new.keeper ≡ old.keeper) × (new.reservations ≡ old.reservations)
+  in_stays old given (Ok done) new takes = both (loaded old takes.0) new takes.2
+  in_stays old given (Err back) new takes = both old new takes.3
+
+  pub carried_stays : (old new : DriveState M (OpenStore D)) → ChangesBay medium below disk old new
+      → (new.keeper ≡ old.keeper) × (new.reservations ≡ old.reservations)
+  carried_stays old new (inl takes) = in_stays old takes.0 takes.1 new takes.2
+  carried_stays old new (inr (inl put)) = both (record old { bay = Unloaded put.0 }) new put.1
+  carried_stays old new (inr (inr out)) = out_stays old.bay old out.0 new out.1
+
 module _ {M D : Type 0} (medium : M → MediumState) (below : Below M Change) (disk : D → DiskState)
     (is_disk : (d : D) → (disk d).honest → IsDisk (disk d)) (keep : OrdersKeepRules)
     (due : SavesAreDueByChange) (lost : SavedAlikeAreLostAlike) where
@@ -230,41 +262,10 @@ module _ {M D : Type 0} (medium : M → MediumState) (below : Below M Change) (d
       refl (ap (λ (k : OpenStore D). store_kept k) takes.keeper) (subst IsSound (sym same) holding.sound)
       (ap power_loss same)
 
-  -- what is equal to one with the same keeper and reservations
-  both : (one new : DriveState M (OpenStore D)) → new ≡ one
-      → (new.keeper ≡ one.keeper) × (new.reservations ≡ one.reservations)
-  both one new same = (
-    ap (λ (d : DriveState M (OpenStore D)). d.keeper) same,
-    ap (λ (d : DriveState M (OpenStore D)). d.reservations) same,
-  )
-
-  -- what goes in or out leaves keeper and reservations
-  out_stays : (bay : Bay M) (old : DriveState M (OpenStore D)) (result : Result M Reply)
-      (new : DriveState M (OpenStore D)) → GoesOutOf medium below bay old result new
-      → (new.keeper ≡ old.keeper) × (new.reservations ≡ old.reservations)
-  out_stays Empty old (Ok out) new goes = absurd goes
-  out_stays Empty old (Err reply) new goes = both old new goes.1
-  out_stays (Unloaded m) old (Ok out) new goes = both (emptied old m) new goes.1
-  out_stays (Unloaded m) old (Err reply) new goes = absurd goes
-  out_stays (Loaded m) old (Ok out) new goes = both (emptied old m) new goes.1
-  out_stays (Loaded m) old (Err reply) new goes = both (record old { bay = Loaded goes.0 }) new goes.3
-
-  in_stays : (old : DriveState M (OpenStore D)) (given : M) (result : Result Unit (M × Reply))
-      (new : DriveState M (OpenStore D)) → TakesIn medium below old given result new
-      → (new.keeper ≡ old.keeper) × (new.reservations ≡ old.reservations)
-  in_stays old given (Ok done) new takes = both (loaded old takes.0) new takes.2
-  in_stays old given (Err back) new takes = both old new takes.3
-
-  pub carried_stays : (old new : DriveState M (OpenStore D)) → ChangesBay medium below disk old new
-      → (new.keeper ≡ old.keeper) × (new.reservations ≡ old.reservations)
-  carried_stays old new (inl takes) = in_stays old takes.0 takes.1 new takes.2
-  carried_stays old new (inr (inl put)) = both (record old { bay = Unloaded put.0 }) new put.1
-  carried_stays old new (inr (inr out)) = out_stays old.bay old out.0 new out.1
-
   moved_goes : (old new : DriveState M (OpenStore D)) → IsHolding medium below disk old
       → CallDoes medium below disk old Moved new → CallGoes old Moved new
   moved_goes old new holding carried =
-      let stays = carried_stays old new carried in
+      let stays = carried_stays medium below disk old new carried in
       unsaved old new holding Moved []
       (subst (λ (k : OpenStore D). CoreMoves store_rules (one_disk disk) old.keeper.disk k.disk
       (core_of old.keeper) (core_of k) []) (sym stays.0)

@@ -8,19 +8,20 @@ use Rattle.accepting.specs.Core.{CanAcknowledge}
 use Rattle.accepting.specs.Device.{one_disk}
 use Rattle.accepting.specs.Laws.{CrashesKeepAcknowledged, KeptBegins, StepsKeepCores}
 use Rattle.tape_buffer.specs.Rules.{medium_rules}
-use Rattle.tape_buffer.specs.Moves.{buffer_below, medium_core}
+use Rattle.tape_buffer.specs.Moves.{medium_core}
 use Rattle.tape_buffer.specs.State.{BufferState}
 use Rattle.aptpl_store.specs.Kept.{store_below, store_kept}
 use Rattle.drive_core.specs.Relations.{made_nothing}
 use Rattle.drive_core.specs.State.{medium_in}
-use Rattle.drive_core.specs.Execute.{HonestIn, is_device_fault}
+use Rattle.drive_core.specs.Execute.{is_device_fault}
 use Rattle.changer.specs.Slots.{held_at, is_slot}
+use Rattle.library.specs.Bays.{IsSafeIn}
 use Rattle.library.specs.Doings.{Turned}
 use Rattle.library.specs.Elements.{BayState, HeldState, bay_at, cartridge_at, cartridge_in}
 use Rattle.library.specs.Finish.{TurnsAt}
 use Rattle.library.specs.Journeys.{Deed, Finishing, GoesWith, GoesWithAll, InDrive, IsThen, KeepsWhatIsSafe, Moving, StopsKeepWhatIsMoved}
 use Rattle.library.specs.Moves.{IsSameAt, KeepsCartridges, StaysAt}
-use Rattle.library.proofs.CartridgeLemmas.{Moved, honest_in, keep_media, moved_as, moved_by, moved_doing, moved_nowhere, moved_on, safe_in}
+use Rattle.library.proofs.CartridgeLemmas.{Moved, honest_in, keep_media, moved_as, moved_by, moved_doing, moved_nowhere, moved_on}
 use Rattle.library.proofs.PlaceLemmas.{bay_elsewhere, bay_here, in_bay, same_or_not}
 
 module _ {D : Type 0} (state : D → DiskState) (is_disk : (disk : D) → (state disk).honest → IsDisk (state disk)) where
@@ -159,13 +160,13 @@ module _ {D : Type 0} (state : D → DiskState) (is_disk : (disk : D) → (state
   module _ (crash : CrashesKeepAcknowledged medium_rules (one_disk state)) (cores : StepsKeepCores medium_rules)
       (begins : KeptBegins medium_rules) where
     pub stops_keep_what_is_moved : StopsKeepWhatIsMoved state
-    stops_keep_what_is_moved old acked new number after medium request reply deeds changes drive at known answers sure
-        told on goes =
+    stops_keep_what_is_moved old acked new number after medium request reply deeds changes at known answers sure told
+        goes =
         let taken = answers.step.taken in
         let was : cartridge_at old number ≡ medium_in answers.bay.bay =
-        in_bay number answers.bay old drive answers.is in
+        in_bay number answers.bay old answers.number_is answers.is in
         let is : cartridge_at acked number ≡ medium_in answers.left.bay =
-        bay_here number answers.left old acked drive answers.now in
+        bay_here number answers.left old acked answers.number_is answers.now in
         let inside : medium_in answers.bay.bay ≡ Some medium = sym was ∙ at in
         let moved = moved_by state is_disk (medium_in answers.bay.bay) (medium_in answers.left.bay) taken.made.changes
         (is_device_fault answers.step.answer) taken.advances in
@@ -173,14 +174,13 @@ module _ {D : Type 0} (state : D → DiskState) (is_disk : (disk : D) → (state
         (cartridge_at acked number) taken.made.changes was is moved in
         let later = still_there (cartridge_at old number) (cartridge_at acked number) taken.made.changes medium at
         first in
+        let safe = answers.safe sure told
+        (honest_in state is_disk crash cores begins store_kept (store_below state) (medium_in answers.bay.bay) medium
+        inside known) in
         keep_media state is_disk crash cores begins (cartridge_at old number) (cartridge_at acked number)
         (cartridge_at new after) medium taken.made.changes changes at known first
         (moved_with_all acked new number after deeds changes later.0 later.1 goes)
-        (λ left there. safe_in state is_disk store_kept (HonestIn (buffer_below state) (medium_in answers.bay.bay))
-        answers.left answers.left.bay left refl (sym is ∙ there)
-        (honest_in state is_disk crash cores begins store_kept (store_below state) (medium_in answers.bay.bay) medium
-        inside known)
-        on (answers.settled sure told))
+        (λ left there. subst (λ (m : Option (BufferState D)). IsSafeIn state m) (sym is ∙ there) safe)
 
     pub keeps_what_is_safe : KeepsWhatIsSafe state
     keeps_what_is_safe old new place after medium deeds changes at known safe goes =

@@ -1,3 +1,4 @@
+pub mod AcceptedLemmas
 pub mod BayLemmas
 pub mod CarriedLemmas
 pub mod CartridgeLemmas
@@ -10,6 +11,7 @@ pub mod JourneyLemmas
 pub mod LentLemmas
 pub mod LiftedLemmas
 pub mod MachineLemmas
+pub mod MomentLemmas
 pub mod MoveLemmas
 pub mod PlaceLemmas
 pub mod SameLemmas
@@ -21,4 +23,5 @@ pub mod BesideLemmas
 pub mod ServedLemmas
 pub mod OneHostLemmas
 pub mod ReturnLemmas
+pub mod RunKeepsLemmas
 pub mod RunnerLemmas

@@ -16,47 +16,60 @@ use Rattle.drive_core.specs.declared.bays.Bay.{Bay}
 use Rattle.drive_core.specs.declared.bays.Bay.TheVariants.{Empty}
 use Rattle.drive_core.specs.State.{DriveState, left_of, machine_of, powered_on}
 use Rattle.aptpl_store.specs.Contents.{GivesStates, ShowsStates, latest}
-use Rattle.aptpl_store.specs.Kept.{core_of, core_with, store_kept}
+use Rattle.accepting.specs.Device.{one_disk}
+use Rattle.accepting.specs.Events.{IsEvent, ShowsCore}
+use Rattle.aptpl_store.specs.Kept.{core_of, core_with, store_kept, store_rules}
 use Rattle.aptpl_store.specs.State.{OpenStore}
-use Rattle.library.specs.Reservations.{Asked, Call, CallDoes, Calls, GivesHeld, IsHolding, LeavesHeld, MayStand, Moved, OrdersStand, ReservationsOutlive, SwitchedOnHolds, Turned, disk_of}
+use Rattle.library.specs.Reservations.{Asked, Call, CallDoes, Calls, GivesHeld, HoldingGives, HoldingGoesOn, IsHolding, LeavesHeld, MayStand, Moved, OrdersStand, ReservationsOutlive, SwitchedOnHolds, Turned, disk_of}
 use Rattle.library.proofs.MachineLemmas.{step_goes}
 use Rattle.library.proofs.StandLemmas.{good_stands, step_stands}
-use Rattle.library.proofs.CallLemmas.{call_goes, carried_stays, turn_leaves}
+use Rattle.library.proofs.CallLemmas.{CallGoes, call_goes, carried_stays, turn_leaves}
 use Rattle.library.proofs.StoreCoreLemmas.{GivesEither, core_within, event_leaves, from_core, given_as, last_more, to_core}
 
 module _ {M D : Type 0} (medium : M → MediumState) (below : Below M Change) (disk : D → DiskState)
     (is_disk : (d : D) → (disk d).honest → IsDisk (disk d)) (keep : OrdersKeepRules)
     (due : SavesAreDueByChange) (lost : SavedAlikeAreLostAlike) where
   -- what one call leaves at each moment, and in the end
-  call_leaves : (old new : DriveState M (OpenStore D)) (call : Call) → (disk_of medium below disk old).honest
+  call_leaves : (old new : DriveState M (OpenStore D)) (call : Call)
       → IsHolding medium below disk old → CallDoes medium below disk old call new
-      → LeavesOnly (disk_of medium below disk old) (disk_of medium below disk new)
-      (LeavesHeld medium below disk old call new)
-      × IsHolding medium below disk new
-  call_leaves old new call honest holding does =
-      let goes = call_goes medium below disk is_disk keep due lost old new call holding does in
-      let shown = λ (image : List ℕ) (left : (disk_of medium below disk old).may_leave image).
-      to_core old.keeper.heading old.keeper.states old.keeper.torn image (holding.shows image left) in
-      let went = goes.moves.goes honest shown in
-      let core = core_with old.keeper.heading old.keeper.states old.keeper.torn in
-      let leaves : LeavesOnly (disk_of medium below disk old) (disk_of medium below disk new)
-      (GivesEither old.keeper.heading old.keeper.states goes.more) =
-      event_leaves disk old.keeper.disk new.keeper.disk old.keeper.heading old.keeper.states
-      goes.more core (core_of new.keeper) goes.made
-      (core_within old.keeper.heading old.keeper.states old.keeper.torn goes.more goes.torn)
-      (accepts old goes.more goes.made goes.fits) went.0 in (
-        weakened (disk_of medium below disk old) (disk_of medium below disk new)
-            (GivesEither old.keeper.heading old.keeper.states goes.more) (LeavesHeld medium below disk old call new)
-            leaves (opens old call new goes.more holding goes.stands),
-        record {
-          sound = goes.sound;
-          saved = goes.saved;
-          at_rest = goes.at_rest;
-          shows = λ image left.
-              from_core new.keeper.heading new.keeper.states new.keeper.torn image (went.1 image left);
-        },
-      )
+      → IsHolding medium below disk new
+      × ((disk_of medium below disk old).honest
+      → (disk_of medium below disk new).honest
+      × LeavesOnly (disk_of medium below disk old) (disk_of medium below disk new)
+      (LeavesHeld medium below disk old call new))
+  call_leaves old new call holding does = (
+    record {
+      sound = goes.sound;
+      saved = goes.saved;
+      at_rest = goes.at_rest;
+      shows = λ honest image left.
+          from_core new.keeper.heading new.keeper.states new.keeper.torn image
+          ((went (goes.moves.keeps.was_honest honest)).1 image left);
+    },
+    λ honest. (
+      goes.moves.keeps.stays_honest honest,
+      weakened (disk_of medium below disk old) (disk_of medium below disk new)
+          (GivesEither old.keeper.heading old.keeper.states goes.more) (LeavesHeld medium below disk old call new)
+          (event_leaves disk old.keeper.disk new.keeper.disk old.keeper.heading old.keeper.states goes.more
+          (core_of old.keeper) (core_of new.keeper) goes.made
+          (core_within old.keeper.heading old.keeper.states old.keeper.torn goes.more goes.torn)
+          (accepts old goes.more goes.made goes.fits) (went honest).0)
+          (opens old call new goes.more holding goes.stands),
+    ),
+  )
     where
+      goes : CallGoes medium below disk is_disk keep due lost old call new
+      goes = call_goes medium below disk is_disk keep due lost old new call holding does
+
+      went : (disk_of medium below disk old).honest
+          → IsEvent store_rules (one_disk disk) old.keeper.disk new.keeper.disk (core_of old.keeper)
+          (core_of new.keeper) goes.made
+          × Each (disk_of medium below disk new) (ShowsCore store_rules (core_of new.keeper))
+      went honest =
+          goes.moves.goes honest
+          (λ image left. to_core old.keeper.heading old.keeper.states old.keeper.torn image
+          (holding.shows honest image left))
+
       accepts : (drive : DriveState M (OpenStore D)) (more : PrState) (made : List PrState)
           → (made ≡ []) ⊎ ((made ≡ more ∷ []) × (drive.keeper.torn ≡ None))
           → (made ≡ []) ⊎ ((made ≡ more ∷ []) × ((core_of drive.keeper).accepted ≡ drive.keeper.states))
@@ -91,16 +104,18 @@ module _ {M D : Type 0} (medium : M → MediumState) (below : Below M Change) (d
           )
 
   -- calls leave a drive that holds, over a disk that is honest still
-  calls_leave : (old mid : DriveState M (OpenStore D)) (calls : List Call) → (disk_of medium below disk old).honest
+  calls_leave : (old mid : DriveState M (OpenStore D)) (calls : List Call)
       → IsHolding medium below disk old → Calls medium below disk old calls mid
-      → (disk_of medium below disk mid).honest × IsHolding medium below disk mid
-  calls_leave old mid [] honest holding did =
-      subst (λ (d : DriveState M (OpenStore D)). (disk_of medium below disk d).honest × IsHolding medium below disk d)
-      (sym did) (honest, holding)
-  calls_leave old mid (call ∷ calls) honest holding did =
-      let next = call_leaves old did.0 call honest holding did.1 in
-      let goes = call_goes medium below disk is_disk keep due lost old did.0 call holding did.1 in
-      calls_leave did.0 mid calls (goes.moves.keeps.stays_honest honest) next.1 did.2
+      → IsHolding medium below disk mid
+      × ((disk_of medium below disk old).honest → (disk_of medium below disk mid).honest)
+  calls_leave old mid [] holding did = (
+    subst (λ (d : DriveState M (OpenStore D)). IsHolding medium below disk d) (sym did) holding,
+    λ honest. subst (λ (d : DriveState M (OpenStore D)). (disk_of medium below disk d).honest) (sym did) honest,
+  )
+  calls_leave old mid (call ∷ calls) holding did =
+      let next = call_leaves old did.0 call holding did.1 in
+      let rest = calls_leave did.0 mid calls next.0 did.2 in
+      (rest.0, λ honest. rest.1 (next.1 honest).0)
 
   -- between two calls an image gives what is held, or the state whose save failed
   gives_held : (drive : DriveState M (OpenStore D)) → IsHolding medium below disk drive → (image : List ℕ)
@@ -130,14 +145,26 @@ module _ {M D : Type 0} (medium : M → MediumState) (below : Below M Change) (d
             ),
           )
 
+  pub held_gives : HoldingGives medium below disk
+  held_gives drive holding honest = λ image may. gives_held drive holding image (holding.shows honest image may)
+
+  pub goes_on : HoldingGoesOn medium below disk
+  goes_on old new call holding does =
+      let left = call_leaves old new call holding does in (
+        left.0,
+        λ honest. (
+          (left.1 honest).0,
+          (left.1 honest).1,
+          held_gives new left.0 (left.1 honest).0,
+        ),
+      )
+
   pub outlive : ReservationsOutlive medium below disk
   outlive old mid new calls last honest holding did does =
-      let there = calls_leave old mid calls honest holding did in
-      let left = call_leaves mid new last there.0 there.1 does in (
-        left.0,
-        λ image may. gives_held new left.1 image (left.1.shows image may),
-        left.1,
-      )
+      let there = calls_leave old mid calls holding did in
+      let left = goes_on mid new last there.0 does in
+      let found = left.1 (there.1 honest) in
+      (found.1, found.2, found.0, left.0)
 
   -- what a call leaves of the reservations
   pub stand : OrdersStand medium below disk
@@ -146,7 +173,7 @@ module _ {M D : Type 0} (medium : M → MediumState) (below : Below M Change) (d
         (machine_of medium store_kept new) takes.step.1),
     tt,
   )
-  stand old new Moved carried = (inl (carried_stays medium below disk is_disk keep due lost old new carried).1, tt)
+  stand old new Moved carried = (inl (carried_stays medium below disk old new carried).1, tt)
   stand old new (Asked request reply) answers = (
     step_stands (machine_of medium store_kept old) request answers.answer answers.taken.made
         (machine_of medium store_kept new) (step_goes _ (machine_of medium store_kept old) request answers.answer
@@ -161,7 +188,7 @@ module _ {M D : Type 0} (medium : M → MediumState) (below : Below M Change) (d
     (once : PowerLossIsOnce) where
   switched : (store : OpenStore D) (reservations : PrState) (bay : Bay M) (new : DriveState M (OpenStore D))
       → reservations ≡ left_of (store_kept store).saved → IsSound reservations → store.failed ≡ is_some store.torn
-      → Each (disk store.disk) (ShowsStates store.heading store.states store.torn)
+      → ((disk store.disk).honest → Each (disk store.disk) (ShowsStates store.heading store.states store.torn))
       → new ≡ powered_on bay reservations store → IsHolding medium below disk new
   switched store reservations bay new left sound at_rest shows is =
       subst (λ (d : DriveState M (OpenStore D)). IsHolding medium below disk d) (sym is) (record {

@@ -9,7 +9,7 @@ use Rattle.tape_buffer.specs.Moves.{buffer_below, medium_core}
 use Rattle.tape_buffer.specs.State.{BufferState, state_of}
 use Rattle.aptpl_store.specs.Kept.{store_below, store_kept}
 use Rattle.drive_core.specs.Relations.{Made}
-use Rattle.drive_core.specs.State.{IsBayPositioned, machine_of}
+use Rattle.drive_core.specs.State.{machine_of}
 use Rattle.drive_core.specs.Synchronize.{Acknowledges, IsSynchronizing}
 use Rattle.drive_core.specs.Work.{Request}
 use Rattle.changer.specs.Slots.{is_slot}
@@ -72,10 +72,9 @@ module _ {D : Type 0} (state : D → DiskState) where
   StopsKeepWhatIsMoved =
       (old acked new : HeldState D) (number after : ℕ) (medium : BufferState D)
       (request : Request) (reply : Reply) (deeds : List Deed) (changes : List Change)
-      → is_slot number ≡ false → cartridge_at old number ≡ Some medium → IsKnown state medium
+      → cartridge_at old number ≡ Some medium → IsKnown state medium
       → (answers : Commands state number request old reply acked)
       → IsSynchronizing (machine_of (state_of state) store_kept answers.bay) request.cdb → Acknowledges reply
-      → IsBayPositioned (state_of state) answers.left.bay answers.left.position
       → GoesWithAll acked number deeds changes new after
       → KeepsIn state (cartridge_at acked number) (cartridge_at new after) changes
 

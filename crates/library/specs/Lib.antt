@@ -1,3 +1,5 @@
+pub mod Accepted
+pub mod Bays
 pub mod Cartridges
 pub mod Commands
 pub mod Doings
@@ -9,4 +11,5 @@ pub mod Lent
 pub mod Moves
 pub mod OneHost
 pub mod Reservations
+pub mod RunKeeps
 pub mod Runs

@@ -83,13 +83,15 @@ module _ {M D : Type 0} (medium : M → MediumState) (below : Below M Change) (d
   disk_of drive = disk drive.keeper.disk
 
   -- A drive and its store: the reservations keep the rules, what was saved last is lost as they are, the store has
-  -- failed just where a state is under way, and each image that a crash may leave shows what was saved (own).
+  -- failed just where a state is under way, and over an honest disk each image that a crash may leave shows what was
+  -- saved (own).
   pub record IsHolding (drive : DriveState M (OpenStore D)) : Type 0 where
     pub sound : IsSound drive.reservations
     pub saved : power_loss (latest drive.keeper.states) ≡ power_loss drive.reservations
     pub at_rest : drive.keeper.failed ≡ is_some drive.keeper.torn
     pub shows :
-        Each (disk_of drive) (ShowsStates drive.keeper.heading drive.keeper.states drive.keeper.torn)
+        (disk_of drive).honest
+        → Each (disk_of drive) (ShowsStates drive.keeper.heading drive.keeper.states drive.keeper.torn)
 
   -- A state that may be found in the place of the one held: that whose save failed earlier; or that which the order of
   -- this call makes, where the drive holds it once the call is over, or its save failed in the call (own).
@@ -114,22 +116,40 @@ module _ {M D : Type 0} (medium : M → MediumState) (below : Below M Change) (d
       ⊎ ((state : PrState) × (drive.keeper.torn ≡ Some state)
       × OpensAs drive.keeper.heading (power_loss state) image)
 
+  -- a drive that holds so over an honest disk: each image that a crash now may leave opens as what a loss of power
+  -- leaves of the reservations that it holds, or of the state whose save failed (own)
+  abbrev pub HoldingGives : Type 0
+  HoldingGives =
+      (drive : DriveState M (OpenStore D)) → IsHolding drive → (disk_of drive).honest
+      → Each (disk_of drive) (GivesHeld drive)
+
   -- Whatever a drive was given, and wherever it is stopped, inside the last call too: each image that a crash may leave
   -- opens as what a loss of power leaves of what was held before that call, or of a state that may stand in its place;
-  -- once the call is over, of what is then held, or of the state whose save failed; and the drive goes on so (own).
+  -- once the call is over, of what is then held, or of the state whose save failed; and the drive goes on so, over a
+  -- disk that is honest still (own).
   abbrev pub ReservationsOutlive : Type 0
   ReservationsOutlive =
       (old mid new : DriveState M (OpenStore D)) (calls : List Call) (last : Call)
       → (disk_of old).honest → IsHolding old → Calls old calls mid → CallDoes mid last new
       → LeavesOnly (disk_of mid) (disk_of new) (LeavesHeld mid last new) × Each (disk_of new) (GivesHeld new)
-      × IsHolding new
+      × (disk_of new).honest × IsHolding new
+
+  -- The same of one call, whatever the disk is: a drive that holds so goes on so; and where the store's disk is honest,
+  -- it is honest still, and each image that a crash may leave opens so, inside the call and once it is over (own).
+  abbrev pub HoldingGoesOn : Type 0
+  HoldingGoesOn =
+      (old new : DriveState M (OpenStore D)) (call : Call) → IsHolding old → CallDoes old call new
+      → IsHolding new
+      × ((disk_of old).honest
+      → (disk_of new).honest
+      × LeavesOnly (disk_of old) (disk_of new) (LeavesHeld old call new) × Each (disk_of new) (GivesHeld new))
 
   -- a drive that was just switched on, with what a loss of power leaves of what its store saved last, holds so (own)
   abbrev pub SwitchedOnHolds : Type 0
   SwitchedOnHolds =
       (given : Option M) (store : OpenStore D) (reservations : PrState) (new : DriveState M (OpenStore D))
       → reservations ≡ left_of (store_kept store).saved → IsSound reservations → store.failed ≡ is_some store.torn
-      → Each (disk store.disk) (ShowsStates store.heading store.states store.torn)
+      → ((disk store.disk).honest → Each (disk store.disk) (ShowsStates store.heading store.states store.torn))
       → SwitchesOn medium below given reservations store (Ok new) → IsHolding new
 
   -- What a host is answered GOOD to once its order has passed all checks is there: the drive holds a state that the

@@ -109,7 +109,10 @@ impl<D: Disk + Drop> Held<D> {
         // Asked for the proof's sake: the numbers of drives begin with 1.
         let _ = drive.number();
         match &mut self.bays[drive.place()] {
-            Some(bay) => bay.execute(nexus, cdb, sent),
+            Some(bay) => {
+                bay.known();
+                bay.execute(nexus, cdb, sent)
+            }
             None => unreachable!(),
         }
     }
@@ -130,7 +133,10 @@ impl<D: Disk + Drop> Held<D> {
         // Asked for the proof's sake: the numbers of drives begin with 1.
         let _ = drive.number();
         match &mut self.bays[drive.place()] {
-            Some(bay) => bay.execute_lent(nexus, cdb, sent),
+            Some(bay) => {
+                bay.known();
+                bay.execute_lent(nexus, cdb, sent)
+            }
             None => unreachable!(),
         }
     }

@@ -2,6 +2,7 @@
 ghost use Rattle.std.specs.Prelude.{◌≡◌, false};
 ghost use Rattle.tape_buffer.specs.State.{closed_buffer, state_of};
 ghost use Rattle.tape_buffer.specs.declared.holding.Holding.TheVariants as Holdings;
+ghost use Rattle.library.specs.Bays.{KeepsCartridge};
 
 use cartridge::Shelved;
 use std::alloc::Global;
@@ -9,7 +10,8 @@ use std::marker::Model;
 use tape_buffer::Buffered;
 use tape_disk::Disk;
 
-/// A closed cartridge, as a slot holds it and a drive takes it in. To a contract it is its medium, which is parked.
+/// A closed cartridge, as a slot holds it and a drive takes it in. To a contract it is its medium, which is parked. The
+/// type keeps what is kept of a cartridge in a drive; one that is unread keeps it once a drive has opened it.
 #[derive(Drop)]
 pub struct Parked<D: Disk> {
     medium: Buffered<D>,
@@ -18,12 +20,13 @@ pub struct Parked<D: Disk> {
 impl<D: Disk> Model for Parked<D> {
     ghost use Rattle.std.specs.Prelude.{◌≡◌, false};
     ghost use Rattle.tape_buffer.specs.State.{BufferState, state_of};
+    ghost use Rattle.library.specs.Bays.{KeepsCartridge};
 
     ghost Value = { BufferState D };
 
     ghost view = { λ p. p.medium };
 
-    ghost invariant = { λ p. (state_of D.state p.medium).awake ≡ false };
+    ghost invariant = { λ p. ((state_of D.state p.medium).awake ≡ false) × KeepsCartridge D.state p.medium };
 }
 
 impl<D: Disk> Parked<D> {
@@ -32,9 +35,7 @@ impl<D: Disk> Parked<D> {
     pub fn of(alloc: Global, shelved: Shelved<D>) -> Parked<D>
         ensures { result ≡ closed_buffer shelved }
     {
-        Parked {
-            medium: Buffered::parked(alloc, shelved),
-        }
+        Parked::of_medium(Buffered::parked(alloc, shelved))
     }
 
     /// A medium that is parked.
@@ -42,6 +43,7 @@ impl<D: Disk> Parked<D> {
         requires { (state_of D.state medium).awake ≡ false }
         ensures { result ≡ medium }
     {
+        medium.known();
         Parked { medium }
     }
 
@@ -49,8 +51,17 @@ impl<D: Disk> Parked<D> {
     pub fn into_medium(self) -> Buffered<D>
         ensures same { result ≡ self }
         ensures parked { (state_of D.state result).awake ≡ false }
+        ensures kept { KeepsCartridge D.state result }
     {
         self.medium
+    }
+
+    /// What the type keeps of it.
+    pub fn known(&self)
+        ensures { KeepsCartridge D.state self.now }
+    {
+        // Looked at for the proof's sake: the facts are the type's.
+        let _ = &self.medium;
     }
 
     /// The closed cartridge.

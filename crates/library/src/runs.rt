@@ -7,9 +7,11 @@ ghost use Rattle.library.specs.Commands.{Commands};
 ghost use Rattle.library.specs.Inner.RunsOn.{held_none, held_on};
 ghost use Rattle.library.specs.Moves.{KeepsBays};
 ghost use Rattle.library.specs.OneHost.{LibraryAnswersHost};
+ghost use Rattle.library.specs.RunKeeps.{RunKeeps};
 ghost use Rattle.library.specs.Runs.{LibraryAnswers, is_configured_in, line_request};
 
 use crate::held::Held;
+use crate::laws::cartridges::a_stop_keeps_acknowledged_changes_of_what_is_moved;
 use aptpl_store::AptplStore;
 use drive_core::laws;
 use scsi_sense::Reply;
@@ -97,11 +99,15 @@ pub fn run_held<D: Disk + Drop, R: Read, W: Write>(
         (W.contents writer.old) held.new (W.contents writer.new)) }
     ensures past { result ≢ Err ScriptFault.ReadFault →
         TakesWithin (R.remaining reader.old) 0 (R.remaining reader.new) }
+
+    // However it ends, a stop at any moment of it keeps what was acknowledged.
+    ensures keeps { RunKeeps D.state held.old held.new }
 {
-    // The laws of the machine and of scripts, for the proof alone.
+    // The laws of the machine, of scripts and of stops, for the proof alone.
     laws::honest_steps::<Buffered<D>>();
     laws::answers_are_determined();
     laws::served_hosts_run::<Buffered<D>, AptplStore<D>>();
     vtl_script::laws::one_host_runs_in_order();
+    a_stop_keeps_acknowledged_changes_of_what_is_moved::<D>();
     run_script(alloc, held, reader, writer)
 }

@@ -1,5 +1,5 @@
 //! Reservations through a loss of power.
-ghost use Rattle.library.specs.Reservations.{OrdersStand, ReservationsOutlive, SwitchedOnHolds};
+ghost use Rattle.library.specs.Reservations.{HoldingGives, HoldingGoesOn, OrdersStand, ReservationsOutlive, SwitchedOnHolds};
 
 use pr_core::laws::{power_loss_is_once, rules_are_kept, saves_are_due_by_change};
 use tape_disk::Disk;
@@ -13,6 +13,8 @@ use volume_core::Medium;
 /// held.
 pub fn reservations_outlive_each_stop<M: Medium, D: Disk>()
     ensures begins { SwitchedOnHolds M.state M.below D.state }
+    ensures gives { HoldingGives M.state M.below D.state }
+    ensures goes_on { HoldingGoesOn M.state M.below D.state }
     ensures outlive { ReservationsOutlive M.state M.below D.state }
     ensures stand { OrdersStand M.state M.below D.state }
 {

@@ -1,6 +1,6 @@
 use Rattle.std.proofs.Common.{◌≤◌, ◌∙◌, ap, sym, arith}
 use Rattle.library.specs.Elements.{HeldState, bay_at}
-use Rattle.library.proofs.BayLemmas.{bay_is, found_at}
+use Rattle.library.proofs.BayLemmas.{bay_is, found_at, no_slot}
 use Rattle.library.proofs.held.Held.command.Goals as goal
 
 pub unreachable-requires : goal.unreachable-requires
@@ -25,8 +25,13 @@ returns g c =
           ap (λ (h : HeldState g.row.D.Denot). bay_at h.bays c.args.drive) (sym c.self.view_is)
           ∙ found ∙ c.in-Some.is;
       left = c.execute.new.self;
-      step = c.execute.ensures.step;
+      step = c.execute.ensures.moments.step;
       settled = c.execute.ensures.settled;
+      number_is = no_slot c.args.drive most;
+      kept = c.known.ensures.kept.cartridge;
+      positioned = c.known.ensures.positioned;
+      moments = c.execute.ensures.moments.moments;
+      safe = c.execute.ensures.safe;
       now =
           bay_is c.self.inside.slots c.self.inside.bays.items c.args.drive c.place.result c.execute.new.self
           c.args.self.now c.self.view_is least most c.self.invariant c.place.ensures.place;

@@ -1,0 +1,98 @@
+-- What a list of events keeps of what was accepted, whatever stops come between: of the changes of a cartridge, and of
+-- the orders of a drive's reservations.
+use Rattle.std.specs.Prelude.{◌≡◌, ◌+◌, ◌++◌, ℕ, List, [], ◌∷◌, Bool, true, false, Option, None, Some, flat_map, length, map}
+use Rattle.scsi_lists.specs.declared.pr_lists.PrOut.{PrOut}
+use Rattle.pr_core.specs.declared.states.PrAnswer.{PrAnswer}
+use Rattle.pr_core.specs.declared.states.PrAnswer.TheVariants.{Good}
+use Rattle.pr_core.specs.declared.states.PrState.{PrState}
+use Rattle.pr_core.specs.Effects.{Effect}
+use Rattle.pr_core.specs.Orders.{effect_of}
+use Rattle.pr_core.specs.Sets.{nexuses}
+use Rattle.pr_core.specs.States.{empty_state, power_loss}
+use Rattle.gate_journal.specs.Side.{Heading}
+use Rattle.accepting.specs.Core.{Ack, AllStepTo, Core, CoreStep, IsCore, IsPrefix, Rules}
+use Rattle.aptpl_store.specs.Contents.{OpensAs}
+
+-- what changes the reservations of a drive: an order of a host, or a loss of power (SPC-4, PERSISTENT RESERVE OUT,
+-- persist through power loss)
+pub data PrEvent : Type 0 where
+  Ordered : (nexus : ℕ) → (order : PrOut) → PrEvent
+  PowerLost : PrEvent
+
+-- the state that an effect leaves (own)
+abbrev pub state_left : Effect → PrState
+state_left effect = record {
+  keys = map effect.keys nexuses;
+  reservation = effect.reservation;
+  aptpl = effect.aptpl;
+  generation = effect.generation;
+}
+
+-- what reservations become by an order, or by a loss of power (SPC-4, PERSISTENT RESERVE OUT, persist through power
+-- loss)
+abbrev pub pr_after : PrState → PrEvent → PrState
+pr_after state (Ordered nexus order) = state_left (effect_of state nexus order)
+pr_after state PowerLost = power_loss state
+
+-- what they become by all of these, one after another (own)
+abbrev pub pr_after_all : PrState → List PrEvent → PrState
+pr_after_all state [] = state
+pr_after_all state (event ∷ events) = pr_after_all (pr_after state event) events
+
+-- an order is answered GOOD (own)
+abbrev pub is_good : PrAnswer → Bool
+is_good Good = true
+is_good _ = false
+
+-- an order that is answered GOOD is taken, and every loss of power (own)
+abbrev pub is_taken : PrState → PrEvent → Bool
+is_taken state (Ordered nexus order) = is_good (effect_of state nexus order).answer
+is_taken state PowerLost = true
+
+-- A drive accepts orders that are answered GOOD behind those before them, from nothing registered or reserved on, and
+-- losses of power; an image of its store gives what a loss of power leaves of all that; what all is carried out from
+-- never changes (own).
+abbrev pub order_rules : Rules
+order_rules = record {
+  Base = Heading;
+  Item = PrEvent;
+  Image = List ℕ;
+  applies = λ heading events event. is_taken (pr_after_all empty_state events) event;
+  gives = λ heading events image. OpensAs heading (power_loss (pr_after_all empty_state events)) image;
+  rebases = λ heading events other. ⊥;
+}
+
+-- what a drive has accepted of orders and losses of power, once these led to what it holds: just these, and behind them
+-- the order whose save failed, if one did (own)
+abbrev pub orders_core : Heading → List PrEvent → Option PrEvent → Core Heading PrEvent
+orders_core heading events None =
+    record {
+      base = heading;
+      accepted = events;
+      stored = length events;
+      safe = length events;
+      fault = false;
+      stuck = false;
+      recovering = false;
+    }
+orders_core heading events (Some failed) =
+    record {
+      base = heading;
+      accepted = events ++ failed ∷ [];
+      stored = length events + 1;
+      safe = length events;
+      fault = true;
+      stuck = false;
+      recovering = false;
+    }
+
+module _ (rules : Rules) where
+  -- For every list of events, each a list of steps: what was accepted at an acknowledgement, in whichever event it
+  -- stands, begins what is accepted at any moment behind it, inside an event too, whatever stops come between (own).
+  abbrev pub StopsKeepAccepted : Type 0
+  StopsKeepAccepted =
+      (first acked last : Core rules.Base rules.Item) (events : List (List (CoreStep rules.Item)))
+      (before after rest : List (CoreStep rules.Item))
+      → flat_map (λ event. event) events ≡ before ++ (Ack ∷ after) ++ rest
+      → IsCore first → AllStepTo rules first before acked → AllStepTo rules acked (Ack ∷ after) last
+      → IsPrefix acked.accepted last.accepted
