@@ -1,5 +1,5 @@
 -- What a call of a drive leaves at each moment inside it, of its cartridge and of its store.
-use Rattle.std.proofs.Common.{◌≡◌, ◌∙◌, ap, inl, inr, ℕ, List, [], Option, None, Some, Result, Ok, Err, refl, sym, subst}
+use Rattle.std.proofs.Common.{◌≡◌, ap, inl, inr, ℕ, List, [], Option, None, Some, Result, Ok, Err, refl, sym, subst}
 use Rattle.tape_disk.specs.Disk.{DiskState, Each, IsDisk}
 use Rattle.tape_disk.specs.Moments.{LeavesOnly, no_call}
 use Rattle.scsi_sense.specs.declared.replies.Reply.{Reply}
@@ -13,11 +13,11 @@ use Rattle.vtl_base.specs.declared.faults.NoMemory.{NoMemory}
 use Rattle.gate_journal.specs.Side.{Heading}
 use Rattle.accepting.specs.Core.{CanAcknowledge, Core}
 use Rattle.accepting.specs.Device.{one_disk, one_is_device}
-use Rattle.accepting.specs.Events.{CoreMoves, core_moves_nowhere}
+use Rattle.accepting.specs.Events.{core_moves_nowhere}
 use Rattle.aptpl_store.specs.Contents.{ShowsStates}
 use Rattle.aptpl_store.specs.Kept.{StoreMoves, core_of, store_below, store_kept, store_rules}
 use Rattle.aptpl_store.specs.State.{OpenStore}
-use Rattle.tape_buffer.specs.Moves.{MovesOn, ShowsOn, buffer_below, medium_core, medium_moves_nowhere}
+use Rattle.tape_buffer.specs.Moves.{MovesOn, ShowsOn, buffer_below, medium_core}
 use Rattle.tape_buffer.specs.State.{BufferState, disk_in, state_of}
 use Rattle.drive_core.specs.declared.bays.Bay.{Bay}
 use Rattle.drive_core.specs.declared.bays.Bay.TheVariants.{Empty, Unloaded, Loaded}
@@ -26,7 +26,7 @@ use Rattle.drive_core.specs.Execute.{Answers, is_device_fault}
 use Rattle.drive_core.specs.Load.{bay_when_on}
 use Rattle.drive_core.specs.Media.{GoesOutOf, SwitchesOn, TakesIn, TakesTurn}
 use Rattle.drive_core.specs.Relations.{Made, made_nothing}
-use Rattle.drive_core.specs.State.{medium_in, powered_on}
+use Rattle.drive_core.specs.State.{medium_in}
 use Rattle.drive_core.specs.Work.{Request}
 use Rattle.library.specs.Bays.{AnswersInEvent, AnswersLentInEvent, EventIn, EventOn, EveryMoment, EveryMomentOff, EveryMomentOn, IsSafeIn, KeepsBoth, KeepsCartridge, KeepsCartridgeIn, SavesIn, loaded_or_back, out_or_in}
 use Rattle.library.specs.Elements.{BayState}

@@ -1,12 +1,10 @@
 -- What a run of orders over a library keeps.
 use Rattle.std.proofs.Common.{◌≡◌, ◌≢◌, ◌⊎◌, ◌++◌, ◌∙◌, inl, inr, ℕ, Bool, true, List, [], ◌∷◌, Option, Some, Result, Ok, Err, flat_map, refl, sym, ap, subst}
-use Rattle.tape_disk.specs.Disk.{DiskState, Each}
+use Rattle.tape_disk.specs.Disk.{DiskState}
 use Rattle.scsi_sense.specs.declared.replies.Reply.{Reply}
 use Rattle.volume_core.specs.declared.changes.Change.{Change}
 use Rattle.volume_core.specs.Volume.{Part}
-use Rattle.accepting.specs.Events.{ShowsCore}
 use Rattle.tape_buffer.specs.Moves.{ShowsOn, medium_core}
-use Rattle.tape_buffer.specs.Rules.{medium_rules}
 use Rattle.tape_buffer.specs.declared.holding.Holding.{Holding}
 use Rattle.tape_buffer.specs.declared.holding.Holding.TheVariants.{Open, Closed, Between}
 use Rattle.tape_buffer.specs.State.{BufferState, awake_is_read, disk_in, state_held, state_of}
@@ -16,7 +14,7 @@ use Rattle.aptpl_store.specs.Kept.{store_kept}
 use Rattle.drive_core.specs.declared.bays.Bay.{Bay}
 use Rattle.drive_core.specs.declared.bays.Bay.TheVariants.{Loaded}
 use Rattle.drive_core.specs.State.{IsBayPositioned, machine_of, medium_in}
-use Rattle.drive_core.specs.Synchronize.{Acknowledges, IsSynchronizing}
+use Rattle.drive_core.specs.Synchronize.{IsSynchronizing}
 use Rattle.vtl_script.specs.declared.faults.ScriptFault.{ScriptFault}
 use Rattle.vtl_script.specs.declared.faults.ScriptFault.TheVariants as faults
 use Rattle.vtl_script.specs.declared.items.Item.{Item}
@@ -27,12 +25,11 @@ use Rattle.library.specs.Bays.{KeepsCartridge, KeepsCartridgeIn}
 use Rattle.library.specs.Cartridges.{IsKnown}
 use Rattle.library.specs.Commands.{Commands}
 use Rattle.library.specs.Doings.{Commanded}
-use Rattle.library.specs.Elements.{BayState, HeldState, bay_at, cartridge_at}
+use Rattle.library.specs.Elements.{BayState, HeldState}
 use Rattle.library.specs.Inner.RunsOn.{orders_on}
 use Rattle.library.specs.Journeys.{DriveDoes, GoesWith, GoesWithAll, KeepsWhatIsSafe, StopsKeepWhatIsMoved}
-use Rattle.library.specs.Moves.{MovesCartridge, MovesNothing}
 use Rattle.library.specs.RunKeeps.{AnswersKeeping, KeptSince, RunKeeps, deed_of, deeds_of}
-use Rattle.library.specs.Runs.{AnswersOrder, AnswersOrders, Carry, Command, LibraryAnswers, Order, is_configured_in, line_request, orders_of}
+use Rattle.library.specs.Runs.{AnswersOrder, AnswersOrders, Carry, Command, LibraryAnswers, Order, line_request, orders_of}
 use Rattle.library.proofs.PlaceLemmas.{in_bay, same_or_not}
 use Rattle.library.proofs.ServedLemmas.{found_same}
 

@@ -1,5 +1,5 @@
 use Rattle.std.proofs.Common.{subst}
-use Rattle.library.specs.Bays.{KeepsBoth, ShowsOrders}
+use Rattle.library.specs.Bays.{ShowsOrders}
 use Rattle.library.specs.Elements.{BayState}
 use Rattle.library.proofs.AcceptedLemmas.{shows_orders}
 use Rattle.library.proofs.bays.Bay.known.Goals as goal
