@@ -13,7 +13,7 @@ loop-change-preserved c =
     let done = take here changes in
     let inv = c.loop-change.invariant in
     let next = taken_next changes here change c.loop-change-test.true c.change-item.is in
-    let copied : c.in-Ok.copy ≡ change = c.in-Ok.ensures in
+    let copied : c.in-Ok.copy ≡ change = c.in-Ok.ensures.copy in
     let all = carried_next c.args.volume c.loop-change.volume c.apply.new.self done change inv.0 inv.1
     (ap (refusal_of c.loop-change.volume) (sym copied) ∙ c.in-Ok-apply.ensures.answer.0)
     (c.in-Ok-apply.ensures.answer.1 ∙ ap (changed c.loop-change.volume) copied) in (

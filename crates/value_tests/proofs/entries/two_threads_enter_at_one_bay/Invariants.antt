@@ -1,13 +1,13 @@
 use Rattle.value_tests.proofs.entries.two_threads_enter_at_one_bay.Given as goal
 
 abbrev pub ghosts-entered_by_two-B-Ledger : goal.ghosts-entered_by_two-B-Ledger
-ghosts-entered_by_two-B-Ledger a = record { name = a.bay_ledger.name; parts = a.bay_ledger.parts }
+ghosts-entered_by_two-B-Ledger a b = record { name = b.bay_ledger.name; parts = b.bay_ledger.parts }
 
 abbrev pub ghosts-entered_by_two-B-Parties : goal.ghosts-entered_by_two-B-Parties
-ghosts-entered_by_two-B-Parties a = record { all = a.bay_ledger.parts }
+ghosts-entered_by_two-B-Parties a b = record { all = b.bay_ledger.parts }
 
 abbrev pub ghosts-entered_by_two-H-Ledger : goal.ghosts-entered_by_two-H-Ledger
-ghosts-entered_by_two-H-Ledger a = record { name = a.host_ledger.name; parts = a.host_ledger.parts }
+ghosts-entered_by_two-H-Ledger a b = record { name = b.host_ledger.name; parts = b.host_ledger.parts }
 
 abbrev pub ghosts-entered_by_two-H-Parties : goal.ghosts-entered_by_two-H-Parties
-ghosts-entered_by_two-H-Parties a = record { all = a.host_ledger.parts }
+ghosts-entered_by_two-H-Parties a b = record { all = b.host_ledger.parts }
