@@ -1,0 +1,199 @@
+//! The end of a library: every buffer is written out, and the drives' counts are compared with the seats.
+ghost use Rattle.std.specs.Prelude.{◌≡◌, ◌≢◌, ◌+◌, ℕ, Err, Some, IfOk, IfErr, OnOk, OnErr, is_some, length, vec_len};
+ghost use Rattle.vtl_base.specs.declared.limits.TheConstants.{DRIVES};
+ghost use Rattle.ledgers.specs.Ledgers.{no_share};
+ghost use Rattle.library.specs.Elements.{bay_at};
+ghost use Rattle.library.specs.Finish.{HasFailedAt, HasFailedIn, IsWrittenAt, IsWrittenIn, TurnsAt};
+ghost use Rattle.shared_library.specs.Counts.{count_of_drive, one_if_there, or_none, which_are_there};
+ghost use Rattle.shared_library.specs.Ends.{IsShort, counts_of, sum_of_counts, sum_of_seats};
+ghost use Rattle.shared_library.specs.Inner.Ending.{HaveEnded, outcome_of, worse_of};
+
+use crate::libraries::Library;
+use crate::rows::Row;
+use crate::shared::SharedBay;
+use changer::Slots;
+use ledgers::{Gathering, Parties, Seat, SeatsMissing};
+use library::{Bay, Parked, Unwritten};
+use std::fmt::Debug;
+use std::sync::Wait;
+use tape_disk::Disk;
+use thiserror::Error;
+use vtl_base::limits::DRIVES;
+
+/// Why a library does not end well.
+#[derive(Clone, Copy, PartialEq, Eq, Debug, Error)]
+pub enum FinishError {
+    /// What is loaded in a drive has failed, before or as it was written out, so that not all is stored.
+    #[error("not all is written out")]
+    Unwritten,
+    /// The seats that were handed in have fewer changes than the drives accepted, so one at least is missing.
+    #[error("seats with {seats} of {total} changes")]
+    SeatsMissing { total: u64, seats: u64 },
+}
+
+/// What is left of a library, however it ends.
+#[derive(Drop)]
+pub struct Finished<D: Disk> {
+    /// The slots.
+    pub slots: Slots<Parked<D>>,
+    /// The drives, from number 1 on.
+    pub bays: Vec<Option<Bay<D>>>,
+    /// How many changes each drive accepted, from number 1 on, which the seats have together.
+    pub counts: Result<[Option<u64>; 16], FinishError>,
+}
+
+impl<D: Disk + Drop, B: Parties, H: Parties> Library<D, B, H> {
+    /// Writes every buffer out, by a turn of each drive, and compares the drives' counts with the seats. It is for the
+    /// end, when nobody else shares the library, and takes no memory. A medium that has failed is told first.
+    pub fn finish<R: Wait>(self, _rt: &R, seats: Vec<Seat<H>>) -> Finished<D>
+        ensures drives { which_are_there result.bays.items ≡ self }
+        ensures counts { IfOk result.counts (λ counts. (counts ≡ counts_of result.bays.items)
+            × (sum_of_counts counts ≡ sum_of_seats seats.items)) }
+
+        // A refusal has its cause: a medium has failed, or else the seats have less than the drives.
+        ensures unwritten { result.counts ≡ Err FinishError.Unwritten
+            → (number : ℕ) × HasFailedAt D.state (bay_at result.bays.items number) }
+        ensures written { result.counts ≢ Err FinishError.Unwritten
+            → (number : ℕ) → IsWrittenAt D.state (bay_at result.bays.items number) }
+        ensures missing { IfErr result.counts (λ error.
+            IsShort error (sum_of_counts (counts_of result.bays.items)) (sum_of_seats seats.items)) }
+        ensures all { vec_len seats ≡ H.all → IfErr result.counts (λ error. error ≡ FinishError.Unwritten) }
+    {
+        let Library {
+            alloc: _,
+            bays,
+            slots,
+            tally,
+            row,
+            closed: _,
+        } = self;
+        let mut row = row.into_inner();
+        let mut gathering = tally.into_inner().gather();
+        let written = end_drives(bays, &mut row, &mut gathering);
+        take_seats(seats, &mut gathering);
+        let counts = outcome(written, counts_in(&row), gathering.compare());
+        Finished {
+            slots: slots.into_inner(),
+            bays: row.into_places(),
+            counts,
+        }
+    }
+}
+
+// How a library ends: what is not written out comes first.
+fn outcome(
+    written: Result<(), Unwritten>,
+    counts: [Option<u64>; 16],
+    compared: Result<u64, SeatsMissing>,
+) -> Result<[Option<u64>; 16], FinishError>
+    ensures { result ≡ outcome_of written counts compared }
+{
+    if written.is_err() {
+        return Err(FinishError::Unwritten);
+    }
+    match compared {
+        Ok(_) => Ok(counts),
+        Err(SeatsMissing { total, seats }) => Err(FinishError::SeatsMissing { total, seats }),
+    }
+}
+
+// Takes each drive out from behind its lock, has it take a turn, puts it into the row, and gathers its share.
+fn end_drives<D: Disk + Drop, B: Parties, H: Parties>(
+    bays: Vec<Option<SharedBay<D, B>>>,
+    row: &mut Row<D>,
+    gathering: &mut Gathering<B, H>,
+) -> Result<(), Unwritten>
+    requires all { length bays.items ≡ DRIVES }
+    requires none { gathering.old.bays ≡ no_share }
+    ensures ended { HaveEnded D.state bays.items row.new gathering.new.bays result }
+    ensures hosts { (gathering.new.total ≡ gathering.old.total) × (gathering.new.hosts ≡ gathering.old.hosts) }
+{
+    row.known();
+    let mut bays = bays;
+    let mut written = Ok(());
+    while let Some(bay) = bays.pop() {
+        let DriveEnd { bay, written: one } = end_drive(bay, gathering);
+        row.put(bays.len(), bay);
+        written = worse(written, one);
+    }
+    written
+}
+
+// A drive at the end, where there is one, and whether all is written out.
+#[derive(Drop)]
+struct DriveEnd<D: Disk> {
+    bay: Option<Bay<D>>,
+    written: Result<(), Unwritten>,
+}
+
+// The first of two refusals.
+fn worse(first: Result<(), Unwritten>, second: Result<(), Unwritten>) -> Result<(), Unwritten>
+    ensures { result ≡ worse_of first second }
+{
+    if first.is_err() { first } else { second }
+}
+
+// Takes a drive out from behind its lock, where there is one, has it take a turn, and gathers its share.
+fn end_drive<D: Disk + Drop, B: Parties, H: Parties>(
+    bay: Option<SharedBay<D, B>>,
+    gathering: &mut Gathering<B, H>,
+) -> DriveEnd<D>
+    ensures there { is_some result.bay ≡ is_some bay }
+    ensures shares { gathering.new.bays.shares ≡ gathering.old.bays.shares + one_if_there bay }
+    ensures changes { gathering.new.bays.changes ≡ gathering.old.bays.changes + or_none (count_of_drive result.bay) }
+    ensures hosts { (gathering.new.total ≡ gathering.old.total) × (gathering.new.hosts ≡ gathering.old.hosts) }
+    ensures ok { OnOk result.written (IsWrittenAt D.state result.bay) }
+    ensures err { OnErr result.written (HasFailedAt D.state result.bay) }
+{
+    let Some(shared) = bay else {
+        return DriveEnd {
+            bay: None,
+            written: Ok(()),
+        };
+    };
+    let (mut bay, share) = shared.into_place().into_parts();
+    let written = write_out(&mut bay);
+    gathering.take_bay(share);
+    DriveEnd {
+        bay: Some(bay),
+        written,
+    }
+}
+
+// Stores what is pending in a drive, by a flusher's turn.
+fn write_out<D: Disk>(bay: &mut Bay<D>) -> Result<(), Unwritten>
+    ensures turns { TurnsAt D.state (Some bay.old) (Some bay.new) }
+    ensures ok { OnOk result (IsWrittenIn D.state bay.new.bay) }
+    ensures err { OnErr result (HasFailedIn D.state bay.new.bay) }
+{
+    let _ = bay.turn();
+    if bay.drive().has_failed() {
+        Err(Unwritten)
+    } else {
+        Ok(())
+    }
+}
+
+// The count of each drive of a row.
+fn counts_in<D: Disk + Drop>(row: &Row<D>) -> [Option<u64>; 16]
+    ensures { result ≡ counts_of row.now }
+{
+    row.known();
+    let mut counts = [None; 16];
+    for place in 0..DRIVES as usize {
+        counts[place] = row.count(place);
+    }
+    counts
+}
+
+// Takes the seats back.
+fn take_seats<B: Parties, H: Parties>(seats: Vec<Seat<H>>, gathering: &mut Gathering<B, H>)
+    ensures shares { gathering.new.hosts.shares ≡ gathering.old.hosts.shares + vec_len seats }
+    ensures changes { gathering.new.hosts.changes ≡ gathering.old.hosts.changes + sum_of_seats seats.items }
+    ensures bays { (gathering.new.total ≡ gathering.old.total) × (gathering.new.bays ≡ gathering.old.bays) }
+{
+    let mut seats = seats;
+    while let Some(seat) = seats.pop() {
+        gathering.take_seat(seat);
+    }
+}

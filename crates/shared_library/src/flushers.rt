@@ -1,0 +1,56 @@
+//! What a flusher does: the thread that stores what is pending in a drive.
+use crate::libraries::Library;
+use ledgers::Parties;
+use std::sync::Wait;
+use std::sync::atomic::Ordering;
+use tape_disk::Disk;
+use volume_core::Turn;
+use vtl_base::DriveNo;
+
+/// What a flusher asks before each turn, and whom it tells of it.
+pub trait Gate {
+    /// Whether there is to be one more turn. No lock is held.
+    fn before_turn(&self) -> bool;
+
+    /// The turn begins: the drive's lock is held.
+    fn in_turn(&self);
+
+    /// The turn has ended so. No lock is held.
+    fn after_turn(&self, turn: Turn);
+}
+
+/// A gate that is always open, and tells nobody.
+#[derive(Clone, Copy, Debug, Drop)]
+pub struct OpenGate;
+
+impl Gate for OpenGate {
+    fn before_turn(&self) -> bool {
+        true
+    }
+
+    fn in_turn(&self) {}
+
+    fn after_turn(&self, _turn: Turn) {}
+}
+
+impl<D: Disk + Drop, B: Parties, H: Parties> Library<D, B, H> {
+    /// Takes turns at a drive until the library is closed, or the gate answers that there is to be none. After a turn
+    /// that stored something comes the next; after another it waits until a command has accepted a change. Where the
+    /// drive is not configured it does nothing.
+    pub fn flusher<R: Wait, G: Gate>(&self, rt: &R, drive: DriveNo, gate: &G) {
+        let Some(bay) = &self.bays[drive.place()] else {
+            return;
+        };
+        for _ in rt.forever() {
+            if self.closed.load(Ordering::SeqCst) || !gate.before_turn() {
+                break;
+            }
+            let (turn, count) = bay.take_turn(rt, gate);
+            gate.after_turn(turn);
+            match turn {
+                Turn::Stored(_) => {}
+                Turn::Idle | Turn::Device => bay.wait(rt, count, &self.closed),
+            }
+        }
+    }
+}

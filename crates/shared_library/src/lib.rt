@@ -1,0 +1,22 @@
+//! A library that threads share: each drive behind a lock of its own, the slots behind one, and two ledgers of changes.
+#![tactic(auto)]
+
+pub mod finishing;
+pub mod flushers;
+pub mod inventories;
+pub mod libraries;
+mod moving;
+pub mod opening;
+pub mod places;
+mod rows;
+mod sessions;
+mod shared;
+
+pub use finishing::{FinishError, Finished};
+pub use flushers::Gate;
+pub use inventories::{Element, Inventory};
+pub use ledgers::{Parties, Seat};
+pub use libraries::Library;
+pub use library::{Bay, NotOn, Parked};
+pub use opening::NotOpened;
+pub use places::Place;
