@@ -172,7 +172,7 @@ EDITS = [
      "        Some(text) => match String::from_str(alloc, text) {",
      "        Some(text) if text.len() > 255 => Err(NoMemory),\n"
      "        Some(text) => match String::from_str(alloc, text) {", ["long_names_are_names"]),
-    ("a cartridge that is moved into a drive behind the second is want of memory", "library", "src/lent.rt",
+    ("a cartridge that is moved into a drive behind the second is want of memory", "bays", "src/lent.rt",
      "    let cartridge = take_held(slots, from);\n    match destination.load(cartridge) {\n",
      "    let cartridge = take_held(slots, from);\n    if to > 2 {\n"
      "        fill(slots, from, cartridge);\n"

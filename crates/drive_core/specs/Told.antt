@@ -38,8 +38,9 @@ IsWriteError sense =
 abbrev pub TellsWriteError : Reply → Type 0
 TellsWriteError reply = (reply.status ≡ Check) × IsSomeAnd reply.sense IsWriteError
 
--- What a reply tells of the changes that were made with it (own). A write error alone leaves it open whether there was
--- one: the device may fail before the change is accepted, or as it is stored.
+-- What a reply tells of the changes that were made with it (SSC-4, WRITE(6), WRITE FILEMARKS(6), ERASE(6), early
+-- warning). A write error alone leaves it open whether there was one: the device may fail before the change is
+-- accepted, or as it is stored (own).
 pub record TellsChanges (cdb : List ℕ) (reply : Reply) (changes : List Change) : Type 0 where
   -- there is never more than one
   pub few : length changes ≤ 1

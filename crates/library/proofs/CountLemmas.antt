@@ -1,31 +1,105 @@
--- A drive counts nothing while a cartridge goes into it or out of it.
-use Rattle.std.proofs.Common.{◌≡◌, Result, Ok, Err, ap}
+-- What a count of changes says of those that were made, and what a seat grows by.
+use Rattle.std.proofs.Common.{zero, suc, ◌≡◌, ◌≢◌, ◌≤◌, ◌<◌, ◌+◌, ◌^◌, ◌⊎◌, inl, inr, ℕ, List, [], ◌∷◌, length, ◌∙◌, ap, arith}
+use Rattle.std.proofs.Math.Nat.{min-eq_left}
 use Rattle.tape_disk.specs.Disk.{DiskState}
 use Rattle.scsi_sense.specs.declared.replies.Reply.{Reply}
-use Rattle.drive_core.specs.declared.bays.Bay.{Bay}
-use Rattle.drive_core.specs.declared.bays.Bay.TheVariants.{Empty, Unloaded, Loaded}
-use Rattle.drive_core.specs.Media.{GoesOut, GoesOutOf, TakesIn}
+use Rattle.volume_core.specs.declared.changes.Change.{Change}
+use Rattle.ledgers.specs.Ledgers.{SeatState}
+use Rattle.drive_core.specs.Counted.{counted_up}
+use Rattle.drive_core.specs.Execute.{Answers}
+use Rattle.drive_core.specs.Told.{TellsChanges}
+use Rattle.drive_core.specs.Work.{Request}
 use Rattle.tape_buffer.specs.Moves.{buffer_below}
-use Rattle.tape_buffer.specs.State.{BufferState, state_of}
-use Rattle.library.specs.Elements.{BayState}
+use Rattle.tape_buffer.specs.State.{state_of}
+use Rattle.aptpl_store.specs.Kept.{store_below, store_kept}
+use Rattle.bays.specs.Elements.{BayState}
+use Rattle.library.specs.Served.{GrowsAsTold}
+
+-- below the limit a count rises by the one change that is made, if one is
+pub count_rises : (old new : ℕ) (changes : List Change) → length changes ≤ 1 → new ≡ counted_up old changes
+    → old + 1 < 2 ^ 64 → new ≡ old + length changes
+count_rises old new [] few counted below = omega (arith, counted)
+count_rises old new (change ∷ []) few counted below =
+    counted ∙ min-eq_left (omega (arith, below))
+count_rises old new (change ∷ other ∷ changes) few counted below = absurd (omega (arith, few))
+
+-- what is entered where a count has risen is what it rose by
+pub rises_by : (before after held held' n : ℕ) → after ≡ before + n → n ≤ 1 → (before ≡ after → held' ≡ held)
+    → (before ≢ after → held' ≡ held + 1) → held' ≡ held + n
+rises_by before after held held' zero is few same risen = omega (arith, same (omega (arith, is)))
+rises_by before after held held' (suc zero) is few same risen =
+    omega (arith, risen (λ alike. absurd (omega (arith, is, alike))))
+rises_by before after held held' (suc (suc n)) is few same risen = absurd (omega (arith, few))
+
+stays_by : (before after held held' n : ℕ) → after ≡ before + n → n ≤ 1 → (before ≡ after → held' ≡ held)
+    → (before ≢ after → held' ≡ held) → held' ≡ held
+stays_by before after held held' zero is few same risen = same (omega (arith, is))
+stays_by before after held held' (suc n) is few same risen = risen (λ alike. absurd (omega (arith, is, alike)))
+
+nothing : (changes : List Change) → changes ≡ [] → length changes ≡ 0
+nothing changes none = ap (length {A = Change}) none
+
+few_changes : (before after n : ℕ) → after ≡ before + n → n ≤ 1 → (after ≡ before) ⊎ (after ≡ before + 1)
+few_changes before after zero is few = inl (omega (arith, is))
+few_changes before after (suc zero) is few = inr (omega (arith, is))
+few_changes before after (suc (suc n)) is few = absurd (omega (arith, few))
+
+-- a seat that grew by the changes that were made grew as the reply tells
+pub grows_as_told : (cdb : List ℕ) (reply : Reply) (changes : List Change) (before after : ℕ)
+    → TellsChanges cdb reply changes → after ≡ before + length changes → GrowsAsTold cdb reply before after
+grows_as_told cdb reply changes before after told grown =
+    record {
+      few = few_changes before after (length changes) grown told.few;
+      one = λ changing acknowledged. omega (arith, grown, told.one changing acknowledged);
+      none = λ plain fine. omega (arith, grown, nothing changes (told.none plain fine));
+      other = λ plain. omega (arith, grown, nothing changes (told.other plain));
+    }
 
 module _ {D : Type 0} (state : D → DiskState) where
-  out_of_counts : (bay : Bay (BufferState D)) (old : BayState D) (result : Result (BufferState D) Reply)
-      (new : BayState D) → GoesOutOf (state_of state) (buffer_below state) bay old result new
-      → new.accepted ≡ old.accepted
-  out_of_counts Empty old (Ok out) new h = absurd h
-  out_of_counts Empty old (Err reply) new h = ap (λ (b : BayState D). b.accepted) h.1
-  out_of_counts (Unloaded given) old (Ok out) new h = ap (λ (b : BayState D). b.accepted) h.1
-  out_of_counts (Unloaded given) old (Err reply) new h = absurd h
-  out_of_counts (Loaded given) old (Ok out) new h = ap (λ (b : BayState D). b.accepted) h.1
-  out_of_counts (Loaded given) old (Err reply) new h = ap (λ (b : BayState D). b.accepted) h.3
+  -- A drive has answered, its count has gone from one number to another, and that was entered for the seat.
+  pub seat_grows : (old : BayState D) (request : Request) (before : SeatState) (reply : Reply) (new : BayState D)
+      (after : SeatState) (low high : ℕ)
+      → (step : Answers (state_of state) (buffer_below state) store_kept (store_below state) old request reply new)
+      → TellsChanges request.cdb reply step.taken.made.changes
+      → low ≡ old.accepted → high ≡ new.accepted → low + 1 < 2 ^ 64
+      → (low ≡ high → after ≡ before) → (low ≢ high → after ≡ record before { amount = before.amount + 1 })
+      → (after.nexus ≡ before.nexus) × (after.amount ≡ before.amount + length step.taken.made.changes)
+      × GrowsAsTold request.cdb reply before.amount after.amount
+  seat_grows old request before reply new after low high step told is was below same risen =
+      let changes = step.taken.made.changes in
+      let rose : high ≡ low + length changes =
+      omega (
+        arith,
+        is,
+        was,
+        count_rises old.accepted new.accepted changes told.few step.taken.counted
+            (omega (arith, is, below)),
+      ) in
+      let grown : after.amount ≡ before.amount + length changes =
+      rises_by low high before.amount after.amount (length changes) rose told.few
+      (λ alike. ap (λ (s : SeatState). s.amount) (same alike))
+      (λ apart. ap (λ (s : SeatState). s.amount) (risen apart)) in (
+        stays_by low high before.nexus after.nexus (length changes) rose told.few
+            (λ alike. ap (λ (s : SeatState). s.nexus) (same alike))
+            (λ apart. ap (λ (s : SeatState). s.nexus) (risen apart)),
+        grown,
+        grows_as_told request.cdb reply changes before.amount after.amount told grown,
+      )
 
-  pub out_counts : (old : BayState D) (result : Result (BufferState D) Reply) (new : BayState D)
-      → GoesOut (state_of state) (buffer_below state) old result new → new.accepted ≡ old.accepted
-  out_counts old result new h = out_of_counts old.bay old result new h
-
-  pub in_counts : (old : BayState D) (given : BufferState D) (result : Result Unit (BufferState D × Reply))
-      (new : BayState D) → TakesIn (state_of state) (buffer_below state) old given result new
-      → new.accepted ≡ old.accepted
-  in_counts old given (Ok done) new h = ap (λ (b : BayState D). b.accepted) h.2
-  in_counts old given (Err back) new h = ap (λ (b : BayState D). b.accepted) h.3
+  -- what its share stands at then
+  pub share_stands : (old : BayState D) (request : Request) (reply : Reply) (new : BayState D) (low high held held' : ℕ)
+      → (step : Answers (state_of state) (buffer_below state) store_kept (store_below state) old request reply new)
+      → TellsChanges request.cdb reply step.taken.made.changes
+      → low ≡ old.accepted → high ≡ new.accepted → low + 1 < 2 ^ 64 → held ≡ old.accepted
+      → (low ≡ high → held' ≡ held) → (low ≢ high → held' ≡ held + 1) → held' ≡ new.accepted
+  share_stands old request reply new low high held held' step told was is below stood same risen =
+      let changes = step.taken.made.changes in
+      let rose : high ≡ low + length changes =
+      omega (
+        arith,
+        is,
+        was,
+        count_rises old.accepted new.accepted changes told.few step.taken.counted
+            (omega (arith, was, below)),
+      ) in
+      omega (arith, rises_by low high held held' (length changes) rose told.few same risen, rose, is, was, stood)

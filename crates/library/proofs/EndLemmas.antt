@@ -1,141 +1,98 @@
--- The ends of a move on what is lent, and the row of drives once those that are lent came back.
-use Rattle.std.proofs.Common.{◌≡◌, ◌≢◌, ◌⊎◌, inl, inr, ℕ, ◌-◌, ◌≤◌, ◌<◌, nat_le, ◌&&◌, ◌||◌, not, Bool, true, false, List, length, set, get_or, Option, None, Some, is_some, refl, sym, ap, ◌∙◌, arith, cond, subst}
+-- Drives at the end of a library, one after another from the last number down.
+use Rattle.std.proofs.Common.{zero, suc, ◌≡◌, ◌+◌, ◌-◌, inl, inr, ℕ, nat_le, Bool, true, false, List, [], ◌∷◌, length, get_or, Option, None, is_some, Result, Ok, Err, OnOk, OnErr, cond, refl, ◌∙◌, ap, sym, subst, arith}
 use Rattle.std.proofs.lemmas.Bool.Decides.{nat_tests}
-use Rattle.std.proofs.lemmas.List.{length-set, set-get_or}
-use Rattle.tape_buffer.specs.State.{BufferState}
-use Rattle.scsi_sense.specs.declared.replies.Reply.{Reply}
-use Rattle.changer.specs.Slots.{held_at, is_slot}
-use Rattle.library.specs.declared.lent.End.{End}
-use Rattle.library.specs.Elements.{BayState, Becomes, HeldState, bay_at, cartridge_at, cartridge_in, is_element, is_reserved_at}
-use Rattle.library.specs.Inner.Carried.{drive_end, refusal_between, slot_end}
-use Rattle.library.specs.Lent.{AreNamed}
-use Rattle.library.specs.Moves.{refusal_of_move}
-use Rattle.library.proofs.BayLemmas.{at_no_place, at_place, no_drive, set_becomes}
-use Rattle.library.proofs.PlaceLemmas.{all_passed, same_or_not}
+use Rattle.std.proofs.lemmas.List.Sums.{sum_by-cons}
+use Rattle.tape_disk.specs.Disk.{DiskState}
+use Rattle.ledgers.specs.Ledgers.{Gathered, no_share}
+use Rattle.bays.specs.Elements.{BayState, bay_at}
+use Rattle.bays.specs.Finish.{HasFailedAt, IsWrittenAt}
+use Rattle.bays.specs.declared.finishing.Unwritten.{Unwritten}
+use Rattle.library.specs.Counts.{count_of_drive, one_if_there, or_none}
+use Rattle.library.specs.Ends.{counts_of}
+use Rattle.library.specs.Inner.Ending.{AreWritten, HaveEnded, OneHasFailed, worse_of}
 
-known_both : (k l : Bool) (w : Reply) (rest : Option Reply) → cond (not (k && l)) (Some w) rest ≡ None
-    → (k ≡ true) × (l ≡ true)
-known_both true true w rest is = (refl, refl)
-known_both true false w rest is = absurd (cc)
-known_both false l w rest is = absurd (cc)
+both : {b c : Bool} {bs cs : List Bool} → b ≡ c → bs ≡ cs → b ∷ bs ≡ c ∷ cs
+both {b = b} {cs = cs} one rest = ap (λ (xs : List Bool). b ∷ xs) rest ∙ ap (λ (x : Bool). x ∷ cs) one
 
--- where nothing refuses a move
-all_known : (k l q c d : Bool) (w x y z : Reply)
-    → cond (not (k && l)) (Some w) (cond q (Some x) (cond (not c) (Some y) (cond d (Some z) None))) ≡ None
-    → (k ≡ true) × (l ≡ true) × (c ≡ true) × (d ≡ false)
-all_known k l q c d w x y z is =
-    let both = known_both k l w (cond q (Some x) (cond (not c) (Some y) (cond d (Some z) None))) is in
-    let passed = all_passed (k && l) q c d w x y z is in
-    (both.0, both.1, passed.0, passed.1)
+module _ {D : Type 0} (state : D → DiskState) where
+  ok_on : (bay : Option (BayState D)) (bays : List (Option (BayState D))) (one all : Result Unit Unwritten)
+      → OnOk one (IsWrittenAt state bay) → OnOk all (AreWritten state bays)
+      → OnOk (worse_of all one) (AreWritten state (bay ∷ bays))
+  ok_on bay bays (Ok done) (Ok every) written before = (written, before)
+  ok_on bay bays (Err unwritten) (Ok every) written before = tt
+  ok_on bay bays one (Err unwritten) written before = tt
 
-pub none_refuses : (e f : End) → None ≡ refusal_between e f
-    → (e.known ≡ true) × (f.known ≡ true) × (e.full ≡ true) × (f.full ≡ false)
-none_refuses e f is =
-    all_known e.known f.known (e.reserved || f.reserved) e.full f.full _ _ _ _ (sym is)
+  err_on : (bay : Option (BayState D)) (bays : List (Option (BayState D))) (one all : Result Unit Unwritten)
+      → OnErr one (HasFailedAt state bay) → OnErr all (OneHasFailed state bays)
+      → OnErr (worse_of all one) (OneHasFailed state (bay ∷ bays))
+  err_on bay bays (Ok done) (Ok every) failed before = tt
+  err_on bay bays (Err unwritten) (Ok every) failed before = inl failed
+  err_on bay bays one (Err unwritten) failed before = inr before
 
-module _ {D : Type 0} where
-  -- the end of a move at an address of a library
-  abbrev pub end_at : HeldState D → ℕ → End
-  end_at held address = record {
-    known = is_element held address;
-    reserved = is_reserved_at (bay_at held.bays address);
-    full = is_some (cartridge_at held address);
-  }
+  -- no drive has ended yet
+  pub none_ended : {X : Type 0} (shared : List (Option X)) (bays : List (Option (BayState D))) (gathered : Gathered)
+      → length shared ≡ 0 → length bays ≡ 0 → gathered ≡ no_share → HaveEnded state shared bays gathered (Ok tt)
+  none_ended [] [] gathered none nor is =
+      record {
+        there = refl;
+        shares = ap (λ (g : Gathered). g.shares) is;
+        changes = ap (λ (g : Gathered). g.changes) is;
+        ok = tt;
+        err = tt;
+      }
+  none_ended (x ∷ shared) bays gathered none nor is = absurd (omega (arith, none))
+  none_ended [] (bay ∷ bays) gathered none nor is = absurd (omega (arith, nor))
 
-  pub refuses_as : (held : HeldState D) (from to : ℕ) (e f : End) (refusal : Option Reply) → e ≡ end_at held from
-      → f ≡ end_at held to → refusal ≡ refusal_between e f → refusal_of_move held from to ≡ refusal
-  refuses_as held from to e f refusal e_is f_is is =
-      let same : refusal_between e f ≡ refusal_between (end_at held from) (end_at held to) =
-      λ i. refusal_between (e_is i) (f_is i) in
-      sym (is ∙ same)
+  -- one drive more has ended, before the others in the row
+  pub one_ended : {X : Type 0} (x : Option X) (shared : List (Option X)) (bay : Option (BayState D))
+      (bays : List (Option (BayState D))) (old new : Gathered) (one all : Result Unit Unwritten)
+      → is_some bay ≡ is_some x → new.shares ≡ old.shares + one_if_there x
+      → new.changes ≡ old.changes + or_none (count_of_drive bay)
+      → OnOk one (IsWrittenAt state bay) → OnErr one (HasFailedAt state bay) → HaveEnded state shared bays old all
+      → HaveEnded state (x ∷ shared) (bay ∷ bays) new (worse_of all one)
+  one_ended {X = X} x shared bay bays old new one all there shares changes ok err so =
+      record {
+        there = both there so.there;
+        shares = omega (arith, shares, so.shares, sum_by-cons (one_if_there {X = X}) x shared);
+        changes = omega (arith, changes, so.changes, sum_by-cons or_none (count_of_drive bay) (counts_of bays));
+        ok = ok_on bay bays one all ok so.ok;
+        err = err_on bay bays one all err so.err;
+      }
 
-  -- an end, by whether it is a slot's, what the slot holds, and the drive
-  abbrev end_by : Bool → Option (BufferState D) → Option (BayState D) → End
-  end_by s x b = record {
-    known = s || is_some b;
-    reserved = is_reserved_at b;
-    full = is_some (cond s (cond s x None) (cartridge_in b));
-  }
+  -- what is true of each drive of a row is so by their numbers
+  written_at : (bays : List (Option (BayState D))) (place : ℕ) → AreWritten state bays
+      → IsWrittenAt state (get_or bays place None)
+  written_at [] place all = tt
+  written_at (bay ∷ bays) zero all = all.0
+  written_at (bay ∷ bays) (suc place) all = written_at bays place all.1
 
-  abbrev slot_alone : Bool → Option (BufferState D) → End
-  slot_alone s x = record { known = s; reserved = false; full = is_some (cond s x None) }
+  written_if : (bay : Option (BayState D)) (there : Bool) → IsWrittenAt state bay
+      → IsWrittenAt state (cond there bay None)
+  written_if bay true written = written
+  written_if bay false written = tt
 
-  slot_by : (s : Bool) (x : Option (BufferState D)) (b : Option (BayState D)) → b ≡ None
-      → slot_alone s x ≡ end_by s x b
-  slot_by true x b none = subst (λ (b : Option (BayState D)). slot_alone true x ≡ end_by true x b) (sym none) refl
-  slot_by false x b none = subst (λ (b : Option (BayState D)). slot_alone false x ≡ end_by false x b) (sym none) refl
+  pub all_written : (bays : List (Option (BayState D))) → AreWritten state bays → (number : ℕ)
+      → IsWrittenAt state (bay_at bays number)
+  all_written bays all number =
+      written_if (get_or bays (number - 1) None) (nat_le 1 number) (written_at bays (number - 1) all)
 
-  pub slot_is : (slots : List (Option (BufferState D))) (bays : List (Option (BayState D))) (address : ℕ)
-      → bay_at bays address ≡ None → slot_end slots address ≡ end_at (record { slots = slots; bays = bays }) address
-  slot_is slots bays address none =
-      slot_by (is_slot address) (get_or slots (address - 1001) None) (bay_at bays address) none
+  failed_at : (bays : List (Option (BayState D))) → OneHasFailed state bays
+      → (place : ℕ) × HasFailedAt state (get_or bays place None)
+  failed_at [] one = absurd one
+  failed_at (bay ∷ bays) (inl here) = (0, here)
+  failed_at (bay ∷ bays) (inr there) = let found = failed_at bays there in (suc found.0, found.1)
 
-  pub off_slots : (bays : List (Option (BayState D))) (address : ℕ) (bay : BayState D) → length bays ≡ 16
-      → bay_at bays address ≡ Some bay → is_slot address ≡ false
-  off_slots bays address bay long at = by (is_slot address) refl
-    where
-      by : (b : Bool) → is_slot address ≡ b → is_slot address ≡ false
-      by false is = is
-      by true is = let clash : Some bay ≡ None = sym at ∙ no_drive bays address long is in absurd (cc)
+  stands_at : (bays : List (Option (BayState D))) (place : ℕ) → bay_at bays (place + 1) ≡ get_or bays place None
+  stands_at bays place =
+      let is : nat_le 1 (place + 1) ≡ true = grind (arith, nat_tests) in
+      let at : place + 1 - 1 ≡ place = omega arith in
+      ap (λ (b : Bool). cond b (get_or bays (place + 1 - 1) None) None) is
+      ∙ ap (λ (n : ℕ). get_or bays n None) at
 
-  drive_by : (s : Bool) (x : Option (BufferState D)) (b : Option (BayState D)) (bay : BayState D) → s ≡ false
-      → b ≡ Some bay
-      → drive_end bay
-      ≡ record { known = s || is_some b; reserved = is_reserved_at b; full = is_some (cond s x (cartridge_in b)) }
-  drive_by true x b bay off at = absurd (cc)
-  drive_by false x b bay off at =
-      subst (λ (b : Option (BayState D)). drive_end bay
-      ≡ record { known = is_some b; reserved = is_reserved_at b; full = is_some (cartridge_in b) }) (sym at) refl
-
-  pub drive_is : (slots : List (Option (BufferState D))) (bays : List (Option (BayState D))) (address : ℕ)
-      (bay : BayState D) → length bays ≡ 16 → bay_at bays address ≡ Some bay
-      → drive_end bay ≡ end_at (record { slots = slots; bays = bays }) address
-  drive_is slots bays address bay long at =
-      drive_by (is_slot address) (held_at slots address) (bay_at bays address) bay
-      (off_slots bays address bay long at) at
-
-  -- a drive is found at numbers 1 to 16 alone
-  in_reach : (bays : List (Option (BayState D))) (number : ℕ) (bay : BayState D) → length bays ≡ 16
-      → bay_at bays number ≡ Some bay → (1 ≤ number) × (number ≤ 16)
-  in_reach bays number bay long at = by (nat_le 1 number) (nat_le number 16) refl refl
-    where
-      gone : (number ≡ 0) ⊎ (16 < number) → ⊥
-      gone out = let clash : Some bay ≡ None = sym at ∙ at_no_place bays number long out in absurd (cc)
-
-      by : (b d : Bool) → nat_le 1 number ≡ b → nat_le number 16 ≡ d → (1 ≤ number) × (number ≤ 16)
-      by true true least most = (grind (arith, nat_tests), grind (arith, nat_tests))
-      by false d least most = absurd (gone (inl (grind (arith, nat_tests))))
-      by true false least most = absurd (gone (inr (grind (arith, nat_tests))))
-
-  -- a drive is put where one was found
-  pub found_becomes : (bays : List (Option (BayState D))) (number : ℕ) (bay later : BayState D) → length bays ≡ 16
-      → bay_at bays number ≡ Some bay → Becomes number (Some later) bays (set bays (number - 1) (Some later))
-  found_becomes bays number bay later long at =
-      let reach = in_reach bays number bay long at in
-      set_becomes bays number (Some later) reach.0 reach.1 long
-
-  -- a drive that is what it was
-  pub found_same : (bays : List (Option (BayState D))) (number : ℕ) (bay : BayState D) → length bays ≡ 16
-      → bay_at bays number ≡ Some bay → set bays (number - 1) (Some bay) ≡ bays
-  found_same bays number bay long at =
-      let reach = in_reach bays number bay long at in
-      let there : get_or bays (number - 1) None ≡ Some bay = sym (at_place bays number reach.0) ∙ at in
-      ap (λ (found : Option (BayState D)). set bays (number - 1) found) (sym there)
-      ∙ set-get_or bays (number - 1) None
-
-  pub still_long : (bays : List (Option (BayState D))) (place : ℕ) (found : Option (BayState D)) → length bays ≡ 16
-      → length (set bays place found) ≡ 16
-  still_long bays place found long = length-set bays place found ∙ long
-
-  pub apart : (from to : ℕ) (source : Option (BayState D)) (destination : BayState D)
-      (bays : List (Option (BayState D))) → AreNamed from to source (Some destination) bays → from ≢ to
-  apart from to source destination bays named same =
-      let clash : Some destination ≡ None = named.once same in absurd (cc)
-
-  pub none_at : (from to : ℕ) (bays : List (Option (BayState D))) → AreNamed from to None None bays
-      → bay_at bays to ≡ None
-  none_at from to bays named = by (same_or_not from to)
-    where
-      by : (from ≡ to) ⊎ (from ≢ to) → bay_at bays to ≡ None
-      by (inl same) = subst (λ (n : ℕ). bay_at bays n ≡ None) same named.at_source
-      by (inr differs) = named.at_destination differs
+  pub one_failed : (bays : List (Option (BayState D))) → OneHasFailed state bays
+      → (number : ℕ) × HasFailedAt state (bay_at bays number)
+  one_failed bays one =
+      let found = failed_at bays one in (
+        found.0 + 1,
+        subst (λ (bay : Option (BayState D)). HasFailedAt state bay) (sym (stands_at bays found.0)) found.1,
+      )

@@ -1,26 +1,21 @@
--- Moves on what is lent: from what they do in each library to what they keep there.
-use Rattle.std.proofs.Common.{ℕ, List, Option}
-use Rattle.scsi_sense.specs.declared.replies.Reply.{Reply}
-use Rattle.tape_disk.specs.Disk.{DiskState, IsDisk}
-use Rattle.tape_buffer.specs.State.{BufferState}
-use Rattle.library.specs.Elements.{BayState, HeldState}
-use Rattle.library.specs.Inner.Carried.{MovesLent}
-use Rattle.library.specs.Lent.{InEach}
-use Rattle.library.specs.Moves.{KeepsCartridges, MovesMedium}
-use Rattle.library.proofs.MoveLemmas.{moves_keep}
+-- What was lent to a move where nothing is.
+use Rattle.std.specs.Borrow.{MutBor}
+use Rattle.std.specs.Option.{option_copied_mut}
+use Rattle.std.proofs.Common.{◌≡◌, ◌⊎◌, Option, None, Some}
+use Rattle.bays.specs.Lent.{back, lent}
 
-module _ {D : Type 0} (state : D → DiskState) (from to : ℕ) (slots : List (Option (BufferState D)))
-    (source destination : Option (BayState D)) (reply : Reply) (slots' : List (Option (BufferState D)))
-    (source' destination' : Option (BayState D)) where
-  abbrev Each : (HeldState D → HeldState D → Type 0) → Type 0
-  Each P = InEach from to slots source destination slots' source' destination' P
+module _ {X : Type 0} where
+  -- nothing was lent
+  pub none_lent : (r : Option (MutBor X)) (left : Unit {0} ⊎ ((MutBor X × Unit {0}) ⊎ ⊥))
+      → option_copied_mut r ≡ None → (Q : Option X → Option X → Type 0) → Q (lent r) (back r left) → Q None None
+  none_lent None left none Q q = q
+  none_lent (Some given) left none Q q = absurd (cc)
 
-  pub each_answer : MovesLent state from to slots source destination reply slots' source' destination'
-      → Each (λ old new. MovesMedium state old from to reply new)
-  each_answer moved bays named = (moved bays named).answer
-
-  pub each_kept : ((disk : D) → (state disk).honest → IsDisk (state disk))
-      → MovesLent state from to slots source destination reply slots' source' destination'
-      → Each (λ old new. KeepsCartridges state old from to reply new)
-  each_kept is_disk moved bays named =
-      let so = moved bays named in moves_keep state is_disk _ _ from to reply so.awake so.answer
+  -- the same of two
+  pub neither_lent : (r s : Option (MutBor X)) (left still : Unit {0} ⊎ ((MutBor X × Unit {0}) ⊎ ⊥))
+      → option_copied_mut r ≡ None → option_copied_mut s ≡ None
+      → (Q : Option X → Option X → Option X → Option X → Type 0) → Q (lent r) (lent s) (back r left) (back s still)
+      → Q None None None None
+  neither_lent None None left still none nor Q q = q
+  neither_lent (Some given) s left still none nor Q q = absurd (cc)
+  neither_lent None (Some given) left still none nor Q q = absurd (cc)

@@ -1,5 +1,1 @@
-pub mod Carried
-pub mod Finishing
-pub mod Going
-pub mod Lifted
-pub mod RunsOn
+pub mod Ending

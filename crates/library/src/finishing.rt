@@ -1,66 +1,185 @@
-//! All that is pending is written out.
-ghost use Rattle.std.specs.Prelude.{◌≡◌, ◌≢◌, ◌+◌, ◌<◌, ℕ, OnOk, OnErr, Some};
+//! The end of a library: every buffer is written out, and the drives' counts are compared with the seats.
+ghost use Rattle.std.specs.Prelude.{◌≡◌, ◌≢◌, ◌+◌, ℕ, Err, IfOk, IfErr, OnOk, OnErr, is_some, length, vec_len};
 ghost use Rattle.vtl_base.specs.declared.limits.TheConstants.{DRIVES};
-ghost use Rattle.library.specs.Elements.{bay_at};
-ghost use Rattle.library.specs.Finish.{HasFailedAt, HasFailedIn, IsWrittenAt, IsWrittenIn, TurnsAt, WritesOut};
+ghost use Rattle.ledgers.specs.Ledgers.{no_share};
+ghost use Rattle.bays.specs.Elements.{bay_at};
+ghost use Rattle.bays.specs.Finish.{HasFailedAt, IsWrittenAt};
+ghost use Rattle.library.specs.Counts.{count_of_drive, one_if_there, or_none, which_are_there};
+ghost use Rattle.library.specs.Ends.{IsShort, counts_of, sum_of_counts, sum_of_seats};
+ghost use Rattle.library.specs.Inner.Ending.{HaveEnded, outcome_of, worse_of};
 
-use crate::bays::Bay;
-use crate::held::Held;
+use crate::libraries::Library;
+use crate::rows::Row;
+use crate::shared::SharedBay;
+use bays::{Bay, Parked, Unwritten};
+use changer::Slots;
+use ledgers::{Gathering, Parties, Seat, SeatsMissing};
 use std::fmt::Debug;
+use std::sync::Wait;
 use tape_disk::Disk;
-use volume_core::Turn;
+use thiserror::Error;
 use vtl_base::limits::DRIVES;
 
-/// What is loaded in a drive has failed, so that not all is written out.
-#[derive(Clone, Copy, PartialEq, Eq, Debug)]
-pub struct Unwritten;
+/// Why a library does not end well.
+#[derive(Clone, Copy, PartialEq, Eq, Debug, Error)]
+pub enum FinishError {
+    /// What is loaded in a drive has failed, before or as it was written out, so that not all is stored.
+    #[error("not all is written out")]
+    Unwritten,
+    /// The seats that were handed in have fewer changes than the drives accepted, so one at least is missing.
+    #[error("seats with {seats} of {total} changes")]
+    SeatsMissing { total: u64, seats: u64 },
+}
 
-impl<D: Disk> Bay<D> {
-    // Stores what is pending, by a flusher's turn.
-    fn write_out(&mut self) -> Result<(), Unwritten>
-        ensures turns { TurnsAt D.state (Some self.old) (Some self.new) }
-        ensures ok { OnOk result (IsWrittenIn D.state self.new.bay) }
-        ensures err { OnErr result (HasFailedIn D.state self.new.bay) }
+/// What is left of a library, however it ends.
+#[derive(Drop)]
+pub struct Finished<D: Disk> {
+    /// The slots.
+    pub slots: Slots<Parked<D>>,
+    /// The drives, from number 1 on.
+    pub bays: Vec<Option<Bay<D>>>,
+    /// How many changes each drive accepted, from number 1 on, which the seats have together.
+    pub counts: Result<[Option<u64>; 16], FinishError>,
+}
+
+impl<D: Disk + Drop, B: Parties, H: Parties> Library<D, B, H> {
+    /// Writes every buffer out, by a turn of each drive, and compares the drives' counts with the seats. It is for the
+    /// end, when nobody else shares the library, and takes no memory. A medium that has failed is told first.
+    pub fn finish<R: Wait>(self, _rt: &R, seats: Vec<Seat<H>>) -> Finished<D>
+        ensures drives { which_are_there result.bays.items ≡ self }
+        ensures counts { IfOk result.counts (λ counts. (counts ≡ counts_of result.bays.items)
+            × (sum_of_counts counts ≡ sum_of_seats seats.items)) }
+
+        // A refusal has its cause: a medium has failed, or else the seats have less than the drives.
+        ensures unwritten { result.counts ≡ Err FinishError.Unwritten
+            → (number : ℕ) × HasFailedAt D.state (bay_at result.bays.items number) }
+        ensures written { result.counts ≢ Err FinishError.Unwritten
+            → (number : ℕ) → IsWrittenAt D.state (bay_at result.bays.items number) }
+        ensures missing { IfErr result.counts (λ error.
+            IsShort error (sum_of_counts (counts_of result.bays.items)) (sum_of_seats seats.items)) }
+        ensures all { vec_len seats ≡ H.all → IfErr result.counts (λ error. error ≡ FinishError.Unwritten) }
     {
-        let _ = self.turn();
-        if self.drive().has_failed() {
-            Err(Unwritten)
-        } else {
-            Ok(())
+        let Library {
+            alloc: _,
+            bays,
+            slots,
+            tally,
+            row,
+            closed: _,
+        } = self;
+        let mut row = row.into_inner();
+        let mut gathering = tally.into_inner().gather();
+        let written = end_drives(bays, &mut row, &mut gathering);
+        take_seats(seats, &mut gathering);
+        let counts = outcome(written, counts_in(&row), gathering.compare());
+        Finished {
+            slots: slots.into_inner(),
+            bays: row.into_places(),
+            counts,
         }
     }
 }
 
-impl<D: Disk + Drop> Held<D> {
-    /// Writes every buffer out, by a turn of each drive, of all of them also where one fails. It takes no memory. At Ok
-    /// all that was accepted is stored; else what is loaded in some drive has failed.
-    pub fn finish(&mut self) -> Result<(), Unwritten>
-        ensures { WritesOut D.state self.old result self.new }
-    {
-        // Looked at, here and below, for the proof's sake: there are places for all drives.
-        let _ = &self.bays;
-        let mut result = Ok(());
-        for place in 0..DRIVES as usize {
-            if self.write_out_at(place).is_err() {
-                result = Err(Unwritten);
-            }
-        }
-        let _ = &self.bays;
-        result
+// How a library ends: what is not written out comes first.
+fn outcome(
+    written: Result<(), Unwritten>,
+    counts: [Option<u64>; 16],
+    compared: Result<u64, SeatsMissing>,
+) -> Result<[Option<u64>; 16], FinishError>
+    ensures { result ≡ outcome_of written counts compared }
+{
+    if written.is_err() {
+        return Err(FinishError::Unwritten);
     }
+    match compared {
+        Ok(_) => Ok(counts),
+        Err(SeatsMissing { total, seats }) => Err(FinishError::SeatsMissing { total, seats }),
+    }
+}
 
-    // Stores what is pending in the drive of this place, if there is one.
-    fn write_out_at(&mut self, place: usize) -> Result<(), Unwritten>
-        requires { place < DRIVES }
-        ensures turns { TurnsAt D.state (bay_at self.old.bays (place + 1)) (bay_at self.new.bays (place + 1)) }
-        ensures others { (other : ℕ) → other ≢ place + 1 → bay_at self.new.bays other ≡ bay_at self.old.bays other }
-        ensures slots { self.new.slots ≡ self.old.slots }
-        ensures ok { OnOk result (IsWrittenAt D.state (bay_at self.new.bays (place + 1))) }
-        ensures err { OnErr result (HasFailedAt D.state (bay_at self.new.bays (place + 1))) }
-    {
-        let Some(bay) = &mut self.bays[place] else {
-            return Ok(());
+// Takes each drive out from behind its lock, has it take a turn, puts it into the row, and gathers its share.
+fn end_drives<D: Disk + Drop, B: Parties, H: Parties>(
+    bays: Vec<Option<SharedBay<D, B>>>,
+    row: &mut Row<D>,
+    gathering: &mut Gathering<B, H>,
+) -> Result<(), Unwritten>
+    requires all { length bays.items ≡ DRIVES }
+    requires none { gathering.old.bays ≡ no_share }
+    ensures ended { HaveEnded D.state bays.items row.new gathering.new.bays result }
+    ensures hosts { (gathering.new.total ≡ gathering.old.total) × (gathering.new.hosts ≡ gathering.old.hosts) }
+{
+    row.known();
+    let mut bays = bays;
+    let mut written = Ok(());
+    while let Some(bay) = bays.pop() {
+        let DriveEnd { bay, written: one } = end_drive(bay, gathering);
+        row.put(bays.len(), bay);
+        written = worse(written, one);
+    }
+    written
+}
+
+// A drive at the end, where there is one, and whether all is written out.
+#[derive(Drop)]
+struct DriveEnd<D: Disk> {
+    bay: Option<Bay<D>>,
+    written: Result<(), Unwritten>,
+}
+
+// The first of two refusals.
+fn worse(first: Result<(), Unwritten>, second: Result<(), Unwritten>) -> Result<(), Unwritten>
+    ensures { result ≡ worse_of first second }
+{
+    if first.is_err() { first } else { second }
+}
+
+// Takes a drive out from behind its lock, where there is one, has it take a turn, and gathers its share.
+fn end_drive<D: Disk + Drop, B: Parties, H: Parties>(
+    bay: Option<SharedBay<D, B>>,
+    gathering: &mut Gathering<B, H>,
+) -> DriveEnd<D>
+    ensures there { is_some result.bay ≡ is_some bay }
+    ensures shares { gathering.new.bays.shares ≡ gathering.old.bays.shares + one_if_there bay }
+    ensures changes { gathering.new.bays.changes ≡ gathering.old.bays.changes + or_none (count_of_drive result.bay) }
+    ensures hosts { (gathering.new.total ≡ gathering.old.total) × (gathering.new.hosts ≡ gathering.old.hosts) }
+    ensures ok { OnOk result.written (IsWrittenAt D.state result.bay) }
+    ensures err { OnErr result.written (HasFailedAt D.state result.bay) }
+{
+    let Some(shared) = bay else {
+        return DriveEnd {
+            bay: None,
+            written: Ok(()),
         };
-        bay.write_out()
+    };
+    let (mut bay, share) = shared.into_place().into_parts();
+    let written = bay.write_out();
+    gathering.take_bay(share);
+    DriveEnd {
+        bay: Some(bay),
+        written,
+    }
+}
+
+// The count of each drive of a row.
+fn counts_in<D: Disk + Drop>(row: &Row<D>) -> [Option<u64>; 16]
+    ensures { result ≡ counts_of row.now }
+{
+    row.known();
+    let mut counts = [None; 16];
+    for place in 0..DRIVES as usize {
+        counts[place] = row.count(place);
+    }
+    counts
+}
+
+// Takes the seats back.
+fn take_seats<B: Parties, H: Parties>(seats: Vec<Seat<H>>, gathering: &mut Gathering<B, H>)
+    ensures shares { gathering.new.hosts.shares ≡ gathering.old.hosts.shares + vec_len seats }
+    ensures changes { gathering.new.hosts.changes ≡ gathering.old.hosts.changes + sum_of_seats seats.items }
+    ensures bays { (gathering.new.total ≡ gathering.old.total) × (gathering.new.bays ≡ gathering.old.bays) }
+{
+    let mut seats = seats;
+    while let Some(seat) = seats.pop() {
+        gathering.take_seat(seat);
     }
 }

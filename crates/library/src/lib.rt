@@ -1,19 +1,22 @@
-//! Drives over disks, slots, and moves between them; what is left of them wherever they are stopped.
+//! A library that threads share: each drive behind a lock of its own, the slots behind one, and two ledgers of changes.
 #![tactic(auto)]
 
-pub mod bays;
-mod finishing;
-pub mod held;
-pub mod laws;
-pub mod lent;
-mod moves;
-pub mod parked;
-pub mod runs;
+pub mod finishing;
+pub mod flushers;
+pub mod inventories;
+pub mod libraries;
+mod moving;
+pub mod opening;
+pub mod places;
+mod rows;
+mod sessions;
+mod shared;
 
-pub use bays::{Bay, NotOn};
-pub use finishing::Unwritten;
-pub use held::{Held, Inventory};
-pub use lent::move_lent;
-pub use parked::Parked;
-pub use runs::run_held;
-pub use vtl_script::run_script;
+pub use bays::{Bay, NotOn, Parked};
+pub use finishing::{FinishError, Finished};
+pub use flushers::Gate;
+pub use inventories::{Element, Inventory};
+pub use ledgers::{Parties, Seat};
+pub use libraries::Library;
+pub use opening::NotOpened;
+pub use places::Place;

@@ -3,7 +3,7 @@ use crate::samples::{
     Answer, GOOD, NEVER, READY, bay, drive_no, is_answer, library, moves, parked,
 };
 use assertions::{assert_equal, assert_holds};
-use library::{Bay, Held, Parked};
+use bays::{Bay, Held, Parked};
 use scsi_sense::Status;
 use std::alloc::Global;
 use std::process::Abort;

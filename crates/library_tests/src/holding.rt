@@ -1,7 +1,7 @@
 //! What the slots and the drives of a library hold.
 use crate::samples::{Answer, GOOD, NEVER, Once, library, moves, place};
 use assertions::{assert_equal, assert_holds};
-use library::{Held, Parked};
+use bays::{Held, Parked};
 use scsi_sense::Status;
 use std::alloc::Global;
 use std::process::Abort;

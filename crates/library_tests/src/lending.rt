@@ -1,11 +1,11 @@
 //! Moves on slots and drives that are lent.
 ghost use Rattle.std.specs.Prelude.{◌≢◌, IfSome};
-ghost use Rattle.library.specs.Lent.{IsDriveAddress};
+ghost use Rattle.bays.specs.Lent.{IsDriveAddress};
 
 use crate::samples::{Answer, GOOD, NEVER, Once, Row, bay, drive_no, is_answer, parked};
 use assertions::assert_holds;
+use bays::{Bay, Parked, move_lent};
 use changer::Slots;
-use library::{Bay, Parked, move_lent};
 use scsi_sense::Status;
 use std::alloc::Global;
 use std::process::Abort;

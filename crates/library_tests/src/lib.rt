@@ -1,4 +1,4 @@
-//! The tests of library.
+//! The tests of bays.
 #![tactic(auto)]
 
 #[cfg(test)]

@@ -2,7 +2,7 @@
 use crate::samples::{Answer, GOOD, READY, Row, asks, is_answer, library, moves};
 use crate::writing::{is_kept, is_unwritten};
 use assertions::assert_equal;
-use library::Held;
+use bays::Held;
 use scsi_sense::Status;
 use std::alloc::Global;
 use std::process::Abort;

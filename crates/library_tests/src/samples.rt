@@ -3,8 +3,8 @@ ghost use Rattle.std.specs.Prelude.{◌≡◌, [], IfOk, true};
 
 use aptpl_store::AptplStore;
 use assertions::assert_equal;
+use bays::{Bay, Held, Parked};
 use cartridge::{Cartridge, Shelved};
-use library::{Bay, Held, Parked};
 use pr_core::Reservations;
 use scsi_sense::{Reply, Status};
 use std::alloc::Global;

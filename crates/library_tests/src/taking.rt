@@ -1,7 +1,7 @@
 //! Commands whose data are lent: they are taken where they become a block; else they stay.
 use crate::samples::{Answer, GOOD, NEVER, asks, bay, drive_no, is_answer, library};
 use assertions::assert_equal;
-use library::Held;
+use bays::Held;
 use scsi_sense::{Reply, Status};
 use std::alloc::Global;
 use std::process::Abort;

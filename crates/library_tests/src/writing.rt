@@ -2,8 +2,8 @@
 use crate::moving::{Work, met};
 use crate::samples::{Answer, GOOD, NEVER, Once, READY, asks, is_answer, library, moves};
 use assertions::{assert_equal, assert_holds};
+use bays::{Held, Unwritten};
 use drive_core::Drive;
-use library::{Held, Unwritten};
 use scsi_sense::Status;
 use std::process::Abort;
 use std::test::Fail;

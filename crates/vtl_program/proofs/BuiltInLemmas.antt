@@ -8,7 +8,7 @@ use Rattle.aptpl_store.specs.State.{OpenStore}
 use Rattle.changer.specs.Slots.{held_at, is_slot}
 use Rattle.drive_core.specs.Media.{SwitchesOn}
 use Rattle.drive_core.specs.State.{left_of}
-use Rattle.library.specs.Elements.{BayState, bay_at}
+use Rattle.bays.specs.Elements.{BayState, bay_at}
 use Rattle.vtl_program.specs.Inner.Waiting.{IsBare, PutsHome, SwitchesOnAt}
 use Rattle.vtl_program.specs.Sides.{IsNewCartridge, IsNewStore}
 use Rattle.vtl_program.specs.Starting.{IsBuiltIn}

@@ -4,7 +4,7 @@ use Rattle.std.specs.Io.KnownBytes.{Keeps}
 use Rattle.std.specs.declared.alloc.Global.{Global}
 use Rattle.std.specs.declared.io.Error.{Error}
 use Rattle.tape_disk.specs.Disk.{DiskState}
-use Rattle.library.specs.Elements.{HeldState}
+use Rattle.bays.specs.Elements.{HeldState}
 use Rattle.vtl_config.specs.Configs.{Says}
 use Rattle.vtl_config.specs.declared.entries.Config.{Config}
 use Rattle.vtl_program.specs.Configured.{IsNoConfig}

@@ -13,7 +13,7 @@ use Rattle.changer.specs.Slots.{Puts, held_at, is_slot, refusal_of_placing}
 use Rattle.pr_core.specs.declared.states.PrState.{PrState}
 use Rattle.drive_core.specs.Media.{SwitchesOn}
 use Rattle.drive_core.specs.State.{left_of}
-use Rattle.library.specs.Elements.{BayState, Becomes, HeldState, bay_at}
+use Rattle.bays.specs.Elements.{BayState, Becomes, HeldState, bay_at}
 use Rattle.vtl_program.specs.Inner.Waiting.{IsBare, PutsHome, SwitchesOnAt, home_at}
 use Rattle.vtl_program.specs.Unfinished.{StartingState, waits_at}
 

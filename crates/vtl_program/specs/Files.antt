@@ -4,7 +4,7 @@ use Rattle.std.specs.declared.alloc.Global.{Global}
 use Rattle.std.specs.IoError.{error_kind}
 use Rattle.std.specs.declared.io.Error.{Error}
 use Rattle.file_disk.specs.declared.error.FileError.{FileError}
-use Rattle.library.specs.Elements.{HeldState}
+use Rattle.bays.specs.Elements.{HeldState}
 use Rattle.vtl_config.specs.Configs.{Says}
 use Rattle.vtl_config.specs.declared.entries.Config.{Config}
 use Rattle.vtl_program.specs.declared.programs.VtlFault.{VtlFault}

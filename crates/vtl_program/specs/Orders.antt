@@ -5,7 +5,7 @@ use Rattle.std.specs.declared.alloc.Global.{Global}
 use Rattle.std.specs.declared.io.Error.{Error}
 use Rattle.tape_disk.specs.Disk.{DiskState}
 use Rattle.file_disk.specs.declared.error.FileError.{FileError}
-use Rattle.library.specs.Elements.{HeldState}
+use Rattle.bays.specs.Elements.{HeldState}
 use Rattle.vtl_script.specs.Text.{AppendsPart}
 use Rattle.vtl_config.specs.declared.entries.Config.{Config}
 use Rattle.vtl_words.specs.Orders.{Asked, Asks, RefusesWords, check, create, run, texts_of}

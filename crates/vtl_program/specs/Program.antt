@@ -4,11 +4,11 @@ use Rattle.std.specs.Io.KnownBytes.{Appends, Keeps}
 use Rattle.vtl_script.specs.declared.faults.ScriptFault.{ScriptFault}
 use Rattle.vtl_script.specs.declared.faults.ScriptFault.TheVariants.{ReadFault}
 use Rattle.tape_disk.specs.Disk.{DiskState}
-use Rattle.library.specs.Elements.{HeldState}
-use Rattle.library.specs.Finish.{WritesOut}
-use Rattle.library.specs.OneHost.{LibraryAnswersHost}
-use Rattle.library.specs.Runs.{LibraryAnswers, is_configured_in}
-use Rattle.library.specs.declared.finishing.Unwritten.{Unwritten}
+use Rattle.bays.specs.Elements.{HeldState}
+use Rattle.bays.specs.Finish.{WritesOut}
+use Rattle.bays.specs.OneHost.{LibraryAnswersHost}
+use Rattle.bays.specs.Runs.{LibraryAnswers, is_configured_in}
+use Rattle.bays.specs.declared.finishing.Unwritten.{Unwritten}
 use Rattle.vtl_program.specs.declared.programs.Verdict.{Verdict}
 use Rattle.vtl_program.specs.declared.programs.Verdict.TheVariants.{Done, Refused}
 use Rattle.vtl_program.specs.declared.programs.VtlFault.{VtlFault}

@@ -9,7 +9,7 @@ use Rattle.aptpl_store.specs.State.{OpenStore}
 use Rattle.changer.specs.Slots.{held_at, is_slot}
 use Rattle.drive_core.specs.Media.{SwitchesOn}
 use Rattle.drive_core.specs.State.{left_of}
-use Rattle.library.specs.Elements.{BayState, HeldState, bay_at}
+use Rattle.bays.specs.Elements.{BayState, HeldState, bay_at}
 use Rattle.vtl_config.specs.Entries.{AreDistinct, address_of, homes_of, numbers_of}
 use Rattle.vtl_config.specs.declared.entries.CartridgeEntry.{CartridgeEntry}
 use Rattle.vtl_config.specs.declared.entries.DriveEntry.{DriveEntry}

@@ -1,7 +1,7 @@
 -- A library whose drives are not all switched on yet, as it is handed back where it is not switched on (own).
 use Rattle.std.specs.Prelude.{ℕ, ◌-◌, nat_le, List, slice_index_or, Option, None, if◌then◌else◌}
 use Rattle.tape_buffer.specs.State.{BufferState}
-use Rattle.library.specs.Elements.{HeldState}
+use Rattle.bays.specs.Elements.{HeldState}
 
 -- a library, and the cartridges for drives that are not switched on yet, from drive 1 on (own)
 pub record StartingState (D : Type 0) : Type 0 where

@@ -7,8 +7,8 @@ ghost use Rattle.std.specs.declared.io.Error.{Error};
 ghost use Rattle.file_disk.specs.declared.error.FileError.{FileError};
 
 use crate::starting::Starting;
+use bays::Held;
 use file_disk::{FileDisk, FileError};
-use library::Held;
 use std::{fs, io};
 use vtl_config::{FileName, UsedName};
 

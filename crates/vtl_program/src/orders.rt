@@ -16,7 +16,7 @@ use crate::side_checks::tell_lines;
 use crate::sides::{FileSides, NewSides, Sides};
 use crate::starting::{Starting, built_in, start};
 use crate::writing::tell;
-use library::{Held, Unwritten, run_held};
+use bays::{Held, Unwritten, run_held};
 use std::alloc::Global;
 use std::io::{Read, Write};
 use tape_disk::Disk;

@@ -2,7 +2,7 @@
 ghost use Rattle.std.specs.Prelude.{◌≡◌, ◌⊎◌, true, IfOk, IfErr, OnOk, is_some};
 ghost use Rattle.aptpl_store.specs.Kept.{store_kept};
 ghost use Rattle.drive_core.specs.State.{left_of};
-ghost use Rattle.library.specs.Elements.{bay_at};
+ghost use Rattle.bays.specs.Elements.{bay_at};
 ghost use Rattle.vtl_config.specs.Entries.{address_of};
 ghost use Rattle.vtl_program.specs.Inner.Waiting.{AreHome, IsBare, IsNotHome, PutsHome, SwitchesOnAt, home_at};
 ghost use Rattle.vtl_program.specs.Orders.{IsStart, built_in_barcode, built_in_capacities};
@@ -14,8 +14,8 @@ use crate::files::TakesBack;
 use crate::programs::VtlFault;
 use crate::sides::{DriveStore, Sides};
 use aptpl_store::AptplStore;
+use bays::{Bay, Held, Parked};
 use cartridge::Cartridge;
-use library::{Bay, Held, Parked};
 use pr_core::Reservations;
 use std::alloc::Global;
 use std::marker::Model;

@@ -8,7 +8,7 @@ mod streams;
 mod unwritten;
 
 use assertions::assert_equal;
-use library::{Held, run_held};
+use bays::{Held, run_held};
 use std::alloc::Global;
 use std::test::Fail;
 use streams::{BadReader, BadWriter};

@@ -8,7 +8,7 @@ use Rattle.aptpl_store.specs.State.{OpenStore}
 use Rattle.changer.specs.Slots.{held_at, is_slot}
 use Rattle.drive_core.specs.Media.{SwitchesOn}
 use Rattle.drive_core.specs.State.{left_of}
-use Rattle.library.specs.Elements.{BayState, Becomes, bay_at}
+use Rattle.bays.specs.Elements.{BayState, Becomes, bay_at}
 use Rattle.vtl_config.specs.declared.entries.CartridgeEntry.{CartridgeEntry}
 use Rattle.vtl_config.specs.Entries.{AreDistinct, homes_of}
 use Rattle.vtl_program.specs.Sides.{SidesGiven}

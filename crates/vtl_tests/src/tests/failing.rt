@@ -2,8 +2,8 @@
 use super::streams::{BadReader, BadWriter};
 use aptpl_store::AptplStore;
 use assertions::assert_equal;
+use bays::{Held, Parked};
 use cartridge::Cartridge;
-use library::{Held, Parked};
 use pr_core::Reservations;
 use std::alloc::Global;
 use std::test::Fail;

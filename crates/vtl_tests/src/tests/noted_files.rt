@@ -1,6 +1,6 @@
 //! Files in memory, of a test's own, that note what they are asked for.
+use bays::Held;
 use file_disk::FileError;
-use library::Held;
 use std::alloc::{AllocError, Global};
 use std::cell::{Cell, RefCell};
 use std::io::{self, ErrorKind};

@@ -1,6 +1,6 @@
 use Rattle.std.proofs.Common.{rules, ◌≡◌, ◌∙◌, ◌∷◌, ◌++◌, List, length, ap, refl, sym, subst, is_some, arith}
 use Rattle.std.specs.Vec.Iter.{into_iter_items}
-use Rattle.library.specs.Elements.{bay_at}
+use Rattle.bays.specs.Elements.{bay_at}
 use Rattle.vtl_config.specs.Entries.{AreDistinct, numbers_of}
 use Rattle.vtl_config.specs.declared.entries.DriveEntry.{DriveEntry}
 use Rattle.vtl_program.specs.Starting.{AreOn, IsStarted}

@@ -1,0 +1,224 @@
+-- What was acknowledged of a cartridge in a drive is kept.
+use Rattle.std.specs.Prelude.{◌≡◌, ◌++◌, ℕ, List, [], ◌∷◌, Bool, true, false, Option, None, Some, length, take, refl}
+use Rattle.std.proofs.Common.{sym, ◌∙◌, ap, subst}
+use Rattle.std.proofs.lemmas.List.{append-nil}
+use Rattle.vtl_base.specs.Below.{Below}
+use Rattle.tape_disk.specs.Disk.{DiskState, Each, IsDisk}
+use Rattle.tape_disk.specs.Moments.{LeavesOnly, weakened}
+use Rattle.pr_core.specs.declared.states.PrState.{PrState}
+use Rattle.pr_core.specs.Keepers.{KeeperState}
+use Rattle.volume_core.specs.declared.changes.Change.{Change}
+use Rattle.volume_core.specs.Medium.{turn_met_fault}
+use Rattle.gate_journal.specs.Side.{Heading}
+use Rattle.cartridge.specs.Contents.{Contents, changes_in}
+use Rattle.cartridge.specs.State.{ClosedCartridge, OpenCartridge}
+use Rattle.accepting.specs.Core.{CanAcknowledge, Core, CoreStep, IsCore}
+use Rattle.accepting.specs.Device.{one_disk}
+use Rattle.accepting.specs.Events as Events
+use Rattle.accepting.specs.Events.{IsEvent, ShowsCore}
+use Rattle.accepting.specs.Laws.{CrashesKeepAcknowledged, KeptBegins, StepsKeepCores}
+use Rattle.tape_buffer.specs.declared.holding.Holding.{Holding}
+use Rattle.tape_buffer.specs.declared.holding.Holding.TheVariants.{Open, Closed, Between}
+use Rattle.tape_buffer.specs.Rules.{GivesChanges, medium_rules}
+use Rattle.tape_buffer.specs.Moves.{HonestOn, MediumMoves, MovesOn, buffer_below, medium_core, medium_moves_nowhere, medium_moves_on}
+use Rattle.tape_buffer.specs.State.{BufferState, core_held, disk_in, found_core, found_in, state_held, state_of, torn_in}
+use Rattle.drive_core.specs.declared.bays.Bay.{Bay}
+use Rattle.drive_core.specs.declared.bays.Bay.TheVariants.{Empty, Unloaded, Loaded}
+use Rattle.drive_core.specs.State.{DriveState, IsBayPositioned, machine_of, medium_in}
+use Rattle.drive_core.specs.Relations.{Made}
+use Rattle.drive_core.specs.Execute.{AdvancesIn, HonestIn, is_device_fault}
+use Rattle.drive_core.specs.Synchronize.{NothingPending}
+use Rattle.bays.specs.Cartridges.{GivesWhatWasAcknowledged, IsKnown, KeepsIn, StopsKeepChanges}
+use Rattle.bays.specs.Doings.{Commanded, Does, Doing, DoesAll, Turned}
+
+module _ {D : Type 0} (state : D → DiskState) (is_disk : (disk : D) → (state disk).honest → IsDisk (state disk)) where
+  -- from what may be in a bay to what may be there later just these were accepted
+  abbrev pub Moved : Option (BufferState D) → Option (BufferState D) → List Change → Type 0
+  Moved (Some old) (Some new) made = MediumMoves state old made new
+  Moved None None made = made ≡ []
+  Moved _ _ made = ⊥
+
+  pub moved_by : (old new : Option (BufferState D)) (made : List Change) (fault : Bool)
+      → AdvancesIn (buffer_below state) old made fault new → Moved old new made
+  moved_by (Some old) (Some new) made fault advances = advances.moved
+  moved_by None None made fault advances = advances.0
+  moved_by None (Some new) made fault advances = absurd advances
+  moved_by (Some old) None made fault advances = absurd advances
+
+  pub moved_nowhere : (medium : Option (BufferState D)) → Moved medium medium []
+  moved_nowhere None = refl
+  moved_nowhere (Some medium) = medium_moves_nowhere state is_disk medium
+
+  pub moved_on : (a b c : Option (BufferState D)) (first second : List Change) → Moved a b first → Moved b c second
+      → Moved a c (first ++ second)
+  moved_on None None None first second one two = (λ i. one i ++ second) ∙ two
+  moved_on None None (Some c) first second one two = absurd two
+  moved_on None (Some b) c first second one two = absurd one
+  moved_on (Some a) None c first second one two = absurd one
+  moved_on (Some a) (Some b) None first second one two = absurd two
+  moved_on (Some a) (Some b) (Some c) first second one two = medium_moves_on state a b c first second one two
+
+  pub moved_as : (a b : Option (BufferState D)) (made more : List Change) → more ≡ made → Moved a b made
+      → Moved a b more
+  moved_as a b made more same moved = subst (λ (l : List Change). Moved a b l) (sym same) moved
+
+  module _ {K : Type 0} (kept : K → KeeperState) (keeps : Below K PrState) where
+    pub moved_doing : (old new : DriveState (BufferState D) K) (doing : Doing) (made : Made)
+        → Does (state_of state) (buffer_below state) kept keeps old doing made new
+        → Moved (medium_in old.bay) (medium_in new.bay) made.changes
+    moved_doing old new (Commanded request reply) made (answers, same) =
+        moved_as (medium_in old.bay) (medium_in new.bay) answers.taken.made.changes made.changes
+        (ap (λ (m : Made). m.changes) same)
+        (moved_by (medium_in old.bay) (medium_in new.bay) answers.taken.made.changes (is_device_fault answers.answer)
+        answers.taken.advances)
+    moved_doing old new (Turned turn) made (takes, same) =
+        moved_as (medium_in old.bay) (medium_in new.bay) [] made.changes (ap (λ (m : Made). m.changes) same)
+        (moved_by (medium_in old.bay) (medium_in new.bay) [] (turn_met_fault turn) takes.advances)
+
+    moved_all : (old new : DriveState (BufferState D) K) (doings : List Doing) (made : Made)
+        → DoesAll (state_of state) (buffer_below state) kept keeps old doings made new
+        → Moved (medium_in old.bay) (medium_in new.bay) made.changes
+    moved_all old new [] made (same, is) =
+        moved_as (medium_in old.bay) (medium_in new.bay) [] made.changes (ap (λ (m : Made). m.changes) same)
+        (subst (λ (d : DriveState (BufferState D) K). Moved (medium_in old.bay) (medium_in d.bay) []) (sym is)
+        (moved_nowhere (medium_in old.bay)))
+    moved_all old new (doing ∷ doings) made (mid, first, rest, one, others, same) =
+        moved_as (medium_in old.bay) (medium_in new.bay) (first.changes ++ rest.changes) made.changes
+        (ap (λ (m : Made). m.changes) same)
+        (moved_on (medium_in old.bay) (medium_in mid.bay) (medium_in new.bay) first.changes rest.changes
+        (moved_doing old mid doing first one) (moved_all mid new doings rest others))
+
+  -- all that was accepted is safe where nothing is pending: of an open cartridge, and of one that is not loaded
+  safe_open : (c : OpenCartridge D) (pending : List Change) → c.failed ≡ false → pending ≡ []
+      → CanAcknowledge (core_held state (Open c) pending)
+  safe_open c pending works none = (
+    (works, refl),
+    ap length (sym (ap (λ (l : List Change). changes_in c.contents ++ l) none ∙ append-nil (changes_in c.contents))),
+  )
+
+  safe_found : (found : Option Contents) (torn : List Change) → torn ≡ [] → CanAcknowledge (found_core found torn)
+  safe_found None torn none = ((refl, refl), refl)
+  safe_found (Some contents) torn none = (
+    (refl, refl),
+    ap length (sym (ap (λ (l : List Change). changes_in contents ++ l) none ∙ append-nil (changes_in contents))),
+  )
+
+  -- where it is awake it is open
+  safe_loaded : (held : Holding (OpenCartridge D) (ClosedCartridge D)) (pending : List Change)
+      → (state_held state held pending).awake ≡ true → (state_held state held pending).failed ≡ false
+      → (state_held state held pending).pending ≡ [] → CanAcknowledge (core_held state held pending)
+  safe_loaded (Open c) pending awake works none = safe_open c pending works none
+  safe_loaded (Closed c) pending awake works none = absurd (cc)
+  safe_loaded Between pending awake works none = absurd (cc)
+
+  -- where it is parked it is closed
+  safe_parked : (held : Holding (OpenCartridge D) (ClosedCartridge D)) (pending : List Change)
+      → (state_held state held pending).awake ≡ false → (state_held state held pending).torn ≡ []
+      → CanAcknowledge (core_held state held pending)
+  safe_parked (Open c) pending parked sure = absurd (cc)
+  safe_parked (Closed c) pending parked sure = safe_found (found_in state c) (torn_in state c) sure
+  safe_parked Between pending parked sure = ((refl, refl), refl)
+
+  module _ {K : Type 0} (kept : K → KeeperState) (honest : Type 0) where
+    pub safe_in : (drive : DriveState (BufferState D) K) (bay : Bay (BufferState D)) (medium : BufferState D)
+        → drive.bay ≡ bay → medium_in bay ≡ Some medium → honest
+        → IsBayPositioned (state_of state) bay drive.position
+        → NothingPending honest (machine_of (state_of state) kept (record drive { bay = bay }))
+        → CanAcknowledge (medium_core state medium)
+    safe_in drive Empty medium same is h on nothing = absurd (cc)
+    safe_in drive (Loaded m) medium same is h on nothing =
+        let e : m ≡ medium = cc in
+        subst (λ (x : BufferState D). CanAcknowledge (medium_core state x)) e
+        (safe_loaded m.held m.pending on.awake nothing.0.0 nothing.0.1)
+    safe_in drive (Unloaded m) medium same is h on nothing =
+        let e : m ≡ medium = cc in
+        subst (λ (x : BufferState D). CanAcknowledge (medium_core state x)) e
+        (safe_parked m.held m.pending on (nothing.1 h))
+
+  module _ (crash : CrashesKeepAcknowledged medium_rules (one_disk state)) (cores : StepsKeepCores medium_rules)
+      (begins : KeptBegins medium_rules) where
+    -- what all is carried out from never changes, so what was acknowledged begins what is given
+    gives_acknowledged : (old : Core Heading Change) (steps : List (CoreStep Change)) (image : List ℕ)
+        → Events.GivesAcknowledged medium_rules old steps image → GivesWhatWasAcknowledged old steps image
+    gives_acknowledged old steps image given =
+        let is = begins (λ base base' items never. never) old.base given.between.base old.accepted
+        (take given.kept given.between.accepted) given.acknowledged in
+        record {
+          count = given.count;
+          between = given.between;
+          leads = given.leads;
+          kept = given.kept;
+          acknowledged = is.1;
+          gives =
+              subst (λ (heading : Heading). GivesChanges heading (take given.kept given.between.accepted) image) is.0
+              given.gives;
+        }
+
+    -- what is acknowledged over one disk is kept over the next
+    keep_on : (x y z : Option D) (first second third : Core Heading Change) (made more : List Change) (disk : D)
+        → x ≡ Some disk → (state disk).honest → IsCore first → Each (state disk) (ShowsCore medium_rules first)
+        → MovesOn state x y first second made → MovesOn state y z second third more → CanAcknowledge second
+        → (before : D) × (y ≡ Some before) × (after : D) × (z ≡ Some after)
+        × (event : IsEvent medium_rules (one_disk state) before after second third more)
+        × LeavesOnly (state before) (state after) (GivesWhatWasAcknowledged second event.steps)
+    keep_on None y z first second third made more disk is honest core shows one two safe = absurd (cc)
+    keep_on (Some x) None z first second third made more disk is honest core shows one two safe = absurd one
+    keep_on (Some x) (Some y) None first second third made more disk is honest core shows one two safe = absurd two
+    keep_on (Some x) (Some y) (Some z) first second third made more disk is honest core shows one two safe =
+        let same : x ≡ disk = cc in
+        let honest_x : (state x).honest = subst (λ (d : D). (state d).honest) (sym same) honest in
+        let shows_x = subst (λ (d : D). Each (state d) (ShowsCore medium_rules first)) (sym same) shows in
+        let goes = one.goes honest_x shows_x in
+        let kept = cores first second goes.0.steps core goes.0.leads in
+        let found = crash y z second third more (one.keeps.stays_honest honest_x) kept.0 safe goes.1 two in (
+          y,
+          refl,
+          z,
+          refl,
+          found.0,
+          weakened (state y) (state z) (Events.GivesAcknowledged medium_rules second found.0.steps)
+              (GivesWhatWasAcknowledged second found.0.steps) found.1 (gives_acknowledged second found.0.steps),
+        )
+
+    pub keep_media : (a b c : Option (BufferState D)) (medium : BufferState D) (made more : List Change)
+        → a ≡ Some medium → IsKnown state medium → Moved a b made → Moved b c more
+        → ((left : BufferState D) → b ≡ Some left → CanAcknowledge (medium_core state left))
+        → KeepsIn state b c more
+    keep_media None b c medium made more is known one two safe = absurd (cc)
+    keep_media (Some a) None c medium made more is known one two safe = absurd one
+    keep_media (Some a) (Some b) None medium made more is known one two safe = absurd two
+    keep_media (Some a) (Some b) (Some c) medium made more is known one two safe =
+        let same : a ≡ medium = cc in
+        let known_a = subst (IsKnown state) (sym same) known in
+        let found = keep_on (disk_in a.held) (disk_in b.held) (disk_in c.held) (medium_core state a)
+        (medium_core state b)
+        (medium_core state c) made more known_a.disk known_a.disk_is known_a.honest known_a.core known_a.shows one two
+        (safe b refl) in
+        record {
+          before = found.0;
+          disk_before = found.1;
+          after = found.2;
+          disk_after = found.3;
+          all_safe = safe b refl;
+          event = found.4;
+          moments = found.5;
+        }
+
+    module _ {K : Type 0} (kept : K → KeeperState) (keeps : Below K PrState) where
+      pub honest_in : (a : Option (BufferState D)) (medium : BufferState D) → a ≡ Some medium → IsKnown state medium
+          → HonestIn (buffer_below state) a
+      honest_in None medium is known = tt
+      honest_in (Some a) medium is known =
+          let same : a ≡ medium = cc in
+          let known_a = subst (IsKnown state) (sym same) known in
+          subst (HonestOn state) (sym known_a.disk_is) known_a.honest
+
+      pub stops_keep_changes : StopsKeepChanges state kept keeps
+      stops_keep_changes old acked new medium request reply doings made at known answers sure told nothing on doing =
+          keep_media (medium_in old.bay) (medium_in acked.bay) (medium_in new.bay) medium answers.taken.made.changes
+          made.changes at known
+          (moved_by (medium_in old.bay) (medium_in acked.bay) answers.taken.made.changes
+          (is_device_fault answers.answer) answers.taken.advances)
+          (moved_all kept keeps acked new doings made doing)
+          (λ left is. safe_in kept (HonestIn (buffer_below state) (medium_in old.bay)) acked acked.bay left refl is
+          (honest_in (medium_in old.bay) medium at known) on nothing)

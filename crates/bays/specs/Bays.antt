@@ -1,0 +1,147 @@
+-- What the type of a drive keeps of its two disks, and what each of its calls leaves there at every moment inside it.
+use Rattle.std.specs.Prelude.{◌≡◌, ◌⊎◌, ℕ, List, [], false, Option, None, Some, option_map, Result, Ok, Err}
+use Rattle.tape_disk.specs.Disk.{DiskState, Each}
+use Rattle.tape_disk.specs.Moments.{LeavesOnly}
+use Rattle.scsi_sense.specs.declared.replies.Reply.{Reply}
+use Rattle.pr_core.specs.declared.states.PrState.{PrState}
+use Rattle.pr_core.specs.States.{empty_state}
+use Rattle.volume_core.specs.Volume.{Part}
+use Rattle.volume_core.specs.declared.changes.Change.{Change}
+use Rattle.gate_journal.specs.Side.{Heading}
+use Rattle.accepting.specs.Core.{CanAcknowledge, Core, IsCore}
+use Rattle.accepting.specs.Device.{one_disk}
+use Rattle.accepting.specs.Events.{IsEvent, ShowsCore}
+use Rattle.tape_buffer.specs.Moves.{IsSafeOrPending, ShowsOn, buffer_below, medium_core}
+use Rattle.tape_buffer.specs.Rules.{medium_rules}
+use Rattle.tape_buffer.specs.State.{BufferState, IsSettledIn, disk_in, state_of}
+use Rattle.aptpl_store.specs.Contents.{ShowsStates}
+use Rattle.aptpl_store.specs.Kept.{core_of, store_below, store_kept, store_rules}
+use Rattle.aptpl_store.specs.State.{OpenStore}
+use Rattle.drive_core.specs.Data.{AnswersLent}
+use Rattle.drive_core.specs.Execute.{Answers}
+use Rattle.drive_core.specs.Relations.{Made}
+use Rattle.drive_core.specs.State.{medium_in}
+use Rattle.drive_core.specs.Work.{Request}
+use Rattle.bays.specs.Accepted.{PrEvent, order_rules, orders_core, pr_after, pr_after_all}
+use Rattle.bays.specs.Elements.{BayState}
+use Rattle.bays.specs.Reservations.{Asked, Call, GivesHeld, IsHolding, LeavesHeld, disk_of}
+
+module _ {D : Type 0} (state : D → DiskState) where
+  -- a medium was opened before, or nothing else may be left by a crash than what a read gives (own)
+  abbrev pub IsOpenedOrSettled : BufferState D → Type 0
+  IsOpenedOrSettled medium = ((state_of state medium).unread ≡ false) ⊎ IsSettledIn state medium.held
+
+  -- What is kept of a cartridge: what is safe is stored, and what is stored was accepted; while its device works and
+  -- nothing was stopped, all that is stored is safe and the rest is pending; and of one that was opened or is settled,
+  -- whose side gives a volume, each image that a crash now may leave gives what is safe, or what is stored (own).
+  pub record KeepsCartridge (medium : BufferState D) : Type 0 where
+    pub core : IsCore (medium_core state medium)
+    pub whole : IsSafeOrPending (medium_core state medium) medium.pending
+    pub shows :
+        IsOpenedOrSettled medium → (volume : List Part) → (state_of state medium).stored ≡ Some volume
+        → ShowsOn state (disk_in medium.held) (medium_core state medium)
+
+  -- the same of the cartridge in a drive, where there is one (own)
+  abbrev pub KeepsCartridgeIn : Option (BufferState D) → Type 0
+  KeepsCartridgeIn None = Unit {0}
+  KeepsCartridgeIn (Some medium) = KeepsCartridge medium
+
+  -- what the type of a drive keeps: of the cartridge in it, and of its reservations and their store (own)
+  pub record KeepsBoth (bay : BayState D) : Type 0 where
+    pub cartridge : KeepsCartridgeIn (medium_in bay.bay)
+    pub reservations : IsHolding (state_of state) (buffer_below state) state bay
+
+  -- Whatever orders and losses of power led to the reservations that a drive holds, and to the state whose save failed,
+  -- if one did: over an honest disk each image that a crash now may leave of its store gives what a loss of power
+  -- leaves of all these, or of those before that order (own).
+  abbrev pub ShowsOrders : BayState D → Type 0
+  ShowsOrders bay =
+      (events : List PrEvent) (failed : Option PrEvent) → pr_after_all empty_state events ≡ bay.reservations
+      → bay.keeper.torn ≡ option_map (pr_after bay.reservations) failed → (state bay.keeper.disk).honest
+      → Each (state bay.keeper.disk) (ShowsCore order_rules (orders_core bay.keeper.heading events failed))
+
+  -- From one core to the other, over an honest disk, just these were accepted by the steps of one event: at each moment
+  -- since, a crash leaves what is safe or stored once some of the steps were made; and now, what is in the end (own).
+  abbrev pub EventOn : Option D → Option D → Core Heading Change → Core Heading Change → List Change → Type 0
+  EventOn (Some disk) (Some disk') old new made =
+      (state disk).honest
+      → IsEvent medium_rules (one_disk state) disk disk' old new made × Each (state disk') (ShowsCore medium_rules new)
+  EventOn None None old new made = made ≡ []
+  EventOn _ _ old new made = ⊥
+
+  -- the same from one medium, which was opened or is settled and whose side gave a volume, to a later one (own)
+  abbrev pub EventIn : Option (BufferState D) → Option (BufferState D) → List Change → Type 0
+  EventIn (Some old) (Some new) made =
+      IsOpenedOrSettled old → (volume : List Part) → (state_of state old).stored ≡ Some volume
+      → EventOn (disk_in old.held) (disk_in new.held) (medium_core state old) (medium_core state new) made
+  EventIn None None made = made ≡ []
+  EventIn _ _ made = ⊥
+
+  -- from one store to the other, over an honest disk, just these states were saved by the steps of one event (own)
+  abbrev pub SavesIn : OpenStore D → OpenStore D → List PrState → Type 0
+  SavesIn old new saved =
+      (state old.disk).honest
+      → IsEvent store_rules (one_disk state) old.disk new.disk (core_of old) (core_of new) saved
+
+  -- Every moment of a call of a drive, from what it was to what it is, by which the cartridge became another value:
+  -- just these changes were accepted and these states saved, each by the steps of one event; and at each moment since,
+  -- an image of the store's disk opens as what a loss of power leaves of the reservations that were held before, or of
+  -- a state that may stand in their place (own).
+  pub record EveryMoment
+      (old : BayState D) (call : Call) (made : Made) (before after : Option (BufferState D)) (new : BayState D)
+      : Type 0 where
+    pub cartridge : EventIn before after made.changes
+    pub saves : SavesIn old.keeper new.keeper made.saved
+    pub reservations :
+        (disk_of (state_of state) (buffer_below state) state old).honest
+        → LeavesOnly (disk_of (state_of state) (buffer_below state) state old)
+        (disk_of (state_of state) (buffer_below state) state new)
+        (LeavesHeld (state_of state) (buffer_below state) state old call new)
+
+  -- a host is answered by a step of the machine, and of every moment inside the call that step's event is told (own)
+  pub record AnswersInEvent (old : BayState D) (request : Request) (reply : Reply) (new : BayState D) : Type 0 where
+    pub step : Answers (state_of state) (buffer_below state) store_kept (store_below state) old request reply new
+    pub moments : EveryMoment old (Asked request reply) step.taken.made (medium_in old.bay) (medium_in new.bay) new
+
+  -- the same of a host whose data are lent, of which this is left (own)
+  pub record AnswersLentInEvent
+      (old : BayState D) (request : Request) (reply : Reply) (new : BayState D) (left : List ℕ) : Type 0 where
+    pub step :
+        AnswersLent (state_of state) (buffer_below state) store_kept (store_below state) old request reply new left
+    pub moments :
+        EveryMoment old (Asked request reply) step.step.taken.made (medium_in old.bay) (medium_in new.bay) new
+
+  -- all that the medium in a drive has accepted is safe, where there is one (own)
+  abbrev pub IsSafeIn : Option (BufferState D) → Type 0
+  IsSafeIn None = Unit {0}
+  IsSafeIn (Some medium) = CanAcknowledge (medium_core state medium)
+
+  -- the medium that a loading leaves: in the drive, or handed back (own)
+  abbrev pub loaded_or_back : Result Unit (BufferState D × Reply) → BayState D → Option (BufferState D)
+  loaded_or_back (Ok done) new = medium_in new.bay
+  loaded_or_back (Err back) new = Some back.0
+
+  -- the medium that an unloading leaves: given out, or in the drive (own)
+  abbrev pub out_or_in : Result (BufferState D) Reply → BayState D → Option (BufferState D)
+  out_or_in (Ok out) new = Some out
+  out_or_in (Err reply) new = medium_in new.bay
+
+  -- Every moment of a power on over a cartridge, if any, and a store: nothing was accepted; and at each moment since,
+  -- an image of the store's disk opens as what a loss of power leaves of the reservations that the drive then holds, or
+  -- of the state whose save had failed (own).
+  pub record EveryMomentOn (given : Option (BufferState D)) (store : OpenStore D) (new : BayState D) : Type 0 where
+    pub cartridge : EventIn given (medium_in new.bay) []
+    pub reservations :
+        (state store.disk).honest
+        → LeavesOnly (state store.disk) (disk_of (state_of state) (buffer_below state) state new)
+        (GivesHeld (state_of state) (buffer_below state) state new)
+
+  -- The same where memory ran out, and cartridge and store come back: an image of the store's disk shows the states
+  -- that were saved before (own).
+  pub record EveryMomentOff
+      (given : Option (BufferState D)) (store : OpenStore D) (back : Option (BufferState D)) (left : OpenStore D)
+      : Type 0 where
+    pub cartridge : EventIn given back []
+    pub reservations :
+        (state store.disk).honest
+        → LeavesOnly (state store.disk) (state left.disk) (ShowsStates store.heading store.states store.torn)

@@ -1,0 +1,48 @@
+-- All that is pending is written out.
+use Rattle.std.specs.Prelude.{◌≡◌, ℕ, [], true, false, Option, None, Some, Result, OnOk, OnErr}
+use Rattle.tape_disk.specs.Disk.{DiskState}
+use Rattle.volume_core.specs.declared.media.Turn.{Turn}
+use Rattle.drive_core.specs.declared.bays.Bay.{Bay}
+use Rattle.drive_core.specs.declared.bays.Bay.TheVariants.{Loaded}
+use Rattle.drive_core.specs.Media.{TakesTurn}
+use Rattle.tape_buffer.specs.Moves.{buffer_below}
+use Rattle.tape_buffer.specs.State.{BufferState, state_of}
+use Rattle.aptpl_store.specs.Kept.{store_kept}
+use Rattle.bays.specs.Elements.{BayState, HeldState, bay_at}
+use Rattle.bays.specs.declared.finishing.Unwritten.{Unwritten}
+
+module _ {D : Type 0} (state : D → DiskState) where
+  -- what is loaded has failed (own)
+  abbrev pub HasFailedIn : Bay (BufferState D) → Type 0
+  HasFailedIn (Loaded medium) = (state_of state medium).failed ≡ true
+  HasFailedIn _ = ⊥
+
+  -- what is loaded works, and all that was accepted is stored; what is not loaded is (own)
+  abbrev pub IsWrittenIn : Bay (BufferState D) → Type 0
+  IsWrittenIn (Loaded medium) = ((state_of state medium).failed ≡ false) × ((state_of state medium).pending ≡ [])
+  IsWrittenIn _ = Unit {0}
+
+  -- a drive, where there is one, takes a flusher's turn (own)
+  abbrev pub TurnsAt : Option (BayState D) → Option (BayState D) → Type 0
+  TurnsAt None None = Unit {0}
+  TurnsAt (Some old) (Some new) =
+      (turn : Turn) × TakesTurn (state_of state) (buffer_below state) store_kept old turn new
+  TurnsAt _ _ = ⊥
+
+  -- nothing is left to be written of the drive, where there is one (own)
+  abbrev pub IsWrittenAt : Option (BayState D) → Type 0
+  IsWrittenAt None = Unit {0}
+  IsWrittenAt (Some bay) = IsWrittenIn bay.bay
+
+  -- there is a drive, and what is loaded in it has failed (own)
+  abbrev pub HasFailedAt : Option (BayState D) → Type 0
+  HasFailedAt None = ⊥
+  HasFailedAt (Some bay) = HasFailedIn bay.bay
+
+  -- Every drive takes a turn, and the slots stay as they are. Then nothing is left to be written; or what is loaded in
+  -- some drive has failed (own).
+  pub record WritesOut (old : HeldState D) (result : Result Unit Unwritten) (new : HeldState D) : Type 0 where
+    pub turns : (number : ℕ) → TurnsAt (bay_at old.bays number) (bay_at new.bays number)
+    pub slots : new.slots ≡ old.slots
+    pub ok : OnOk result ((number : ℕ) → IsWrittenAt (bay_at new.bays number))
+    pub err : OnErr result ((number : ℕ) × HasFailedAt (bay_at new.bays number))

@@ -1,0 +1,15 @@
+pub mod Accepted
+pub mod Bays
+pub mod Cartridges
+pub mod Commands
+pub mod Doings
+pub mod Elements
+pub mod Finish
+pub mod Inner
+pub mod Journeys
+pub mod Lent
+pub mod Moves
+pub mod OneHost
+pub mod Reservations
+pub mod RunKeeps
+pub mod Runs

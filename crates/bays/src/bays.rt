@@ -1,0 +1,291 @@
+//! A drive of a library.
+ghost use Rattle.std.specs.Prelude.{[], Some, ◌≡◌, ◌↔◌, IsTrue, IfOk, IfErr, IfSome, Err, false, is_some, option_map};
+ghost use Rattle.tape_disk.specs.Disk.{Each};
+ghost use Rattle.drive_core.specs.declared.bays.Bay.TheVariants as Bays;
+ghost use Rattle.drive_core.specs.State.{IsBayPositioned, left_of, machine_of, medium_in};
+ghost use Rattle.drive_core.specs.Data.{AnswersLent};
+ghost use Rattle.drive_core.specs.Execute.{Answers, HonestIn, asked};
+ghost use Rattle.drive_core.specs.Media.{GoesOut, SwitchesOn, TakesIn, TakesTurn};
+ghost use Rattle.drive_core.specs.Relations.{made_nothing};
+ghost use Rattle.drive_core.specs.Synchronize.{Acknowledges, IsSynchronizing, NothingPending};
+ghost use Rattle.tape_buffer.specs.Moves.{buffer_below};
+ghost use Rattle.tape_buffer.specs.State.{state_of};
+ghost use Rattle.aptpl_store.specs.Kept.{store_below, store_kept};
+ghost use Rattle.bays.specs.Bays.{AnswersInEvent, AnswersLentInEvent, EveryMoment, EveryMomentOff, EveryMomentOn, IsSafeIn, KeepsBoth, KeepsCartridgeIn, ShowsOrders, loaded_or_back, out_or_in};
+ghost use Rattle.bays.specs.Inner.Going.{IsAwakeIn};
+ghost use Rattle.bays.specs.Reservations.{GivesHeld, Moved, Turned};
+
+use crate::laws::reservations::reservations_outlive_each_stop;
+use crate::parked::Parked;
+use accepting::Accepting;
+use aptpl_store::AptplStore;
+use drive_core::Drive;
+use pr_core::Reservations;
+use scsi_sense::Reply;
+use std::alloc::Global;
+use std::marker::Model;
+use tape_buffer::Buffered;
+use tape_disk::Disk;
+use volume_core::{Medium, Turn};
+use vtl_base::{Bytes, Nexus, NoMemory};
+
+/// Why a drive was not switched on: memory ran out. What was handed in comes back.
+#[derive(Drop)]
+pub struct NotOn<D: Disk> {
+    /// The cartridge, closed still.
+    pub cartridge: Option<Parked<D>>,
+    /// The store of the drive's reservations.
+    pub store: AptplStore<D>,
+}
+
+/// A drive in buffered mode over a cartridge on a disk, with a store of its reservations on another disk. The type
+/// keeps what a stop may leave of the two.
+#[derive(Drop)]
+pub struct Bay<D: Disk> {
+    drive: Drive<Buffered<D>, AptplStore<D>>,
+}
+
+impl<D: Disk> Model for Bay<D> {
+    ghost use Rattle.bays.specs.Elements.{BayState};
+    ghost use Rattle.bays.specs.Bays.{KeepsBoth};
+
+    ghost Value = { BayState D };
+
+    ghost view = { λ b. b.drive };
+
+    ghost invariant = { λ b. KeepsBoth D.state b.drive };
+}
+
+// A drive accepts the orders of its reservations.
+impl<D: Disk> Accepting for Bay<D> {
+    ghost use Rattle.accepting.specs.Device.{one_disk, one_is_device};
+    ghost use Rattle.bays.specs.Accepted.{order_rules};
+
+    ghost rules = { order_rules };
+
+    ghost device = { one_disk D.state };
+
+    ghost is_device = { one_is_device D.state };
+}
+
+// What is kept of the cartridge in a drive, if there is one: each medium knows it of itself.
+fn known<D: Disk>(drive: &Drive<Buffered<D>, AptplStore<D>>)
+    ensures { KeepsCartridgeIn D.state (medium_in drive.now.bay) }
+{
+    if let Some(medium) = drive.medium() {
+        medium.known();
+    }
+}
+
+// The medium of a closed cartridge, where there is one.
+fn medium_of<D: Disk>(cartridge: Option<Parked<D>>) -> Option<Buffered<D>>
+    ensures same { result ≡ cartridge }
+    ensures parked { IfSome result (λ medium. (state_of D.state medium).awake ≡ false) }
+    ensures kept { KeepsCartridgeIn D.state result }
+{
+    match cartridge {
+        Some(cartridge) => Some(cartridge.into_medium()),
+        None => None,
+    }
+}
+
+impl<D: Disk> Bay<D> {
+    /// A drive that was just switched on, with this cartridge in it, if any: loaded, or unloaded where its side is
+    /// refused or the device fails. Its reservations are those that a loss of power leaves of what the store saved
+    /// last. Where memory runs out, cartridge and store come back.
+    pub fn power_on(
+        alloc: Global,
+        store: AptplStore<D>,
+        reservations: Reservations,
+        cartridge: Option<Parked<D>>,
+    ) -> Result<Bay<D>, NotOn<D>>
+        requires { reservations ≡ left_of (store_kept store).saved }
+        ensures on { IfOk result (λ bay.
+            SwitchesOn (state_of D.state) (buffer_below D.state) cartridge reservations store (Ok bay)) }
+        ensures off { IfErr result (λ not. (reason : NoMemory)
+            × SwitchesOn (state_of D.state) (buffer_below D.state) cartridge reservations store
+            (Err (not.cartridge, not.store, reason))) }
+
+        // At every moment inside the call a crash leaves what that says.
+        ensures moments { IfOk result (λ bay. EveryMomentOn D.state cartridge store bay) }
+        ensures moments_off { IfErr result (λ not.
+            EveryMomentOff D.state cartridge store not.cartridge not.store) }
+    {
+        // The law, and what store and reservations know of themselves, for the proof alone.
+        reservations_outlive_each_stop::<Buffered<D>, D>();
+        store.known();
+        let _ = reservations.state();
+        match Drive::power_on(alloc, store, reservations, medium_of(cartridge)) {
+            Ok(drive) => {
+                known(&drive);
+                Ok(Bay { drive })
+            }
+            Err((medium, store, NoMemory)) => {
+                let cartridge = match medium {
+                    Some(medium) => Some(Parked::of_medium(medium)),
+                    None => None,
+                };
+                Err(NotOn { cartridge, store })
+            }
+        }
+    }
+
+    /// Answers a command of a host, as `Drive::execute` does.
+    pub fn execute(&mut self, nexus: Nexus, cdb: &[u8], sent: &[u8]) -> Reply
+        ensures step { Answers (state_of D.state) (buffer_below D.state) store_kept (store_below D.state)
+            self.old (asked nexus cdb.now sent.now) result self.new }
+
+        // All is stored before a synchronizing command is acknowledged.
+        ensures settled { IsSynchronizing (machine_of (state_of D.state) store_kept self.old) cdb.now
+            → Acknowledges result → NothingPending (HonestIn (buffer_below D.state) (medium_in self.old.bay))
+            (machine_of (state_of D.state) store_kept self.new) }
+
+        // At every moment inside the call a crash leaves what the call's event says.
+        ensures moments { AnswersInEvent D.state self.old (asked nexus cdb.now sent.now) result self.new }
+
+        // A synchronizing command that is acknowledged leaves all that was accepted safe.
+        ensures safe { IsSynchronizing (machine_of (state_of D.state) store_kept self.old) cdb.now
+            → Acknowledges result → HonestIn (buffer_below D.state) (medium_in self.old.bay)
+            → IsSafeIn D.state (medium_in self.new.bay) }
+    {
+        // The law, and what is known of what is in the drive, for the proof alone.
+        reservations_outlive_each_stop::<Buffered<D>, D>();
+        let reply = self.drive.execute(nexus, cdb, sent);
+        known(&self.drive);
+        let _ = self.drive.medium();
+        reply
+    }
+
+    /// Answers a command of a host whose data are lent, as `Drive::execute_lent` does.
+    pub fn execute_lent(&mut self, nexus: Nexus, cdb: &[u8], sent: &mut Bytes) -> Reply
+        ensures step { AnswersLent (state_of D.state) (buffer_below D.state) store_kept (store_below D.state)
+            self.old (asked nexus cdb.now sent.old) result self.new sent.new }
+
+        // All is stored before a synchronizing command is acknowledged.
+        ensures settled { IsSynchronizing (machine_of (state_of D.state) store_kept self.old) cdb.now
+            → Acknowledges result → NothingPending (HonestIn (buffer_below D.state) (medium_in self.old.bay))
+            (machine_of (state_of D.state) store_kept self.new) }
+
+        // At every moment inside the call a crash leaves what the call's event says.
+        ensures moments { AnswersLentInEvent D.state self.old (asked nexus cdb.now sent.old) result self.new sent.new }
+
+        // A synchronizing command that is acknowledged leaves all that was accepted safe.
+        ensures safe { IsSynchronizing (machine_of (state_of D.state) store_kept self.old) cdb.now
+            → Acknowledges result → HonestIn (buffer_below D.state) (medium_in self.old.bay)
+            → IsSafeIn D.state (medium_in self.new.bay) }
+    {
+        reservations_outlive_each_stop::<Buffered<D>, D>();
+        let reply = self.drive.execute_lent(nexus, cdb, sent);
+        known(&self.drive);
+        let _ = self.drive.medium();
+        reply
+    }
+
+    /// A flusher's turn: stores what is pending. It takes no memory.
+    pub fn turn(&mut self) -> Turn
+        ensures turned { TakesTurn (state_of D.state) (buffer_below D.state) store_kept self.old result self.new }
+        ensures moments { EveryMoment D.state self.old (Turned result) made_nothing (medium_in self.old.bay)
+            (medium_in self.new.bay) self.new }
+    {
+        reservations_outlive_each_stop::<Buffered<D>, D>();
+        let turn = self.drive.turn();
+        known(&self.drive);
+        turn
+    }
+
+    /// Opens a cartridge and loads it into an empty drive: each nexus is told that the medium may have changed. One
+    /// that can't be opened comes back, closed, with the reply: 3, 11/00 where its side is refused or the device fails,
+    /// Bh, 55/03 where memory runs out.
+    pub fn load(&mut self, cartridge: Parked<D>) -> Result<(), (Parked<D>, Reply)>
+        requires empty { self.old.bay ≡ Bays.Empty }
+        ensures taken { TakesIn (state_of D.state) (buffer_below D.state) self.old cartridge result self.new }
+        ensures moments { EveryMoment D.state self.old Moved made_nothing (Some cartridge)
+            (loaded_or_back D.state result self.new) self.new }
+    {
+        reservations_outlive_each_stop::<Buffered<D>, D>();
+        let medium = cartridge.into_medium();
+        let loaded = self.drive.load(medium);
+        known(&self.drive);
+        match loaded {
+            Ok(()) => Ok(()),
+            Err((medium, reply)) => Err((Parked::of_medium(medium), reply)),
+        }
+    }
+
+    /// Puts a cartridge into an empty drive, not loaded. No host is told. It takes no memory.
+    pub fn insert(&mut self, cartridge: Parked<D>)
+        requires empty { self.old.bay ≡ Bays.Empty }
+        ensures inserted { self.new ≡ record self.old { bay = Bays.Unloaded cartridge } }
+        ensures moments { EveryMoment D.state self.old Moved made_nothing (Some cartridge) (medium_in self.new.bay)
+            self.new }
+    {
+        reservations_outlive_each_stop::<Buffered<D>, D>();
+        let medium = cartridge.into_medium();
+        self.drive.insert(medium);
+        known(&self.drive);
+    }
+
+    /// Unloads what is in the drive, as UNLOAD does, and gives it out, closed. Where there is nothing (2, 3A/00), or
+    /// the device fails (3, 0C/00), nothing comes out; in the second case the cartridge stays loaded, and has failed.
+    pub fn unload(&mut self) -> Result<Parked<D>, Reply>
+        ensures out { GoesOut (state_of D.state) (buffer_below D.state) self.old result self.new }
+        ensures awake { IsAwakeIn D.state self.old.bay }
+        ensures moments { EveryMoment D.state self.old Moved made_nothing (medium_in self.old.bay)
+            (out_or_in D.state result self.new) self.new }
+    {
+        reservations_outlive_each_stop::<Buffered<D>, D>();
+        // Looked at for the proof's sake: what is loaded is awake.
+        let _ = self.drive.medium();
+        let out = self.drive.unload();
+        known(&self.drive);
+        match out {
+            Ok(medium) => Ok(Parked::of_medium(medium)),
+            Err(reply) => Err(reply),
+        }
+    }
+
+    /// Whether there is no cartridge in it, loaded or not.
+    pub fn is_empty(&self) -> bool
+        ensures { IsTrue result ↔ (self.now.bay ≡ Bays.Empty) }
+    {
+        self.drive.is_empty()
+    }
+
+    /// Whether a reservation is held at the drive.
+    pub fn held(&self) -> bool
+        ensures { result ≡ is_some self.now.reservations.reservation }
+    {
+        self.drive.held()
+    }
+
+    /// How many changes were accepted since it was switched on, as `Drive::accepted` says.
+    pub fn accepted(&self) -> u64
+        ensures { result ≡ self.now.accepted }
+    {
+        self.drive.accepted()
+    }
+
+    /// What the type keeps: over honest disks, what a crash now may leave of the cartridge, and of the reservations.
+    pub fn known(&self)
+        ensures kept { KeepsBoth D.state self.now }
+
+        // What an image of the store's disk opens as, and what it gives of the orders that led to what is held.
+        ensures opens { (D.state self.now.keeper.disk).honest → Each (D.state self.now.keeper.disk)
+            (GivesHeld (state_of D.state) (buffer_below D.state) D.state self.now) }
+        ensures orders { ShowsOrders D.state self.now }
+
+        // What is loaded is awake, and the position is on it; what is not loaded is parked.
+        ensures positioned { IsBayPositioned (state_of D.state) self.now.bay self.now.position }
+    {
+        reservations_outlive_each_stop::<Buffered<D>, D>();
+        // Looked at for the proof's sake: the facts are the type's.
+        let _ = self.drive.medium();
+    }
+
+    /// The drive, to be looked at.
+    pub fn drive(&self) -> &Drive<Buffered<D>, AptplStore<D>>
+        ensures { result.now ≡ self.now }
+    {
+        &self.drive
+    }
+}

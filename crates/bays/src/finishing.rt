@@ -1,0 +1,67 @@
+//! All that is pending is written out.
+ghost use Rattle.std.specs.Prelude.{◌≡◌, ◌≢◌, ◌+◌, ◌<◌, ℕ, OnOk, OnErr, Some};
+ghost use Rattle.vtl_base.specs.declared.limits.TheConstants.{DRIVES};
+ghost use Rattle.bays.specs.Elements.{bay_at};
+ghost use Rattle.bays.specs.Finish.{HasFailedAt, HasFailedIn, IsWrittenAt, IsWrittenIn, TurnsAt, WritesOut};
+
+use crate::bays::Bay;
+use crate::held::Held;
+use std::fmt::Debug;
+use tape_disk::Disk;
+use volume_core::Turn;
+use vtl_base::limits::DRIVES;
+
+/// What is loaded in a drive has failed, so that not all is written out.
+#[derive(Clone, Copy, PartialEq, Eq, Debug)]
+pub struct Unwritten;
+
+impl<D: Disk> Bay<D> {
+    /// Stores what is pending, by a flusher's turn. It takes no memory. At Ok all that what is loaded has accepted is
+    /// stored; else what is loaded has failed, before or in this turn.
+    pub fn write_out(&mut self) -> Result<(), Unwritten>
+        ensures turns { TurnsAt D.state (Some self.old) (Some self.new) }
+        ensures ok { OnOk result (IsWrittenIn D.state self.new.bay) }
+        ensures err { OnErr result (HasFailedIn D.state self.new.bay) }
+    {
+        let _ = self.turn();
+        if self.drive().has_failed() {
+            Err(Unwritten)
+        } else {
+            Ok(())
+        }
+    }
+}
+
+impl<D: Disk + Drop> Held<D> {
+    /// Writes every buffer out, by a turn of each drive, of all of them also where one fails. It takes no memory. At Ok
+    /// all that was accepted is stored; else what is loaded in some drive has failed.
+    pub fn finish(&mut self) -> Result<(), Unwritten>
+        ensures { WritesOut D.state self.old result self.new }
+    {
+        // Looked at, here and below, for the proof's sake: there are places for all drives.
+        let _ = &self.bays;
+        let mut result = Ok(());
+        for place in 0..DRIVES as usize {
+            if self.write_out_at(place).is_err() {
+                result = Err(Unwritten);
+            }
+        }
+        let _ = &self.bays;
+        result
+    }
+
+    // Stores what is pending in the drive of this place, if there is one.
+    fn write_out_at(&mut self, place: usize) -> Result<(), Unwritten>
+        requires { place < DRIVES }
+        ensures turns { TurnsAt D.state (bay_at self.old.bays (place + 1)) (bay_at self.new.bays (place + 1)) }
+        ensures others { (other : ℕ) → other ≢ place + 1 → bay_at self.new.bays other ≡ bay_at self.old.bays other }
+        ensures slots { self.new.slots ≡ self.old.slots }
+        ensures ok { OnOk result (IsWrittenAt D.state (bay_at self.new.bays (place + 1))) }
+        ensures err { OnErr result (HasFailedAt D.state (bay_at self.new.bays (place + 1))) }
+    {
+        let Some(bay) = &mut self.bays[place] else {
+            return Ok(());
+        };
+        bay.write_out()
+    }
+}

@@ -1,0 +1,169 @@
+//! A library that one thread holds.
+ghost use Rattle.std.specs.Prelude.{◌≡◌, ◌≢◌, [], ℕ, None, Some, true, IfOk, IfErr, OnOk, is_some, option_map, length};
+ghost use Rattle.vtl_base.specs.declared.limits.TheConstants.{DRIVES, SLOTS};
+ghost use Rattle.changer.specs.Slots.{Puts, held_at, refusal_of_placing};
+ghost use Rattle.drive_core.specs.Data.{data_left};
+ghost use Rattle.drive_core.specs.Execute.{asked};
+ghost use Rattle.bays.specs.Commands.{Commands};
+ghost use Rattle.bays.specs.Elements.{Becomes, bay_at};
+
+use crate::bays::Bay;
+use crate::parked::Parked;
+use changer::{NotPlaced, Slots};
+use scsi_sense::Reply;
+use std::alloc::Global;
+use std::marker::Model;
+use tape_disk::Disk;
+use vtl_base::limits::DRIVES;
+use vtl_base::{Bytes, DriveNo, Nexus, NoMemory};
+
+/// Where every cartridge of a library stands: 256 slots and 16 drives, whatever is configured.
+#[derive(Drop)]
+pub struct Inventory<'a, D: Disk> {
+    /// What each slot holds, from element address 1001 on.
+    pub slots: &'a [Option<Parked<D>>],
+    /// Each drive, from number 1 on, or `None` where none is configured. `Bay::is_empty` tells whether there is
+    /// something in it, and `Bay::drive` shows it.
+    pub drives: &'a [Option<Bay<D>>],
+}
+
+/// The slots and drives of a library, held by one thread: 256 slots, whatever is configured, and up to 16 drives. To a
+/// contract they are two rows.
+#[derive(Drop)]
+pub struct Held<D: Disk> {
+    pub(crate) alloc: Global,
+    pub(crate) slots: Slots<Parked<D>>,
+    pub(crate) bays: Vec<Option<Bay<D>>>,
+}
+
+impl<D: Disk> Model for Held<D> {
+    ghost use Rattle.std.specs.Prelude.{◌≡◌, length};
+    ghost use Rattle.vtl_base.specs.declared.limits.TheConstants.{DRIVES};
+    ghost use Rattle.bays.specs.Elements.{HeldState};
+
+    ghost Value = { HeldState D };
+
+    ghost view = { λ h. record { slots = h.slots; bays = h.bays.items } };
+
+    ghost invariant = { λ h. length h.bays.items ≡ DRIVES };
+}
+
+impl<D: Disk + Drop> Held<D> {
+    /// A library of no drive whose slots hold nothing.
+    pub fn new(alloc: Global) -> Result<Held<D>, NoMemory>
+        ensures slots { IfOk result (λ held. (address : ℕ) → held_at held.slots address ≡ None) }
+        ensures bays { IfOk result (λ held. (number : ℕ) → bay_at held.bays number ≡ None) }
+    {
+        let slots = Slots::new(alloc)?;
+        let mut bays = Vec::new(alloc);
+        bays.reserve_exact(DRIVES as usize)?;
+        for _ in 0..DRIVES {
+            if bays.push(None).is_err() {
+                return Err(NoMemory);
+            }
+        }
+        Ok(Held { alloc, slots, bays })
+    }
+
+    /// Whether there is a drive of this number.
+    pub fn configured(&self, drive: DriveNo) -> bool
+        ensures { result ≡ is_some (bay_at self.now.bays drive) }
+    {
+        self.bays[drive.place()].is_some()
+    }
+
+    /// Puts a drive into its place. One that is there already stays, and the other comes back.
+    pub fn install(&mut self, number: DriveNo, bay: Bay<D>) -> Result<(), Bay<D>>
+        ensures ok { OnOk result ((bay_at self.old.bays number ≡ None)
+            × Becomes number (Some bay) self.old.bays self.new.bays
+            × (self.new.slots ≡ self.old.slots)) }
+        ensures err { IfErr result (λ back. (back ≡ bay)
+            × (is_some (bay_at self.old.bays number) ≡ true) × (self.new ≡ self.old)) }
+    {
+        // Asked for the proof's sake: the numbers of drives begin with 1.
+        let _ = number.number();
+        if self.configured(number) {
+            return Err(bay);
+        }
+        self.bays[number.place()] = Some(bay);
+        Ok(())
+    }
+
+    /// Puts a closed cartridge into the slot of this element address, which holds nothing, as `Slots::place` does.
+    pub fn place(&mut self, address: u32, cartridge: Parked<D>) -> Result<(), NotPlaced<Parked<D>>>
+        ensures ok { OnOk result ((refusal_of_placing self.old.slots address ≡ None)
+            × Puts address (Some cartridge) self.old.slots self.new.slots
+            × (self.new.bays ≡ self.old.bays)) }
+        ensures err { IfErr result (λ refused.
+            (refusal_of_placing self.old.slots address ≡ Some refused.error)
+            × (refused.value ≡ cartridge) × (self.new ≡ self.old)) }
+    {
+        self.slots.place(address, cartridge)
+    }
+
+    /// Answers a command of a host to a configured drive.
+    pub fn command(&mut self, nexus: Nexus, drive: DriveNo, cdb: &[u8], sent: &[u8]) -> Reply
+        requires { is_some (bay_at self.old.bays drive) ≡ true }
+        ensures { Commands D.state drive (asked nexus cdb.now sent.now) self.old result self.new }
+    {
+        // Asked for the proof's sake: the numbers of drives begin with 1.
+        let _ = drive.number();
+        match &mut self.bays[drive.place()] {
+            Some(bay) => {
+                bay.known();
+                bay.execute(nexus, cdb, sent)
+            }
+            None => unreachable!(),
+        }
+    }
+
+    /// Answers a command of a host to a configured drive, as `command` does. Its data are lent: where they become a
+    /// block they are taken, and not copied; else they stay.
+    pub fn command_lent(
+        &mut self,
+        nexus: Nexus,
+        drive: DriveNo,
+        cdb: &[u8],
+        sent: &mut Bytes,
+    ) -> Reply
+        requires { is_some (bay_at self.old.bays drive) ≡ true }
+        ensures { (commands : Commands D.state drive (asked nexus cdb.now sent.old) self.old result self.new)
+            × (sent.new ≡ data_left commands.step.taken.made.changes sent.old) }
+    {
+        // Asked for the proof's sake: the numbers of drives begin with 1.
+        let _ = drive.number();
+        match &mut self.bays[drive.place()] {
+            Some(bay) => {
+                bay.known();
+                bay.execute_lent(nexus, cdb, sent)
+            }
+            None => unreachable!(),
+        }
+    }
+
+    /// Where every cartridge stands: all slots and all drives, as they are now. It takes no memory.
+    pub fn inventory(&self) -> Inventory<'_, D>
+        ensures slots { result.slots.now ≡ self.now.slots }
+        ensures drives { result.drives.now ≡ self.now.bays }
+        ensures all { (length result.slots.now ≡ SLOTS) × (length result.drives.now ≡ DRIVES) }
+    {
+        Inventory {
+            slots: self.slots.inventory(),
+            drives: self.bays.as_slice(),
+        }
+    }
+
+    /// The drive of this number, where it is configured.
+    pub fn bay(&self, drive: DriveNo) -> Option<&Bay<D>>
+        ensures { option_map (λ bay. bay.now) result ≡ bay_at self.now.bays drive }
+    {
+        self.bays[drive.place()].as_ref()
+    }
+
+    /// The closed cartridge in the slot of this element address, where there is such a slot and it holds one.
+    pub fn slot(&self, address: u32) -> Option<&Parked<D>>
+        ensures { option_map (λ cartridge. cartridge.now) result ≡ held_at self.now.slots address }
+    {
+        self.slots.held(address)
+    }
+}

@@ -1,0 +1,23 @@
+//! Laws of what is left of a drive. Each is a function whose contract is the law.
+ghost use Rattle.tape_buffer.specs.Rules.{medium_rules};
+ghost use Rattle.bays.specs.Accepted.{StopsKeepAccepted, order_rules};
+
+pub mod cartridges;
+pub mod reservations;
+
+use crate::bays::Bay;
+use accepting::laws::{what_is_kept_begins, what_was_acknowledged_is_kept};
+use tape_buffer::Buffered;
+use tape_disk::Disk;
+
+/// For every list of events, of the changes of a cartridge and of the orders of a drive's reservations: what was
+/// accepted at an acknowledgement begins all that is accepted later, whatever stops come between.
+pub fn stop_keeps<D: Disk>()
+    ensures changes { StopsKeepAccepted medium_rules }
+    ensures orders { StopsKeepAccepted order_rules }
+{
+    what_was_acknowledged_is_kept::<Buffered<D>>();
+    what_is_kept_begins::<Buffered<D>>();
+    what_was_acknowledged_is_kept::<Bay<D>>();
+    what_is_kept_begins::<Bay<D>>();
+}

@@ -1,0 +1,34 @@
+//! A cartridge, through a stop.
+ghost use Rattle.bays.specs.Cartridges.{StopsKeepChanges};
+ghost use Rattle.bays.specs.Journeys.{KeepsWhatIsSafe, StopsKeepWhatIsMoved};
+
+use accepting::laws::{
+    a_crash_leaves_what_was_acknowledged, steps_keep_cores, what_is_kept_begins,
+};
+use pr_core::Keeper;
+use tape_buffer::Buffered;
+use tape_disk::Disk;
+
+/// Once a synchronizing command was acknowledged, a stop at any moment of whatever commands and
+/// turns come then, inside a call too, leaves the cartridge as a first part of its accepted changes
+/// leaves it, which holds every change that was accepted up to that command.
+pub fn a_stop_keeps_acknowledged_changes<D: Disk, K: Keeper>()
+    ensures { StopsKeepChanges D.state K.kept K.below }
+{
+    a_crash_leaves_what_was_acknowledged::<Buffered<D>>();
+    steps_keep_cores::<Buffered<D>>();
+    what_is_kept_begins::<Buffered<D>>();
+}
+
+/// The same of a cartridge that is moved: once a synchronizing command was acknowledged, a stop at any moment of
+/// whatever commands, turns, moves and writings out come then, of this drive and of others, leaves the cartridge,
+/// wherever it is, as a first part of its accepted changes leaves it, which holds every change that was accepted up to
+/// that command. The same from any moment at which all that a known cartridge had accepted is safe.
+pub fn a_stop_keeps_acknowledged_changes_of_what_is_moved<D: Disk>()
+    ensures acknowledged { StopsKeepWhatIsMoved D.state }
+    ensures safe { KeepsWhatIsSafe D.state }
+{
+    a_crash_leaves_what_was_acknowledged::<Buffered<D>>();
+    steps_keep_cores::<Buffered<D>>();
+    what_is_kept_begins::<Buffered<D>>();
+}

@@ -1,0 +1,245 @@
+//! Moves of cartridges on slots and drives that are lent.
+ghost use Rattle.std.specs.Prelude.{◌≡◌, ◌≢◌, IfSome, None, Some, true, false, is_some};
+ghost use Rattle.changer.specs.Slots.{Puts, held_at, is_slot};
+ghost use Rattle.bays.specs.Inner.Carried.{MovesLent, drive_end, end_beside, refusal_between, slot_end};
+ghost use Rattle.bays.specs.Lent.{InEach, IsDriveAddress, KeepsCount, back, lent};
+ghost use Rattle.bays.specs.Moves.{KeepsCartridges, MovesMedium};
+
+use crate::bays::Bay;
+use crate::moves::check;
+use crate::parked::Parked;
+use changer::Slots;
+use scsi_sense::{Reply, Sense};
+use std::alloc::Global;
+use tape_disk::Disk;
+use vtl_base::{Bytes, SlotNo};
+
+// What decides whether a cartridge may leave this end of a move, or come to it.
+#[derive(Clone, Copy)]
+pub(crate) struct End {
+    // Whether there is such a slot or drive.
+    pub(crate) known: bool,
+    // Whether a reservation is held there.
+    pub(crate) reserved: bool,
+    // Whether there is a cartridge.
+    pub(crate) full: bool,
+}
+
+// The end of a move at an address that names no drive.
+fn slot_end<D: Disk + Drop>(slots: &Slots<Parked<D>>, address: u32) -> End
+    ensures { result ≡ slot_end slots.now address }
+{
+    End {
+        known: SlotNo::new(address).is_some(),
+        reserved: false,
+        full: slots.held(address).is_some(),
+    }
+}
+
+// The end of a move at the address of this drive.
+fn drive_end<D: Disk + Drop>(bay: &Bay<D>) -> End
+    ensures { result ≡ drive_end bay.now }
+{
+    End {
+        known: true,
+        reserved: bay.held(),
+        full: !bay.is_empty(),
+    }
+}
+
+// The other end of a move out of this drive, where no other drive is named.
+fn end_beside<D: Disk + Drop>(slots: &Slots<Parked<D>>, bay: &Bay<D>, from: u32, to: u32) -> End
+    ensures { result ≡ end_beside slots.now bay.now from to }
+{
+    if from == to {
+        drive_end(bay)
+    } else {
+        slot_end(slots, to)
+    }
+}
+
+// The first cause for which nothing is moved, as it is answered.
+fn refusal_between(alloc: Global, source: End, destination: End) -> Option<Reply>
+    ensures { result ≡ refusal_between source destination }
+{
+    if !(source.known && destination.known) {
+        return Some(check(alloc, Sense::invalid_element_address()));
+    }
+    if source.reserved || destination.reserved {
+        return Some(Reply::conflict(alloc));
+    }
+    if !source.full {
+        return Some(check(alloc, Sense::source_empty()));
+    }
+    if destination.full {
+        return Some(check(alloc, Sense::destination_full()));
+    }
+    None
+}
+
+// Takes what a slot holds.
+fn take_held<D: Disk + Drop>(slots: &mut Slots<Parked<D>>, address: u32) -> Parked<D>
+    requires slot { is_slot address ≡ true }
+    requires full { is_some (held_at slots.old address) ≡ true }
+    ensures out { held_at slots.old address ≡ Some result }
+    ensures left { Puts address None slots.old slots.new }
+{
+    match slots.take(address) {
+        Ok(cartridge) => cartridge,
+        Err(_) => unreachable!(),
+    }
+}
+
+// Puts a cartridge into a slot that holds nothing.
+fn fill<D: Disk + Drop>(slots: &mut Slots<Parked<D>>, address: u32, cartridge: Parked<D>)
+    requires slot { is_slot address ≡ true }
+    requires empty { is_some (held_at slots.old address) ≡ false }
+    ensures { Puts address (Some cartridge) slots.old slots.new }
+{
+    match slots.place(address, cartridge) {
+        Ok(()) => {}
+        Err(_) => unreachable!(),
+    }
+}
+
+// A move between two slots.
+fn between_slots<D: Disk + Drop>(
+    alloc: Global,
+    slots: &mut Slots<Parked<D>>,
+    from: u32,
+    to: u32,
+) -> Reply
+    ensures { MovesLent D.state from to slots.old None None result slots.new None None }
+{
+    if let Some(reply) = refusal_between(alloc, slot_end(slots, from), slot_end(slots, to)) {
+        return reply;
+    }
+    let cartridge = take_held(slots, from);
+    fill(slots, to, cartridge);
+    Reply::good(Bytes::new(alloc))
+}
+
+// A move out of a drive, where no other drive is named.
+fn out_of_drive<D: Disk + Drop>(
+    alloc: Global,
+    slots: &mut Slots<Parked<D>>,
+    source: &mut Bay<D>,
+    from: u32,
+    to: u32,
+) -> Reply
+    requires { IsDriveAddress from }
+    ensures moved { MovesLent D.state from to slots.old (Some source.old) None result
+        slots.new (Some source.new) None }
+    ensures counted { source.new.accepted ≡ source.old.accepted }
+{
+    if let Some(reply) = refusal_between(
+        alloc,
+        drive_end(source),
+        end_beside(slots, source, from, to),
+    ) {
+        return reply;
+    }
+    let cartridge = match source.unload() {
+        Ok(cartridge) => cartridge,
+        Err(reply) => return reply,
+    };
+    fill(slots, to, cartridge);
+    Reply::good(Bytes::new(alloc))
+}
+
+// A move out of a slot into a drive.
+fn into_drive<D: Disk + Drop>(
+    alloc: Global,
+    slots: &mut Slots<Parked<D>>,
+    destination: &mut Bay<D>,
+    from: u32,
+    to: u32,
+) -> Reply
+    requires destination { IsDriveAddress to }
+    requires apart { from ≢ to }
+    ensures moved { MovesLent D.state from to slots.old None (Some destination.old) result
+        slots.new None (Some destination.new) }
+    ensures counted { destination.new.accepted ≡ destination.old.accepted }
+{
+    if let Some(reply) = refusal_between(alloc, slot_end(slots, from), drive_end(destination)) {
+        return reply;
+    }
+    let cartridge = take_held(slots, from);
+    match destination.load(cartridge) {
+        Ok(()) => Reply::good(Bytes::new(alloc)),
+        Err((cartridge, reply)) => {
+            fill(slots, from, cartridge);
+            reply
+        }
+    }
+}
+
+// A move out of a drive into another.
+fn between_drives<D: Disk + Drop>(
+    alloc: Global,
+    slots: &mut Slots<Parked<D>>,
+    source: &mut Bay<D>,
+    destination: &mut Bay<D>,
+    from: u32,
+    to: u32,
+) -> Reply
+    requires source { IsDriveAddress from }
+    requires destination { IsDriveAddress to }
+    requires apart { from ≢ to }
+    ensures moved { MovesLent D.state from to slots.old (Some source.old) (Some destination.old) result
+        slots.new (Some source.new) (Some destination.new) }
+    ensures counted_out { source.new.accepted ≡ source.old.accepted }
+    ensures counted_in { destination.new.accepted ≡ destination.old.accepted }
+{
+    if let Some(reply) = refusal_between(alloc, drive_end(source), drive_end(destination)) {
+        return reply;
+    }
+    let cartridge = match source.unload() {
+        Ok(cartridge) => cartridge,
+        Err(reply) => return reply,
+    };
+    match destination.load(cartridge) {
+        Ok(()) => Reply::good(Bytes::new(alloc)),
+        Err((cartridge, reply)) => {
+            source.insert(cartridge);
+            reply
+        }
+    }
+}
+
+/// Moves a cartridge from one element address to another, on slots and drives that are lent, by the rules of
+/// `Held::move_medium` (own): `source` is the drive that `from` names and `destination` that of `to`, and `None` where
+/// the address is no configured drive's; a drive that both name is lent as the source alone. So a drive is lent only
+/// under an address of 1 to 16, and a destination only where the addresses differ. In every library of 16 places that
+/// has these slots, and these drives at these addresses, reply and outcome are those of `Held::move_medium`. A move
+/// counts no change.
+pub fn move_lent<D: Disk + Drop>(
+    alloc: Global,
+    slots: &mut Slots<Parked<D>>,
+    source: Option<&mut Bay<D>>,
+    destination: Option<&mut Bay<D>>,
+    from: u32,
+    to: u32,
+) -> Reply
+    requires source { IfSome source (λ bay. IsDriveAddress from) }
+    requires destination { IfSome destination (λ bay. IsDriveAddress to × (from ≢ to)) }
+    ensures answer { InEach from to slots.old (lent source.entry) (lent destination.entry)
+        slots.new (back source.entry source.exit) (back destination.entry destination.exit)
+        (λ old new. MovesMedium D.state old from to result new) }
+    ensures kept { InEach from to slots.old (lent source.entry) (lent destination.entry)
+        slots.new (back source.entry source.exit) (back destination.entry destination.exit)
+        (λ old new. KeepsCartridges D.state old from to result new) }
+    ensures counted_out { KeepsCount (lent source.entry) (back source.entry source.exit) }
+    ensures counted_in { KeepsCount (lent destination.entry) (back destination.entry destination.exit) }
+{
+    let Some(source) = source else {
+        let Some(destination) = destination else {
+            return between_slots(alloc, slots, from, to);
+        };
+        return into_drive(alloc, slots, destination, from, to);
+    };
+    let Some(destination) = destination else {
+        return out_of_drive(alloc, slots, source, from, to);
+    };
+    between_drives(alloc, slots, source, destination, from, to)
+}

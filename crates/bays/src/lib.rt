@@ -1,0 +1,20 @@
+//! Drives over disks, slots, and moves between them; what is left of them wherever they are stopped.
+#![tactic(auto)]
+
+pub mod bays;
+mod finishing;
+pub mod held;
+pub mod laws;
+pub mod lent;
+mod moves;
+pub mod parked;
+pub mod runs;
+
+pub use bays::{Bay, NotOn};
+pub use finishing::Unwritten;
+pub use held::{Held, Inventory};
+pub use lent::move_lent;
+pub use moves::drive_of;
+pub use parked::Parked;
+pub use runs::run_held;
+pub use vtl_script::run_script;

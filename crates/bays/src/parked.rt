@@ -1,0 +1,80 @@
+//! A cartridge that is closed: in a slot, or on its way.
+ghost use Rattle.std.specs.Prelude.{◌≡◌, false};
+ghost use Rattle.tape_buffer.specs.State.{closed_buffer, state_of};
+ghost use Rattle.tape_buffer.specs.declared.holding.Holding.TheVariants as Holdings;
+ghost use Rattle.bays.specs.Bays.{KeepsCartridge};
+
+use cartridge::Shelved;
+use std::alloc::Global;
+use std::marker::Model;
+use tape_buffer::Buffered;
+use tape_disk::Disk;
+
+/// A closed cartridge, as a slot holds it and a drive takes it in. To a contract it is its medium, which is parked. The
+/// type keeps what is kept of a cartridge in a drive; one that is unread keeps it once a drive has opened it.
+#[derive(Drop)]
+pub struct Parked<D: Disk> {
+    medium: Buffered<D>,
+}
+
+impl<D: Disk> Model for Parked<D> {
+    ghost use Rattle.std.specs.Prelude.{◌≡◌, false};
+    ghost use Rattle.tape_buffer.specs.State.{BufferState, state_of};
+    ghost use Rattle.bays.specs.Bays.{KeepsCartridge};
+
+    ghost Value = { BufferState D };
+
+    ghost view = { λ p. p.medium };
+
+    ghost invariant = { λ p. ((state_of D.state p.medium).awake ≡ false) × KeepsCartridge D.state p.medium };
+}
+
+impl<D: Disk> Parked<D> {
+    /// A closed cartridge. Over a disk that was only taken for a cartridge it is unread: nothing is known of it until a
+    /// drive opens it.
+    pub fn of(alloc: Global, shelved: Shelved<D>) -> Parked<D>
+        ensures { result ≡ closed_buffer shelved }
+    {
+        Parked::of_medium(Buffered::parked(alloc, shelved))
+    }
+
+    /// A medium that is parked.
+    pub fn of_medium(medium: Buffered<D>) -> Parked<D>
+        requires { (state_of D.state medium).awake ≡ false }
+        ensures { result ≡ medium }
+    {
+        medium.known();
+        Parked { medium }
+    }
+
+    /// The medium, which is parked.
+    pub fn into_medium(self) -> Buffered<D>
+        ensures same { result ≡ self }
+        ensures parked { (state_of D.state result).awake ≡ false }
+        ensures kept { KeepsCartridge D.state result }
+    {
+        self.medium
+    }
+
+    /// What the type keeps of it.
+    pub fn known(&self)
+        ensures { KeepsCartridge D.state self.now }
+    {
+        // Looked at for the proof's sake: the facts are the type's.
+        let _ = &self.medium;
+    }
+
+    /// The closed cartridge.
+    pub fn into_shelved(self) -> Shelved<D>
+        ensures { self.held ≡ Holdings.Closed result }
+    {
+        self.medium.into_shelved()
+    }
+
+    /// The medium, to be looked at.
+    pub fn medium(&self) -> &Buffered<D>
+        ensures { result.now ≡ self.now }
+    {
+        &self.medium
+    }
+}

@@ -1,0 +1,88 @@
+use Rattle.std.proofs.Common.{◌≡◌, ◌∙◌, ℕ, List, Option, ap, sym, subst, arith}
+use Rattle.std.specs.Prelude.{IfErr, IfOk}
+use Rattle.ledgers.specs.Ledgers.{Gathered, GatheringState}
+use Rattle.bays.specs.Elements.{BayState, bay_at}
+use Rattle.bays.specs.Finish.{HasFailedAt, IsWrittenAt}
+use Rattle.library.specs.Counts.{which_are_there}
+use Rattle.library.specs.Ends.{IsShort, counts_of, sum_of_counts, sum_of_seats}
+use Rattle.library.proofs.EndLemmas.{all_written, one_failed}
+use Rattle.library.proofs.OutcomeLemmas.{tells_all, tells_counts, tells_missing, tells_unwritten, tells_written}
+use Rattle.library.proofs.libraries.Library.finish.Goals as goal
+
+pub returns-clause-drives : goal.returns-clause-drives
+returns-clause-drives g c =
+    ap (λ (row : List (Option (BayState g.row.D.Denot))). which_are_there row) c.into_places.ensures.row
+    ∙ c.end_drives-written.ensures.ended.there ∙ c.self.view_is
+
+pub returns-clause-counts : goal.returns-clause-counts
+returns-clause-counts g c =
+    let ended = c.end_drives-written.ensures.ended in
+    let row = c.end_drives-written.new.row in
+    let bays = c.take_seats.ensures.bays.1 in
+    let all : sum_of_counts (counts_of row) ≡ c.take_seats.new.gathering.total =
+    sym ended.changes ∙ ap (λ (x : Gathered). x.changes) (sym bays)
+    ∙ c.compare.ensures.bays (ap (λ (x : Gathered). x.shares) bays ∙ ended.shares ∙ c.self.invariant.1) in
+    let none : c.end_drives-written.new.gathering.hosts.changes ≡ 0 =
+    ap (λ (x : Gathered). x.changes) c.end_drives-written.ensures.hosts.1
+    ∙ ap (λ (x : GatheringState). x.hosts.changes) c.gather-gathering.ensures in
+    let summed : c.take_seats.new.gathering.hosts.changes ≡ sum_of_seats c.args.seats.items =
+    omega (arith, c.take_seats.ensures.changes, none) in
+    subst (λ (s : ℕ). IfOk c.outcome-counts.result (λ counts. (counts ≡ counts_of c.into_places.result.items)
+    × (sum_of_counts counts ≡ s))) summed
+    (subst (λ (l : List (Option (BayState g.row.D.Denot))). IfOk c.outcome-counts.result (λ counts.
+    (counts ≡ counts_of l) × (sum_of_counts counts ≡ c.take_seats.new.gathering.hosts.changes)))
+    (sym c.into_places.ensures.row)
+    (tells_counts row c.take_seats.new.gathering.total c.take_seats.new.gathering.hosts.changes all
+    c.end_drives-written.result c.counts_in.result c.compare.result c.outcome-counts.result c.outcome-counts.ensures
+    c.counts_in.ensures c.compare.ensures.ok))
+
+pub returns-clause-unwritten : goal.returns-clause-unwritten
+returns-clause-unwritten g c = λ told.
+    let ended = c.end_drives-written.ensures.ended in
+    let row = c.end_drives-written.new.row in
+    subst (λ (l : List (Option (BayState g.row.D.Denot))). (number : ℕ) × HasFailedAt g.D.Disk.state (bay_at l number))
+    (sym c.into_places.ensures.row)
+    (one_failed g.D.Disk.state row
+    (tells_unwritten _ c.end_drives-written.result c.counts_in.result c.compare.result c.outcome-counts.result
+    c.outcome-counts.ensures ended.err told))
+
+pub returns-clause-written : goal.returns-clause-written
+returns-clause-written g c = λ differs number.
+    let ended = c.end_drives-written.ensures.ended in
+    let row = c.end_drives-written.new.row in
+    subst (λ (l : List (Option (BayState g.row.D.Denot))). IsWrittenAt g.D.Disk.state (bay_at l number))
+    (sym c.into_places.ensures.row)
+    (all_written g.D.Disk.state row
+    (tells_written _ c.end_drives-written.result c.counts_in.result c.compare.result c.outcome-counts.result
+    c.outcome-counts.ensures ended.ok differs) number)
+
+pub returns-clause-missing : goal.returns-clause-missing
+returns-clause-missing g c =
+    let ended = c.end_drives-written.ensures.ended in
+    let row = c.end_drives-written.new.row in
+    let bays = c.take_seats.ensures.bays.1 in
+    let all : sum_of_counts (counts_of row) ≡ c.take_seats.new.gathering.total =
+    sym ended.changes ∙ ap (λ (x : Gathered). x.changes) (sym bays)
+    ∙ c.compare.ensures.bays (ap (λ (x : Gathered). x.shares) bays ∙ ended.shares ∙ c.self.invariant.1) in
+    let none : c.end_drives-written.new.gathering.hosts.changes ≡ 0 =
+    ap (λ (x : Gathered). x.changes) c.end_drives-written.ensures.hosts.1
+    ∙ ap (λ (x : GatheringState). x.hosts.changes) c.gather-gathering.ensures in
+    let summed : c.take_seats.new.gathering.hosts.changes ≡ sum_of_seats c.args.seats.items =
+    omega (arith, c.take_seats.ensures.changes, none) in
+    subst (λ (s : ℕ). IfErr c.outcome-counts.result (λ e.
+    IsShort e (sum_of_counts (counts_of c.into_places.result.items)) s)) summed
+    (subst (λ (l : List (Option (BayState g.row.D.Denot))). IfErr c.outcome-counts.result (λ e.
+    IsShort e (sum_of_counts (counts_of l)) c.take_seats.new.gathering.hosts.changes))
+    (sym c.into_places.ensures.row)
+    (tells_missing row c.take_seats.new.gathering.total c.take_seats.new.gathering.hosts.changes all
+    c.end_drives-written.result c.counts_in.result c.compare.result c.outcome-counts.result c.outcome-counts.ensures
+    c.compare.ensures.missing))
+
+pub returns-clause-all : goal.returns-clause-all
+returns-clause-all g c = λ every.
+    let nobody : c.end_drives-written.new.gathering.hosts.shares ≡ 0 =
+    ap (λ (x : Gathered). x.shares) c.end_drives-written.ensures.hosts.1
+    ∙ ap (λ (x : GatheringState). x.hosts.shares) c.gather-gathering.ensures in
+    tells_all c.take_seats.new.gathering.total c.take_seats.new.gathering.hosts.changes c.end_drives-written.result
+    c.counts_in.result c.compare.result c.outcome-counts.result c.outcome-counts.ensures
+    (c.compare.ensures.hosts (omega (arith, c.take_seats.ensures.shares, nobody, every))) c.compare.ensures.missing

@@ -1,0 +1,46 @@
+-- How far the end of a library has come.
+use Rattle.std.specs.Prelude.{◌≡◌, ◌⊎◌, ℕ, List, [], ◌∷◌, Option, Result, Ok, Err, OnOk, OnErr}
+use Rattle.tape_disk.specs.Disk.{DiskState}
+use Rattle.ledgers.specs.Ledgers.{Gathered}
+use Rattle.ledgers.specs.declared.gathering.SeatsMissing.{SeatsMissing}
+use Rattle.bays.specs.Elements.{BayState}
+use Rattle.bays.specs.Finish.{HasFailedAt, IsWrittenAt}
+use Rattle.bays.specs.declared.finishing.Unwritten.{Unwritten}
+use Rattle.library.specs.Counts.{places_filled, which_are_there}
+use Rattle.library.specs.Ends.{counts_of, sum_of_counts}
+use Rattle.library.specs.declared.finishing.FinishError.{FinishError}
+use Rattle.library.specs.declared.finishing.FinishError.TheVariants as Errors
+
+-- how a library ends, by what was written out and what the ledgers say
+abbrev pub outcome_of :
+    Result Unit Unwritten → List (Option ℕ) → Result ℕ SeatsMissing → Result (List (Option ℕ)) FinishError
+outcome_of (Err unwritten) counts compared = Err Errors.Unwritten
+outcome_of (Ok done) counts (Ok total) = Ok counts
+outcome_of (Ok done) counts (Err missing) = Err (Errors.SeatsMissing missing.total missing.seats)
+
+-- the first of two refusals
+abbrev pub worse_of : Result Unit Unwritten → Result Unit Unwritten → Result Unit Unwritten
+worse_of (Err unwritten) second = Err unwritten
+worse_of (Ok done) second = second
+
+module _ {D : Type 0} (state : D → DiskState) where
+  -- nothing is left to be written of these drives
+  abbrev pub AreWritten : List (Option (BayState D)) → Type 0
+  AreWritten [] = Unit {0}
+  AreWritten (bay ∷ bays) = IsWrittenAt state bay × AreWritten bays
+
+  -- what is loaded in one of these drives has failed
+  abbrev pub OneHasFailed : List (Option (BayState D)) → Type 0
+  OneHasFailed [] = ⊥
+  OneHasFailed (bay ∷ bays) = HasFailedAt state bay ⊎ OneHasFailed bays
+
+  -- drives that were shared have ended as these: each is where it was, the shares of all were gathered, and with them
+  -- the changes that the drives counted; and nothing is left to be written, or one has failed
+  pub record HaveEnded {X : Type 0}
+      (shared : List (Option X)) (bays : List (Option (BayState D))) (gathered : Gathered)
+      (written : Result Unit Unwritten) : Type 0 where
+    pub there : which_are_there bays ≡ which_are_there shared
+    pub shares : gathered.shares ≡ places_filled shared
+    pub changes : gathered.changes ≡ sum_of_counts (counts_of bays)
+    pub ok : OnOk written (AreWritten bays)
+    pub err : OnErr written (OneHasFailed bays)

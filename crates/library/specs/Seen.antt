@@ -1,0 +1,23 @@
+-- What is seen at the element addresses of a library.
+use Rattle.std.specs.Prelude.{Bool, true, false, Option, None, Some}
+use Rattle.drive_core.specs.State.{medium_in}
+use Rattle.bays.specs.Elements.{BayState}
+use Rattle.library.specs.declared.inventories.Element.{Element}
+use Rattle.library.specs.declared.inventories.Element.TheVariants.{Missing, Empty, Full}
+
+module _ {X : Type 0} where
+  -- what is seen where there is a place (own)
+  abbrev pub seen_at : Option X → Element
+  seen_at None = Empty
+  seen_at (Some x) = Full
+
+module _ {D : Type 0} where
+  -- what is seen of a drive, where there is one (own)
+  abbrev pub seen_of_drive : Option (BayState D) → Element
+  seen_of_drive None = Missing
+  seen_of_drive (Some bay) = seen_at (medium_in bay.bay)
+
+-- whether a drive is seen (own)
+abbrev pub is_drive_seen : Element → Bool
+is_drive_seen Missing = false
+is_drive_seen _ = true

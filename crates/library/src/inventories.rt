@@ -1,0 +1,94 @@
+//! What stands at the element addresses of a library.
+ghost use Rattle.std.specs.Prelude.{◌≡◌, ◌<◌, ◌+◌, ℕ, None, Some, slice_index_or};
+ghost use Rattle.vtl_base.specs.declared.limits.TheConstants.{DRIVES, SLOTS};
+ghost use Rattle.library.specs.Counts.{has_drive};
+ghost use Rattle.library.specs.Seen.{is_drive_seen, seen_at, seen_of_drive};
+
+use crate::libraries::Library;
+use crate::places::Place;
+use bays::Parked;
+use changer::Slots;
+use ledgers::Parties;
+use std::fmt::Debug;
+use std::sync::Wait;
+use tape_disk::Disk;
+use vtl_base::limits::{DRIVES, SLOTS};
+
+/// What is seen at an element address.
+#[derive(Clone, Copy, PartialEq, Eq, Debug)]
+pub enum Element {
+    /// No drive of this number is configured.
+    Missing,
+    /// No cartridge is there.
+    Empty,
+    /// A cartridge is there. In a drive it may be loaded or not.
+    Full,
+}
+
+/// What was seen at each element address of a library.
+#[derive(Clone, Copy, Debug)]
+pub struct Inventory {
+    /// The slots, from address 1001 on.
+    pub slots: [Element; 256],
+    /// The drives, from number 1 on.
+    pub drives: [Element; 16],
+}
+
+// What is seen in each slot.
+fn seen_in_slots<D: Disk + Drop>(slots: &Slots<Parked<D>>) -> [Element; 256]
+    ensures { (place : ℕ) → place < SLOTS
+        → slice_index_or result place Element.Missing ≡ seen_at (slice_index_or slots.now place None) }
+{
+    let row = slots.inventory();
+    let mut seen = [Element::Missing; 256];
+    for place in 0..SLOTS as usize {
+        seen[place] = match row[place] {
+            Some(_) => Element::Full,
+            None => Element::Empty,
+        };
+    }
+    seen
+}
+
+impl<D: Disk + Drop, B: Parties> Place<D, B> {
+    // What is seen of the drive.
+    fn seen(&self) -> Element
+        ensures { result ≡ seen_of_drive (Some self.now) }
+    {
+        if self.bay.is_empty() {
+            Element::Empty
+        } else {
+            Element::Full
+        }
+    }
+}
+
+impl<D: Disk + Drop, B: Parties, H: Parties> Library<D, B, H> {
+    /// What stands at each element address. The drives are looked at one after another, while the slots' lock is held:
+    /// nothing is moved meanwhile, so no cartridge is seen twice, and none is missed. It takes no memory.
+    pub fn inventory<R: Wait>(&self, rt: &R) -> Inventory
+        ensures { (number : ℕ) → number < DRIVES
+            → is_drive_seen (slice_index_or result.drives number Element.Missing) ≡ has_drive self.now (number + 1) }
+    {
+        let slots = self.slots.lock(rt);
+        let mut drives = [Element::Missing; 16];
+        for place in 0..DRIVES as usize {
+            drives[place] = self.seen_in_drive(rt, place);
+        }
+        Inventory {
+            slots: seen_in_slots(&slots),
+            drives,
+        }
+    }
+
+    // What is seen of the drive in this place.
+    fn seen_in_drive<R: Wait>(&self, rt: &R, place: usize) -> Element
+        requires { place < DRIVES }
+        ensures { is_drive_seen result ≡ has_drive self.now (place + 1) }
+    {
+        match &self.bays[place] {
+            Some(bay) => bay.lock.lock(rt).seen(),
+            None => Element::Missing,
+        }
+    }
+}

@@ -1,0 +1,117 @@
+//! A library whose drives threads share.
+ghost use Rattle.std.specs.Prelude.{◌≡◌, true, is_some, IfSome};
+ghost use Rattle.drive_core.specs.Data.{data_left};
+ghost use Rattle.drive_core.specs.Execute.{asked};
+ghost use Rattle.bays.specs.Lent.{IsDriveAddress};
+ghost use Rattle.library.specs.Counts.{has_drive};
+ghost use Rattle.library.specs.Served.{IsServed};
+
+use crate::rows::Row;
+use crate::shared::SharedBay;
+use bays::{Parked, drive_of};
+use changer::Slots;
+use ledgers::{Parties, Seat, Tally};
+use scsi_sense::Reply;
+use std::alloc::Global;
+use std::marker::Model;
+use std::sync::atomic::{AtomicBool, Ordering};
+use std::sync::{Mutex, Wait};
+use tape_disk::Disk;
+use vtl_base::{Bytes, DriveNo};
+
+/// Slots and drives, and two ledgers of the changes that the drives accepted: each drive behind a lock of its own, the
+/// slots behind one, and the ledgers behind one, which is taken last, inside a drive's, for one entry. The number of
+/// drives is `B::all`, that of hosts `H::all`. To a contract it is whether there is a drive, by its number.
+#[derive(Drop)]
+pub struct Library<D: Disk, B: Parties, H: Parties> {
+    pub(crate) alloc: Global,
+    pub(crate) bays: Vec<Option<SharedBay<D, B>>>,
+    pub(crate) slots: Mutex<Slots<Parked<D>>>,
+    pub(crate) tally: Mutex<Tally<B, H>>,
+    // Where the drives go at the end. It has a lock so that threads may share it, and none takes it.
+    pub(crate) row: Mutex<Row<D>>,
+    pub(crate) closed: AtomicBool,
+}
+
+impl<D: Disk, B: Parties, H: Parties> Model for Library<D, B, H> {
+    ghost use Rattle.std.specs.Prelude.{◌≡◌, Bool, List, length};
+    ghost use Rattle.vtl_base.specs.declared.limits.TheConstants.{DRIVES};
+    ghost use Rattle.library.specs.Counts.{places_filled, which_are_there};
+
+    ghost Value = { List Bool };
+
+    ghost view = { λ l. which_are_there l.bays.items };
+
+    ghost invariant = { λ l. (length l.bays.items ≡ DRIVES) × (places_filled l.bays.items ≡ B.all) };
+}
+
+impl<D: Disk + Drop, B: Parties, H: Parties> Library<D, B, H> {
+    /// Whether there is a drive of this number.
+    pub fn configured(&self, drive: DriveNo) -> bool
+        ensures { result ≡ has_drive self.now drive }
+    {
+        self.bays[drive.place()].is_some()
+    }
+
+    /// Answers a command of a seat's host to a configured drive. The change that it made, if it did, is entered for the
+    /// drive and for the seat.
+    pub fn command<R: Wait>(
+        &self,
+        rt: &R,
+        seat: &mut Seat<H>,
+        drive: DriveNo,
+        cdb: &[u8],
+        sent: &[u8],
+    ) -> Reply
+        requires { has_drive self.now drive ≡ true }
+        ensures { IsServed D.state (asked seat.old.nexus cdb.now sent.now) seat.old result seat.new }
+    {
+        match &self.bays[drive.place()] {
+            Some(bay) => bay.serve(rt, &self.tally, seat, cdb, sent),
+            None => unreachable!(),
+        }
+    }
+
+    /// Answers a command of a seat's host to a configured drive, as `command` does. Its data are lent: where they
+    /// become a block they are taken, and not copied; else they stay.
+    pub fn command_lent<R: Wait>(
+        &self,
+        rt: &R,
+        seat: &mut Seat<H>,
+        drive: DriveNo,
+        cdb: &[u8],
+        sent: &mut Bytes,
+    ) -> Reply
+        requires { has_drive self.now drive ≡ true }
+        ensures { (served : IsServed D.state (asked seat.old.nexus cdb.now sent.old) seat.old result seat.new)
+            × (sent.new ≡ data_left served.answers.step.taken.made.changes sent.old) }
+    {
+        match &self.bays[drive.place()] {
+            Some(bay) => bay.serve_lent(rt, &self.tally, seat, cdb, sent),
+            None => unreachable!(),
+        }
+    }
+
+    /// From now on each flusher ends before its next round, and one that waits is woken.
+    pub fn close<R: Wait>(&self, rt: &R) {
+        self.closed.store(true, Ordering::SeqCst);
+        for place in &self.bays {
+            if let Some(bay) = place {
+                bay.ring(rt);
+            }
+        }
+    }
+
+    // The drive of this element address, where it is a drive's and that is configured.
+    pub(crate) fn drive_at(&self, address: u32) -> Option<&SharedBay<D, B>>
+        ensures there { is_some result ≡ has_drive self.now address }
+        ensures address { IfSome result (λ bay. IsDriveAddress address) }
+    {
+        // Looked at for the proof's sake: there are places for all drives.
+        let _ = &self.bays;
+        match drive_of(address) {
+            Some(drive) => self.bays[drive.place()].as_ref(),
+            None => None,
+        }
+    }
+}

@@ -1,0 +1,145 @@
+//! Moves of cartridges between slots and drives that threads share.
+ghost use Rattle.std.specs.Prelude.{◌≡◌, ◌≢◌, None, Some, IfSome, is_some};
+ghost use Rattle.bays.specs.Elements.{BayState};
+ghost use Rattle.bays.specs.Lent.{IsDriveAddress};
+ghost use Rattle.library.specs.Counts.{has_drive};
+ghost use Rattle.library.specs.MovesAt.{IsMovedAmong, MovesEach};
+
+use crate::libraries::Library;
+use crate::places::Place;
+use crate::shared::SharedBay;
+use bays::{Parked, move_lent};
+use changer::Slots;
+use ledgers::Parties;
+use scsi_sense::Reply;
+use std::alloc::Global;
+use std::sync::Wait;
+use tape_disk::Disk;
+
+// A move where neither address names a drive.
+fn between_slots<D: Disk + Drop>(
+    alloc: Global,
+    slots: &mut Slots<Parked<D>>,
+    from: u32,
+    to: u32,
+) -> Reply
+    ensures { MovesEach D.state from to slots.old None None result slots.new None None }
+{
+    let mut none = None;
+    let mut nor = None;
+    let reply = move_lent(alloc, slots, none.as_mut(), nor.as_mut(), from, to);
+    drop(none);
+    drop(nor);
+    reply
+}
+
+impl<D: Disk + Drop, B: Parties> Place<D, B> {
+    // A move out of this drive; `to` names no other.
+    fn move_out(&mut self, alloc: Global, slots: &mut Slots<Parked<D>>, from: u32, to: u32) -> Reply
+        requires { IsDriveAddress from }
+        ensures { MovesEach D.state from to slots.old (Some self.old) None result slots.new (Some self.new) None }
+    {
+        let mut none = None;
+        let source = &mut self.bay;
+        let reply = move_lent(alloc, slots, Some(source), none.as_mut(), from, to);
+        drop(none);
+        reply
+    }
+
+    // A move into this drive; `from` names none.
+    fn move_in(&mut self, alloc: Global, slots: &mut Slots<Parked<D>>, from: u32, to: u32) -> Reply
+        requires destination { IsDriveAddress to }
+        requires apart { from ≢ to }
+        ensures { MovesEach D.state from to slots.old None (Some self.old) result slots.new None (Some self.new) }
+    {
+        let mut none = None;
+        let destination = &mut self.bay;
+        let reply = move_lent(alloc, slots, none.as_mut(), Some(destination), from, to);
+        drop(none);
+        reply
+    }
+
+    // A move out of this drive into another.
+    fn move_across(
+        &mut self,
+        destination: &mut Place<D, B>,
+        alloc: Global,
+        slots: &mut Slots<Parked<D>>,
+        from: u32,
+        to: u32,
+    ) -> Reply
+        requires source { IsDriveAddress from }
+        requires destination { IsDriveAddress to }
+        requires apart { from ≢ to }
+        ensures { MovesEach D.state from to slots.old (Some self.old) (Some destination.old) result
+            slots.new (Some self.new) (Some destination.new) }
+    {
+        let source = &mut self.bay;
+        let other = &mut destination.bay;
+        move_lent(alloc, slots, Some(source), Some(other), from, to)
+    }
+}
+
+impl<D: Disk + Drop, B: Parties, H: Parties> Library<D, B, H> {
+    /// Moves a cartridge from one element address to another, as `move_lent` does: under the slots' lock, and inside it
+    /// under the locks of the drives that the addresses name, that of the lower number first.
+    pub fn move_medium<R: Wait>(&self, rt: &R, from: u32, to: u32) -> Reply
+        ensures { IsMovedAmong D.state self.now from to result }
+    {
+        let source = self.drive_at(from);
+        let destination = self.other_drive_at(from, to);
+        let mut slots = self.slots.lock(rt);
+        match (source, destination) {
+            (Some(source), Some(destination)) => {
+                self.move_between(rt, &mut slots, source, destination, from, to)
+            }
+            (Some(source), None) => source
+                .lock
+                .lock(rt)
+                .move_out(self.alloc, &mut slots, from, to),
+            (None, Some(destination)) => {
+                destination
+                    .lock
+                    .lock(rt)
+                    .move_in(self.alloc, &mut slots, from, to)
+            }
+            (None, None) => between_slots(self.alloc, &mut slots, from, to),
+        }
+    }
+
+    // The drive that a cartridge is moved to, unless it is the one that it comes from.
+    fn other_drive_at(&self, from: u32, to: u32) -> Option<&SharedBay<D, B>>
+        ensures there { from ≢ to → is_some result ≡ has_drive self.now to }
+        ensures apart { IfSome result (λ bay. IsDriveAddress to × (from ≢ to)) }
+    {
+        if from == to { None } else { self.drive_at(to) }
+    }
+
+    // A move between two drives, under both locks.
+    fn move_between<R: Wait>(
+        &self,
+        rt: &R,
+        slots: &mut Slots<Parked<D>>,
+        source: &SharedBay<D, B>,
+        destination: &SharedBay<D, B>,
+        from: u32,
+        to: u32,
+    ) -> Reply
+        requires source { IsDriveAddress from }
+        requires destination { IsDriveAddress to }
+        requires apart { from ≢ to }
+        ensures { (source source' destination destination' : BayState D)
+            × MovesEach D.state from to slots.old (Some source) (Some destination) result
+            slots.new (Some source') (Some destination') }
+    {
+        if from < to {
+            let mut first = source.lock.lock(rt);
+            let mut second = destination.lock.lock(rt);
+            first.move_across(&mut second, self.alloc, slots, from, to)
+        } else {
+            let mut first = destination.lock.lock(rt);
+            let mut second = source.lock.lock(rt);
+            second.move_across(&mut first, self.alloc, slots, from, to)
+        }
+    }
+}

@@ -1,0 +1,148 @@
+//! A library is opened: its drives go behind their locks, and its hosts get their seats.
+ghost use Rattle.std.specs.Prelude.{◌≡◌, ◌+◌, ◌≤◌, [], is_some, nat_eq, length, map, All, IfOk, IfErr, vec_capacity};
+ghost use Rattle.std.specs.List.{IsDistinct};
+ghost use Rattle.vtl_base.specs.declared.limits.TheConstants.{DRIVES};
+ghost use Rattle.ledgers.specs.Ledgers.{IsBlankOf};
+ghost use Rattle.library.specs.Counts.{AcceptedNone, new_seat, one_if_there, places_filled, which_are_there};
+
+use crate::libraries::Library;
+use crate::places::Place;
+use crate::rows::Row;
+use crate::shared::SharedBay;
+use bays::{Bay, Parked};
+use changer::Slots;
+use ledgers::{Parties, Seat, Tally};
+use std::alloc::Global;
+use std::sync::Mutex;
+use std::sync::atomic::AtomicBool;
+use std::sync::ledger::Blank;
+use tape_disk::Disk;
+use vtl_base::Nexus;
+use vtl_base::limits::DRIVES;
+
+/// What was handed in for a library that was not opened, since memory ran out.
+#[derive(Drop)]
+pub struct NotOpened<D: Disk> {
+    /// The drives, from number 1 on.
+    pub bays: Vec<Option<Bay<D>>>,
+    /// The slots.
+    pub slots: Slots<Parked<D>>,
+    /// The ledger of the drives.
+    pub bay_ledger: Blank,
+    /// The ledger of the hosts.
+    pub host_ledger: Blank,
+}
+
+impl<D: Disk + Drop, B: Parties, H: Parties> Library<D, B, H> {
+    /// A library of these drives, each in the place of its number, and of these slots, with a seat for each host. Its
+    /// drives accepted no change yet, and its hosts differ; either may be none. Each ledger has a party for each of
+    /// them. Where memory runs out all comes back.
+    pub fn new(
+        alloc: Global,
+        bays: Vec<Option<Bay<D>>>,
+        slots: Slots<Parked<D>>,
+        hosts: &[Nexus],
+        bay_ledger: Blank,
+        host_ledger: Blank,
+    ) -> Result<(Library<D, B, H>, Vec<Seat<H>>), NotOpened<D>>
+        requires places { length bays.items ≡ DRIVES }
+        requires fresh { All (λ bay. AcceptedNone bay) bays.items }
+        requires hosts { IsDistinct nat_eq hosts.now }
+        requires bay_ledger { IsBlankOf bay_ledger B.name B.parts B.all × (B.all ≡ places_filled bays.items) }
+        requires host_ledger { IsBlankOf host_ledger H.name H.parts H.all × (H.all ≡ length hosts.now) }
+        ensures drives { IfOk result (λ opened. opened.0 ≡ which_are_there bays.items) }
+        ensures seats { IfOk result (λ opened. opened.1.items ≡ map new_seat hosts.now) }
+        ensures back { IfErr result (λ back. (back.bays ≡ bays) × (back.slots ≡ slots)
+            × (back.bay_ledger ≡ bay_ledger) × (back.host_ledger ≡ host_ledger)) }
+    {
+        let Ok(shared) = Vec::with_capacity(alloc, DRIVES as usize) else {
+            return Err(NotOpened {
+                bays,
+                slots,
+                bay_ledger,
+                host_ledger,
+            });
+        };
+        let Ok(seats) = Vec::with_capacity(alloc, hosts.len()) else {
+            return Err(NotOpened {
+                bays,
+                slots,
+                bay_ledger,
+                host_ledger,
+            });
+        };
+        let mut tally = Tally::open(bay_ledger, host_ledger);
+        let mut row = Row::of(bays);
+        let shared = share_all(shared, &mut row, &mut tally);
+        let seats = seat_all(seats, hosts, &mut tally);
+        let library = Library {
+            alloc,
+            bays: shared,
+            slots: Mutex::new(slots),
+            tally: Mutex::new(tally),
+            row: Mutex::new(row),
+            closed: AtomicBool::new(false),
+        };
+        Ok((library, seats))
+    }
+}
+
+// Puts each drive of a row behind a lock, with its share.
+fn share_all<D: Disk + Drop, B: Parties, H: Parties>(
+    room: Vec<Option<SharedBay<D, B>>>,
+    row: &mut Row<D>,
+    tally: &mut Tally<B, H>,
+) -> Vec<Option<SharedBay<D, B>>>
+    requires room { (room.items ≡ []) × (DRIVES ≤ vec_capacity room) }
+    requires fresh { All (λ bay. AcceptedNone bay) row.old }
+    requires shares { places_filled row.old ≡ tally.old.bays_left }
+    ensures drives { which_are_there result.items ≡ which_are_there row.old }
+    ensures all { (length result.items ≡ DRIVES) × (places_filled result.items ≡ places_filled row.old) }
+    ensures hosts { tally.new.hosts_left ≡ tally.old.hosts_left }
+{
+    row.known();
+    let mut shared = room;
+    for place in 0..DRIVES as usize {
+        let bay = share_one(row.take(place), tally);
+        shared.push(bay).unwrap();
+    }
+    shared
+}
+
+// Puts a drive, where there is one, behind a lock, with its share.
+fn share_one<D: Disk + Drop, B: Parties, H: Parties>(
+    bay: Option<Bay<D>>,
+    tally: &mut Tally<B, H>,
+) -> Option<SharedBay<D, B>>
+    requires fresh { AcceptedNone bay }
+    requires share { one_if_there bay ≤ tally.old.bays_left }
+    ensures there { is_some result ≡ is_some bay }
+    ensures left { tally.new.bays_left + one_if_there bay ≡ tally.old.bays_left }
+    ensures hosts { tally.new.hosts_left ≡ tally.old.hosts_left }
+{
+    match bay {
+        Some(bay) => {
+            let share = tally.add_bay();
+            Some(SharedBay::new(Place::new(bay, share)))
+        }
+        None => None,
+    }
+}
+
+// Gives each host a seat.
+fn seat_all<B: Parties, H: Parties>(
+    room: Vec<Seat<H>>,
+    hosts: &[Nexus],
+    tally: &mut Tally<B, H>,
+) -> Vec<Seat<H>>
+    requires room { (room.items ≡ []) × (length hosts.now ≤ vec_capacity room) }
+    requires seats { length hosts.now ≡ tally.old.hosts_left }
+    ensures { result.items ≡ map new_seat hosts.now }
+{
+    let mut seats = room;
+    for nexus in hosts {
+        let seat = tally.add_host(*nexus);
+        seats.push(seat).unwrap();
+    }
+    seats
+}

@@ -1,0 +1,146 @@
+//! What stands behind a drive's lock.
+ghost use Rattle.std.specs.Prelude.{◌≡◌, ◌≢◌, ◌+◌, ◌^◌, ◌<◌, [], length, IfNone};
+ghost use Rattle.drive_core.specs.Data.{data_left};
+ghost use Rattle.drive_core.specs.Execute.{asked};
+ghost use Rattle.drive_core.specs.Media.{TakesTurn};
+ghost use Rattle.tape_buffer.specs.Moves.{buffer_below};
+ghost use Rattle.tape_buffer.specs.State.{state_of};
+ghost use Rattle.aptpl_store.specs.Kept.{store_kept};
+ghost use Rattle.library.specs.Served.{AnswersSeat};
+
+use aptpl_store::AptplStore;
+use bays::Bay;
+use drive_core::laws;
+use ledgers::{Parties, PartyShare, Seat, Tally};
+use scsi_sense::Reply;
+use std::marker::Model;
+use std::sync::{Mutex, Wait};
+use tape_buffer::Buffered;
+use tape_disk::Disk;
+use volume_core::Turn;
+use vtl_base::Bytes;
+
+/// A drive, and beside it its share of the ledger of drives, which stands at the count of the changes that the drive
+/// accepted. To a contract it is the drive.
+#[derive(Drop)]
+pub struct Place<D: Disk, B: Parties> {
+    pub(crate) bay: Bay<D>,
+    pub(crate) share: PartyShare<B>,
+}
+
+impl<D: Disk, B: Parties> Model for Place<D, B> {
+    ghost use Rattle.std.specs.Prelude.{◌≡◌};
+    ghost use Rattle.bays.specs.Elements.{BayState};
+
+    ghost Value = { BayState D };
+
+    ghost view = { λ p. p.bay };
+
+    ghost invariant = { λ p. p.share ≡ p.bay.accepted };
+}
+
+// Enters a change in both ledgers if a drive's count has risen from one number to another.
+fn enter_if_risen<B: Parties, H: Parties, R: Wait>(
+    rt: &R,
+    tally: &Mutex<Tally<B, H>>,
+    share: &mut PartyShare<B>,
+    seat: &mut Seat<H>,
+    before: u64,
+    after: u64,
+)
+    ensures same { before ≡ after → (share.new ≡ share.old) × (seat.new ≡ seat.old) }
+    ensures risen { before ≢ after → (share.new ≡ share.old + 1)
+        × (seat.new ≡ record seat.old { amount = seat.old.amount + 1 }) }
+{
+    if before != after {
+        tally.lock(rt).enter(rt, share, seat);
+    }
+}
+
+impl<D: Disk, B: Parties> Place<D, B> {
+    /// Carries out a command of the host of a seat, and enters the change that the drive accepted with it, if it did,
+    /// in both ledgers. Where 2^64 - 1 changes were accepted or entered before, it waits for good.
+    pub fn execute<H: Parties, R: Wait>(
+        &mut self,
+        rt: &R,
+        tally: &Mutex<Tally<B, H>>,
+        seat: &mut Seat<H>,
+        cdb: &[u8],
+        sent: &[u8],
+    ) -> Reply
+        ensures { AnswersSeat D.state self.old (asked seat.old.nexus cdb.now sent.now) seat.old
+            result self.new seat.new }
+    {
+        // The law, for the proof alone.
+        laws::replies_tell_changes::<Buffered<D>, AptplStore<D>>();
+        let before = self.count_below_limit(rt);
+        let reply = self.bay.execute(seat.nexus(), cdb, sent);
+        let after = self.bay.accepted();
+        enter_if_risen(rt, tally, &mut self.share, seat, before, after);
+        reply
+    }
+
+    /// The same with data that are lent: where they become a block they are taken, and not copied; else they stay.
+    pub fn execute_lent<H: Parties, R: Wait>(
+        &mut self,
+        rt: &R,
+        tally: &Mutex<Tally<B, H>>,
+        seat: &mut Seat<H>,
+        cdb: &[u8],
+        sent: &mut Bytes,
+    ) -> Reply
+        ensures { (answers : AnswersSeat D.state self.old (asked seat.old.nexus cdb.now sent.old) seat.old
+            result self.new seat.new)
+            × (sent.new ≡ data_left answers.step.taken.made.changes sent.old) }
+    {
+        laws::replies_tell_changes::<Buffered<D>, AptplStore<D>>();
+        let before = self.count_below_limit(rt);
+        let reply = self.bay.execute_lent(seat.nexus(), cdb, sent);
+        let after = self.bay.accepted();
+        enter_if_risen(rt, tally, &mut self.share, seat, before, after);
+        reply
+    }
+
+    /// A flusher's turn of the drive: stores what is pending. It takes no memory.
+    pub fn turn(&mut self) -> Turn
+        ensures { TakesTurn (state_of D.state) (buffer_below D.state) store_kept self.old result self.new }
+    {
+        self.bay.turn()
+    }
+
+    /// How many changes the drive accepted since it was switched on.
+    pub fn accepted(&self) -> u64
+        ensures { result ≡ self.now.accepted }
+    {
+        self.bay.accepted()
+    }
+
+    // The same, below 2^64 - 1: where the count would stay, its share could not follow it, and the call waits for good.
+    fn count_below_limit<R: Wait>(&self, rt: &R) -> u64
+        ensures count { result ≡ self.now.accepted }
+        ensures below { result + 1 < 2 ^ 64 }
+    {
+        let count = self.accepted();
+        if count == u64::MAX {
+            for _ in rt.forever() {}
+            unreachable!()
+        }
+        count
+    }
+
+    /// A drive that accepted no change yet, with the share of a party for which nothing was entered.
+    pub fn new(bay: Bay<D>, share: PartyShare<B>) -> Place<D, B>
+        requires { share ≡ bay.accepted }
+        ensures { result ≡ bay }
+    {
+        Place { bay, share }
+    }
+
+    /// The drive, and its share, which stands at its count.
+    pub fn into_parts(self) -> (Bay<D>, PartyShare<B>)
+        ensures bay { result.0 ≡ self }
+        ensures share { result.1 ≡ self.accepted }
+    {
+        (self.bay, self.share)
+    }
+}

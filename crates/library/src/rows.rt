@@ -1,0 +1,78 @@
+//! The row in which the drives of a library come, and in which they are given back.
+ghost use Rattle.std.specs.Prelude.{◌≡◌, ◌<◌, None, Some, length, slice_index_or, slice_set};
+ghost use Rattle.vtl_base.specs.declared.limits.TheConstants.{DRIVES};
+ghost use Rattle.library.specs.Counts.{count_of_drive};
+
+use bays::Bay;
+use std::marker::Model;
+use tape_disk::Disk;
+
+/// A place for each drive that a library may have.
+#[derive(Drop)]
+pub(crate) struct Row<D: Disk> {
+    places: Vec<Option<Bay<D>>>,
+}
+
+impl<D: Disk> Model for Row<D> {
+    ghost use Rattle.std.specs.Prelude.{◌≡◌, List, Option, length};
+    ghost use Rattle.vtl_base.specs.declared.limits.TheConstants.{DRIVES};
+    ghost use Rattle.bays.specs.Elements.{BayState};
+
+    ghost Value = { List (Option (BayState D)) };
+
+    ghost view = { λ r. r.places.items };
+
+    ghost invariant = { λ r. length r.places.items ≡ DRIVES };
+}
+
+impl<D: Disk + Drop> Row<D> {
+    pub(crate) fn of(places: Vec<Option<Bay<D>>>) -> Row<D>
+        requires { length places.items ≡ DRIVES }
+        ensures { result ≡ places.items }
+    {
+        Row { places }
+    }
+
+    // There is a place for each drive, which the type keeps.
+    pub(crate) fn known(&self)
+        ensures { length self.now ≡ DRIVES }
+    {
+        // Looked at for the proof's sake.
+        let _ = &self.places;
+    }
+
+    // Takes the drive of this place out, where there is one.
+    pub(crate) fn take(&mut self, place: usize) -> Option<Bay<D>>
+        requires { place < DRIVES }
+        ensures out { result ≡ slice_index_or self.old place None }
+        ensures left { self.new ≡ slice_set self.old place None }
+    {
+        self.places[place].take()
+    }
+
+    // Puts a drive, or none, into this place.
+    pub(crate) fn put(&mut self, place: usize, bay: Option<Bay<D>>)
+        requires { place < DRIVES }
+        ensures { self.new ≡ slice_set self.old place bay }
+    {
+        self.places[place] = bay;
+    }
+
+    // The count of the drive in this place, where there is one.
+    pub(crate) fn count(&self, place: usize) -> Option<u64>
+        requires { place < DRIVES }
+        ensures { result ≡ count_of_drive (slice_index_or self.now place None) }
+    {
+        match &self.places[place] {
+            Some(bay) => Some(bay.accepted()),
+            None => None,
+        }
+    }
+
+    pub(crate) fn into_places(self) -> Vec<Option<Bay<D>>>
+        ensures row { result.items ≡ self }
+        ensures all { length result.items ≡ DRIVES }
+    {
+        self.places
+    }
+}

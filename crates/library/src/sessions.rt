@@ -1,0 +1,50 @@
+//! The lines of a host in a phase.
+ghost use Rattle.std.specs.Prelude.{◌≡◌, nat_eq, true, IfOk, OnErr};
+ghost use Rattle.std.specs.List.{list_all};
+ghost use Rattle.bays.specs.Runs.{line_request};
+ghost use Rattle.library.specs.Counts.{has_drive};
+ghost use Rattle.library.specs.Served.{IsServed};
+ghost use Rattle.library.specs.Sessions.{AnswersSession};
+
+use crate::libraries::Library;
+use ledgers::{Parties, Seat};
+use scsi_sense::Reply;
+use std::alloc::Global;
+use std::sync::Wait;
+use tape_disk::Disk;
+use vtl_base::NoMemory;
+use vtl_script::Line;
+
+impl<D: Disk + Drop, B: Parties, H: Parties> Library<D, B, H> {
+    /// Carries out the commands of these lines for the host of a seat, in order, each by the drive that it names, and
+    /// gives their replies. Data that become a block are taken. Where memory runs out nothing is carried out.
+    pub fn host_session<R: Wait>(
+        &self,
+        rt: &R,
+        alloc: Global,
+        seat: &mut Seat<H>,
+        lines: &mut [Line],
+    ) -> Result<Vec<Reply>, NoMemory>
+        requires hosts { list_all (λ line. nat_eq line.host seat.old.nexus) lines.old ≡ true }
+        requires configured { list_all (λ line. has_drive self.now line.drive) lines.old ≡ true }
+        ensures ok { IfOk result (λ replies.
+            AnswersSession D.state seat.old lines.old replies.items seat.new) }
+        ensures err { OnErr result ((seat.new ≡ seat.old) × (lines.new ≡ lines.old)) }
+    {
+        let mut replies = Vec::with_capacity(alloc, lines.len())?;
+        for line in lines {
+            let reply = self.serve_line(rt, seat, line);
+            replies.push(reply).unwrap();
+        }
+        Ok(replies)
+    }
+
+    // Carries the command of a line out, by the drive that it names. Its data are taken where they become a block.
+    fn serve_line<R: Wait>(&self, rt: &R, seat: &mut Seat<H>, line: &mut Line) -> Reply
+        requires host { line.old.host ≡ seat.old.nexus }
+        requires configured { has_drive self.now line.old.drive ≡ true }
+        ensures { IsServed D.state (line_request line.old) seat.old result seat.new }
+    {
+        self.command_lent(rt, seat, line.drive, line.cdb.as_slice(), &mut line.sent)
+    }
+}
