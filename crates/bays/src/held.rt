@@ -65,6 +65,23 @@ impl<D: Disk + Drop> Held<D> {
         Ok(Held { alloc, slots, bays })
     }
 
+    /// A library of these drives, each in the place of its number, and these slots.
+    pub fn from_parts(alloc: Global, bays: Vec<Option<Bay<D>>>, slots: Slots<Parked<D>>) -> Held<D>
+        requires { length bays.items ≡ DRIVES }
+        ensures { result ≡ record { slots = slots; bays = bays.items } }
+    {
+        Held { alloc, slots, bays }
+    }
+
+    /// The drives, from number 1 on, and the slots.
+    pub fn into_parts(self) -> (Vec<Option<Bay<D>>>, Slots<Parked<D>>)
+        ensures bays { result.0.items ≡ self.bays }
+        ensures slots { result.1 ≡ self.slots }
+        ensures all { length result.0.items ≡ DRIVES }
+    {
+        (self.bays, self.slots)
+    }
+
     /// Whether there is a drive of this number.
     pub fn configured(&self, drive: DriveNo) -> bool
         ensures { result ≡ is_some (bay_at self.now.bays drive) }
