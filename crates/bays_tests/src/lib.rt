@@ -8,8 +8,6 @@ mod drives;
 #[cfg(test)]
 mod holding;
 #[cfg(test)]
-mod lending;
-#[cfg(test)]
 mod moving;
 #[cfg(test)]
 mod samples;

@@ -45,13 +45,27 @@ pub fn parked(alloc: Global, barcode: &[u8], fails: u64) -> Result<Parked<Once>,
     Ok(Parked::of(alloc, cartridge(alloc, barcode, fails)?))
 }
 
-// The new store of a drive.
-fn store(alloc: Global, number: DriveNo) -> Result<AptplStore<Once>, Fail>
+// The new store of a drive on an empty disk.
+fn store_on<D: Disk + Drop>(alloc: Global, disk: D, number: DriveNo) -> Result<AptplStore<D>, Fail>
     ensures { IfOk result (λ store. store.states ≡ []) }
 {
-    match AptplStore::create(alloc, OnceDisk::new(MemDisk::new(alloc), NEVER), number) {
+    match AptplStore::create(alloc, disk, number) {
         Ok(store) => Ok(store),
         Err(_) => Err(Fail::from("no store")),
+    }
+}
+
+// A drive over this store that is just switched on, with this in it.
+fn switched_on<D: Disk + Drop>(
+    alloc: Global,
+    store: AptplStore<D>,
+    cartridge: Option<Parked<D>>,
+) -> Result<Bay<D>, Fail>
+    requires { store.states ≡ [] }
+{
+    match Bay::power_on(alloc, store, Reservations::empty(), cartridge) {
+        Ok(bay) => Ok(bay),
+        Err(_) => Err(Fail::from("not switched on")),
     }
 }
 
@@ -61,11 +75,9 @@ pub fn bay(
     number: DriveNo,
     cartridge: Option<Parked<Once>>,
 ) -> Result<Bay<Once>, Fail> {
-    let store = store(alloc, number)?;
-    match Bay::power_on(alloc, store, Reservations::empty(), cartridge) {
-        Ok(bay) => Ok(bay),
-        Err(_) => Err(Fail::from("not switched on")),
-    }
+    let disk = OnceDisk::new(MemDisk::new(alloc), NEVER);
+    let store = store_on(alloc, disk, number)?;
+    switched_on(alloc, store, cartridge)
 }
 
 /// The drive of this number.
@@ -76,12 +88,26 @@ pub fn drive_no(number: u8) -> Result<DriveNo, Fail> {
     }
 }
 
+// Puts a drive into its place.
+fn install<D: Disk + Drop>(held: &mut Held<D>, number: DriveNo, bay: Bay<D>) -> Result<(), Fail> {
+    match held.install(number, bay) {
+        Ok(()) => Ok(()),
+        Err(_) => Err(Fail::from("not installed")),
+    }
+}
+
 // Adds a drive with nothing in it.
 fn add_drive(alloc: Global, held: &mut Held<Once>, number: u8) -> Result<(), Fail> {
     let number = drive_no(number)?;
-    match held.install(number, bay(alloc, number, None)?) {
+    let bay = bay(alloc, number, None)?;
+    install(held, number, bay)
+}
+
+// Puts a closed cartridge into a slot.
+fn put<D: Disk + Drop>(held: &mut Held<D>, address: u32, cartridge: Parked<D>) -> Result<(), Fail> {
+    match held.place(address, cartridge) {
         Ok(()) => Ok(()),
-        Err(_) => Err(Fail::from("not installed")),
+        Err(_) => Err(Fail::from("not placed")),
     }
 }
 
@@ -93,10 +119,8 @@ pub fn place(
     barcode: &[u8],
     fails: u64,
 ) -> Result<(), Fail> {
-    match held.place(address, parked(alloc, barcode, fails)?) {
-        Ok(()) => Ok(()),
-        Err(_) => Err(Fail::from("not placed")),
-    }
+    let cartridge = parked(alloc, barcode, fails)?;
+    put(held, address, cartridge)
 }
 
 // Puts what a library has into it.

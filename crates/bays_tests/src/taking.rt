@@ -1,7 +1,7 @@
 //! Commands whose data are lent: they are taken where they become a block; else they stay.
-use crate::samples::{Answer, GOOD, NEVER, asks, bay, drive_no, is_answer, library};
+use crate::samples::{Answer, GOOD, NEVER, asks, bay, drive_no, is_answer, library, moves};
 use assertions::assert_equal;
-use bays::Held;
+use bays::{Bay, Held};
 use scsi_sense::{Reply, Status};
 use std::alloc::Global;
 use std::process::Abort;
@@ -45,22 +45,31 @@ static WRITES: &'static [(Answer, &'static [u8])] = &[
 // What is read then.
 static READS: &'static [&'static [u8]] = &[b"x", b"x"];
 
+// Blocks are written to drive 1, and read back.
+fn are_kept<D: Disk + Drop>(
+    rt: &impl Abort,
+    alloc: Global,
+    held: &mut Held<D>,
+) -> Result<(), Fail> {
+    moves(rt, held, (1001, 1, GOOD), 0);
+    for (at, &(wanted, left)) in WRITES.iter().enumerate() {
+        let (reply, lent) = write(rt, alloc, held)?;
+        is_answer(rt, &reply, wanted, at);
+        assert_equal!(rt; lent.as_slice(), left; at);
+    }
+    asks(rt, held, &[0x01, 0, 0, 0, 0, 0], b"", GOOD);
+    for (at, &wanted) in READS.iter().enumerate() {
+        let reply = read(rt, held);
+        assert_equal!(rt; reply.bytes.as_slice(), wanted; at);
+    }
+    Ok(())
+}
+
 #[test]
 fn a_block_goes_to_its_drive(rt: HostRuntime) -> Result<(), Fail> {
     let alloc = rt.alloc();
     let mut held = library(alloc, NEVER)?;
-    is_answer(&rt, &held.move_medium(1001, 1), GOOD, 0);
-    for (at, &(wanted, left)) in WRITES.iter().enumerate() {
-        let (reply, lent) = write(&rt, alloc, &mut held)?;
-        is_answer(&rt, &reply, wanted, at);
-        assert_equal!(rt; lent.as_slice(), left; at);
-    }
-    asks(&rt, &mut held, &[0x01, 0, 0, 0, 0, 0], b"", GOOD);
-    for (at, &wanted) in READS.iter().enumerate() {
-        let reply = read(&rt, &mut held);
-        assert_equal!(rt; reply.bytes.as_slice(), wanted; at);
-    }
-    Ok(())
+    are_kept(&rt, alloc, &mut held)
 }
 
 // A READ of one byte from drive 1.
@@ -73,16 +82,20 @@ fn read<D: Disk + Drop>(rt: &impl Abort, held: &mut Held<D>) -> Reply {
 
 // The 65th block waits until those before it are stored, in four calls of the disk. Where one fails the block is not
 // taken. Whether this call is one of them.
-fn is_met(rt: &impl Abort, alloc: Global, fails: u64) -> Result<bool, Fail> {
-    let mut held = library(alloc, fails)?;
-    if held.move_medium(1001, 1).sense.is_some() {
+fn is_met<D: Disk + Drop>(
+    rt: &impl Abort,
+    alloc: Global,
+    held: &mut Held<D>,
+    fails: u64,
+) -> Result<bool, Fail> {
+    if !is_loaded(held) {
         return Ok(false);
     }
     // Two unit attention conditions, and 64 blocks.
     for _ in 0..66 {
-        let _ = write(rt, alloc, &mut held)?;
+        let _ = write(rt, alloc, held)?;
     }
-    let (reply, lent) = write(rt, alloc, &mut held)?;
+    let (reply, lent) = write(rt, alloc, held)?;
     if reply.sense.is_none() {
         assert_equal!(rt; lent.as_slice(), b""; fails);
         return Ok(false);
@@ -92,11 +105,17 @@ fn is_met(rt: &impl Abort, alloc: Global, fails: u64) -> Result<bool, Fail> {
     Ok(true)
 }
 
+// Loads the cartridge into drive 1, where that does not fail.
+fn is_loaded<D: Disk + Drop>(held: &mut Held<D>) -> bool {
+    held.move_medium(1001, 1).sense.is_none()
+}
+
 #[test]
 fn a_block_stays_where_no_way_is_made_for_it(rt: HostRuntime) -> Result<(), Fail> {
     let mut met = 0u32;
     for fails in 5..30 {
-        if is_met(&rt, rt.alloc(), fails)? {
+        let mut held = library(rt.alloc(), fails)?;
+        if is_met(&rt, rt.alloc(), &mut held, fails)? {
             met = met.saturating_add(1);
         }
     }
@@ -104,24 +123,25 @@ fn a_block_stays_where_no_way_is_made_for_it(rt: HostRuntime) -> Result<(), Fail
     Ok(())
 }
 
+// A WRITE of one byte by host 1 is answered so, and leaves its data.
+fn takes_none<D: Disk>(
+    rt: &impl Abort,
+    bay: &mut Bay<D>,
+    lent: &mut Bytes,
+    wanted: Answer,
+    at: usize,
+) {
+    let nexus = Nexus::new(1).expect(rt, "a nexus");
+    is_answer(rt, &bay.execute_lent(nexus, WRITE_1, lent), wanted, at);
+    assert_equal!(rt; lent.len(), 1);
+}
+
 #[test]
 fn a_drive_of_a_library_takes_none_without_a_cartridge(rt: HostRuntime) -> Result<(), Fail> {
     let alloc = rt.alloc();
-    let nexus = Nexus::new(1).expect(&rt, "a nexus");
     let mut drive = bay(alloc, drive_no(1)?, None)?;
     let mut lent = Bytes::from_slice(alloc, b"x")?;
-    is_answer(
-        &rt,
-        &drive.execute_lent(nexus, WRITE_1, &mut lent),
-        POWERED_ON,
-        0,
-    );
-    is_answer(
-        &rt,
-        &drive.execute_lent(nexus, WRITE_1, &mut lent),
-        NO_MEDIUM,
-        1,
-    );
-    assert_equal!(rt; lent.len(), 1);
+    takes_none(&rt, &mut drive, &mut lent, POWERED_ON, 0);
+    takes_none(&rt, &mut drive, &mut lent, NO_MEDIUM, 1);
     Ok(())
 }
