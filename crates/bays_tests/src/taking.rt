@@ -1,7 +1,7 @@
 //! Commands whose data are lent: they are taken where they become a block; else they stay.
-use crate::samples::{Answer, GOOD, NEVER, asks, bay, drive_no, is_answer, library, moves};
+use crate::samples::{Answer, GOOD, NEVER, asks, is_answer, library, moves};
 use assertions::assert_equal;
-use bays::{Bay, Held};
+use bays::Held;
 use scsi_sense::{Reply, Status};
 use std::alloc::Global;
 use std::process::Abort;
@@ -45,6 +45,21 @@ static WRITES: &'static [(Answer, &'static [u8])] = &[
 // What is read then.
 static READS: &'static [&'static [u8]] = &[b"x", b"x"];
 
+// WRITEs of one byte to drive 1 are answered so.
+fn are_written<D: Disk + Drop>(
+    rt: &impl Abort,
+    alloc: Global,
+    held: &mut Held<D>,
+    rows: &[(Answer, &'static [u8])],
+) -> Result<(), Fail> {
+    for (at, &(wanted, left)) in rows.iter().enumerate() {
+        let (reply, lent) = write(rt, alloc, held)?;
+        is_answer(rt, &reply, wanted, at);
+        assert_equal!(rt; lent.as_slice(), left; at);
+    }
+    Ok(())
+}
+
 // Blocks are written to drive 1, and read back.
 fn are_kept<D: Disk + Drop>(
     rt: &impl Abort,
@@ -52,11 +67,7 @@ fn are_kept<D: Disk + Drop>(
     held: &mut Held<D>,
 ) -> Result<(), Fail> {
     moves(rt, held, (1001, 1, GOOD), 0);
-    for (at, &(wanted, left)) in WRITES.iter().enumerate() {
-        let (reply, lent) = write(rt, alloc, held)?;
-        is_answer(rt, &reply, wanted, at);
-        assert_equal!(rt; lent.as_slice(), left; at);
-    }
+    are_written(rt, alloc, held, WRITES)?;
     asks(rt, held, &[0x01, 0, 0, 0, 0, 0], b"", GOOD);
     for (at, &wanted) in READS.iter().enumerate() {
         let reply = read(rt, held);
@@ -123,25 +134,12 @@ fn a_block_stays_where_no_way_is_made_for_it(rt: HostRuntime) -> Result<(), Fail
     Ok(())
 }
 
-// A WRITE of one byte by host 1 is answered so, and leaves its data.
-fn takes_none<D: Disk>(
-    rt: &impl Abort,
-    bay: &mut Bay<D>,
-    lent: &mut Bytes,
-    wanted: Answer,
-    at: usize,
-) {
-    let nexus = Nexus::new(1).expect(rt, "a nexus");
-    is_answer(rt, &bay.execute_lent(nexus, WRITE_1, lent), wanted, at);
-    assert_equal!(rt; lent.len(), 1);
-}
+// The answers of a drive without a cartridge to WRITEs in a row, and what is left of the data of each.
+static NONE_TAKEN: &'static [(Answer, &'static [u8])] = &[(POWERED_ON, b"x"), (NO_MEDIUM, b"x")];
 
 #[test]
 fn a_drive_of_a_library_takes_none_without_a_cartridge(rt: HostRuntime) -> Result<(), Fail> {
     let alloc = rt.alloc();
-    let mut drive = bay(alloc, drive_no(1)?, None)?;
-    let mut lent = Bytes::from_slice(alloc, b"x")?;
-    takes_none(&rt, &mut drive, &mut lent, POWERED_ON, 0);
-    takes_none(&rt, &mut drive, &mut lent, NO_MEDIUM, 1);
-    Ok(())
+    let mut held = library(alloc, NEVER)?;
+    are_written(&rt, alloc, &mut held, NONE_TAKEN)
 }
