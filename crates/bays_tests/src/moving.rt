@@ -1,5 +1,5 @@
 //! A cartridge that is not loaded goes back where it was.
-use crate::samples::{Answer, GOOD, READY, Row, asks, is_answer, library, moves};
+use crate::samples::{Answer, GOOD, NEVER, READY, Row, asks, is_answer, library, moves};
 use crate::writing::{is_kept, is_unwritten};
 use assertions::assert_equal;
 use bays::Held;
@@ -25,6 +25,31 @@ fn move_all<D: Disk + Drop>(rt: &impl Abort, held: &mut Held<D>, rows: &[Row]) {
     for (at, row) in rows.iter().enumerate() {
         moves(rt, held, *row, at);
     }
+}
+
+const NO_ADDRESS: Answer = (Status::Check, 5, 0x21, 0x01);
+
+const NO_ROOM: Answer = (Status::Check, 5, 0x3b, 0x0d);
+
+// Moves for which neither drive is lent, or one, or both; at the end both are empty.
+static ROUND: &'static [Row] = &[
+    (1001, 1300, NO_ADDRESS),
+    (1002, 1, NO_SOURCE),
+    (1001, 1, GOOD),
+    (1, 1, NO_ROOM),
+    (1, 2, GOOD),
+    (2, 1256, GOOD),
+    (1256, 1001, GOOD),
+    (1, 1002, NO_SOURCE),
+    (2, 1002, NO_SOURCE),
+    (1001, 1001, NO_ROOM),
+];
+
+#[test]
+fn a_cartridge_goes_round_what_is_lent(rt: HostRuntime) -> Result<(), Fail> {
+    let mut held = library(rt.alloc(), NEVER)?;
+    move_all(&rt, &mut held, ROUND);
+    Ok(())
 }
 
 // The first loading fails.
