@@ -26,8 +26,8 @@ module _ {D : Type 0} (state : D → DiskState) where
     pub counted :
         IfOk counts (λ counted. (counted ≡ counts_of bays') × (sum_of_counts counted ≡ sum_of_seats seats))
 
-  -- A library ended: it has the drives that it had. Nothing is left to be written, or a medium has failed, and then that
-  -- is told; no seat is missing (own).
+  -- A library ended: it has the drives that it had. Nothing is left to be written, or a medium has failed, and that is
+  -- told; no seat is missing (own).
   pub record EndsShared (bays bays' : List (Option (BayState D))) (counts : Result (List (Option ℕ)) FinishError)
       : Type 0 where
     pub drives : which_are_there bays' ≡ which_are_there bays

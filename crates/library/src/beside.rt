@@ -13,8 +13,8 @@ use std::thread::Threads;
 use tape_disk::Disk;
 use vtl_base::DriveNo;
 
-/// Does some work while a flusher of each configured drive, from this number on, takes its turns in a thread of its own,
-/// and waits until all have ended. The work ends with `close`. A flusher for which no thread can be made comes after
+/// Does some work while a flusher of each configured drive, from this number on, takes turns in a thread of its own, and
+/// waits until all have ended. The work ends with `close`. A flusher for which no thread can be made comes after
 /// the work, and so ends at once.
 pub(crate) fn beside_flushers<
     D: Disk + Drop + Send,
@@ -24,13 +24,7 @@ pub(crate) fn beside_flushers<
     G: Gate + Sync,
     A,
     F: FnMut() -> A,
->(
-    rt: &R,
-    library: &Library<D, B, H>,
-    gate: &G,
-    number: u8,
-    work: &mut F,
-) -> A
+>(rt: &R, library: &Library<D, B, H>, gate: &G, number: u8, work: &mut F) -> A
     requires { F.pre work.old }
     ensures { F.step work.old result work.new }
 {

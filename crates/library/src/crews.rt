@@ -87,7 +87,7 @@ impl<'a, D: Disk + Drop, B: Parties, H: Parties, R> Crew<'a, D, B, H, R> {
     /// The seats. It takes no memory.
     pub(crate) fn into_seats(self, room: Vec<Seat<H>>) -> Vec<Seat<H>>
         requires { (room.items ≡ []) × (length self.seats ≤ vec_capacity room) }
-        ensures { result.items ≡ self.seats }
+        ensures { result.items ≡ self.entry.seats }
     {
         seats_in(room, self.jobs)
     }
@@ -99,8 +99,7 @@ impl<
     B: Parties + Send + Sync,
     H: Parties + Send + Sync,
     R: Threads + Wait + Sync,
-> Crew<'a, D, B, H, R>
-{
+> Crew<'a, D, B, H, R> {
     // Carries the lines of a phase out. Where memory runs out nothing is carried out.
     fn run_lines(&mut self, alloc: Global, lines: &mut [Line]) -> Result<Vec<Reply>, NoMemory>
         requires { list_all (λ line. has_drive self.old.drives line.drive) lines.old ≡ true }
@@ -135,8 +134,7 @@ impl<
     B: Parties + Send + Sync,
     H: Parties + Send + Sync,
     R: Threads + Wait + Sync,
-> Runner for Crew<'a, D, B, H, R>
-{
+> Runner for Crew<'a, D, B, H, R> {
     ghost is_configured = { λ crew. has_drive crew.drives };
 
     ghost answers = { AnswersCrew D.state };

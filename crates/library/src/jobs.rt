@@ -6,6 +6,7 @@ ghost use Rattle.library.specs.Served.{IsServed};
 ghost use Rattle.library.specs.Inner.Jobs.{IsDone, IsReady};
 
 use crate::libraries::Library;
+use crate::threads::Idle;
 use ledgers::{Parties, Seat};
 use scsi_sense::Reply;
 use std::alloc::Global;
@@ -33,6 +34,12 @@ impl<H: Parties> Model for Job<H> {
         record { seat = j.seat; lines = j.lines.items; replies = j.replies.items; room = vec_capacity j.replies } };
 }
 
+impl<H: Parties> Idle for Job<H> {
+    fn is_idle(&self) -> bool {
+        self.lines.is_empty()
+    }
+}
+
 impl<H: Parties> Job<H> {
     /// The job of the host of a seat. It takes no memory.
     pub(crate) fn of(alloc: Global, seat: Seat<H>) -> Job<H>
@@ -43,13 +50,6 @@ impl<H: Parties> Job<H> {
             lines: Vec::new(alloc),
             replies: Vec::new(alloc),
         }
-    }
-
-    /// Whether it has no line.
-    pub(crate) fn is_idle(&self) -> bool
-        ensures { result ≡ true → self.now.lines ≡ [] }
-    {
-        self.lines.is_empty()
     }
 
     /// Begins a phase: there is no line, and no reply.

@@ -5,11 +5,11 @@ ghost use Rattle.std.specs.List.Sorted.{IsNonDecreasingBy};
 ghost use Rattle.bays.specs.Runs.{Command};
 ghost use Rattle.library.specs.Counts.{has_drive};
 ghost use Rattle.library.specs.Crews.{AnswersAllAmong};
-ghost use Rattle.library.specs.Inner.Jobs.{AreInPlace, IsDealt, lines_of, replies_of, seats_of};
+ghost use Rattle.library.specs.Inner.Jobs.{AreDone, AreInPlace, IsDealt, IsDone, IsReady, lines_of, replies_of, seats_of};
 
 use crate::jobs::Job;
 use crate::libraries::Library;
-use crate::threads::serve_all;
+use crate::threads::each_beside;
 use ledgers::Parties;
 use scsi_sense::Reply;
 use std::alloc::Global;
@@ -114,6 +114,23 @@ fn serve_in_threads<
     serve_all(rt, library, jobs);
     give_all(jobs, &mut replies);
     Ok(replies)
+}
+
+// Carries each host's lines out.
+fn serve_all<
+    D: Disk + Drop + Send,
+    B: Parties + Send + Sync,
+    H: Parties + Send + Sync,
+    R: Threads + Wait + Sync,
+>(rt: &R, library: &Library<D, B, H>, jobs: &mut [Job<H>])
+    requires { All (IsReady library.now) jobs.old }
+    ensures { AreDone D.state jobs.old jobs.new }
+{
+    let serve = |_: usize, job: &mut Job<H>|
+        requires { IsReady library.now job.now }
+        ensures { IsDone D.state job.entry.now job.exit.now }
+    { job.serve(rt, library) };
+    each_beside(rt, &serve, jobs);
 }
 
 // Begins a phase for each host.

@@ -1,24 +1,24 @@
 //! A script that is run over a library whose drives threads share.
-ghost use Rattle.std.specs.Prelude.{◌≡◌, ◌≢◌, ℕ, Err, [], IfOk, IfErr, length, vec_capacity, All};
-ghost use Rattle.std.specs.List.{IsDistinct, range_with_len};
+ghost use Rattle.std.specs.Prelude.{◌≡◌, ◌≢◌, ◌≤◌, Err, [], IfOk, IfErr, length, vec_capacity, All};
+ghost use Rattle.std.specs.List.{range_with_len};
 ghost use Rattle.vtl_base.specs.declared.limits.TheConstants.{DRIVES, NEXUSES};
 ghost use Rattle.ledgers.specs.Ledgers.{IsBlankOf};
 ghost use Rattle.vtl_script.specs.Runs.{RunsScript, TakesWithin};
-ghost use Rattle.bays.specs.Elements.{bay_at};
-ghost use Rattle.bays.specs.Finish.{HasFailedAt, IsWrittenAt};
 ghost use Rattle.library.specs.Counts.{AcceptedNone, has_drive, places_filled, which_are_there};
 ghost use Rattle.library.specs.Crews.{AnswersCrew};
+ghost use Rattle.library.specs.Inner.Jobs.{AreInPlace};
 ghost use Rattle.library.specs.Ran.{EndsShared, RunsShared};
 
 use crate::beside::beside_flushers;
 use crate::crews::Crew;
 use crate::finishing::Finished;
 use crate::flushers::Gate;
+use crate::jobs::Job;
 use crate::libraries::Library;
 use crate::opening::NotOpened;
 use bays::{Bay, Parked};
 use changer::Slots;
-use ledgers::Parties;
+use ledgers::{Parties, Seat};
 use std::alloc::Global;
 use std::io::{Read, Write};
 use std::marker::{Send, Sync};
@@ -58,10 +58,93 @@ fn run_and_close<
         (I.remaining reader.old) (O.contents writer.old) crew.new (O.contents writer.new) result }
     ensures past { result ≢ Err ScriptFault.ReadFault →
         TakesWithin (I.remaining reader.old) 0 (I.remaining reader.new) }
+    ensures drives { crew.new.drives ≡ crew.old.drives }
 {
     let outcome = run_script(alloc, crew, reader, writer);
     library.close(rt);
     outcome
+}
+
+// Runs the script for the hosts of these seats, with a flusher of each drive beside it.
+fn run_for<
+    'a,
+    D: Disk + Drop + Send,
+    B: Parties + Send + Sync,
+    H: Parties + Send + Sync,
+    R: Threads + Wait + Sync,
+    G: Gate + Sync,
+    I: Read,
+    O: Write,
+>(
+    rt: &'a R,
+    alloc: Global,
+    library: &'a Library<D, B, H>,
+    crew: &mut Crew<'a, D, B, H, R>,
+    gate: &G,
+    reader: &mut I,
+    writer: &mut O,
+) -> Result<(), ScriptFault>
+    ensures runs { RunsScript (has_drive crew.old.drives) (AnswersCrew D.state) crew.old
+        (I.remaining reader.old) (O.contents writer.old) crew.new (O.contents writer.new) result }
+    ensures past { result ≢ Err ScriptFault.ReadFault →
+        TakesWithin (I.remaining reader.old) 0 (I.remaining reader.new) }
+    ensures drives { crew.new.drives ≡ crew.old.drives }
+{
+    let mut work = || -> Result<(), ScriptFault>
+        ensures runs { RunsScript (has_drive crew.entry.now.drives) (AnswersCrew D.state) crew.entry.now
+            (I.remaining reader.entry.now) (O.contents writer.entry.now) crew.exit.now
+            (O.contents writer.exit.now) result }
+        ensures past { result ≢ Err ScriptFault.ReadFault →
+            TakesWithin (I.remaining reader.entry.now) 0 (I.remaining reader.exit.now) }
+        ensures drives { crew.exit.now.drives ≡ crew.entry.now.drives }
+    { run_and_close(rt, alloc, library, crew, reader, writer) };
+    beside_flushers(rt, library, gate, 1, &mut work)
+}
+
+// The seats as a script over a library has left them, and how it ended.
+#[derive(Drop)]
+struct RanFor<H: Parties> {
+    seats: Vec<Seat<H>>,
+    outcome: Result<(), ScriptFault>,
+}
+
+// Runs the script over a library that was opened, for the hosts of these seats.
+fn run_opened<
+    'a,
+    D: Disk + Drop + Send,
+    B: Parties + Send + Sync,
+    H: Parties + Send + Sync,
+    R: Threads + Wait + Sync,
+    G: Gate + Sync,
+    I: Read,
+    O: Write,
+>(
+    rt: &'a R,
+    alloc: Global,
+    library: &'a Library<D, B, H>,
+    seats: Vec<Seat<H>>,
+    jobs: Vec<Job<H>>,
+    room: Vec<Seat<H>>,
+    gate: &G,
+    reader: &mut I,
+    writer: &mut O,
+) -> RanFor<H>
+    requires places { AreInPlace seats.items }
+    requires jobs { (jobs.items ≡ []) × (length seats.items ≤ vec_capacity jobs) }
+    requires room { (room.items ≡ []) × (length seats.items ≤ vec_capacity room) }
+    ensures runs { RunsScript (has_drive library.now) (AnswersCrew D.state)
+        (record { drives = library.now; seats = seats.items }) (I.remaining reader.old) (O.contents writer.old)
+        (record { drives = library.now; seats = result.seats.items }) (O.contents writer.new) result.outcome }
+    ensures past { result.outcome ≢ Err ScriptFault.ReadFault →
+        TakesWithin (I.remaining reader.old) 0 (I.remaining reader.new) }
+    ensures places { AreInPlace result.seats.items }
+{
+    let mut crew = Crew::of(rt, alloc, library, jobs, seats);
+    let outcome = run_for(rt, alloc, library, &mut crew, gate, reader, writer);
+    RanFor {
+        seats: crew.into_seats(room),
+        outcome,
+    }
 }
 
 /// Runs a script over these drives, each in the place of its number, and these slots, for hosts that have the numbers
@@ -118,17 +201,17 @@ pub fn run_library<
             host_ledger,
         });
     };
-    let (library, seats) =
-        Library::<D, B, H>::new(alloc, bays, slots, hosts, bay_ledger, host_ledger)?;
-    let mut crew = Crew::of(rt, alloc, &library, jobs, seats);
-    let outcome = beside_flushers(
-        rt,
-        &library,
-        gate,
-        1,
-        &mut || run_and_close(rt, alloc, &library, &mut crew, reader, writer),
+    let (library, seats) = Library::<D, B, H>::new(
+        alloc,
+        bays,
+        slots,
+        hosts,
+        bay_ledger,
+        host_ledger,
+    )?;
+    let RanFor { seats, outcome } = run_opened(
+        rt, alloc, &library, seats, jobs, room, gate, reader, writer,
     );
-    let seats = crew.into_seats(room);
     Ok(Ran {
         finished: library.finish(rt, seats),
         outcome,

@@ -1,92 +1,90 @@
-//! Jobs in threads of their own.
-ghost use Rattle.std.specs.Prelude.{◌≡◌, All, length, true};
-ghost use Rattle.library.specs.Inner.Jobs.{AreDone, IsReady};
+//! Work that is done for each of some, in threads of their own.
+ghost use Rattle.std.specs.Prelude.{◌≡◌, All, length};
+ghost use Rattle.std.specs.Fork.{AcceptsAt, ChangesAt};
+ghost use Rattle.library.specs.Inner.Threads.{ChangesAll};
 ghost use denote.Param.Send.{IsSend, IsSync};
 
-use crate::jobs::Job;
-use crate::libraries::Library;
-use ledgers::Parties;
 use std::marker::{Send, Sync};
-use std::sync::Wait;
 use std::thread;
 use std::thread::Threads;
-use tape_disk::Disk;
 
-// Carries the jobs out, each that has lines in a thread of its own; the last of these in this one.
-#[cycle(jobs)]
-pub(crate) fn serve_all<
-    D: Disk + Drop + Send,
-    B: Parties + Send + Sync,
-    H: Parties + Send + Sync,
-    R: Threads + Wait + Sync,
->(
+/// What may have nothing to do.
+pub(crate) trait Idle {
+    /// Whether it has nothing to do, so that a thread would be too much.
+    fn is_idle(&self) -> bool;
+}
+
+/// Calls a function at each of these, in order of their places. Each that has something to do has a thread of its own;
+/// of these the last has the caller's.
+#[cycle(each)]
+pub(crate) fn each_beside<R: Threads + Sync, T: Idle + Send, F: Fn(usize, &mut T) + Sync>(
     rt: &R,
-    library: &Library<D, B, H>,
-    jobs: &mut [Job<H>],
+    f: &F,
+    items: &mut [T],
 )
-    requires { All (IsReady library.now) jobs.old }
-    ensures { AreDone D.state jobs.old jobs.new }
+    requires { All (AcceptsAt F.Fn f.now 0) items.old }
+    ensures { ChangesAll F.Fn f.now items.old items.new }
 {
-    if jobs.is_empty() {
+    if items.is_empty() {
         return;
     }
-    let (first, rest) = jobs.split_at_mut(1);
-    if first[0].is_idle() {
-        serve_all(rt, library, rest);
-    } else if are_idle(rest) {
-        serve_first(rt, library, first);
+    let (first, rest) = items.split_at_mut(1);
+    if first[0].is_idle() || are_idle(rest) {
+        at_first(f, first);
+        each_beside(rt, f, rest);
     } else {
-        serve_beside(rt, library, first, rest);
+        first_beside(rt, f, first, rest);
     }
 }
 
-// Carries one job out in a new thread, and the others beside it.
-#[cycle(jobs)]
-fn serve_beside<
-    D: Disk + Drop + Send,
-    B: Parties + Send + Sync,
-    H: Parties + Send + Sync,
-    R: Threads + Wait + Sync,
->(
+// Calls it at one in a new thread, and at the others beside it.
+#[cycle(each)]
+fn first_beside<R: Threads + Sync, T: Idle + Send, F: Fn(usize, &mut T) + Sync>(
     rt: &R,
-    library: &Library<D, B, H>,
-    first: &mut [Job<H>],
-    rest: &mut [Job<H>],
+    f: &F,
+    first: &mut [T],
+    rest: &mut [T],
 )
     requires one { length first.old ≡ 1 }
-    requires first { All (IsReady library.now) first.old }
-    requires rest { All (IsReady library.now) rest.old }
-    ensures first { AreDone D.state first.old first.new }
-    ensures rest { AreDone D.state rest.old rest.new }
+    requires first { All (AcceptsAt F.Fn f.now 0) first.old }
+    requires rest { All (AcceptsAt F.Fn f.now 0) rest.old }
+    ensures first { ChangesAll F.Fn f.now first.old first.new }
+    ensures rest { ChangesAll F.Fn f.now rest.old rest.new }
 {
     let mut one = ||
-        requires { (length first.now ≡ 1) × All (IsReady library.now) first.now }
-        ensures { AreDone D.state first.entry.now first.exit.now }
-    { serve_first(rt, library, first) };
+        requires { IsSync F.row × (length first.now ≡ 1) × All (AcceptsAt F.Fn f.now 0) first.now }
+        ensures { ChangesAll F.Fn f.entry.now first.entry.now first.exit.now }
+    { at_first(f, first) };
     let mut others = ||
-        requires { IsSync R.row × IsSend D.row × IsSend B.row × IsSync B.row × IsSend H.row × IsSync H.row
-            × All (IsReady library.now) rest.now }
-        ensures { AreDone D.state rest.entry.now rest.exit.now }
-    { serve_all(rt, library, rest) };
+        requires { IsSync R.row × IsSync F.row × IsSend T.row × All (AcceptsAt F.Fn f.now 0) rest.now }
+        ensures { ChangesAll F.Fn f.entry.now rest.entry.now rest.exit.now }
+    { each_beside(rt, f, rest) };
     thread::join_mut(rt, &mut one, &mut others);
 }
 
-// Carries the only one of these jobs out.
-fn serve_first<D: Disk + Drop, B: Parties, H: Parties, R: Wait>(
-    rt: &R,
-    library: &Library<D, B, H>,
-    first: &mut [Job<H>],
-)
+// Calls it at the only one of these.
+fn at_first<T, F: Fn(usize, &mut T)>(f: &F, first: &mut [T])
     requires one { length first.old ≡ 1 }
-    requires ready { All (IsReady library.now) first.old }
-    ensures { AreDone D.state first.old first.new }
+    requires first { All (AcceptsAt F.Fn f.now 0) first.old }
+    ensures { ChangesAll F.Fn f.now first.old first.new }
 {
-    first[0].serve(rt, library);
+    at_one(f, &mut first[0]);
 }
 
-// Whether none of these jobs has a line.
-fn are_idle<H: Parties>(jobs: &[Job<H>]) -> bool
-    ensures { result ≡ true → All (λ job. job.lines ≡ []) jobs.now }
+// Calls it here.
+fn at_one<T, F: Fn(usize, &mut T)>(f: &F, item: &mut T)
+    requires { AcceptsAt F.Fn f.now 0 item.old }
+    ensures { ChangesAt F.Fn f.now 0 item.old item.new }
 {
-    jobs.iter().all(|job| job.is_idle())
+    f(0, item);
+}
+
+// Whether none of these has something to do.
+fn are_idle<T: Idle>(items: &[T]) -> bool {
+    for item in items {
+        if !item.is_idle() {
+            return false;
+        }
+    }
+    true
 }

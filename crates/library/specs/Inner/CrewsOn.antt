@@ -37,7 +37,8 @@ module _ {D : Type 0} (state : D → DiskState) where
   crew_on old mid new first rest replies others one two = record {
     drives = two.drives ∙ one.drives;
     orders =
-        subst (λ (orders : List Order). AnswersAllAmong state old.drives old.seats orders (replies ++ others) new.seats)
+        subst
+        (λ (orders : List Order). AnswersAllAmong state old.drives old.seats orders (replies ++ others) new.seats)
         (sym (flat_map-append orders_of first rest))
         (among_on old.drives old.seats mid.seats new.seats (flat_map orders_of first) (flat_map orders_of rest) replies
         others one.orders
