@@ -9,3 +9,4 @@ pub mod OutcomeLemmas
 pub mod RowLemmas
 pub mod SeenLemmas
 pub mod SessionLemmas
+pub mod ThreadLemmas

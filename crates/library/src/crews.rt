@@ -5,7 +5,7 @@ ghost use Rattle.vtl_script.specs.declared.items.Item.TheVariants as Kinds;
 ghost use Rattle.library.specs.Counts.{has_drive};
 ghost use Rattle.library.specs.Crews.{AnswersCrew};
 ghost use Rattle.library.specs.Inner.CrewsOn.{crew_empty, crew_none, crew_on};
-ghost use Rattle.library.specs.Inner.Jobs.{AreInPlace, seats_of};
+ghost use Rattle.library.specs.Inner.Jobs.{AreInPlace, ServesAll, seats_of};
 
 use crate::jobs::Job;
 use crate::libraries::Library;
@@ -13,9 +13,8 @@ use crate::phases::serve_phase;
 use ledgers::{Parties, Seat};
 use scsi_sense::Reply;
 use std::alloc::Global;
-use std::marker::{Model, Send, Sync};
+use std::marker::Model;
 use std::sync::Wait;
-use std::thread::Threads;
 use tape_disk::Disk;
 use vtl_base::{DriveNo, NoMemory};
 use vtl_script::{Item, Line, Runner};
@@ -23,21 +22,25 @@ use vtl_script::{Item, Line, Runner};
 /// The hosts of a library, each with its seat, from number 1 on. To a contract they are which drives there are, and the
 /// seats.
 #[derive(Drop)]
-pub(crate) struct Crew<'a, D: Disk, B: Parties, H: Parties, R> {
+pub(crate) struct Crew<'a, D: Disk, B: Parties, H: Parties, R, F> {
     rt: &'a R,
     library: &'a Library<D, B, H>,
     jobs: Vec<Job<H>>,
+    // Carries the lines of several hosts out, in threads. A method of a trait can start none by itself.
+    serve_all: F,
 }
 
-impl<'a, D: Disk, B: Parties, H: Parties, R> Model for Crew<'a, D, B, H, R> {
+impl<'a, D: Disk, B: Parties, H: Parties, R, F: Fn(&mut [Job<H>])> Model
+    for Crew<'a, D, B, H, R, F> {
     ghost use Rattle.library.specs.Crews.{CrewState};
-    ghost use Rattle.library.specs.Inner.Jobs.{AreInPlace, seats_of};
+    ghost use Rattle.library.specs.Inner.Jobs.{AreInPlace, ServesAll, seats_of};
 
     ghost Value = { CrewState };
 
     ghost view = { λ c. record { drives = c.library.now; seats = seats_of c.jobs.items } };
 
-    ghost invariant = { λ c. AreInPlace (seats_of c.jobs.items) };
+    ghost invariant = { λ c.
+        AreInPlace (seats_of c.jobs.items) × ServesAll D.state F.Fn c.serve_all c.library.now };
 }
 
 // Gives each seat a job.
@@ -64,7 +67,7 @@ fn seats_in<H: Parties>(room: Vec<Seat<H>>, jobs: Vec<Job<H>>) -> Vec<Seat<H>>
     seats
 }
 
-impl<'a, D: Disk + Drop, B: Parties, H: Parties, R> Crew<'a, D, B, H, R> {
+impl<'a, D: Disk + Drop, B: Parties, H: Parties, R, F: Fn(&mut [Job<H>])> Crew<'a, D, B, H, R, F> {
     /// The hosts of these seats, with room for what they do. It takes no memory.
     pub(crate) fn of(
         rt: &'a R,
@@ -72,7 +75,9 @@ impl<'a, D: Disk + Drop, B: Parties, H: Parties, R> Crew<'a, D, B, H, R> {
         library: &'a Library<D, B, H>,
         room: Vec<Job<H>>,
         seats: Vec<Seat<H>>,
-    ) -> Crew<'a, D, B, H, R>
+        serve_all: F,
+    ) -> Crew<'a, D, B, H, R, F>
+        requires serves { ServesAll D.state F.Fn serve_all library.now }
         requires room { (room.items ≡ []) × (length seats.items ≤ vec_capacity room) }
         requires places { AreInPlace seats.items }
         ensures { result ≡ record { drives = library.now; seats = seats.items } }
@@ -81,6 +86,7 @@ impl<'a, D: Disk + Drop, B: Parties, H: Parties, R> Crew<'a, D, B, H, R> {
             rt,
             library,
             jobs: jobs_of(alloc, room, seats),
+            serve_all,
         }
     }
 
@@ -110,7 +116,14 @@ impl<
     {
         let rt = self.rt;
         let library = self.library;
-        serve_phase(rt, alloc, library, self.jobs.as_mut_slice(), lines)
+        serve_phase(
+            rt,
+            alloc,
+            library,
+            &self.serve_all,
+            self.jobs.as_mut_slice(),
+            lines,
+        )
     }
 
     // Moves a cartridge. Where memory runs out nothing is moved.

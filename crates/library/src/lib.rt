@@ -14,6 +14,7 @@ mod phases;
 pub mod places;
 mod rows;
 pub mod runs;
+mod serving;
 mod sessions;
 mod shared;
 mod threads;

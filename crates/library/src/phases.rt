@@ -5,35 +5,29 @@ ghost use Rattle.std.specs.List.Sorted.{IsNonDecreasingBy};
 ghost use Rattle.bays.specs.Runs.{Command};
 ghost use Rattle.library.specs.Counts.{has_drive};
 ghost use Rattle.library.specs.Crews.{AnswersAllAmong};
-ghost use Rattle.library.specs.Inner.Jobs.{AreDone, AreInPlace, IsDealt, IsDone, IsReady, lines_of, replies_of, seats_of};
+ghost use Rattle.library.specs.Inner.Jobs.{AreDone, AreInPlace, IsDealt, IsReady, ServesAll, lines_of, replies_of, seats_of};
 
 use crate::jobs::Job;
 use crate::libraries::Library;
-use crate::threads::each_beside;
 use ledgers::Parties;
 use scsi_sense::Reply;
 use std::alloc::Global;
-use std::marker::{Send, Sync};
 use std::sync::Wait;
-use std::thread::Threads;
 use tape_disk::Disk;
 use vtl_base::NoMemory;
 use vtl_script::Line;
 
 /// Carries the lines of a phase out, and gives their replies. Those of one host run in this thread; of several hosts
 /// whose numbers rise, each host's in a thread of its own. Where memory runs out nothing is carried out.
-pub(crate) fn serve_phase<
-    D: Disk + Drop + Send,
-    B: Parties + Send + Sync,
-    H: Parties + Send + Sync,
-    R: Threads + Wait + Sync,
->(
+pub(crate) fn serve_phase<D: Disk + Drop, B: Parties, H: Parties, R: Wait, F: Fn(&mut [Job<H>])>(
     rt: &R,
     alloc: Global,
     library: &Library<D, B, H>,
+    serve_all: &F,
     jobs: &mut [Job<H>],
     lines: &mut [Line],
 ) -> Result<Vec<Reply>, NoMemory>
+    requires serves { ServesAll D.state F.Fn serve_all.now library.now }
     requires seats { AreInPlace (seats_of jobs.old) }
     requires configured { list_all (λ line. has_drive library.now line.drive) lines.old ≡ true }
     ensures ok { IfOk result (λ replies. AnswersAllAmong D.state library.now (seats_of jobs.old)
@@ -42,7 +36,7 @@ pub(crate) fn serve_phase<
     ensures seats { AreInPlace (seats_of jobs.new) }
 {
     if are_of_rising_hosts(lines) {
-        serve_in_threads(rt, alloc, library, jobs, lines)
+        serve_in_threads(alloc, library, serve_all, jobs, lines)
     } else {
         serve_in_turn(rt, alloc, library, jobs, lines)
     }
@@ -88,18 +82,14 @@ fn serve_in_turn<D: Disk + Drop, B: Parties, H: Parties, R: Wait>(
 }
 
 // Carries the lines of each host out in a thread of its own.
-fn serve_in_threads<
-    D: Disk + Drop + Send,
-    B: Parties + Send + Sync,
-    H: Parties + Send + Sync,
-    R: Threads + Wait + Sync,
->(
-    rt: &R,
+fn serve_in_threads<D: Disk + Drop, B: Parties, H: Parties, F: Fn(&mut [Job<H>])>(
     alloc: Global,
     library: &Library<D, B, H>,
+    serve_all: &F,
     jobs: &mut [Job<H>],
     lines: &mut [Line],
 ) -> Result<Vec<Reply>, NoMemory>
+    requires serves { ServesAll D.state F.Fn serve_all.now library.now }
     requires seats { AreInPlace (seats_of jobs.old) }
     requires rising { IsNonDecreasingBy (λ line. line.host) lines.old }
     requires configured { list_all (λ line. has_drive library.now line.drive) lines.old ≡ true }
@@ -111,26 +101,9 @@ fn serve_in_threads<
     let mut replies = Vec::with_capacity(alloc, lines.len())?;
     begin_all(jobs);
     deal_all(jobs, lines)?;
-    serve_all(rt, library, jobs);
+    serve_all(jobs);
     give_all(jobs, &mut replies);
     Ok(replies)
-}
-
-// Carries each host's lines out.
-fn serve_all<
-    D: Disk + Drop + Send,
-    B: Parties + Send + Sync,
-    H: Parties + Send + Sync,
-    R: Threads + Wait + Sync,
->(rt: &R, library: &Library<D, B, H>, jobs: &mut [Job<H>])
-    requires { All (IsReady library.now) jobs.old }
-    ensures { AreDone D.state jobs.old jobs.new }
-{
-    let serve = |_: usize, job: &mut Job<H>|
-        requires { IsReady library.now job.now }
-        ensures { IsDone D.state job.entry.now job.exit.now }
-    { job.serve(rt, library) };
-    each_beside(rt, &serve, jobs);
 }
 
 // Begins a phase for each host.

@@ -6,7 +6,7 @@ ghost use Rattle.ledgers.specs.Ledgers.{IsBlankOf};
 ghost use Rattle.vtl_script.specs.Runs.{RunsScript, TakesWithin};
 ghost use Rattle.library.specs.Counts.{AcceptedNone, has_drive, places_filled, which_are_there};
 ghost use Rattle.library.specs.Crews.{AnswersCrew};
-ghost use Rattle.library.specs.Inner.Jobs.{AreInPlace};
+ghost use Rattle.library.specs.Inner.Jobs.{AreDone, AreInPlace, IsReady};
 ghost use Rattle.library.specs.Ran.{EndsShared, RunsShared};
 
 use crate::beside::beside_flushers;
@@ -16,6 +16,7 @@ use crate::flushers::Gate;
 use crate::jobs::Job;
 use crate::libraries::Library;
 use crate::opening::NotOpened;
+use crate::serving::serve_all;
 use bays::{Bay, Parked};
 use changer::Slots;
 use ledgers::{Parties, Seat};
@@ -27,7 +28,7 @@ use std::sync::ledger::Blank;
 use std::thread::Threads;
 use tape_disk::Disk;
 use vtl_base::Nexus;
-use vtl_script::{ScriptFault, run_script};
+use vtl_script::{Runner, ScriptFault, run_script};
 
 /// What is left of a library over which a script was run.
 #[derive(Drop)]
@@ -39,64 +40,54 @@ pub struct Ran<D: Disk> {
 }
 
 // Runs the script, and then has every flusher end.
-fn run_and_close<
-    D: Disk + Drop + Send,
-    B: Parties + Send + Sync,
-    H: Parties + Send + Sync,
-    R: Threads + Wait + Sync,
-    I: Read,
-    O: Write,
->(
+fn run_and_close<D: Disk + Drop, B: Parties, H: Parties, R: Wait, P: Runner, I: Read, O: Write>(
     rt: &R,
     alloc: Global,
     library: &Library<D, B, H>,
-    crew: &mut Crew<'_, D, B, H, R>,
+    crew: &mut P,
     reader: &mut I,
     writer: &mut O,
 ) -> Result<(), ScriptFault>
-    ensures runs { RunsScript (has_drive crew.old.drives) (AnswersCrew D.state) crew.old
+    ensures runs { RunsScript (P.is_configured crew.old) P.answers crew.old
         (I.remaining reader.old) (O.contents writer.old) crew.new (O.contents writer.new) result }
     ensures past { result ≢ Err ScriptFault.ReadFault →
         TakesWithin (I.remaining reader.old) 0 (I.remaining reader.new) }
-    ensures drives { crew.new.drives ≡ crew.old.drives }
 {
     let outcome = run_script(alloc, crew, reader, writer);
     library.close(rt);
     outcome
 }
 
-// Runs the script for the hosts of these seats, with a flusher of each drive beside it.
-fn run_for<
-    'a,
+// Runs the script with a flusher of each drive beside it.
+fn run_beside<
     D: Disk + Drop + Send,
     B: Parties + Send + Sync,
     H: Parties + Send + Sync,
     R: Threads + Wait + Sync,
     G: Gate + Sync,
+    P: Runner,
     I: Read,
     O: Write,
 >(
-    rt: &'a R,
+    rt: &R,
     alloc: Global,
-    library: &'a Library<D, B, H>,
-    crew: &mut Crew<'a, D, B, H, R>,
+    library: &Library<D, B, H>,
     gate: &G,
+    crew: &mut P,
     reader: &mut I,
     writer: &mut O,
 ) -> Result<(), ScriptFault>
-    ensures runs { RunsScript (has_drive crew.old.drives) (AnswersCrew D.state) crew.old
+    ensures runs { RunsScript (P.is_configured crew.old) P.answers crew.old
         (I.remaining reader.old) (O.contents writer.old) crew.new (O.contents writer.new) result }
     ensures past { result ≢ Err ScriptFault.ReadFault →
         TakesWithin (I.remaining reader.old) 0 (I.remaining reader.new) }
-    ensures drives { crew.new.drives ≡ crew.old.drives }
 {
     let mut work = || -> Result<(), ScriptFault>
-        ensures runs { RunsScript (has_drive crew.entry.now.drives) (AnswersCrew D.state) crew.entry.now
+        ensures runs { RunsScript (P.is_configured crew.entry.now) P.answers crew.entry.now
             (I.remaining reader.entry.now) (O.contents writer.entry.now) crew.exit.now
             (O.contents writer.exit.now) result }
         ensures past { result ≢ Err ScriptFault.ReadFault →
             TakesWithin (I.remaining reader.entry.now) 0 (I.remaining reader.exit.now) }
-        ensures drives { crew.exit.now.drives ≡ crew.entry.now.drives }
     { run_and_close(rt, alloc, library, crew, reader, writer) };
     beside_flushers(rt, library, gate, 1, &mut work)
 }
@@ -139,8 +130,12 @@ fn run_opened<
         TakesWithin (I.remaining reader.old) 0 (I.remaining reader.new) }
     ensures places { AreInPlace result.seats.items }
 {
-    let mut crew = Crew::of(rt, alloc, library, jobs, seats);
-    let outcome = run_for(rt, alloc, library, &mut crew, gate, reader, writer);
+    let serve = |jobs: &mut [Job<H>]|
+        requires { All (IsReady library.now) jobs.now }
+        ensures { AreDone D.state jobs.entry.now jobs.exit.now }
+    { serve_all(rt, library, jobs) };
+    let mut crew = Crew::of(rt, alloc, library, jobs, seats, serve);
+    let outcome = run_beside(rt, alloc, library, gate, &mut crew, reader, writer);
     RanFor {
         seats: crew.into_seats(room),
         outcome,

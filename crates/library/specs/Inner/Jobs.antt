@@ -1,6 +1,8 @@
 -- The jobs of the hosts in a phase.
 use Rattle.std.specs.Prelude.{◌≡◌, ◌≤◌, ◌<◌, ◌+◌, ℕ, nat_eq, Bool, true, List, [], flat_map, map, length, slice_index_or}
-use Rattle.std.specs.List.{list_all}
+use Rattle.std.specs.List.{All, list_all}
+use denote.Ref.{MutBor}
+use denote.Param.Members.{Shared}
 use Rattle.vtl_base.specs.declared.limits.TheConstants.{NEXUSES}
 use Rattle.tape_disk.specs.Disk.{DiskState}
 use Rattle.ledgers.specs.Ledgers.{SeatState}
@@ -51,3 +53,12 @@ module _ {D : Type 0} (state : D → DiskState) where
 pub record AreInPlace (seats : List SeatState) : Type 0 where
   pub all : length seats ≡ NEXUSES
   pub each : (i : ℕ) (d : SeatState) → i < NEXUSES → (slice_index_or seats i d).nexus ≡ i + 1
+
+module _ {D F : Type 0} (state : D → DiskState)
+    (g : Shared F (MutBor (List JobState) × Unit {0}) ((Unit {0}) × (MutBor (List JobState) × Unit {0}))) (f : F) where
+  -- a function may be called with jobs that are ready at these drives, and then they are done
+  pub record ServesAll (drives : List Bool) : Type 0 where
+    pub may : (jobs : MutBor (List JobState)) → All (IsReady drives) jobs.now → g.pre f (jobs, tt)
+    pub does :
+        (jobs after : MutBor (List JobState)) → g.post f (jobs, tt) (tt, (after, tt))
+        → AreDone state jobs.now after.now
