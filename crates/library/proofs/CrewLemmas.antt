@@ -1,6 +1,6 @@
 -- Seats of hosts that are answered.
-use Rattle.std.proofs.Common.{zero, suc, ◌≡◌, ◌≢◌, ◌≤◌, ◌<◌, ◌+◌, ◌⊎◌, inl, inr, ℕ, Bool, List, [], ◌∷◌, ◌++◌, length, get_or, set, map, Some, refl, sym, ap, ◌∙◌, subst, arith}
-use Rattle.std.proofs.lemmas.List.{append_assoc, get_or-map, get_or-set_other, get_or-set_same, length-map, length-set, map-append, map-set}
+use Rattle.std.proofs.Common.{zero, suc, ◌≡◌, ◌≢◌, ◌≤◌, ◌<◌, ◌+◌, ◌⊎◌, inl, inr, ℕ, Bool, List, [], ◌∷◌, ◌++◌, length, get_or, set, map, Some, Result, Ok, Err, IfOk, refl, sym, ap, ◌∙◌, subst, arith}
+use Rattle.std.proofs.lemmas.List.{append-nil, append_assoc, get_or-map, get_or-set_other, get_or-set_same, length-map, length-set, map-append, map-set}
 use Rattle.std.proofs.lemmas.Option.{slice_get_within, unwrap_or-slice_get}
 use Rattle.std.specs.List.{slice_get}
 use Rattle.tape_disk.specs.Disk.{DiskState}
@@ -9,9 +9,11 @@ use Rattle.ledgers.specs.Ledgers.{SeatState}
 use Rattle.vtl_script.specs.declared.lines.Line.{Line}
 use Rattle.bays.proofs.PlaceLemmas.{same_or_not}
 use Rattle.bays.specs.Runs.{Command, Carry, Order, line_request}
-use Rattle.library.specs.Crews.{AnswersAllAmong, AnswersLine}
+use Rattle.vtl_script.specs.declared.items.Item.TheVariants.{Phase, Move}
+use Rattle.library.specs.Crews.{AnswersAllAmong, AnswersCrew, AnswersLine, CrewState}
 use Rattle.library.specs.Inner.CrewsOn.{among_on}
 use Rattle.library.specs.Inner.Jobs.{AreDone, AreInPlace, JobState, lines_of, replies_of, seats_of}
+use Rattle.library.specs.MovesAt.{IsMovedAmong}
 use Rattle.library.specs.Served.{IsServed}
 use Rattle.library.specs.Sessions.{AnswersSession}
 
@@ -35,6 +37,18 @@ module _ {X : Type 0} where
   found [] i d x is = absurd (cc)
   found (y ∷ xs) zero d x is = cc
   found (y ∷ xs) (suc i) d x is = found xs i d x is
+
+-- there is a job for each host
+pub jobs_are : (jobs : List JobState) → AreInPlace (seats_of jobs) → length jobs ≡ 64
+jobs_are jobs places = sym (length-map jobs (λ (j : JobState). j.seat)) ∙ places.all
+
+-- the job of a host has its place
+pub host_at : (jobs : List JobState) (i : ℕ) (d : JobState) (host : ℕ) → AreInPlace (seats_of jobs) → i < 64
+    → i + 1 ≡ host → host ≡ (get_or jobs i d).seat.nexus
+host_at jobs i d host places within is =
+    sym is ∙ sym (places.each i d.seat within)
+    ∙ ap (λ (s : SeatState). s.nexus)
+    (get_or-map (λ (j : JobState). j.seat) jobs i d d.seat (omega (arith, within, jobs_are jobs places)))
 
 module _ {D : Type 0} (state : D → DiskState) where
   -- a line is answered for the host of a job
@@ -141,3 +155,22 @@ module _ {D : Type 0} (state : D → DiskState) where
       stay_in_place drives done.0 new orders replies done.2 (subst AreInPlace (sym done.1.1) places)
   stay_in_place drives old new [] (reply ∷ replies) done places = absurd done
   stay_in_place drives old new (order ∷ orders) [] done places = absurd done
+
+  -- where a phase's lines are answered, the crew answers the phase
+  pub phase_answers : {V E : Type 0} (items : V → List Reply) (drives : List Bool) (old new : List SeatState)
+      (lines : List Line) (result : Result V E)
+      → IfOk result (λ v. AnswersAllAmong state drives old (map Command lines) (items v) new)
+      → IfOk result (λ v. AnswersCrew state (record { drives = drives; seats = old }) (Phase lines ∷ []) (items v)
+      (record { drives = drives; seats = new }))
+  phase_answers items drives old new lines (Ok v) done = record {
+    drives = refl;
+    orders =
+        subst (λ (orders : List Order). AnswersAllAmong state drives old orders (items v) new)
+        (sym (append-nil (map Command lines))) done;
+  }
+  phase_answers items drives old new lines (Err fault) done = tt
+
+  -- where a cartridge is moved, the crew answers the move
+  pub move_answers : (crew : CrewState) (from to : ℕ) (reply : Reply) → IsMovedAmong state crew.drives from to reply
+      → AnswersCrew state crew (Move from to ∷ []) (reply ∷ []) crew
+  move_answers crew from to reply moved = record { drives = refl; orders = (crew.seats, (moved, refl), refl) }

@@ -1,12 +1,14 @@
 -- Jobs of hosts, one of which changes.
-use Rattle.std.proofs.Common.{zero, suc, ◌≡◌, ◌≤◌, ◌<◌, ◌+◌, ◌&&◌, ℕ, Bool, true, false, List, [], ◌∷◌, ◌++◌, length, get_or, set, take, drop, map, flat_map, refl, sym, ap, ◌∙◌, subst, arith}
+use Rattle.std.proofs.Common.{zero, suc, ◌≡◌, ◌≤◌, ◌<◌, ◌+◌, ◌&&◌, ℕ, nat_eq, Bool, true, false, List, [], ◌∷◌, ◌++◌, length, get_or, set, take, drop, map, flat_map, refl, sym, ap, ◌∙◌, subst, arith}
+use Rattle.std.proofs.lemmas.Bool.Decides.{nat_tests}
 use Rattle.std.proofs.lemmas.Grind.{flat_map-append}
 use Rattle.std.proofs.lemmas.List.{append-nil, append_assoc, take_more}
 use Rattle.std.proofs.lemmas.List.Folds.{list_all-append}
 use Rattle.std.specs.List.{All, list_all}
 use Rattle.scsi_sense.specs.declared.replies.Reply.{Reply}
 use Rattle.vtl_script.specs.declared.lines.Line.{Line}
-use Rattle.library.specs.Inner.Jobs.{JobState, lines_of, replies_of}
+use Rattle.ledgers.specs.Ledgers.{SeatState}
+use Rattle.library.specs.Inner.Jobs.{IsDealt, JobState, lines_of, replies_of}
 
 -- no job has a line
 no_lines : (jobs : List JobState) → ((k : ℕ) (d : JobState) → k < length jobs → (get_or jobs k d).lines ≡ [])
@@ -57,3 +59,27 @@ lines_pass p (job ∷ jobs) all zero d within =
 lines_pass p (job ∷ jobs) all (suc k) d within =
     lines_pass p jobs (both_pass _ _ (sym (list_all-append p job.lines (lines_of jobs)) ∙ all)).1 k d
     (omega (arith, within))
+
+-- numbers that are equal are found equal
+equal_is : (a b : ℕ) → a ≡ b → nat_eq a b ≡ true
+equal_is a b same = grind (arith, nat_tests)
+
+both_are : (a b : Bool) → a ≡ true → b ≡ true → (a && b) ≡ true
+both_are true true one two = refl
+both_are true false one two = two
+both_are false b one two = one
+
+-- a job takes a line of its host
+pub dealt_on : (old new : JobState) (line : Line) → IsDealt old → new.seat ≡ old.seat → new.replies ≡ old.replies
+    → new.lines ≡ old.lines ++ line ∷ [] → length new.lines ≤ new.room → line.host ≡ old.seat.nexus → IsDealt new
+dealt_on old new line dealt seat replies lines room host =
+    let of_host : (Line → Bool) = λ (l : Line). nat_eq l.host old.seat.nexus in
+    let one : list_all of_host (line ∷ []) ≡ true = both_are _ _ (equal_is line.host old.seat.nexus host) refl in
+    record {
+      host =
+          subst (λ (s : SeatState). list_all (λ (l : Line). nat_eq l.host s.nexus) new.lines ≡ true) (sym seat)
+          (ap (list_all of_host) lines ∙ list_all-append of_host old.lines (line ∷ [])
+          ∙ both_are _ _ dealt.host one);
+      none = replies ∙ dealt.none;
+      room = room;
+    }

@@ -22,7 +22,7 @@ use vtl_script::{Item, Line, Runner};
 /// The hosts of a library, each with its seat, from number 1 on. To a contract they are which drives there are, and the
 /// seats.
 #[derive(Drop)]
-pub(crate) struct Crew<'a, D: Disk, B: Parties, H: Parties, R, F> {
+pub(crate) struct Crew<'a, D: Disk, B: Parties, H: Parties, R, F: Fn(&mut [Job<H>])> {
     rt: &'a R,
     library: &'a Library<D, B, H>,
     jobs: Vec<Job<H>>,
@@ -99,13 +99,14 @@ impl<'a, D: Disk + Drop, B: Parties, H: Parties, R, F: Fn(&mut [Job<H>])> Crew<'
     }
 }
 
-impl<
+impl<'a, D: Disk + Drop, B: Parties, H: Parties, R: Wait, F: Fn(&mut [Job<H>])> Crew<
     'a,
-    D: Disk + Drop + Send,
-    B: Parties + Send + Sync,
-    H: Parties + Send + Sync,
-    R: Threads + Wait + Sync,
-> Crew<'a, D, B, H, R> {
+    D,
+    B,
+    H,
+    R,
+    F,
+> {
     // Carries the lines of a phase out. Where memory runs out nothing is carried out.
     fn run_lines(&mut self, alloc: Global, lines: &mut [Line]) -> Result<Vec<Reply>, NoMemory>
         requires { list_all (λ line. has_drive self.old.drives line.drive) lines.old ≡ true }
@@ -141,13 +142,8 @@ impl<
     }
 }
 
-impl<
-    'a,
-    D: Disk + Drop + Send,
-    B: Parties + Send + Sync,
-    H: Parties + Send + Sync,
-    R: Threads + Wait + Sync,
-> Runner for Crew<'a, D, B, H, R> {
+impl<'a, D: Disk + Drop, B: Parties, H: Parties, R: Wait, F: Fn(&mut [Job<H>])> Runner
+    for Crew<'a, D, B, H, R, F> {
     ghost is_configured = { λ crew. has_drive crew.drives };
 
     ghost answers = { AnswersCrew D.state };
