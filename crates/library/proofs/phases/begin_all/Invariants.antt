@@ -5,7 +5,7 @@ use Rattle.library.proofs.phases.begin_all.Given as goal
 -- the jobs so far have no line and no reply, and each has its seat still
 abbrev pub invariant-loop-job : goal.invariant-loop-job
 invariant-loop-job g l = record {
-  seats : seats_of l.jobs ≡ seats_of l.fn.jobs;
+  seats : seats_of l.job-items ≡ seats_of l.fn.jobs;
   none : (k : ℕ) (d : JobState) → k < l.job-index
-      → ((get_or l.jobs k d).lines ≡ []) × ((get_or l.jobs k d).replies ≡ []);
+      → ((get_or l.job-items k d).lines ≡ []) × ((get_or l.job-items k d).replies ≡ []);
 }

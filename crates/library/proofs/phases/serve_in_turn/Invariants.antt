@@ -10,7 +10,7 @@ use Rattle.library.proofs.phases.serve_in_turn.Given as goal
 abbrev pub invariant-loop-line : goal.invariant-loop-line
 invariant-loop-line g l = record {
   answered :
-      AnswersAllAmong g.D.Disk.state l.library.now (seats_of l.fn.jobs) (map Command (take l.line-index l.fn.lines))
+      AnswersAllAmong g.D.Disk.state l.library (seats_of l.fn.jobs) (map Command (take l.line-index l.fn.lines))
       l.replies.items (seats_of l.jobs);
   counted : vec_len l.replies ≡ l.line-index;
   room : length l.fn.lines ≤ vec_capacity l.replies;
