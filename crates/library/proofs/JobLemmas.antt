@@ -11,7 +11,7 @@ use Rattle.ledgers.specs.Ledgers.{SeatState}
 use Rattle.library.specs.Inner.Jobs.{IsDealt, JobState, lines_of, replies_of}
 
 -- no job has a line
-no_lines : (jobs : List JobState) → ((k : ℕ) (d : JobState) → k < length jobs → (get_or jobs k d).lines ≡ [])
+pub no_lines : (jobs : List JobState) → ((k : ℕ) (d : JobState) → k < length jobs → (get_or jobs k d).lines ≡ [])
     → lines_of jobs ≡ []
 no_lines [] none = refl
 no_lines (job ∷ jobs) none =
@@ -83,3 +83,11 @@ dealt_on old new line dealt seat replies lines room host =
       none = replies ∙ dealt.none;
       room = room;
     }
+
+-- a job with no line
+pub dealt_none : (job : JobState) → job.lines ≡ [] → job.replies ≡ [] → IsDealt job
+dealt_none job lines replies = record {
+  host = ap (list_all (λ (l : Line). nat_eq l.host job.seat.nexus)) lines;
+  none = replies;
+  room = omega (arith, ap length lines);
+}

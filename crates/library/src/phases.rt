@@ -1,7 +1,8 @@
 //! A phase: the lines of several hosts in threads of their own, those of one host in the caller's.
-ghost use Rattle.std.specs.Prelude.{◌≡◌, ◌≤◌, [], true, map, length, vec_capacity, IfOk, OnErr, OnOk, All};
+ghost use Rattle.std.specs.Prelude.{◌≡◌, ◌≤◌, ◌<◌, ◌+◌, [], true, map, length, vec_capacity, IfOk, OnErr, OnOk, All};
 ghost use Rattle.std.specs.List.{list_all};
 ghost use Rattle.std.specs.List.Sorted.{IsNonDecreasingBy};
+ghost use Rattle.vtl_base.specs.declared.limits.TheConstants.{NEXUSES};
 ghost use Rattle.bays.specs.Runs.{Command};
 ghost use Rattle.library.specs.Counts.{has_drive};
 ghost use Rattle.library.specs.Crews.{AnswersAllAmong};
@@ -57,6 +58,14 @@ fn are_of_rising_hosts(lines: &[Line]) -> bool
     }
 }
 
+// The place of the job of a line's host.
+fn job_place(line: &Line) -> usize
+    ensures place { result + 1 ≡ line.now.host }
+    ensures range { result < NEXUSES }
+{
+    usize::from(line.host.number()) - 1
+}
+
 // Carries the lines out one after another.
 fn serve_in_turn<D: Disk + Drop, B: Parties, H: Parties, R: Wait>(
     rt: &R,
@@ -74,7 +83,7 @@ fn serve_in_turn<D: Disk + Drop, B: Parties, H: Parties, R: Wait>(
 {
     let mut replies = Vec::with_capacity(alloc, lines.len())?;
     for line in lines {
-        let place = line.host.place();
+        let place = job_place(line);
         let reply = jobs[place].serve_line(rt, library, line);
         replies.push(reply).unwrap();
     }
@@ -126,7 +135,7 @@ fn deal_all<H: Parties>(jobs: &mut [Job<H>], lines: &mut [Line]) -> Result<(), N
     ensures lines { OnOk result (lines_of jobs.new ≡ lines.old) }
 {
     for line in lines {
-        let place = line.host.place();
+        let place = job_place(line);
         jobs[place].add(line)?;
     }
     Ok(())
