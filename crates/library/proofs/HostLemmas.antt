@@ -6,7 +6,7 @@ use Rattle.std.proofs.lemmas.Map.Keys.{IsDistinct-from_apart}
 use Rattle.std.specs.List.{IsDistinct, range_with_len}
 use Rattle.ledgers.specs.Ledgers.{SeatState}
 use Rattle.library.specs.Counts.{new_seat}
-use Rattle.library.specs.Inner.Jobs.{AreInPlace}
+use Rattle.library.specs.Inner.InPlace.{AreInPlace}
 
 -- numbers that differ are not found equal
 unequal_if : (a b : ℕ) → a ≢ b → nat_eq a b ≡ false

@@ -1,4 +1,3 @@
 pub mod CrewsOn
 pub mod Ending
-pub mod Jobs
-pub mod Threads
+pub mod InPlace

@@ -1,13 +1,12 @@
 //! The hosts of a library, for which the items of a script are run.
-ghost use Rattle.std.specs.Prelude.{◌≡◌, ◌≤◌, [], ◌∷◌, true, length, vec_capacity, IfOk, OnErr};
+ghost use Rattle.std.specs.Prelude.{◌≡◌, [], ◌∷◌, true, IfOk, OnErr};
 ghost use Rattle.std.specs.List.{list_all};
 ghost use Rattle.vtl_script.specs.declared.items.Item.TheVariants as Kinds;
 ghost use Rattle.library.specs.Counts.{has_drive};
 ghost use Rattle.library.specs.Crews.{AnswersCrew};
 ghost use Rattle.library.specs.Inner.CrewsOn.{crew_empty, crew_none, crew_on};
-ghost use Rattle.library.specs.Inner.Jobs.{AreInPlace, ServesAll, seats_of};
+ghost use Rattle.library.specs.Inner.InPlace.{AreInPlace};
 
-use crate::jobs::Job;
 use crate::libraries::Library;
 use crate::phases::serve_phase;
 use ledgers::{Parties, Seat};
@@ -22,91 +21,45 @@ use vtl_script::{Item, Line, Runner};
 /// The hosts of a library, each with its seat, from number 1 on. To a contract they are which drives there are, and the
 /// seats.
 #[derive(Drop)]
-pub(crate) struct Crew<'a, D: Disk, B: Parties, H: Parties, R, F: Fn(&mut [Job<H>])> {
+pub(crate) struct Crew<'a, D: Disk, B: Parties, H: Parties, R> {
     rt: &'a R,
     library: &'a Library<D, B, H>,
-    jobs: Vec<Job<H>>,
-    // Carries the lines of several hosts out, in threads. A method of a trait can start none by itself.
-    serve_all: F,
+    seats: Vec<Seat<H>>,
 }
 
-impl<'a, D: Disk, B: Parties, H: Parties, R, F: Fn(&mut [Job<H>])> Model
-    for Crew<'a, D, B, H, R, F> {
+impl<'a, D: Disk, B: Parties, H: Parties, R> Model for Crew<'a, D, B, H, R> {
     ghost use Rattle.library.specs.Crews.{CrewState};
-    ghost use Rattle.library.specs.Inner.Jobs.{AreInPlace, ServesAll, seats_of};
+    ghost use Rattle.library.specs.Inner.InPlace.{AreInPlace};
 
     ghost Value = { CrewState };
 
-    ghost view = { λ c. record { drives = c.library.now; seats = seats_of c.jobs.items } };
+    ghost view = { λ c. record { drives = c.library.now; seats = c.seats.items } };
 
-    ghost invariant = { λ c.
-        AreInPlace (seats_of c.jobs.items) × ServesAll D.state F.Fn c.serve_all c.library.now };
+    ghost invariant = { λ c. AreInPlace c.seats.items };
 }
 
-// Gives each seat a job.
-fn jobs_of<H: Parties>(alloc: Global, room: Vec<Job<H>>, seats: Vec<Seat<H>>) -> Vec<Job<H>>
-    requires { (room.items ≡ []) × (length seats.items ≤ vec_capacity room) }
-    ensures { seats_of result.items ≡ seats.items }
-{
-    let mut jobs = room;
-    for seat in seats {
-        jobs.push(Job::of(alloc, seat)).unwrap();
-    }
-    jobs
-}
-
-// Takes the seats out of their jobs.
-fn seats_in<H: Parties>(room: Vec<Seat<H>>, jobs: Vec<Job<H>>) -> Vec<Seat<H>>
-    requires { (room.items ≡ []) × (length jobs.items ≤ vec_capacity room) }
-    ensures { result.items ≡ seats_of jobs.items }
-{
-    let mut seats = room;
-    for job in jobs {
-        seats.push(job.into_seat()).unwrap();
-    }
-    seats
-}
-
-impl<'a, D: Disk + Drop, B: Parties, H: Parties, R, F: Fn(&mut [Job<H>])> Crew<'a, D, B, H, R, F> {
-    /// The hosts of these seats, with room for what they do. It takes no memory.
+impl<'a, D: Disk + Drop, B: Parties, H: Parties, R> Crew<'a, D, B, H, R> {
+    /// The hosts of these seats.
     pub(crate) fn of(
         rt: &'a R,
-        alloc: Global,
         library: &'a Library<D, B, H>,
-        room: Vec<Job<H>>,
         seats: Vec<Seat<H>>,
-        serve_all: F,
-    ) -> Crew<'a, D, B, H, R, F>
-        requires serves { ServesAll D.state F.Fn serve_all library.now }
-        requires room { (room.items ≡ []) × (length seats.items ≤ vec_capacity room) }
-        requires places { AreInPlace seats.items }
+    ) -> Crew<'a, D, B, H, R>
+        requires { AreInPlace seats.items }
         ensures { result ≡ record { drives = library.now; seats = seats.items } }
     {
-        Crew {
-            rt,
-            library,
-            jobs: jobs_of(alloc, room, seats),
-            serve_all,
-        }
+        Crew { rt, library, seats }
     }
 
-    /// The seats. It takes no memory.
-    pub(crate) fn into_seats(self, room: Vec<Seat<H>>) -> Vec<Seat<H>>
-        requires { (room.items ≡ []) × (length self.seats ≤ vec_capacity room) }
-        ensures { result.items ≡ self.entry.seats }
+    /// The seats.
+    pub(crate) fn into_seats(self) -> Vec<Seat<H>>
+        ensures { result.items ≡ self.seats }
     {
-        seats_in(room, self.jobs)
+        self.seats
     }
 }
 
-impl<'a, D: Disk + Drop, B: Parties, H: Parties, R: Wait, F: Fn(&mut [Job<H>])> Crew<
-    'a,
-    D,
-    B,
-    H,
-    R,
-    F,
-> {
+impl<'a, D: Disk + Drop, B: Parties, H: Parties, R: Wait> Crew<'a, D, B, H, R> {
     // Carries the lines of a phase out. Where memory runs out nothing is carried out.
     fn run_lines(&mut self, alloc: Global, lines: &mut [Line]) -> Result<Vec<Reply>, NoMemory>
         requires { list_all (λ line. has_drive self.old.drives line.drive) lines.old ≡ true }
@@ -117,14 +70,7 @@ impl<'a, D: Disk + Drop, B: Parties, H: Parties, R: Wait, F: Fn(&mut [Job<H>])> 
     {
         let rt = self.rt;
         let library = self.library;
-        serve_phase(
-            rt,
-            alloc,
-            library,
-            &self.serve_all,
-            self.jobs.as_mut_slice(),
-            lines,
-        )
+        serve_phase(rt, alloc, library, self.seats.as_mut_slice(), lines)
     }
 
     // Moves a cartridge. Where memory runs out nothing is moved.
@@ -142,8 +88,7 @@ impl<'a, D: Disk + Drop, B: Parties, H: Parties, R: Wait, F: Fn(&mut [Job<H>])> 
     }
 }
 
-impl<'a, D: Disk + Drop, B: Parties, H: Parties, R: Wait, F: Fn(&mut [Job<H>])> Runner
-    for Crew<'a, D, B, H, R, F> {
+impl<'a, D: Disk + Drop, B: Parties, H: Parties, R: Wait> Runner for Crew<'a, D, B, H, R> {
     ghost is_configured = { λ crew. has_drive crew.drives };
 
     ghost answers = { AnswersCrew D.state };

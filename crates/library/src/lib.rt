@@ -6,7 +6,6 @@ mod crews;
 pub mod finishing;
 pub mod flushers;
 pub mod inventories;
-mod jobs;
 pub mod libraries;
 mod moving;
 pub mod opening;
@@ -14,10 +13,8 @@ mod phases;
 pub mod places;
 mod rows;
 pub mod runs;
-mod serving;
 mod sessions;
 mod shared;
-mod threads;
 
 pub use bays::{Bay, NotOn, Parked};
 pub use finishing::{FinishError, Finished};

@@ -1,22 +1,20 @@
 //! A script that is run over a library whose drives threads share.
-ghost use Rattle.std.specs.Prelude.{◌≡◌, ◌≢◌, ◌≤◌, Err, [], IfOk, IfErr, length, vec_capacity, All};
+ghost use Rattle.std.specs.Prelude.{◌≡◌, ◌≢◌, Err, IfOk, IfErr, length, All};
 ghost use Rattle.std.specs.List.{range_with_len};
 ghost use Rattle.vtl_base.specs.declared.limits.TheConstants.{DRIVES, NEXUSES};
 ghost use Rattle.ledgers.specs.Ledgers.{IsBlankOf};
 ghost use Rattle.vtl_script.specs.Runs.{RunsScript, TakesWithin};
 ghost use Rattle.library.specs.Counts.{AcceptedNone, has_drive, places_filled, which_are_there};
 ghost use Rattle.library.specs.Crews.{AnswersCrew};
-ghost use Rattle.library.specs.Inner.Jobs.{AreDone, AreInPlace, IsReady};
+ghost use Rattle.library.specs.Inner.InPlace.{AreInPlace};
 ghost use Rattle.library.specs.Ran.{EndsShared, RunsShared};
 
 use crate::beside::beside_flushers;
 use crate::crews::Crew;
 use crate::finishing::Finished;
 use crate::flushers::Gate;
-use crate::jobs::Job;
 use crate::libraries::Library;
 use crate::opening::NotOpened;
-use crate::serving::serve_all;
 use bays::{Bay, Parked};
 use changer::Slots;
 use ledgers::{Parties, Seat};
@@ -114,15 +112,11 @@ fn run_opened<
     alloc: Global,
     library: &'a Library<D, B, H>,
     seats: Vec<Seat<H>>,
-    jobs: Vec<Job<H>>,
-    room: Vec<Seat<H>>,
     gate: &G,
     reader: &mut I,
     writer: &mut O,
 ) -> RanFor<H>
-    requires places { AreInPlace seats.items }
-    requires jobs { (jobs.items ≡ []) × (length seats.items ≤ vec_capacity jobs) }
-    requires room { (room.items ≡ []) × (length seats.items ≤ vec_capacity room) }
+    requires { AreInPlace seats.items }
     ensures runs { RunsScript (has_drive library.now) (AnswersCrew D.state)
         (record { drives = library.now; seats = seats.items }) (I.remaining reader.old) (O.contents writer.old)
         (record { drives = library.now; seats = result.seats.items }) (O.contents writer.new) result.outcome }
@@ -130,22 +124,18 @@ fn run_opened<
         TakesWithin (I.remaining reader.old) 0 (I.remaining reader.new) }
     ensures places { AreInPlace result.seats.items }
 {
-    let serve = |jobs: &mut [Job<H>]|
-        requires { All (IsReady library.now) jobs.now }
-        ensures { AreDone D.state jobs.entry.now jobs.exit.now }
-    { serve_all(rt, library, jobs) };
-    let mut crew = Crew::of(rt, alloc, library, jobs, seats, serve);
+    let mut crew = Crew::of(rt, library, seats);
     let outcome = run_beside(rt, alloc, library, gate, &mut crew, reader, writer);
     RanFor {
-        seats: crew.into_seats(room),
+        seats: crew.into_seats(),
         outcome,
     }
 }
 
 /// Runs a script over these drives, each in the place of its number, and these slots, for hosts that have the numbers
-/// from 1 to 64, and writes a line for each reply. Each host's lines of a phase run in a thread of its own, and each
-/// drive has a flusher. At the end all threads are joined, and every buffer is written out. Where memory runs out
-/// before the script begins all comes back, and nothing is read or written.
+/// from 1 to 64, and writes a line for each reply. The lines run in the caller's thread, and beside it a flusher of
+/// each drive in a thread of its own. At the end all threads are joined, and every buffer is written out. Where memory
+/// runs out before the script begins all comes back, and nothing is read or written.
 pub fn run_library<
     D: Disk + Drop + Send,
     B: Parties + Send + Sync,
@@ -180,22 +170,6 @@ pub fn run_library<
         × (back.bay_ledger ≡ bay_ledger) × (back.host_ledger ≡ host_ledger)
         × (reader.new ≡ reader.old) × (writer.new ≡ writer.old)) }
 {
-    let Ok(jobs) = Vec::with_capacity(alloc, hosts.len()) else {
-        return Err(NotOpened {
-            bays,
-            slots,
-            bay_ledger,
-            host_ledger,
-        });
-    };
-    let Ok(room) = Vec::with_capacity(alloc, hosts.len()) else {
-        return Err(NotOpened {
-            bays,
-            slots,
-            bay_ledger,
-            host_ledger,
-        });
-    };
     let (library, seats) = Library::<D, B, H>::new(
         alloc,
         bays,
@@ -204,9 +178,7 @@ pub fn run_library<
         bay_ledger,
         host_ledger,
     )?;
-    let RanFor { seats, outcome } = run_opened(
-        rt, alloc, &library, seats, jobs, room, gate, reader, writer,
-    );
+    let RanFor { seats, outcome } = run_opened(rt, alloc, &library, seats, gate, reader, writer);
     Ok(Ran {
         finished: library.finish(rt, seats),
         outcome,
