@@ -53,7 +53,8 @@ impl<'a, D: Disk + Drop, B: Parties, H: Parties, R> Crew<'a, D, B, H, R> {
 
     /// The seats.
     pub(crate) fn into_seats(self) -> Vec<Seat<H>>
-        ensures { result.items ≡ self.seats }
+        ensures seats { result.items ≡ self.entry.seats }
+        ensures places { AreInPlace result.items }
     {
         self.seats
     }
