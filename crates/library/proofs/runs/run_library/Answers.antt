@@ -1,4 +1,4 @@
-use Rattle.std.proofs.Common.{◌≡◌, List, Bool, map, sym, subst, ◌∙◌, arith}
+use Rattle.std.proofs.Common.{List, Bool, map, sym, subst, ◌∙◌, arith}
 use Rattle.ledgers.specs.Ledgers.{SeatState}
 use Rattle.vtl_script.specs.Runs.{RunsScript}
 use Rattle.library.specs.Counts.{has_drive, new_seat}
@@ -44,6 +44,10 @@ returns-clause-ends g c = record {
   written = c.finish.ensures.written;
   all =
       c.finish.ensures.all
-      (omega (arith, c.run_opened-seats.result.seats.ok, c.run_opened-seats.ensures.places.all,
-      c.requires.host_ledger.1));
+      (omega (
+        arith,
+        c.run_opened-seats.result.seats.ok,
+        c.run_opened-seats.ensures.places.all,
+        c.requires.host_ledger.1,
+      ));
 }
