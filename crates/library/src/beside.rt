@@ -13,8 +13,8 @@ use std::thread::Threads;
 use tape_disk::Disk;
 use vtl_base::DriveNo;
 
-/// Does some work while a flusher of each configured drive, from this number on, takes turns in a thread of its own, and
-/// waits until all have ended. The work ends with `close`. A flusher for which no thread can be made comes after
+/// Does some work while a flusher of each configured drive, from this number on, takes turns in a thread of its own,
+/// and waits until all have ended. The work ends with `close`. A flusher for which no thread can be made comes after
 /// the work, and so ends at once.
 pub(crate) fn beside_flushers<
     D: Disk + Drop + Send,

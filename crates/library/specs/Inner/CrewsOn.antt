@@ -42,6 +42,7 @@ module _ {D : Type 0} (state : D → DiskState) where
         (sym (flat_map-append orders_of first rest))
         (among_on old.drives old.seats mid.seats new.seats (flat_map orders_of first) (flat_map orders_of rest) replies
         others one.orders
-        (subst (λ (drives : List Bool). AnswersAllAmong state drives mid.seats (flat_map orders_of rest) others new.seats)
+        (subst
+        (λ (drives : List Bool). AnswersAllAmong state drives mid.seats (flat_map orders_of rest) others new.seats)
         one.drives two.orders));
   }

@@ -5,8 +5,8 @@ use Rattle.library.specs.Crews.{AnswersAllAmong}
 use Rattle.library.specs.Inner.InPlace.{AreInPlace}
 use Rattle.library.proofs.phases.serve_phase.Given as goal
 
--- the lines so far were answered, there is room for all replies, the seats are in their places, and the other lines have
--- their data still
+-- the lines so far were answered, there is room for all replies, the seats are in their places, and the other lines
+-- have their data still
 abbrev pub invariant-loop-line : goal.invariant-loop-line
 invariant-loop-line g l = record {
   answered :

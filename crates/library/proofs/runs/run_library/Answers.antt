@@ -27,7 +27,8 @@ returns-clause-runs g c =
       runs =
           subst
           (λ (drives : List Bool). RunsScript (has_drive drives) (AnswersCrew state)
-          (record { drives = drives; seats = map new_seat c.args.hosts.now }) left before (record { drives = drives; seats = after }) now outcome)
+          (record { drives = drives; seats = map new_seat c.args.hosts.now }) left before
+          (record { drives = drives; seats = after }) now outcome)
           c.in_ok-library.ensures.drives
           (subst
           (λ (seats : List SeatState). RunsScript (has_drive c.in_ok-library.library) (AnswersCrew state)
