@@ -1,5 +1,7 @@
 pub mod CountLemmas
+pub mod CrewLemmas
 pub mod EndLemmas
+pub mod HostLemmas
 pub mod LentLemmas
 pub mod LoopLemmas
 pub mod OutcomeLemmas

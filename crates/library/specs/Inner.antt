@@ -1,1 +1,3 @@
+pub mod CrewsOn
 pub mod Ending
+pub mod InPlace

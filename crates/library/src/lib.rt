@@ -1,14 +1,18 @@
 //! A library that threads share: each drive behind a lock of its own, the slots behind one, and two ledgers of changes.
 #![tactic(auto)]
 
+mod beside;
+mod crews;
 pub mod finishing;
 pub mod flushers;
 pub mod inventories;
 pub mod libraries;
 mod moving;
 pub mod opening;
+mod phases;
 pub mod places;
 mod rows;
+pub mod runs;
 mod sessions;
 mod shared;
 
@@ -20,3 +24,4 @@ pub use ledgers::{Parties, Seat};
 pub use libraries::Library;
 pub use opening::NotOpened;
 pub use places::Place;
+pub use runs::{Ran, run_library};

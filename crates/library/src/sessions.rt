@@ -40,7 +40,7 @@ impl<D: Disk + Drop, B: Parties, H: Parties> Library<D, B, H> {
     }
 
     // Carries the command of a line out, by the drive that it names. Its data are taken where they become a block.
-    fn serve_line<R: Wait>(&self, rt: &R, seat: &mut Seat<H>, line: &mut Line) -> Reply
+    pub(crate) fn serve_line<R: Wait>(&self, rt: &R, seat: &mut Seat<H>, line: &mut Line) -> Reply
         requires host { line.old.host ≡ seat.old.nexus }
         requires configured { has_drive self.now line.old.drive ≡ true }
         ensures { IsServed D.state (line_request line.old) seat.old result seat.new }
