@@ -1,0 +1,84 @@
+-- What a library has just before a script is run over it, and just after.
+use Rattle.std.proofs.Common.{◌≡◌, ◌≢◌, ◌⊎◌, inl, inr, ℕ, zero, suc, ◌+◌, ◌-◌, ◌≤◌, ◌<◌, nat_eq, nat_le, Bool, true, false, List, [], ◌∷◌, length, map, get_or, Option, None, Some, is_some, Ok, refl, sym, ap, ◌∙◌, arith, cond, subst}
+use Rattle.std.proofs.lemmas.Bool.Decides.{nat_tests}
+use Rattle.std.proofs.lemmas.List.{length-map}
+use Rattle.std.proofs.lemmas.List.Elements.{All-from_get_or}
+use Rattle.std.specs.List.{AllByRecursion, IsDistinct, range_with_len}
+use Rattle.tape_disk.specs.Disk.{DiskState}
+use Rattle.tape_buffer.specs.Moves.{buffer_below}
+use Rattle.tape_buffer.specs.State.{BufferState, state_of}
+use Rattle.aptpl_store.specs.Kept.{store_kept}
+use Rattle.aptpl_store.specs.State.{OpenStore}
+use Rattle.pr_core.specs.declared.states.PrState.{PrState}
+use Rattle.drive_core.specs.Media.{SwitchesOn}
+use Rattle.bays.specs.Elements.{BayState, HeldState, bay_at}
+use Rattle.library.specs.Counts.{AcceptedNone, which_are_there}
+use Rattle.vtl_config.specs.declared.entries.CartridgeEntry.{CartridgeEntry}
+use Rattle.vtl_config.specs.declared.entries.DriveEntry.{DriveEntry}
+use Rattle.vtl_program.specs.Program.{IsFresh}
+use Rattle.vtl_program.specs.Starting.{IsBuiltIn, IsDriveOf, IsStarted}
+use Rattle.vtl_program.proofs.DistinctLemmas.{same_or_not}
+
+-- a number differs from all behind it
+behind : (number from count : ℕ) → number < from
+    → AllByRecursion (λ (other : ℕ). nat_eq number other ≡ false) (range_with_len from count)
+behind number from zero below = tt
+behind number from (suc count) below =
+    (grind (arith, nat_tests), behind number (from + 1) count (omega (arith, below)))
+
+pub numbers_differ : (from count : ℕ) → IsDistinct nat_eq (range_with_len from count)
+numbers_differ from zero = tt
+numbers_differ from (suc count) = (behind from (from + 1) count (omega arith), numbers_differ (from + 1) count)
+
+module _ {D : Type 0} where
+  -- the drive in a place of a row
+  at_place : (bays : List (Option (BayState D))) (place : ℕ) → bay_at bays (place + 1) ≡ get_or bays place None
+  at_place bays place =
+      let is : nat_le 1 (place + 1) ≡ true = grind (arith, nat_tests) in
+      let back : place + 1 - 1 ≡ place = omega arith in
+      ap (λ (b : Bool). cond b (get_or bays (place + 1 - 1) None) None) is
+      ∙ ap (λ (i : ℕ). get_or bays i None) back
+
+  all_fresh : (held : HeldState D) → ((number : ℕ) → AcceptedNone (bay_at held.bays number)) → IsFresh held
+  all_fresh held each =
+      All-from_get_or (λ (bay : Option (BayState D)). AcceptedNone bay) held.bays None
+      (λ place within.
+      subst (λ (bay : Option (BayState D)). AcceptedNone bay) (at_place held.bays place) (each (place + 1)))
+
+  -- a drive that was just switched on has accepted nothing
+  fresh_on : (state : D → DiskState) (cartridge : Option (BufferState D)) (left : PrState) (store : OpenStore D)
+      (bay : BayState D)
+      → SwitchesOn (state_of state) (buffer_below state) cartridge left store (Ok bay) → bay.accepted ≡ 0
+  fresh_on state None left store bay on = ap (λ (b : BayState D). b.accepted) on
+  fresh_on state (Some cartridge) left store bay (woke, opened, inside, wakes, is, on) =
+      ap (λ (b : BayState D). b.accepted) on
+
+  pub started_fresh : (gives : CartridgeEntry → BufferState D → Type 0) (state : D → DiskState)
+      (stores : DriveEntry → OpenStore D → Type 0) (entries : List CartridgeEntry) (drives : List DriveEntry)
+      (held : HeldState D) → IsStarted gives state stores entries drives held → IsFresh held
+  started_fresh gives state stores entries drives held started =
+      all_fresh held (λ number. by number (bay_at held.bays number) (started.bays number))
+    where
+      by : (number : ℕ) (found : Option (BayState D)) → IsDriveOf gives state stores entries drives number found
+          → AcceptedNone found
+      by number None none = refl
+      by number (Some bay) on = fresh_on state on.3.cartridge _ on.3.store bay on.3.on
+
+  pub built_in_fresh : (state : D → DiskState) (barcode capacities : List ℕ) (held : HeldState D)
+      → IsBuiltIn state barcode capacities held → IsFresh held
+  built_in_fresh state barcode capacities held built =
+      all_fresh held (λ number. by number (same_or_not number 1))
+    where
+      by : (number : ℕ) → (number ≡ 1) ⊎ (number ≢ 1) → AcceptedNone (bay_at held.bays number)
+      by number (inl same) =
+          subst (λ (bay : Option (BayState D)). AcceptedNone bay)
+          (sym (ap (λ (n : ℕ). bay_at held.bays n) same ∙ built.here))
+          (fresh_on state (Some built.cartridge) _ built.store built.bay built.on)
+      by number (inr differs) =
+          subst (λ (bay : Option (BayState D)). AcceptedNone bay) (sym (built.others number differs)) refl
+
+-- rows with the same places filled have as many
+pub as_many : {X Y : Type 0} (one : List (Option X)) (other : List (Option Y))
+    → which_are_there other ≡ which_are_there one → length other ≡ length one
+as_many one other same =
+    sym (length-map other is_some) ∙ ap (λ (row : List Bool). length row) same ∙ length-map one is_some
