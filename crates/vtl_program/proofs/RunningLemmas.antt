@@ -15,7 +15,7 @@ use Rattle.bays.specs.Elements.{BayState, HeldState, bay_at}
 use Rattle.library.specs.Counts.{AcceptedNone, which_are_there}
 use Rattle.vtl_config.specs.declared.entries.CartridgeEntry.{CartridgeEntry}
 use Rattle.vtl_config.specs.declared.entries.DriveEntry.{DriveEntry}
-use Rattle.vtl_program.specs.Program.{IsFresh}
+use Rattle.vtl_program.specs.Program.{HaveAcceptedNone}
 use Rattle.vtl_program.specs.Starting.{IsBuiltIn, IsDriveOf, IsStarted}
 use Rattle.vtl_program.proofs.DistinctLemmas.{same_or_not}
 
@@ -39,7 +39,7 @@ module _ {D : Type 0} where
       ap (λ (b : Bool). cond b (get_or bays (place + 1 - 1) None) None) is
       ∙ ap (λ (i : ℕ). get_or bays i None) back
 
-  all_fresh : (held : HeldState D) → ((number : ℕ) → AcceptedNone (bay_at held.bays number)) → IsFresh held
+  all_fresh : (held : HeldState D) → ((number : ℕ) → AcceptedNone (bay_at held.bays number)) → HaveAcceptedNone held
   all_fresh held each =
       All-from_get_or (λ (bay : Option (BayState D)). AcceptedNone bay) held.bays None
       (λ place within.
@@ -55,7 +55,7 @@ module _ {D : Type 0} where
 
   pub started_fresh : (gives : CartridgeEntry → BufferState D → Type 0) (state : D → DiskState)
       (stores : DriveEntry → OpenStore D → Type 0) (entries : List CartridgeEntry) (drives : List DriveEntry)
-      (held : HeldState D) → IsStarted gives state stores entries drives held → IsFresh held
+      (held : HeldState D) → IsStarted gives state stores entries drives held → HaveAcceptedNone held
   started_fresh gives state stores entries drives held started =
       all_fresh held (λ number. by number (bay_at held.bays number) (started.bays number))
     where
@@ -65,7 +65,7 @@ module _ {D : Type 0} where
       by number (Some bay) on = fresh_on state on.3.cartridge _ on.3.store bay on.3.on
 
   pub built_in_fresh : (state : D → DiskState) (barcode capacities : List ℕ) (held : HeldState D)
-      → IsBuiltIn state barcode capacities held → IsFresh held
+      → IsBuiltIn state barcode capacities held → HaveAcceptedNone held
   built_in_fresh state barcode capacities held built =
       all_fresh held (λ number. by number (same_or_not number 1))
     where

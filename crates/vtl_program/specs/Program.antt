@@ -33,8 +33,8 @@ abbrev pub every_nexus : List ℕ
 every_nexus = range_with_len 1 NEXUSES
 
 -- the drives of a library accepted no change since they were switched on (own)
-abbrev pub IsFresh : {D : Type 0} → HeldState D → Type 0
-IsFresh held = All AcceptedNone held.bays
+abbrev pub HaveAcceptedNone : {D : Type 0} → HeldState D → Type 0
+HaveAcceptedNone held = All AcceptedNone held.bays
 
 -- a library as threads share it before its script: which drives there are, and a seat for each host (own)
 abbrev pub shared_of : {D : Type 0} → HeldState D → SharedState

@@ -4,7 +4,7 @@ ghost use Rattle.vtl_config.specs.Configs.{Says};
 ghost use Rattle.vtl_words.specs.Orders.{asked_of, texts_of};
 ghost use Rattle.vtl_program.specs.Files.{answers_of};
 ghost use Rattle.vtl_program.specs.Orders.{AnswersWords, ChecksOrder, CreatesOrder, DoesOrder, Obeys, RunsConfig, RunsOrder, RunsProgram, given_words};
-ghost use Rattle.vtl_program.specs.Program.{IsFresh, RunsFrom};
+ghost use Rattle.vtl_program.specs.Program.{HaveAcceptedNone, RunsFrom};
 ghost use Rattle.vtl_program.specs.Sides.{file_sides};
 
 use crate::checking::{Checked, check_side};
@@ -44,7 +44,7 @@ pub fn run_started<
     reader: &mut I,
     writer: &mut W,
 ) -> Result<(), VtlFault>
-    requires { IfOk start IsFresh }
+    requires { IfOk start HaveAcceptedNone }
     ensures { RunsFrom D.state S.closes_all start (I.remaining reader.old) (I.remaining reader.new)
         (W.contents writer.old) (W.contents writer.new) result }
 {

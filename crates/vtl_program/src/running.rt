@@ -1,7 +1,7 @@
 //! A script is run over a library whose drives threads share.
 ghost use Rattle.std.specs.Prelude.{◌≡◌};
 ghost use Rattle.library.specs.Counts.{places_filled};
-ghost use Rattle.vtl_program.specs.Program.{IsFresh, RunsHeld, every_nexus, outcome_of};
+ghost use Rattle.vtl_program.specs.Program.{HaveAcceptedNone, RunsHeld, every_nexus, outcome_of};
 
 use crate::pace::Pace;
 use crate::programs::VtlFault;
@@ -76,7 +76,7 @@ pub fn run_shared<D: Disk + Drop + Send, R: Threads + Wait + Clock + Sync, I: Re
     reader: &mut I,
     writer: &mut W,
 ) -> Left<D>
-    requires { IsFresh held }
+    requires { HaveAcceptedNone held }
     ensures { RunsHeld D.state held (I.remaining reader.old) (I.remaining reader.new)
         (W.contents writer.old) (W.contents writer.new) result.held result.outcome }
 {
