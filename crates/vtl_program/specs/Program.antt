@@ -1,5 +1,5 @@
 -- What the program does over its streams (own).
-use Rattle.std.specs.Prelude.{◌≡◌, ◌≢◌, ◌⊎◌, ℕ, Bool, true, false, List, Option, Result, Ok, Err, IfOk, OnOk, OnErr, map}
+use Rattle.std.specs.Prelude.{◌≡◌, ◌≢◌, ◌⊎◌, ℕ, Bool, true, false, List, Option, Result, Ok, Err, OnOk, OnErr}
 use Rattle.std.specs.Io.KnownBytes.{Appends, Keeps}
 use Rattle.std.specs.List.{All, range_with_len}
 use Rattle.vtl_base.specs.declared.limits.TheConstants.{NEXUSES}
@@ -8,9 +8,8 @@ use Rattle.vtl_script.specs.declared.faults.ScriptFault.TheVariants.{ReadFault}
 use Rattle.tape_disk.specs.Disk.{DiskState}
 use Rattle.bays.specs.Elements.{HeldState, bay_at}
 use Rattle.bays.specs.Finish.{HasFailedAt, IsWrittenAt}
-use Rattle.library.specs.Counts.{AcceptedNone, has_drive, new_seat, which_are_there}
-use Rattle.library.specs.Ends.{counts_of, sum_of_counts, sum_of_seats}
-use Rattle.library.specs.Running.{SharedAnswers, SharedState}
+use Rattle.library.specs.Counts.{AcceptedNone, which_are_there}
+use Rattle.library.specs.Ran.{RunsShared}
 use Rattle.library.specs.declared.finishing.FinishError.{FinishError}
 use Rattle.vtl_program.specs.declared.programs.Verdict.{Verdict}
 use Rattle.vtl_program.specs.declared.programs.Verdict.TheVariants.{Done, Refused}
@@ -18,7 +17,7 @@ use Rattle.vtl_program.specs.declared.programs.VtlFault.{VtlFault}
 use Rattle.vtl_program.specs.declared.programs.VtlFault.TheVariants.{Device, NoMemory}
 use Rattle.vtl_program.specs.declared.programs.Ended.{Ended}
 use Rattle.vtl_program.specs.Faults.{fault_of, status_of, whole_line}
-use Rattle.vtl_script.specs.Runs.{RunsScript, TakesWithin}
+use Rattle.vtl_script.specs.Runs.{TakesWithin}
 use Rattle.vtl_script.specs.Text.{AppendsPart}
 
 -- the program's outcome, by how its script ended and whether all was then written out: the first fault decides (own)
@@ -36,10 +35,6 @@ every_nexus = range_with_len 1 NEXUSES
 abbrev pub HaveAcceptedNone : {D : Type 0} → HeldState D → Type 0
 HaveAcceptedNone held = All AcceptedNone held.bays
 
--- a library as threads share it before its script: which drives there are, and a seat for each host (own)
-abbrev pub shared_of : {D : Type 0} → HeldState D → SharedState
-shared_of held = record { drives = which_are_there held.bays; seats = map new_seat every_nexus }
-
 -- nothing was read, and nothing was written (own)
 abbrev pub IsIdle : (left left' before now : Option (List ℕ)) → Type 0
 IsIdle left left' before now = Keeps left left' × Keeps before now
@@ -47,25 +42,22 @@ IsIdle left left' before now = Keeps left left' × Keeps before now
 -- A script was run over this library by threads that shared it: each command was answered by its drive in some state.
 -- Then every buffer was written out, and the library is this. It has the drives that it had; nothing is left to be
 -- written of any, or what is loaded in one has failed. No more was read than a script may have (own).
-pub record RunsShared {D : Type 0} (state : D → DiskState) (old : HeldState D)
+pub record RunsStarted {D : Type 0} (state : D → DiskState) (old : HeldState D)
     (left left' before now : Option (List ℕ)) (new : HeldState D) (outcome : Result (Unit {0}) VtlFault) : Type 0 where
-  pub end : SharedState
   pub ended : Result (Unit {0}) ScriptFault
   pub counts : Result (List (Option ℕ)) FinishError
-  pub runs : RunsScript (has_drive (which_are_there old.bays)) (SharedAnswers state) (shared_of old) left before end now ended
+  pub runs : RunsShared state old.bays every_nexus left before now ended new.bays counts
   pub takes : ended ≢ Err ReadFault → TakesWithin left 0 left'
   pub drives : which_are_there new.bays ≡ which_are_there old.bays
   pub written : OnOk counts ((number : ℕ) → IsWrittenAt state (bay_at new.bays number))
   pub unwritten : OnErr counts ((number : ℕ) × HasFailedAt state (bay_at new.bays number))
-  pub counted :
-      IfOk counts (λ each. (each ≡ counts_of new.bays) × (sum_of_counts each ≡ sum_of_seats end.seats))
   pub outcome_is : outcome ≡ outcome_of ended counts
 
 -- a script was run so; or memory ran out before it, nothing was read or written, and the library is what it was (own)
 abbrev pub RunsHeld : {D : Type 0} → (D → DiskState) → (old : HeldState D)
     → (left left' before now : Option (List ℕ)) → (new : HeldState D) → Result (Unit {0}) VtlFault → Type 0
 RunsHeld state old left left' before now new outcome =
-    RunsShared state old left left' before now new outcome
+    RunsStarted state old left left' before now new outcome
     ⊎ (outcome ≡ Err NoMemory) × (new ≡ old) × IsIdle left left' before now
 
 -- a script was run over the library that was started, and it was handed back as it was then; where none was started,
