@@ -1,9 +1,9 @@
 -- What a library has just before a script is run over it, and just after.
-use Rattle.std.proofs.Common.{◌≡◌, ◌≢◌, ◌⊎◌, inl, inr, ℕ, zero, suc, ◌+◌, ◌-◌, ◌≤◌, ◌<◌, nat_eq, nat_le, Bool, true, false, List, [], ◌∷◌, length, map, get_or, Option, None, Some, is_some, Ok, refl, sym, ap, ◌∙◌, arith, cond, subst}
+use Rattle.std.proofs.Common.{◌≡◌, ◌≢◌, ◌⊎◌, inl, inr, ℕ, zero, suc, ◌+◌, ◌-◌, ◌≤◌, ◌<◌, nat_eq, nat_le, Bool, true, false, List, [], ◌∷◌, length, map, get_or, Option, None, Some, is_some, Result, Ok, Err, IfOk, refl, sym, ap, ◌∙◌, arith, cond, subst}
 use Rattle.std.proofs.lemmas.Bool.Decides.{nat_tests}
-use Rattle.std.proofs.lemmas.List.{length-map}
+use Rattle.std.proofs.lemmas.List.{ext_get_or, length-map}
 use Rattle.std.proofs.lemmas.List.Elements.{All-from_get_or}
-use Rattle.std.specs.List.{AllByRecursion, IsDistinct, range_with_len}
+use Rattle.std.proofs.lemmas.List.FromFn.{get_or-range_with_len, length-range_with_len}
 use Rattle.tape_disk.specs.Disk.{DiskState}
 use Rattle.tape_buffer.specs.Moves.{buffer_below}
 use Rattle.tape_buffer.specs.State.{BufferState, state_of}
@@ -15,20 +15,11 @@ use Rattle.bays.specs.Elements.{BayState, HeldState, bay_at}
 use Rattle.library.specs.Counts.{AcceptedNone, which_are_there}
 use Rattle.vtl_config.specs.declared.entries.CartridgeEntry.{CartridgeEntry}
 use Rattle.vtl_config.specs.declared.entries.DriveEntry.{DriveEntry}
-use Rattle.vtl_program.specs.Program.{HaveAcceptedNone}
+use Rattle.vtl_program.specs.declared.programs.VtlFault.{VtlFault}
+use Rattle.vtl_program.specs.Orders.{IsStart}
+use Rattle.vtl_program.specs.Program.{HaveAcceptedNone, every_nexus}
 use Rattle.vtl_program.specs.Starting.{IsBuiltIn, IsDriveOf, IsStarted}
 use Rattle.vtl_program.proofs.DistinctLemmas.{same_or_not}
-
--- a number differs from all behind it
-behind : (number from count : ℕ) → number < from
-    → AllByRecursion (λ (other : ℕ). nat_eq number other ≡ false) (range_with_len from count)
-behind number from zero below = tt
-behind number from (suc count) below =
-    (grind (arith, nat_tests), behind number (from + 1) count (omega (arith, below)))
-
-pub numbers_differ : (from count : ℕ) → IsDistinct nat_eq (range_with_len from count)
-numbers_differ from zero = tt
-numbers_differ from (suc count) = (behind from (from + 1) count (omega arith), numbers_differ (from + 1) count)
 
 module _ {D : Type 0} where
   -- the drive in a place of a row
@@ -76,6 +67,32 @@ module _ {D : Type 0} where
           (fresh_on state (Some built.cartridge) _ built.store built.bay built.on)
       by number (inr differs) =
           subst (λ (bay : Option (BayState D)). AcceptedNone bay) (sym (built.others number differs)) refl
+
+module _ {D : Type 0} where
+  -- the same of a start
+  pub if_started_fresh : (gives : CartridgeEntry → BufferState D → Type 0) (state : D → DiskState)
+      (stores : DriveEntry → OpenStore D → Type 0) (entries : List CartridgeEntry) (drives : List DriveEntry)
+      (start : Result (HeldState D) VtlFault) → IfOk start (IsStarted gives state stores entries drives)
+      → IfOk start HaveAcceptedNone
+  if_started_fresh gives state stores entries drives (Ok held) started =
+      started_fresh gives state stores entries drives held started
+  if_started_fresh gives state stores entries drives (Err fault) started = tt
+
+  pub if_built_in_fresh : (state : D → DiskState) (barcode capacities : List ℕ) (IsNot : VtlFault → Type 0)
+      (start : Result (HeldState D) VtlFault) → IsStart (IsBuiltIn state barcode capacities) IsNot start
+      → IfOk start HaveAcceptedNone
+  if_built_in_fresh state barcode capacities IsNot (Ok held) built =
+      built_in_fresh state barcode capacities held built
+  if_built_in_fresh state barcode capacities IsNot (Err fault) built = tt
+
+-- so many hosts, each with the number of its place, are all
+pub every_one : (hosts : List ℕ) → length hosts ≡ 64 → ((k : ℕ) → k < 64 → get_or hosts k 0 ≡ k + 1)
+    → hosts ≡ every_nexus
+every_one hosts long each =
+    ext_get_or 0 hosts every_nexus (long ∙ sym (length-range_with_len 1 64))
+    (λ i within.
+    let below : i < 64 = omega (arith, within, long) in
+    each i below ∙ omega arith ∙ sym (get_or-range_with_len 1 64 i 0 below))
 
 -- rows with the same places filled have as many
 pub as_many : {X Y : Type 0} (one : List (Option X)) (other : List (Option Y))

@@ -1,15 +1,14 @@
 -- What the program does over its streams (own).
-use Rattle.std.specs.Prelude.{◌≡◌, ◌≢◌, ◌⊎◌, ℕ, Bool, true, false, List, Option, Result, Ok, Err, OnOk, OnErr}
+use Rattle.std.specs.Prelude.{◌≡◌, ◌≢◌, ◌⊎◌, ℕ, Bool, true, false, List, Option, Result, Ok, Err}
 use Rattle.std.specs.Io.KnownBytes.{Appends, Keeps}
 use Rattle.std.specs.List.{All, range_with_len}
 use Rattle.vtl_base.specs.declared.limits.TheConstants.{NEXUSES}
 use Rattle.vtl_script.specs.declared.faults.ScriptFault.{ScriptFault}
 use Rattle.vtl_script.specs.declared.faults.ScriptFault.TheVariants.{ReadFault}
 use Rattle.tape_disk.specs.Disk.{DiskState}
-use Rattle.bays.specs.Elements.{HeldState, bay_at}
-use Rattle.bays.specs.Finish.{HasFailedAt, IsWrittenAt}
-use Rattle.library.specs.Counts.{AcceptedNone, which_are_there}
-use Rattle.library.specs.Ran.{RunsShared}
+use Rattle.bays.specs.Elements.{HeldState}
+use Rattle.library.specs.Counts.{AcceptedNone}
+use Rattle.library.specs.Ran.{EndsShared, RunsShared}
 use Rattle.library.specs.declared.finishing.FinishError.{FinishError}
 use Rattle.vtl_program.specs.declared.programs.Verdict.{Verdict}
 use Rattle.vtl_program.specs.declared.programs.Verdict.TheVariants.{Done, Refused}
@@ -39,18 +38,16 @@ HaveAcceptedNone held = All AcceptedNone held.bays
 abbrev pub IsIdle : (left left' before now : Option (List ℕ)) → Type 0
 IsIdle left left' before now = Keeps left left' × Keeps before now
 
--- A script was run over this library by threads that shared it: each command was answered by its drive in some state.
--- Then every buffer was written out, and the library is this. It has the drives that it had; nothing is left to be
--- written of any, or what is loaded in one has failed. No more was read than a script may have (own).
+-- A script was run for all hosts over this library, by threads that shared it: each command was answered by a drive in
+-- some state. Then every buffer was written out, and the library is this: it has the drives that it had, and nothing is
+-- left to be written of any, or what is loaded in one has failed. No more was read than a script may have (own).
 pub record RunsStarted {D : Type 0} (state : D → DiskState) (old : HeldState D)
     (left left' before now : Option (List ℕ)) (new : HeldState D) (outcome : Result (Unit {0}) VtlFault) : Type 0 where
   pub ended : Result (Unit {0}) ScriptFault
   pub counts : Result (List (Option ℕ)) FinishError
   pub runs : RunsShared state old.bays every_nexus left before now ended new.bays counts
   pub takes : ended ≢ Err ReadFault → TakesWithin left 0 left'
-  pub drives : which_are_there new.bays ≡ which_are_there old.bays
-  pub written : OnOk counts ((number : ℕ) → IsWrittenAt state (bay_at new.bays number))
-  pub unwritten : OnErr counts ((number : ℕ) × HasFailedAt state (bay_at new.bays number))
+  pub ends : EndsShared state old.bays new.bays counts
   pub outcome_is : outcome ≡ outcome_of ended counts
 
 -- a script was run so; or memory ran out before it, nothing was read or written, and the library is what it was (own)
