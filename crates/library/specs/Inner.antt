@@ -1,1 +1,4 @@
+pub mod CrewsOn
 pub mod Ending
+pub mod Jobs
+pub mod Threads

@@ -1,7 +1,9 @@
 pub mod Counts
+pub mod Crews
 pub mod Ends
 pub mod Inner
 pub mod MovesAt
+pub mod Ran
 pub mod Seen
 pub mod Served
 pub mod Sessions

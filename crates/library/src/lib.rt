@@ -1,16 +1,23 @@
 //! A library that threads share: each drive behind a lock of its own, the slots behind one, and two ledgers of changes.
 #![tactic(auto)]
 
+mod beside;
+mod crews;
 pub mod finishing;
 pub mod flushers;
 pub mod inventories;
+mod jobs;
 pub mod libraries;
 mod moving;
 pub mod opening;
+mod phases;
 pub mod places;
 mod rows;
+pub mod runs;
+mod serving;
 mod sessions;
 mod shared;
+mod threads;
 
 pub use bays::{Bay, NotOn, Parked};
 pub use finishing::{FinishError, Finished};
@@ -20,3 +27,4 @@ pub use ledgers::{Parties, Seat};
 pub use libraries::Library;
 pub use opening::NotOpened;
 pub use places::Place;
+pub use runs::{Ran, run_library};

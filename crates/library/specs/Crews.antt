@@ -1,0 +1,45 @@
+-- What the hosts of a library are answered whose drives threads share.
+use Rattle.std.specs.Prelude.{◌≡◌, ℕ, Bool, List, [], ◌∷◌, Some, flat_map, slice_get, slice_set}
+use Rattle.tape_disk.specs.Disk.{DiskState}
+use Rattle.ledgers.specs.Ledgers.{SeatState}
+use Rattle.scsi_sense.specs.declared.replies.Reply.{Reply}
+use Rattle.vtl_script.specs.declared.items.Item.{Item}
+use Rattle.vtl_script.specs.declared.lines.Line.{Line}
+use Rattle.bays.specs.Runs.{Order, Command, Carry, line_request, orders_of}
+use Rattle.library.specs.MovesAt.{IsMovedAmong}
+use Rattle.library.specs.Served.{IsServed}
+
+-- the hosts of a library: whether there is a drive, by its number, and the seat of each host (own)
+pub record CrewState : Type 0 where
+  pub drives : List Bool
+  pub seats : List SeatState
+
+module _ {D : Type 0} (state : D → DiskState) where
+  -- A line is answered for its host, whose seat, which has some place, grows by what the reply tells. The other seats
+  -- stay (own).
+  pub record AnswersLine (old : List SeatState) (line : Line) (reply : Reply) (new : List SeatState) : Type 0 where
+    pub place : ℕ
+    pub before : SeatState
+    pub after : SeatState
+    pub seat : slice_get old place ≡ Some before
+    pub served : IsServed state (line_request line) before reply after
+    pub seats : new ≡ slice_set old place after
+
+  -- an order is answered: a line for its host; a move as MOVE MEDIUM is among these drives, and each seat stays (SMC-3,
+  -- MOVE MEDIUM; the rest own)
+  abbrev pub AnswersAmong : List Bool → List SeatState → Order → Reply → List SeatState → Type 0
+  AnswersAmong drives old (Command line) reply new = AnswersLine old line reply new
+  AnswersAmong drives old (Carry from to) reply new = IsMovedAmong state drives from to reply × (new ≡ old)
+
+  -- orders are answered one after another, each from where the one before left the seats (own)
+  abbrev pub AnswersAllAmong : List Bool → List SeatState → List Order → List Reply → List SeatState → Type 0
+  AnswersAllAmong drives old [] [] new = new ≡ old
+  AnswersAllAmong drives old (order ∷ orders) (reply ∷ replies) new =
+      (mid : List SeatState) × AnswersAmong drives old order reply mid × AnswersAllAmong drives mid orders replies new
+  AnswersAllAmong drives old [] (reply ∷ replies) new = ⊥
+  AnswersAllAmong drives old (order ∷ orders) [] new = ⊥
+
+  -- the hosts of a library are answered some items so, one after another, and its drives stay in their places (own)
+  pub record AnswersCrew (old : CrewState) (items : List Item) (replies : List Reply) (new : CrewState) : Type 0 where
+    pub drives : new.drives ≡ old.drives
+    pub orders : AnswersAllAmong old.drives old.seats (flat_map orders_of items) replies new.seats

@@ -1,0 +1,214 @@
+//! A script that is run over a library whose drives threads share.
+ghost use Rattle.std.specs.Prelude.{◌≡◌, ◌≢◌, ◌≤◌, Err, [], IfOk, IfErr, length, vec_capacity, All};
+ghost use Rattle.std.specs.List.{range_with_len};
+ghost use Rattle.vtl_base.specs.declared.limits.TheConstants.{DRIVES, NEXUSES};
+ghost use Rattle.ledgers.specs.Ledgers.{IsBlankOf};
+ghost use Rattle.vtl_script.specs.Runs.{RunsScript, TakesWithin};
+ghost use Rattle.library.specs.Counts.{AcceptedNone, has_drive, places_filled, which_are_there};
+ghost use Rattle.library.specs.Crews.{AnswersCrew};
+ghost use Rattle.library.specs.Inner.Jobs.{AreDone, AreInPlace, IsReady};
+ghost use Rattle.library.specs.Ran.{EndsShared, RunsShared};
+
+use crate::beside::beside_flushers;
+use crate::crews::Crew;
+use crate::finishing::Finished;
+use crate::flushers::Gate;
+use crate::jobs::Job;
+use crate::libraries::Library;
+use crate::opening::NotOpened;
+use crate::serving::serve_all;
+use bays::{Bay, Parked};
+use changer::Slots;
+use ledgers::{Parties, Seat};
+use std::alloc::Global;
+use std::io::{Read, Write};
+use std::marker::{Send, Sync};
+use std::sync::Wait;
+use std::sync::ledger::Blank;
+use std::thread::Threads;
+use tape_disk::Disk;
+use vtl_base::Nexus;
+use vtl_script::{Runner, ScriptFault, run_script};
+
+/// What is left of a library over which a script was run.
+#[derive(Drop)]
+pub struct Ran<D: Disk> {
+    /// Slots, drives and counts.
+    pub finished: Finished<D>,
+    /// How the script ended.
+    pub outcome: Result<(), ScriptFault>,
+}
+
+// Runs the script, and then has every flusher end.
+fn run_and_close<D: Disk + Drop, B: Parties, H: Parties, R: Wait, P: Runner, I: Read, O: Write>(
+    rt: &R,
+    alloc: Global,
+    library: &Library<D, B, H>,
+    crew: &mut P,
+    reader: &mut I,
+    writer: &mut O,
+) -> Result<(), ScriptFault>
+    ensures runs { RunsScript (P.is_configured crew.old) P.answers crew.old
+        (I.remaining reader.old) (O.contents writer.old) crew.new (O.contents writer.new) result }
+    ensures past { result ≢ Err ScriptFault.ReadFault →
+        TakesWithin (I.remaining reader.old) 0 (I.remaining reader.new) }
+{
+    let outcome = run_script(alloc, crew, reader, writer);
+    library.close(rt);
+    outcome
+}
+
+// Runs the script with a flusher of each drive beside it.
+fn run_beside<
+    D: Disk + Drop + Send,
+    B: Parties + Send + Sync,
+    H: Parties + Send + Sync,
+    R: Threads + Wait + Sync,
+    G: Gate + Sync,
+    P: Runner,
+    I: Read,
+    O: Write,
+>(
+    rt: &R,
+    alloc: Global,
+    library: &Library<D, B, H>,
+    gate: &G,
+    crew: &mut P,
+    reader: &mut I,
+    writer: &mut O,
+) -> Result<(), ScriptFault>
+    ensures runs { RunsScript (P.is_configured crew.old) P.answers crew.old
+        (I.remaining reader.old) (O.contents writer.old) crew.new (O.contents writer.new) result }
+    ensures past { result ≢ Err ScriptFault.ReadFault →
+        TakesWithin (I.remaining reader.old) 0 (I.remaining reader.new) }
+{
+    let mut work = || -> Result<(), ScriptFault>
+        ensures runs { RunsScript (P.is_configured crew.entry.now) P.answers crew.entry.now
+            (I.remaining reader.entry.now) (O.contents writer.entry.now) crew.exit.now
+            (O.contents writer.exit.now) result }
+        ensures past { result ≢ Err ScriptFault.ReadFault →
+            TakesWithin (I.remaining reader.entry.now) 0 (I.remaining reader.exit.now) }
+    { run_and_close(rt, alloc, library, crew, reader, writer) };
+    beside_flushers(rt, library, gate, 1, &mut work)
+}
+
+// The seats as a script over a library has left them, and how it ended.
+#[derive(Drop)]
+struct RanFor<H: Parties> {
+    seats: Vec<Seat<H>>,
+    outcome: Result<(), ScriptFault>,
+}
+
+// Runs the script over a library that was opened, for the hosts of these seats.
+fn run_opened<
+    'a,
+    D: Disk + Drop + Send,
+    B: Parties + Send + Sync,
+    H: Parties + Send + Sync,
+    R: Threads + Wait + Sync,
+    G: Gate + Sync,
+    I: Read,
+    O: Write,
+>(
+    rt: &'a R,
+    alloc: Global,
+    library: &'a Library<D, B, H>,
+    seats: Vec<Seat<H>>,
+    jobs: Vec<Job<H>>,
+    room: Vec<Seat<H>>,
+    gate: &G,
+    reader: &mut I,
+    writer: &mut O,
+) -> RanFor<H>
+    requires places { AreInPlace seats.items }
+    requires jobs { (jobs.items ≡ []) × (length seats.items ≤ vec_capacity jobs) }
+    requires room { (room.items ≡ []) × (length seats.items ≤ vec_capacity room) }
+    ensures runs { RunsScript (has_drive library.now) (AnswersCrew D.state)
+        (record { drives = library.now; seats = seats.items }) (I.remaining reader.old) (O.contents writer.old)
+        (record { drives = library.now; seats = result.seats.items }) (O.contents writer.new) result.outcome }
+    ensures past { result.outcome ≢ Err ScriptFault.ReadFault →
+        TakesWithin (I.remaining reader.old) 0 (I.remaining reader.new) }
+    ensures places { AreInPlace result.seats.items }
+{
+    let serve = |jobs: &mut [Job<H>]|
+        requires { All (IsReady library.now) jobs.now }
+        ensures { AreDone D.state jobs.entry.now jobs.exit.now }
+    { serve_all(rt, library, jobs) };
+    let mut crew = Crew::of(rt, alloc, library, jobs, seats, serve);
+    let outcome = run_beside(rt, alloc, library, gate, &mut crew, reader, writer);
+    RanFor {
+        seats: crew.into_seats(room),
+        outcome,
+    }
+}
+
+/// Runs a script over these drives, each in the place of its number, and these slots, for hosts that have the numbers
+/// from 1 to 64, and writes a line for each reply. Each host's lines of a phase run in a thread of its own, and each
+/// drive has a flusher. At the end all threads are joined, and every buffer is written out. Where memory runs out
+/// before the script begins all comes back, and nothing is read or written.
+pub fn run_library<
+    D: Disk + Drop + Send,
+    B: Parties + Send + Sync,
+    H: Parties + Send + Sync,
+    R: Threads + Wait + Sync,
+    G: Gate + Sync,
+    I: Read,
+    O: Write,
+>(
+    rt: &R,
+    alloc: Global,
+    bays: Vec<Option<Bay<D>>>,
+    slots: Slots<Parked<D>>,
+    hosts: &[Nexus],
+    bay_ledger: Blank,
+    host_ledger: Blank,
+    gate: &G,
+    reader: &mut I,
+    writer: &mut O,
+) -> Result<Ran<D>, NotOpened<D>>
+    requires places { length bays.items ≡ DRIVES }
+    requires fresh { All (λ bay. AcceptedNone bay) bays.items }
+    requires hosts { hosts.now ≡ range_with_len 1 NEXUSES }
+    requires bay_ledger { IsBlankOf bay_ledger B.name B.parts B.all × (B.all ≡ places_filled bays.items) }
+    requires host_ledger { IsBlankOf host_ledger H.name H.parts H.all × (H.all ≡ NEXUSES) }
+    ensures runs { IfOk result (λ ran. RunsShared D.state bays.items hosts.now (I.remaining reader.old)
+        (O.contents writer.old) (O.contents writer.new) ran.outcome ran.finished.bays.items ran.finished.counts) }
+    ensures past { IfOk result (λ ran. ran.outcome ≢ Err ScriptFault.ReadFault →
+        TakesWithin (I.remaining reader.old) 0 (I.remaining reader.new)) }
+    ensures ends { IfOk result (λ ran. EndsShared D.state bays.items ran.finished.bays.items ran.finished.counts) }
+    ensures back { IfErr result (λ back. (back.bays ≡ bays) × (back.slots ≡ slots)
+        × (back.bay_ledger ≡ bay_ledger) × (back.host_ledger ≡ host_ledger)
+        × (reader.new ≡ reader.old) × (writer.new ≡ writer.old)) }
+{
+    let Ok(jobs) = Vec::with_capacity(alloc, hosts.len()) else {
+        return Err(NotOpened {
+            bays,
+            slots,
+            bay_ledger,
+            host_ledger,
+        });
+    };
+    let Ok(room) = Vec::with_capacity(alloc, hosts.len()) else {
+        return Err(NotOpened {
+            bays,
+            slots,
+            bay_ledger,
+            host_ledger,
+        });
+    };
+    let (library, seats) = Library::<D, B, H>::new(
+        alloc,
+        bays,
+        slots,
+        hosts,
+        bay_ledger,
+        host_ledger,
+    )?;
+    let RanFor { seats, outcome } = run_opened(
+        rt, alloc, &library, seats, jobs, room, gate, reader, writer,
+    );
+    Ok(Ran {
+        finished: library.finish(rt, seats),
+        outcome,
+    })
+}
