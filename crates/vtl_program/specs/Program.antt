@@ -23,7 +23,7 @@ use Rattle.vtl_script.specs.Text.{AppendsPart}
 abbrev pub outcome_of :
     Result (Unit {0}) ScriptFault → Result (List (Option ℕ)) FinishError → Result (Unit {0}) VtlFault
 outcome_of (Ok done) (Ok counts) = Ok done
-outcome_of (Ok done) (Err unwritten) = Err Device
+outcome_of (Ok done) (Err why) = Err Device
 outcome_of (Err fault) counts = Err (fault_of fault)
 
 -- every host that a script may name (own)

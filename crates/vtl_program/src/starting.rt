@@ -3,10 +3,11 @@ ghost use Rattle.std.specs.Prelude.{◌≡◌, true, IfOk, IfErr, OnOk, is_some}
 ghost use Rattle.aptpl_store.specs.Kept.{store_kept};
 ghost use Rattle.drive_core.specs.State.{left_of};
 ghost use Rattle.vtl_config.specs.Entries.{address_of};
-ghost use Rattle.vtl_program.specs.Inner.Waiting.{AreHome, IsNotHome, IsOffAt, PutsHome, SwitchesOnAt, home_at};
+ghost use Rattle.vtl_program.specs.Inner.Waiting.{AreHome, IsNotHome, IsOffAt, PutsHome, SwitchesOnAt};
 ghost use Rattle.vtl_program.specs.Orders.{IsStart, built_in_barcode, built_in_capacities};
 ghost use Rattle.vtl_program.specs.Sides.{memory_state};
-ghost use Rattle.vtl_program.specs.Starting.{IsBare, IsBuiltIn, IsNotStarted, IsStarted};
+ghost use Rattle.vtl_program.specs.Starting.{IsBuiltIn, IsNotStarted, IsStarted};
+ghost use Rattle.vtl_program.specs.Unfinished.{IsBare, home_at};
 ghost use Rattle.vtl_program.specs.declared.programs.VtlFault.TheVariants as Faults;
 
 use crate::files::TakesBack;
