@@ -1,9 +1,10 @@
 -- What a library has just before a script is run over it, and just after.
-use Rattle.std.proofs.Common.{◌≡◌, ◌≢◌, ◌⊎◌, inl, inr, ℕ, zero, suc, ◌+◌, ◌-◌, ◌≤◌, ◌<◌, nat_eq, nat_le, Bool, true, false, List, [], ◌∷◌, length, map, get_or, Option, None, Some, is_some, Result, Ok, Err, IfOk, refl, sym, ap, ◌∙◌, arith, cond, subst}
+use Rattle.std.proofs.Common.{◌≡◌, ◌≢◌, ◌⊎◌, inl, inr, ℕ, zero, suc, ◌+◌, ◌-◌, ◌≤◌, ◌<◌, nat_eq, nat_le, Bool, true, false, List, [], ◌∷◌, length, map, get_or, take, sum_by, Option, None, Some, is_some, Result, Ok, Err, IfOk, refl, sym, ap, ◌∙◌, arith, cond, subst}
 use Rattle.std.proofs.lemmas.Bool.Decides.{nat_tests}
-use Rattle.std.proofs.lemmas.List.{ext_get_or, length-map}
+use Rattle.std.proofs.lemmas.List.{ext_get_or, get_or_default, length-map}
 use Rattle.std.proofs.lemmas.List.Elements.{All-from_get_or}
 use Rattle.std.proofs.lemmas.List.FromFn.{get_or-range_with_len, length-range_with_len}
+use Rattle.std.proofs.lemmas.List.Sums.{sum_by_more}
 use Rattle.tape_disk.specs.Disk.{DiskState}
 use Rattle.tape_buffer.specs.Moves.{buffer_below}
 use Rattle.tape_buffer.specs.State.{BufferState, state_of}
@@ -12,7 +13,7 @@ use Rattle.aptpl_store.specs.State.{OpenStore}
 use Rattle.pr_core.specs.declared.states.PrState.{PrState}
 use Rattle.drive_core.specs.Media.{SwitchesOn}
 use Rattle.bays.specs.Elements.{BayState, HeldState, bay_at}
-use Rattle.library.specs.Counts.{AcceptedNone, which_are_there}
+use Rattle.library.specs.Counts.{AcceptedNone, one_if_there, which_are_there}
 use Rattle.vtl_config.specs.declared.entries.CartridgeEntry.{CartridgeEntry}
 use Rattle.vtl_config.specs.declared.entries.DriveEntry.{DriveEntry}
 use Rattle.vtl_program.specs.declared.programs.VtlFault.{VtlFault}
@@ -99,3 +100,20 @@ pub as_many : {X Y : Type 0} (one : List (Option X)) (other : List (Option Y))
     → which_are_there other ≡ which_are_there one → length other ≡ length one
 as_many one other same =
     sym (length-map other is_some) ∙ ap (λ (row : List Bool). length row) same ∙ length-map one is_some
+
+-- one more place of a row was looked at
+module _ {X : Type 0} where
+  one_of : (found : Option X) → one_if_there found ≡ cond (is_some found) 1 0
+  one_of None = refl
+  one_of (Some x) = refl
+
+  pub counted_more : (row : List (Option X)) (i count : ℕ) (found : Option X) (there : Bool) → i < length row
+      → found ≡ get_or row i found → there ≡ is_some found → count ≡ sum_by one_if_there (take i row)
+      → count + cond there 1 0 ≡ sum_by one_if_there (take (i + 1) row)
+  counted_more row i count found there within value is so_far =
+      let here : one_if_there (get_or row i None) ≡ cond there 1 0 =
+      ap (λ (x : Option X). one_if_there x) (get_or_default row i None found within ∙ sym value)
+      ∙ one_of found
+      ∙ ap (λ (b : Bool). cond b 1 0) (sym is) in
+      let more = sum_by_more one_if_there row i None within in
+      omega (arith, here, more, so_far)

@@ -9,8 +9,8 @@ use Rattle.vtl_program.specs.Unfinished.{StartingState}
 use Rattle.vtl_program.proofs.BuiltInLemmas.{built_in_is}
 use Rattle.vtl_program.proofs.starting.built_in.Goals as goal
 
-pub returns : goal.returns
-returns c =
+pub returns-in-Ok : goal.returns-in-Ok
+returns-in-Ok c =
     let number = c.in-Some-Ok.number in
     let store = c.in-Ok-Ok.store in
     let one : number ≡ 1 = c.in-Some-Ok.ensures.value in
