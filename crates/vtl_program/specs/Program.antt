@@ -38,8 +38,8 @@ HaveAcceptedNone held = All AcceptedNone held.bays
 abbrev pub IsIdle : (left left' before now : Option (List ℕ)) → Type 0
 IsIdle left left' before now = Keeps left left' × Keeps before now
 
--- A script was run for all hosts over this library, by threads that shared it: each command was answered by a drive in
--- some state. Then every buffer was written out, and the library is this: it has the drives that it had, and nothing is
+-- A script was run for all hosts over this library, which threads shared: each command was answered by a drive in some
+-- state. Then every buffer was written out, and the library is this: it has the drives that it had, and nothing is
 -- left to be written of any, or what is loaded in one has failed. No more was read than a script may have (own).
 pub record RunsStarted {D : Type 0} (state : D → DiskState) (old : HeldState D)
     (left left' before now : Option (List ℕ)) (new : HeldState D) (outcome : Result (Unit {0}) VtlFault) : Type 0 where

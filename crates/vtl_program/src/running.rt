@@ -66,9 +66,9 @@ fn count_drives<D: Disk>(bays: &[Option<Bay<D>>]) -> u64
     count
 }
 
-/// Runs a script over a library, with a thread for each host in a phase and one for each drive that stores what waits.
-/// Then every buffer is written out, whatever the script's end was. The first fault is answered: one of the script
-/// before one of the buffers. Where memory runs out before the script, nothing is read, and the library is as it was.
+/// Runs a script over a library, and beside it a thread for each drive that stores what waits. Then every buffer is
+/// written out, whatever the script's end was. The first fault is answered: one of the script before one of the
+/// buffers. Where memory runs out before the script, nothing is read, and the library is as it was.
 pub fn run_shared<D: Disk + Drop + Send, R: Threads + Wait + Clock + Sync, I: Read, W: Write>(
     rt: &R,
     alloc: Global,
