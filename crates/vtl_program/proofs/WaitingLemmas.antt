@@ -270,4 +270,4 @@ module _ {D : Type 0} where
           → SwitchesOn (state_of state) (buffer_below state) found left store (Err (back, kept, reason))
           → kept ≡ store
       keeper None none = absurd none
-      keeper (Some given) refused = refused.2.1
+      keeper (Some given) refused = refused.3

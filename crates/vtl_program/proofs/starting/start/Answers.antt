@@ -36,10 +36,11 @@ returns-in-Err-switch_on-clause-err g c =
     (at.invariant.0 ∙ c.into_iter-entry-iterator.ensures.into_iter_gives.0) c.in-Some.ensures.steps.0 in
     let off : IsOffAt g.D.Disk.state entry.number c.in-Ok.opened.store at.starting c.switch_on.new.self
     c.in-Err-switch_on.store c.in-Err-switch_on.fault =
-    rw c.in-Err-switch_on.field-0-is at c.in-Err-switch_on.ensures.err in
+    rw (c.in-Err-switch_on.fault-is, c.in-Err-switch_on.store-is) at c.in-Err-switch_on.ensures.err in
     not_on g.D.Disk.state g.S.Sides.given g.S.TakesBack.gives_up c.args.cartridges.items drives
     c.in-Err-switch_on.fault at.yielded (into_iter_items c.next.new.self) entry c.in-Ok.opened.store
-    c.in-Err-switch_on.store at.starting c.switch_on.new.self are at.invariant.1 c.in-Ok.ensures.ok off c.give_up.ensures
+    c.in-Err-switch_on.store at.starting c.switch_on.new.self are at.invariant.1 c.in-Ok.ensures.ok off
+    c.give_up-in-Err-switch_on.ensures
     (λ taken. rw are (double_number g.S.Sides.given.gives_cartridge g.D.Disk.state g.S.Sides.given.gives_store
     c.args.cartridges.items at.yielded (into_iter_items c.next.new.self) entry at.starting at.invariant.1 taken))
 
