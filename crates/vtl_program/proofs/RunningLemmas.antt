@@ -14,11 +14,16 @@ use Rattle.pr_core.specs.declared.states.PrState.{PrState}
 use Rattle.drive_core.specs.Media.{SwitchesOn}
 use Rattle.bays.specs.Elements.{BayState, HeldState, bay_at}
 use Rattle.library.specs.Counts.{AcceptedNone, one_if_there, which_are_there}
+use Rattle.library.specs.Ran.{EndsShared, RunsShared}
+use Rattle.library.specs.declared.finishing.FinishError.{FinishError}
+use Rattle.vtl_script.specs.Runs.{TakesWithin}
+use Rattle.vtl_script.specs.declared.faults.ScriptFault.{ScriptFault}
+use Rattle.vtl_script.specs.declared.faults.ScriptFault.TheVariants.{ReadFault}
 use Rattle.vtl_config.specs.declared.entries.CartridgeEntry.{CartridgeEntry}
 use Rattle.vtl_config.specs.declared.entries.DriveEntry.{DriveEntry}
 use Rattle.vtl_program.specs.declared.programs.VtlFault.{VtlFault}
 use Rattle.vtl_program.specs.Orders.{IsStart}
-use Rattle.vtl_program.specs.Program.{HaveAcceptedNone, every_nexus}
+use Rattle.vtl_program.specs.Program.{HaveAcceptedNone, RunsStarted, every_nexus, outcome_of}
 use Rattle.vtl_program.specs.Starting.{IsBuiltIn, IsDriveOf, IsStarted}
 use Rattle.vtl_program.proofs.DistinctLemmas.{same_or_not}
 
@@ -117,3 +122,38 @@ module _ {X : Type 0} where
       ∙ ap (λ (b : Bool). cond b 1 0) (sym is) in
       let more = sum_by_more one_if_there row i None within in
       omega (arith, here, more, so_far)
+
+module _ {D : Type 0} where
+  -- a library is what it is made of
+  pub put_together : (old : HeldState D) (slots : List (Option (BufferState D))) (bays : List (Option (BayState D)))
+      → slots ≡ old.slots → bays ≡ old.bays → record { slots = slots; bays = bays } ≡ old
+  put_together old slots bays same_slots same_bays =
+      let of : List (Option (BufferState D)) → List (Option (BayState D)) → HeldState D =
+      λ s b. record { slots = s; bays = b } in
+      ap (λ (s : List (Option (BufferState D))). of s bays) same_slots
+      ∙ ap (λ (b : List (Option (BayState D))). of old.slots b) same_bays
+
+  -- a script was run over the drives of a library, and it was put together again
+  pub ran_over : (state : D → DiskState) (old new : HeldState D) (bays after : List (Option (BayState D)))
+      (hosts : List ℕ) (left left' before now : Option (List ℕ)) (ended : Result (Unit {0}) ScriptFault)
+      (counts : Result (List (Option ℕ)) FinishError) (outcome : Result (Unit {0}) VtlFault) → bays ≡ old.bays
+      → hosts ≡ every_nexus → new.bays ≡ after
+      → RunsShared state bays hosts left before now ended after counts
+      → (ended ≢ Err ReadFault → TakesWithin left 0 left') → EndsShared state bays after counts
+      → outcome ≡ outcome_of ended counts → RunsStarted state old left left' before now new outcome
+  ran_over state old new bays after hosts left left' before now ended counts outcome are all made runs takes ends told =
+      record {
+        ended = ended;
+        counts = counts;
+        runs =
+            subst (λ (row : List (Option (BayState D))).
+            RunsShared state row every_nexus left before now ended new.bays counts) are
+            (subst (λ (xs : List ℕ). RunsShared state bays xs left before now ended new.bays counts) all
+            (subst (λ (row : List (Option (BayState D))). RunsShared state bays hosts left before now ended row counts)
+            (sym made) runs));
+        takes = takes;
+        ends =
+            subst (λ (row : List (Option (BayState D))). EndsShared state row new.bays counts) are
+            (subst (λ (row : List (Option (BayState D))). EndsShared state bays row counts) (sym made) ends);
+        outcome_is = told;
+      }

@@ -2,7 +2,6 @@ use Rattle.std.proofs.Common.{rules, ◌≡◌, ◌∙◌, ◌∷◌, ◌++◌, 
 use Rattle.std.specs.Vec.Iter.{into_iter_items}
 use Rattle.vtl_config.specs.Entries.{AreDistinct, numbers_of}
 use Rattle.vtl_config.specs.declared.entries.DriveEntry.{DriveEntry}
-use Rattle.vtl_program.specs.Inner.Waiting.{IsOffAt}
 use Rattle.vtl_program.specs.Starting.{AreOn, IsStarted}
 use Rattle.vtl_program.specs.Unfinished.{StartingState}
 use Rattle.vtl_program.proofs.StartingLemmas.{all_on, double_number, not_on, on_more, on_yet, refused_on}
@@ -34,13 +33,10 @@ returns-in-Err-switch_on-clause-err g c =
     let drives = c.args.drives.items in
     let are = parted into_iter_items drives at.yielded entry at.entry-iterator c.next.new.self
     (at.invariant.0 ∙ c.into_iter-entry-iterator.ensures.into_iter_gives.0) c.in-Some.ensures.steps.0 in
-    let off : IsOffAt g.D.Disk.state entry.number c.in-Ok.opened.store at.starting c.switch_on.new.self
-    c.in-Err-switch_on.store c.in-Err-switch_on.fault =
-    rw (c.in-Err-switch_on.fault-is, c.in-Err-switch_on.store-is) at c.in-Err-switch_on.ensures.err in
     not_on g.D.Disk.state g.S.Sides.given g.S.TakesBack.gives_up c.args.cartridges.items drives
-    c.in-Err-switch_on.fault at.yielded (into_iter_items c.next.new.self) entry c.in-Ok.opened.store
-    c.in-Err-switch_on.store at.starting c.switch_on.new.self are at.invariant.1 c.in-Ok.ensures.ok off
-    c.give_up-in-Err-switch_on.ensures
+    c.in-Err-switch_on.field-0.fault at.yielded (into_iter_items c.next.new.self) entry c.in-Ok.opened.store
+    c.in-Err-switch_on.field-0.store at.starting c.switch_on.new.self are at.invariant.1 c.in-Ok.ensures.ok
+    c.in-Err-switch_on.ensures.err c.give_up-in-Err-switch_on.ensures
     (λ taken. rw are (double_number g.S.Sides.given.gives_cartridge g.D.Disk.state g.S.Sides.given.gives_store
     c.args.cartridges.items at.yielded (into_iter_items c.next.new.self) entry at.starting at.invariant.1 taken))
 
