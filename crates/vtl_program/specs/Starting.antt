@@ -131,8 +131,8 @@ module _ {D : Type 0} (state : D → DiskState) (sides : SidesGiven D) (gives_up
       (refused : IsRefusedIn sides.gives_store (λ entry. sides.refuses_store entry fault) drives)
       × IsGivenUp entries refused.before
 
-  -- Memory ran out as one of these drives was to be switched on over the store that was given for it. All that was given
-  -- is given up, that store too, and the drive's cartridge as the try left it (own).
+  -- Memory ran out as one of these drives was to be switched on over the store that was given for it. All that was
+  -- given is given up, that store too, and the drive's cartridge as the try left it (own).
   pub record IsLeftOff (entries : List CartridgeEntry) (drives : List DriveEntry) : Type 0 where
     pub before : List DriveEntry
     pub entry : DriveEntry

@@ -11,18 +11,18 @@ loop-bay-preserved g c =
     let at = c.loop-bay in
     elim c.if-is_some.branch [
       | then-is_some w ↦ rw w.count-is (record {
-          counted =
-              counted_more c.args.bays.now at.bay-index at.count c.bay-item.result true c.loop-bay-test.true c.bay-item.is
-              (sym w.if-is_some.true ∙ c.is_some.ensures) at.invariant.counted;
-          few = omega (arith, at.invariant.few);
-        })
+        counted =
+            counted_more c.args.bays.now at.bay-index at.count c.bay-item.result true c.loop-bay-test.true
+            c.bay-item.is (sym w.if-is_some.true ∙ c.is_some.ensures) at.invariant.counted;
+        few = omega (arith, at.invariant.few);
+      })
       | else-is_some w ↦ rw w.count-is (record {
-          counted =
-              let same = counted_more c.args.bays.now at.bay-index at.count c.bay-item.result false
-              c.loop-bay-test.true c.bay-item.is (sym w.if-is_some.false ∙ c.is_some.ensures) at.invariant.counted in
-              omega (arith, same);
-          few = omega (arith, at.invariant.few);
-        })
+        counted =
+            let same = counted_more c.args.bays.now at.bay-index at.count c.bay-item.result false
+            c.loop-bay-test.true c.bay-item.is (sym w.if-is_some.false ∙ c.is_some.ensures) at.invariant.counted in
+            omega (arith, same);
+        few = omega (arith, at.invariant.few);
+      })
     ]
 
 pub returns : goal.returns
