@@ -1,5 +1,5 @@
 -- What a library has just before a script is run over it, and just after.
-use Rattle.std.proofs.Common.{◌≡◌, ◌≢◌, ◌⊎◌, inl, inr, ℕ, zero, suc, ◌+◌, ◌-◌, ◌≤◌, ◌<◌, nat_eq, nat_le, Bool, true, false, List, [], ◌∷◌, length, map, get_or, take, sum_by, Option, None, Some, is_some, Result, Ok, Err, IfOk, refl, sym, ap, ◌∙◌, arith, cond, subst}
+use Rattle.std.proofs.Common.{◌≡◌, ◌≢◌, ◌⊎◌, inl, inr, ℕ, ◌+◌, ◌-◌, ◌<◌, nat_le, Bool, true, List, length, get_or, take, sum_by, Option, None, Some, is_some, Result, Ok, Err, IfOk, refl, sym, ap, ◌∙◌, arith, cond, subst}
 use Rattle.std.proofs.lemmas.Bool.Decides.{nat_tests}
 use Rattle.std.proofs.lemmas.List.{ext_get_or, get_or_default, length-map}
 use Rattle.std.proofs.lemmas.List.Elements.{All-from_get_or}
@@ -8,7 +8,6 @@ use Rattle.std.proofs.lemmas.List.Sums.{sum_by_more}
 use Rattle.tape_disk.specs.Disk.{DiskState}
 use Rattle.tape_buffer.specs.Moves.{buffer_below}
 use Rattle.tape_buffer.specs.State.{BufferState, state_of}
-use Rattle.aptpl_store.specs.Kept.{store_kept}
 use Rattle.aptpl_store.specs.State.{OpenStore}
 use Rattle.pr_core.specs.declared.states.PrState.{PrState}
 use Rattle.drive_core.specs.Media.{SwitchesOn}

@@ -1,11 +1,11 @@
 -- A library whose drives are not all switched on yet.
-use Rattle.std.specs.Prelude.{◌≡◌, ◌≢◌, ℕ, true, false, List, [], Option, None, Some, is_some, Ok, if◌then◌else◌}
+use Rattle.std.specs.Prelude.{◌≡◌, ◌≢◌, ℕ, true, false, List, Option, None, Some, is_some, Ok}
 use Rattle.tape_disk.specs.Disk.{DiskState}
 use Rattle.tape_buffer.specs.Moves.{buffer_below}
 use Rattle.tape_buffer.specs.State.{BufferState, state_of}
 use Rattle.aptpl_store.specs.Kept.{store_kept}
 use Rattle.aptpl_store.specs.State.{OpenStore}
-use Rattle.changer.specs.Slots.{held_at, is_slot}
+use Rattle.changer.specs.Slots.{is_slot}
 use Rattle.drive_core.specs.Media.{SwitchesOn}
 use Rattle.drive_core.specs.State.{left_of}
 use Rattle.bays.specs.Elements.{BayState, Becomes, bay_at}

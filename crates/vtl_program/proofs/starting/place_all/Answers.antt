@@ -1,6 +1,6 @@
-use Rattle.std.proofs.Common.{rules, ◌≡◌, ◌∙◌, ◌∷◌, ◌++◌, List, length, ap, refl, sym, subst, is_some, arith}
+use Rattle.std.proofs.Common.{rules, ◌∙◌, List, length, ap, refl, sym, subst, is_some, arith}
 use Rattle.std.specs.Vec.Iter.{into_iter_items}
-use Rattle.vtl_config.specs.Entries.{AreDistinct, address_of, homes_of}
+use Rattle.vtl_config.specs.Entries.{address_of}
 use Rattle.vtl_config.specs.declared.entries.CartridgeEntry.{CartridgeEntry}
 use Rattle.vtl_program.specs.Inner.Waiting.{AreHome}
 use Rattle.vtl_program.specs.Unfinished.{home_at}

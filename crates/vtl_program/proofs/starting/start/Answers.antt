@@ -1,6 +1,5 @@
-use Rattle.std.proofs.Common.{rules, ◌≡◌, ◌∙◌, ◌∷◌, ◌++◌, List, length, ap, refl, sym, subst, arith}
+use Rattle.std.proofs.Common.{rules, ◌∙◌, List, length, ap, refl, sym, subst, arith}
 use Rattle.std.specs.Vec.Iter.{into_iter_items}
-use Rattle.vtl_config.specs.Entries.{AreDistinct, numbers_of}
 use Rattle.vtl_config.specs.declared.entries.DriveEntry.{DriveEntry}
 use Rattle.vtl_program.specs.Starting.{AreOn, IsStarted}
 use Rattle.vtl_program.specs.Unfinished.{StartingState}

@@ -1,6 +1,5 @@
-use Rattle.std.proofs.Common.{◌≡◌, ◌≤◌, set, is_some, true, arith, subst}
+use Rattle.std.proofs.Common.{◌≡◌, ◌≤◌, is_some, true, arith, subst}
 use Rattle.bays.specs.Elements.{bay_at}
-use Rattle.vtl_program.specs.Inner.Waiting.{SwitchesOnAt}
 use Rattle.vtl_program.specs.Unfinished.{StartingState}
 use Rattle.vtl_program.proofs.WaitingLemmas.{stays_off, switches}
 use Rattle.vtl_program.proofs.starting.Starting.switch_on.Goals as goal
