@@ -151,13 +151,15 @@ impl<D: Disk + Drop> Starting<D> {
         let place = number.place();
         let cartridge = mem::replace(&mut self.waiting[place], None);
         match Bay::power_on(alloc, store, left, cartridge) {
-            Ok(bay) => match self.held.install(number, bay) {
-                Ok(()) => Ok(()),
-                Err(_) => Err(Off {
-                    fault: VtlFault::Config,
-                    store: None,
-                }),
-            },
+            Ok(bay) => {
+                if let Err(_bay) = self.held.install(number, bay) {
+                    return Err(Off {
+                        fault: VtlFault::Config,
+                        store: None,
+                    });
+                }
+                Ok(())
+            }
             Err(NotOn { cartridge, store }) => {
                 self.waiting[place] = cartridge;
                 Err(Off {
