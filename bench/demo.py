@@ -7,6 +7,7 @@ import subprocess
 import sys
 import tempfile
 
+import frames
 import unproved
 
 EXAMPLES = os.path.join(unproved.TOP, "examples")
@@ -30,7 +31,7 @@ def step(room, words, script, expected):
     wanted = stored(expected)
     if expected.endswith(".check"):
         wanted = wanted.partition(b"\n")[2]
-    return done.returncode == 0 and done.stdout == wanted
+    return done.returncode == 0 and frames.as_owed(done.stdout, wanted) == wanted
 
 
 def main():

@@ -14,6 +14,7 @@ import sys
 import tempfile
 import time
 
+import frames
 import rowfile
 
 TOP = os.path.dirname(os.path.dirname(os.path.abspath(__file__)))
@@ -94,7 +95,7 @@ class Room:
 
     def __init__(self, program, row, way, room, show=False):
         self.program, self.row, self.way, self.room, self.show = program, row, way, room, show
-        self.said, self.runs = [], 0
+        self.said, self.runs, self.has_run = [], 0, False
 
     def tell(self, number, said):
         self.said.append(f"{self.row.path}:{number}: {self.way}: {said}")
@@ -170,6 +171,7 @@ class Room:
             self.tell(run.number, "the last line of standard output has no end")
         if self.show:
             self.shown(lines, found)
+        self.has_run |= words[:1] == [b"run"]
         self.compare(run, owed, found)
         error = b"" if run.error is None else run.error + b"\n"
         if refused is not None:
@@ -181,6 +183,8 @@ class Room:
 
     def compare(self, run, owed, found):
         for (number, answer), line in zip(owed, found):
+            if self.has_run:
+                line = frames.line_as_owed(line, answer)
             if line != answer:
                 self.tell(number, f"{short(line)} in the place of {short(answer)}")
                 return

@@ -33,6 +33,7 @@ fn main(rt: HostRuntime) -> ExitCode {
     let words = words_of(&rt);
     let files = SystemFiles { rt: &rt };
     let ended = run(
+        &rt,
         rt.alloc(),
         &files,
         words,

@@ -9,10 +9,10 @@ use Rattle.changer.specs.Slots.{held_at, is_slot}
 use Rattle.drive_core.specs.Media.{SwitchesOn}
 use Rattle.drive_core.specs.State.{left_of}
 use Rattle.bays.specs.Elements.{BayState, bay_at}
-use Rattle.vtl_program.specs.Inner.Waiting.{IsBare, PutsHome, SwitchesOnAt}
+use Rattle.vtl_program.specs.Inner.Waiting.{PutsHome, SwitchesOnAt}
 use Rattle.vtl_program.specs.Sides.{IsNewCartridge, IsNewStore}
 use Rattle.vtl_program.specs.Starting.{IsBuiltIn}
-use Rattle.vtl_program.specs.Unfinished.{StartingState}
+use Rattle.vtl_program.specs.Unfinished.{IsBare, StartingState}
 use Rattle.vtl_program.proofs.WaitingLemmas.{home_in_slot, home_waits}
 
 -- the built-in library: a cartridge was put beside drive 1, and it was switched on

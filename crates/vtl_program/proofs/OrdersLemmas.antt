@@ -11,7 +11,7 @@ use Rattle.vtl_program.specs.Configured.{IsNoConfig}
 use Rattle.vtl_program.specs.Files.{ReadsConfig}
 use Rattle.vtl_program.specs.Orders.{RunsOrder}
 use Rattle.vtl_program.specs.Sides.{SidesGiven}
-use Rattle.vtl_program.specs.Unfinished.{StartingState}
+use Rattle.vtl_program.specs.Unfinished.{NotStartedState}
 use Rattle.vtl_program.specs.declared.programs.VtlFault.{VtlFault}
 
 pub keeps_same : (known : Option (List ℕ)) → Keeps known known
@@ -27,7 +27,7 @@ configured reads name text (Err fault) read says why = inr (text, read, why)
 
 -- there was none
 pub not_configured : {D : Type 0} (state : D → DiskState) (reads : List ℕ → Result (Vec ℕ Global) Error → Type 0)
-    (sides : SidesGiven D) (closes_all : HeldState D → Type 0) (gives_up : StartingState D → Type 0) (memory : Bool)
+    (sides : SidesGiven D) (closes_all : HeldState D → Type 0) (gives_up : NotStartedState D → Type 0) (memory : Bool)
     (name : List ℕ) (fault : VtlFault) (left before : Option (List ℕ))
     → ReadsConfig reads name (Err fault)
     → RunsOrder state reads sides closes_all gives_up memory (Some name) left left before before (Err fault)

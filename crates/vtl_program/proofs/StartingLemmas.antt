@@ -1,6 +1,6 @@
 -- A library that is switched on, entry by entry.
-use Rattle.std.proofs.Common.{◌≡◌, ◌≢◌, ◌⊎◌, inl, inr, ℕ, ◌<◌, Bool, true, false, List, [], ◌∷◌, ◌++◌, length, get_or, Option, None, Some, is_some, refl, sym, ap, ◌∙◌, arith, subst, take, drop, append_assoc, take-append-drop, ◌+◌}
-use Rattle.std.proofs.lemmas.List.{map-append, take_more}
+use Rattle.std.proofs.Common.{◌≡◌, ◌≢◌, ◌⊎◌, inl, inr, ℕ, Bool, true, false, List, [], ◌∷◌, ◌++◌, Option, None, Some, is_some, refl, sym, ap, ◌∙◌, arith, subst}
+use Rattle.std.proofs.lemmas.List.{map-append}
 use Rattle.std.proofs.lemmas.List.Elements.{All-nil, All-push, Contains-append_left, Contains-push, Contains-push_cases}
 use Rattle.std.specs.List.{Contains}
 use Rattle.tape_disk.specs.Disk.{DiskState}
@@ -14,10 +14,10 @@ use Rattle.vtl_config.specs.declared.entries.DriveEntry.{DriveEntry}
 use Rattle.vtl_program.specs.declared.programs.VtlFault.{VtlFault}
 use Rattle.vtl_program.specs.declared.programs.VtlFault.TheVariants.{Words, Config, Script, Device, NoMemory}
 use Rattle.vtl_program.specs.Faults.{IsFailure}
-use Rattle.vtl_program.specs.Inner.Waiting.{AreHome, IsBare, IsNotHome, PutsHome, SwitchesOnAt, home_at}
+use Rattle.vtl_program.specs.Inner.Waiting.{AreHome, IsNotHome, IsOffAt, PutsHome, SwitchesOnAt}
 use Rattle.vtl_program.specs.Sides.{SidesGiven}
-use Rattle.vtl_program.specs.Starting.{AreGiven, AreOn, IsDriveOf, IsGivenUp, IsNotStarted, IsRefusedIn, IsStarted, StandsAt}
-use Rattle.vtl_program.specs.Unfinished.{StartingState, waits_at}
+use Rattle.vtl_program.specs.Starting.{AreGiven, AreOn, CartridgeIsRefused, IsDriveOf, IsGivenUp, IsNotStarted, IsRefusedIn, IsStarted, StandsAt, StoreIsRefused}
+use Rattle.vtl_program.specs.Unfinished.{IsBare, NotStartedState, StartingState, home_at, waits_at}
 use Rattle.vtl_program.proofs.DistinctLemmas.{contains_map, same_or_not, twice}
 use Rattle.vtl_program.proofs.WaitingLemmas.{home_in_slot, home_waits}
 
@@ -235,21 +235,47 @@ refused_at gives refuses entries before behind entry are given refused = (
   refl,
 )
 
-module _ {D : Type 0} (state : D → DiskState) (sides : SidesGiven D) (gives_up : StartingState D → Type 0)
-    (entries : List CartridgeEntry) where
-  -- why not all cartridges are at their homes: the one at a place was refused, and those before it were given up
-  pub refused_home : (fault : VtlFault) (before behind : List CartridgeEntry) (entry : CartridgeEntry)
-      (starting : StartingState D) → entries ≡ before ++ entry ∷ behind → IsFailure fault
+module _ {D : Type 0} (state : D → DiskState) (sides : SidesGiven D) (gives_up : NotStartedState D → Type 0) where
+  -- the cartridge at a place was refused, and those before it were given up
+  cartridge_refused : (entries : List CartridgeEntry) (fault : VtlFault) (before behind : List CartridgeEntry)
+      (entry : CartridgeEntry) (starting : StartingState D) → entries ≡ before ++ entry ∷ behind
       → AreHome sides.gives_cartridge before starting → sides.refuses_cartridge entry fault
-      → gives_up starting → IsNotHome state sides gives_up entries fault
-  refused_home Device before behind entry starting are failure home refused up =
-      let found = refused_at sides.gives_cartridge (λ (e : CartridgeEntry). sides.refuses_cartridge e Device) entries
+      → gives_up (record { starting = starting; store = None })
+      → CartridgeIsRefused state sides gives_up entries fault
+  cartridge_refused entries fault before behind entry starting are home refused up =
+      let found = refused_at sides.gives_cartridge (λ (e : CartridgeEntry). sides.refuses_cartridge e fault) entries
       before behind entry are home.given refused in (
         found.0,
         subst (λ (before : List CartridgeEntry). IsGivenUp state sides gives_up before []) (sym found.1)
             (starting, up, on_yet sides.gives_cartridge state sides.gives_store before starting home),
       )
-  refused_home NoMemory before behind entry starting are failure home refused up = tt
+
+  -- the store of the drive at a place was refused, and all before it was given up
+  store_refused : (entries : List CartridgeEntry) (drives : List DriveEntry) (fault : VtlFault)
+      (before behind : List DriveEntry) (entry : DriveEntry) (starting : StartingState D)
+      → drives ≡ before ++ entry ∷ behind
+      → AreOn sides.gives_cartridge state sides.gives_store entries before starting
+      → sides.refuses_store entry fault → gives_up (record { starting = starting; store = None })
+      → StoreIsRefused state sides gives_up entries drives fault
+  store_refused entries drives fault before behind entry starting are on refused up =
+      let found = refused_at sides.gives_store (λ (e : DriveEntry). sides.refuses_store e fault) drives before
+      behind entry are on.stores refused in (
+        found.0,
+        subst (λ (before : List DriveEntry). IsGivenUp state sides gives_up entries before) (sym found.1)
+            (starting, up, on),
+      )
+
+module _ {D : Type 0} (state : D → DiskState) (sides : SidesGiven D) (gives_up : NotStartedState D → Type 0)
+    (entries : List CartridgeEntry) where
+  -- why not all cartridges are at their homes: the one at a place was refused, and those before it were given up
+  pub refused_home : (fault : VtlFault) (before behind : List CartridgeEntry) (entry : CartridgeEntry)
+      (starting : StartingState D) → entries ≡ before ++ entry ∷ behind → IsFailure fault
+      → AreHome sides.gives_cartridge before starting → sides.refuses_cartridge entry fault
+      → gives_up (record { starting = starting; store = None }) → IsNotHome state sides gives_up entries fault
+  refused_home Device before behind entry starting are failure home refused up =
+      cartridge_refused state sides gives_up entries Device before behind entry starting are home refused up
+  refused_home NoMemory before behind entry starting are failure home refused up =
+      cartridge_refused state sides gives_up entries NoMemory before behind entry starting are home refused up
   refused_home Config before behind entry starting are failure home refused up = absurd failure
   refused_home Words before behind entry starting are failure home refused up = absurd failure
   refused_home (Script line) before behind entry starting are failure home refused up = absurd failure
@@ -267,7 +293,7 @@ module _ {D : Type 0} (state : D → DiskState) (sides : SidesGiven D) (gives_up
     pub off_of : (fault : VtlFault) → IsNotHome state sides gives_up entries fault
         → IsNotStarted state sides gives_up entries drives fault
     off_of Device why = inl why
-    off_of NoMemory why = tt
+    off_of NoMemory why = inl why
     off_of Config why = λ distinct. why distinct.0
     off_of Words why = why
     off_of (Script line) why = why
@@ -276,29 +302,41 @@ module _ {D : Type 0} (state : D → DiskState) (sides : SidesGiven D) (gives_up
     pub refused_on : (fault : VtlFault) (before behind : List DriveEntry) (entry : DriveEntry)
         (starting : StartingState D) → drives ≡ before ++ entry ∷ behind → IsFailure fault
         → AreOn sides.gives_cartridge state sides.gives_store entries before starting
-        → sides.refuses_store entry fault → gives_up starting
+        → sides.refuses_store entry fault → gives_up (record { starting = starting; store = None })
         → IsNotStarted state sides gives_up entries drives fault
     refused_on Device before behind entry starting are failure on refused up =
-        let found = refused_at sides.gives_store (λ (e : DriveEntry). sides.refuses_store e Device) drives before
-        behind entry are on.stores refused in
-        inr (
-          found.0,
-          subst (λ (before : List DriveEntry). IsGivenUp state sides gives_up entries before) (sym found.1)
-              (starting, up, on),
-        )
-    refused_on NoMemory before behind entry starting are failure on refused up = tt
+        inr (store_refused state sides gives_up entries drives Device before behind entry starting are on refused up)
+    refused_on NoMemory before behind entry starting are failure on refused up =
+        inr (inl
+        (store_refused state sides gives_up entries drives NoMemory before behind entry starting are on refused up))
     refused_on Config before behind entry starting are failure on refused up = absurd failure
     refused_on Words before behind entry starting are failure on refused up = absurd failure
     refused_on (Script line) before behind entry starting are failure on refused up = absurd failure
 
-    pub not_on : (fault : VtlFault) (taken : Bool) → (fault ≡ NoMemory) ⊎ (fault ≡ Config) × (taken ≡ true)
-        → (taken ≡ true → ¬ AreDistinct (numbers_of drives)) → IsNotStarted state sides gives_up entries drives fault
-    not_on NoMemory taken is double = tt
-    not_on Config taken (inl is) double = absurd (cc)
-    not_on Config taken (inr is) double = λ distinct. double is.1 distinct.1
-    not_on Device taken (inl is) double = absurd (cc)
-    not_on Device taken (inr is) double = absurd (cc)
-    not_on Words taken (inl is) double = absurd (cc)
-    not_on Words taken (inr is) double = absurd (cc)
-    not_on (Script line) taken (inl is) double = absurd (cc)
-    not_on (Script line) taken (inr is) double = absurd (cc)
+    -- the drive at a place was not switched on, and all was given up
+    pub not_on : (fault : VtlFault) (before behind : List DriveEntry) (entry : DriveEntry) (store : OpenStore D)
+        (back : Option (OpenStore D)) (old new : StartingState D) → drives ≡ before ++ entry ∷ behind
+        → AreOn sides.gives_cartridge state sides.gives_store entries before old → sides.gives_store entry store
+        → IsOffAt state entry.number store old new back fault
+        → gives_up (record { starting = new; store = back })
+        → (is_some (bay_at old.held.bays entry.number) ≡ true → ¬ AreDistinct (numbers_of drives))
+        → IsNotStarted state sides gives_up entries drives fault
+    not_on NoMemory before behind entry store back old new are on given off up double =
+        inr (inr (record {
+          before = before;
+          entry = entry;
+          behind = behind;
+          are = are;
+          store = store;
+          given = given;
+          old = old;
+          on = on;
+          new = new;
+          off = off.0;
+          up =
+              subst (λ (s : Option (OpenStore D)). gives_up (record { starting = new; store = s })) off.1 up;
+        }))
+    not_on Config before behind entry store back old new are on given off up double = λ distinct. double off distinct.1
+    not_on Device before behind entry store back old new are on given off up double = absurd off
+    not_on Words before behind entry store back old new are on given off up double = absurd off
+    not_on (Script line) before behind entry store back old new are on given off up double = absurd off

@@ -1,6 +1,5 @@
 -- The entries of a configuration, taken one by one.
 use Rattle.std.proofs.Common.{◌≡◌, ◌∙◌, List, [], ◌∷◌, ◌++◌, length, refl, sym, arith, append_assoc, append-nil}
-use Rattle.std.specs.Vec.Iter.{into_iter_items}
 
 -- one is taken: those before it, it and those behind it are all
 pub parted : {A I : Type 0} (items : I → List A) (all taken : List A) (entry : A) (at next : I)

@@ -1,7 +1,8 @@
 -- What a library holds before its drives are all on: a cartridge is put into its home, and a drive is switched on.
 use Rattle.std.proofs.Common.{◌≡◌, ◌≢◌, ℕ, zero, suc, ◌-◌, ◌≤◌, ◌<◌, nat_le, not, Bool, true, false, List, [], ◌∷◌, ◌++◌, length, set, get_or, replicate, Option, None, Some, is_some, Result, Ok, Err, is_ok, is_err, refl, sym, ap, ◌∙◌, arith, cond, subst}
 use Rattle.std.proofs.lemmas.Bool.Decides.{nat_tests}
-use Rattle.std.proofs.lemmas.List.{get_or_default, get_or-set_same, get_or-set_other}
+use Rattle.std.proofs.lemmas.List.{get_or_default, get_or-set_same, get_or-set_other, length-set}
+use Rattle.vtl_base.specs.declared.faults.NoMemory.{NoMemory}
 use Rattle.tape_disk.specs.Disk.{DiskState}
 use Rattle.tape_buffer.specs.Moves.{buffer_below}
 use Rattle.tape_buffer.specs.State.{BufferState, state_of}
@@ -14,8 +15,9 @@ use Rattle.pr_core.specs.declared.states.PrState.{PrState}
 use Rattle.drive_core.specs.Media.{SwitchesOn}
 use Rattle.drive_core.specs.State.{left_of}
 use Rattle.bays.specs.Elements.{BayState, Becomes, HeldState, bay_at}
-use Rattle.vtl_program.specs.Inner.Waiting.{IsBare, PutsHome, SwitchesOnAt, home_at}
-use Rattle.vtl_program.specs.Unfinished.{StartingState, waits_at}
+use Rattle.vtl_program.specs.Starting.{StaysOff}
+use Rattle.vtl_program.specs.Inner.Waiting.{PutsHome, SwitchesOnAt}
+use Rattle.vtl_program.specs.Unfinished.{IsBare, StartingState, home_at, waits_at}
 
 -- the number of a drive is no slot's address
 pub no_slot : (number : ℕ) → number ≤ 16 → is_slot number ≡ false
@@ -225,3 +227,47 @@ module _ {D : Type 0} where
         taken = waits_here waiting number place new least most long at ∙ leaves;
         elsewhere = waits_elsewhere waiting number place new least at;
       })
+
+  -- a drive was not switched on, since memory ran out
+  pub stays_off : (state : D → DiskState) (held : HeldState D) (waiting : List (Option (BufferState D)))
+      (number place : ℕ) (lent taken new back : Option (BufferState D)) (store kept : OpenStore D) (left : PrState)
+      (reason : NoMemory) (old : StartingState D) → record { held = held; waiting = waiting } ≡ old
+      → 1 ≤ number → number ≤ 16 → length waiting ≡ 16 → place ≡ number - 1 → lent ≡ get_or waiting place lent
+      → taken ≡ lent → left ≡ left_of (store_kept store).saved
+      → SwitchesOn (state_of state) (buffer_below state) taken left store (Err (back, kept, reason))
+      → StaysOff state number store old (record { held = held; waiting = set (set waiting place new) place back })
+      × (Some kept ≡ Some store)
+  stays_off state held waiting number place lent taken new back store kept left reason old is least most long at value
+      takes leave refused =
+      let now : StartingState D = record { held = held; waiting = set (set waiting place new) place back } in
+      let same : kept ≡ store = keeper taken refused in
+      let Refuses : Option (BufferState D) → PrState → Option (BufferState D) → OpenStore D → Type 0 =
+      λ found left back kept.
+      SwitchesOn (state_of state) (buffer_below state) found left store (Err (back, kept, reason)) in
+      let waited : taken ≡ waits_at waiting number =
+      takes ∙ sym (found_waiting waiting number place lent least most long at value) in
+      let again : waits_at (set (set waiting place new) place back) number ≡ back =
+      waits_here (set waiting place new) number place back least most (length-set waiting place new ∙ long) at in (
+        subst (λ (s : StartingState D). StaysOff state number store s now) is (record {
+          no_slot = no_slot number most;
+          held = refl;
+          reason = reason;
+          off =
+              subst (λ (k : OpenStore D). Refuses (waits_at waiting number) (left_of (store_kept store).saved)
+              (waits_at (set (set waiting place new) place back) number) k) same
+              (subst (λ (b : Option (BufferState D)). Refuses (waits_at waiting number)
+              (left_of (store_kept store).saved) b kept) (sym again)
+              (subst (λ (found : Option (BufferState D)). Refuses found (left_of (store_kept store).saved) back kept)
+              waited (subst (λ (l : PrState). Refuses taken l back kept) leave refused)));
+          elsewhere = λ other differs.
+              waits_elsewhere (set waiting place new) number place back least at other differs
+              ∙ waits_elsewhere waiting number place new least at other differs;
+        }),
+        ap (λ (k : OpenStore D). Some k) same,
+      )
+    where
+      keeper : (found : Option (BufferState D))
+          → SwitchesOn (state_of state) (buffer_below state) found left store (Err (back, kept, reason))
+          → kept ≡ store
+      keeper None none = absurd none
+      keeper (Some given) refused = refused.3

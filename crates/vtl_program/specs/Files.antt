@@ -10,7 +10,7 @@ use Rattle.vtl_config.specs.declared.entries.Config.{Config}
 use Rattle.vtl_program.specs.declared.programs.VtlFault.{VtlFault}
 use Rattle.vtl_program.specs.Configured.{IsNoConfig}
 use Rattle.vtl_program.specs.Faults.{fault_of_error}
-use Rattle.vtl_program.specs.Unfinished.{StartingState}
+use Rattle.vtl_program.specs.Unfinished.{NotStartedState}
 
 -- The answers that a call for the file of a name may have, and the disks that may be handed back for one, or in a
 -- library. Nothing else is known of a file: whatever the program says that it read, opened or made, it has of a call
@@ -26,7 +26,7 @@ pub record FileAnswers (D : Type 0) : Type 1 where
   pub opens : List ℕ → Result D FileError → Type 0
   pub hands_back : List ℕ → D → Type 0
   pub closes_all : HeldState D → Type 0
-  pub gives_up : StartingState D → Type 0
+  pub gives_up : NotStartedState D → Type 0
   -- a missing file is made, and its disk is handed back, with the file or to have it taken away
   pub makes : List ℕ → Result D FileError → Type 0
   pub leaves : List ℕ → D → Type 0
@@ -36,7 +36,7 @@ pub record FileAnswers (D : Type 0) : Type 1 where
 abbrev pub answers_of : {D : Type 0} → (List ℕ → Result (Vec ℕ Global) Error → Type 0)
     → (opens_to_read : List ℕ → Result D FileError → Type 0) → (closes : List ℕ → D → Type 0)
     → (opens : List ℕ → Result D FileError → Type 0) → (hands_back : List ℕ → D → Type 0)
-    → (closes_all : HeldState D → Type 0) → (gives_up : StartingState D → Type 0)
+    → (closes_all : HeldState D → Type 0) → (gives_up : NotStartedState D → Type 0)
     → (makes : List ℕ → Result D FileError → Type 0) → (leaves takes_away : List ℕ → D → Type 0)
     → FileAnswers D
 answers_of reads opens_to_read closes opens hands_back closes_all gives_up makes leaves takes_away = record {

@@ -5,6 +5,7 @@ pub mod Faults
 pub mod Files
 pub mod Inner
 pub mod Orders
+pub mod Pace
 pub mod Program
 pub mod SideText
 pub mod Sides

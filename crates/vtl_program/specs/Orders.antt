@@ -23,7 +23,7 @@ use Rattle.vtl_program.specs.Files.{FileAnswers, ReadsConfig}
 use Rattle.vtl_program.specs.Program.{EndsProgram, IsIdle, RunsFrom}
 use Rattle.vtl_program.specs.Sides.{SidesGiven, file_sides, memory_state, new_sides, takes_any}
 use Rattle.vtl_program.specs.Starting.{IsBuiltIn, IsNotStarted, IsStarted}
-use Rattle.vtl_program.specs.Unfinished.{StartingState}
+use Rattle.vtl_program.specs.Unfinished.{NotStartedState}
 
 -- a library is like this, or it was not switched on for such a fault (own)
 abbrev pub IsStart : {D : Type 0} → (HeldState D → Type 0) → (VtlFault → Type 0)
@@ -39,13 +39,14 @@ RunsOver {D} state closes_all Is IsNot left left' before now outcome =
     (start : Result (HeldState D) VtlFault) × IsStart Is IsNot start
     × RunsFrom state closes_all start left left' before now outcome
 
--- a script is run over the library of a configuration, over such sides; that homes or numbers are double is no reason
--- (own)
+-- a script is run over the library of a configuration, over such sides; that homes or numbers are double is no reason;
+-- or memory runs out before anything is asked of the sides, and nothing is read or written (own)
 abbrev pub RunsConfig : {D : Type 0} → (D → DiskState) → SidesGiven D → (closes_all : HeldState D → Type 0)
-    → (gives_up : StartingState D → Type 0) → Config
+    → (gives_up : NotStartedState D → Type 0) → Config
     → (left left' before now : Option (List ℕ)) → Result (Unit {0}) VtlFault → Type 0
 RunsConfig state sides closes_all gives_up config left left' before now outcome =
-    RunsOver state closes_all
+    ((outcome ≡ Err Faults.NoMemory) × IsIdle left left' before now)
+    ⊎ RunsOver state closes_all
     (IsStarted sides.gives_cartridge state sides.gives_store config.cartridges.items config.drives.items)
     (λ fault. IsFailure fault × IsNotStarted state sides gives_up config.cartridges.items config.drives.items fault)
     left left' before now outcome
@@ -61,7 +62,7 @@ built_in_capacities = 16777216 ∷ []
 -- a script is run over the library of the configuration that a file says, over such sides; where there is no
 -- configuration, nothing is read or written (own)
 abbrev pub RunsNamed : {D : Type 0} → (D → DiskState) → SidesGiven D → (closes_all : HeldState D → Type 0)
-    → (gives_up : StartingState D → Type 0) → Result Config VtlFault
+    → (gives_up : NotStartedState D → Type 0) → Result Config VtlFault
     → (left left' before now : Option (List ℕ)) → Result (Unit {0}) VtlFault → Type 0
 RunsNamed state sides closes_all gives_up (Ok config) left left' before now outcome =
     RunsConfig state sides closes_all gives_up config left left' before now outcome
@@ -73,7 +74,7 @@ module _ {D : Type 0} (state : D → DiskState) where
     -- what `vtl run` does: over the built-in configuration in memory; over that of a file, in memory where that is
     -- asked for, and else over the sides of its files (own)
     abbrev pub RunsOrder : SidesGiven D → (closes_all : HeldState D → Type 0)
-        → (gives_up : StartingState D → Type 0) → Bool → Option (List ℕ)
+        → (gives_up : NotStartedState D → Type 0) → Bool → Option (List ℕ)
         → (left left' before now : Option (List ℕ)) → Result (Unit {0}) VtlFault → Type 0
     RunsOrder sides closes_all gives_up memory None left left' before now outcome =
         RunsOver memory_state takes_any (IsBuiltIn memory_state built_in_barcode built_in_capacities)

@@ -1,6 +1,7 @@
 -- What a library holds when it was just switched on, and what was given where it was not.
-use Rattle.std.specs.Prelude.{◌≡◌, ◌⊎◌, ℕ, [], ◌∷◌, ◌++◌, true, false, List, Option, None, Some, Ok, is_some}
+use Rattle.std.specs.Prelude.{◌≡◌, ◌≢◌, ◌⊎◌, ℕ, [], ◌∷◌, ◌++◌, true, false, List, Option, None, Some, Ok, Err, is_some}
 use Rattle.std.specs.List.{All, Contains}
+use Rattle.vtl_base.specs.declared.faults.NoMemory.{NoMemory}
 use Rattle.tape_disk.specs.Disk.{DiskState}
 use Rattle.tape_buffer.specs.Moves.{buffer_below}
 use Rattle.tape_buffer.specs.State.{BufferState, state_of}
@@ -14,9 +15,10 @@ use Rattle.vtl_config.specs.Entries.{AreDistinct, address_of, homes_of, numbers_
 use Rattle.vtl_config.specs.declared.entries.CartridgeEntry.{CartridgeEntry}
 use Rattle.vtl_config.specs.declared.entries.DriveEntry.{DriveEntry}
 use Rattle.vtl_program.specs.Sides.{IsNewCartridge, IsNewStore, SidesGiven}
-use Rattle.vtl_program.specs.Unfinished.{StartingState, waits_at}
+use Rattle.vtl_program.specs.Unfinished.{NotStartedState, StartingState, waits_at}
 use Rattle.vtl_program.specs.declared.programs.VtlFault.{VtlFault}
-use Rattle.vtl_program.specs.declared.programs.VtlFault.TheVariants.{Words, Config, Script, Device, NoMemory}
+use Rattle.vtl_program.specs.declared.programs.VtlFault.TheVariants.{Words, Config, Script, Device}
+use Rattle.vtl_program.specs.declared.programs.VtlFault.TheVariants as Faults
 
 -- each of these entries was given something (own)
 abbrev pub AreGiven : {E G : Type 0} → (E → G → Type 0) → List E → Type 0
@@ -97,25 +99,62 @@ module _ {D : Type 0} where
         pub taken : (number : ℕ) → is_some (bay_at starting.held.bays number) ≡ true
             → waits_at starting.waiting number ≡ None
 
-module _ {D : Type 0} (state : D → DiskState) (sides : SidesGiven D) (gives_up : StartingState D → Type 0) where
+module _ {D : Type 0} (state : D → DiskState) where
+  -- Memory ran out as the drive of this number was to be switched on over a store: it is not on, and the cartridge that
+  -- waited for it waits for it again, as the try left it. All else is as it was (own).
+  pub record StaysOff (number : ℕ) (store : OpenStore D) (old new : StartingState D) : Type 0 where
+    pub no_slot : is_slot number ≡ false
+    pub held : new.held ≡ old.held
+    pub reason : NoMemory
+    pub off :
+        SwitchesOn (state_of state) (buffer_below state) (waits_at old.waiting number)
+        (left_of (store_kept store).saved) store (Err (waits_at new.waiting number, store, reason))
+    pub elsewhere : (other : ℕ) → other ≢ number → waits_at new.waiting other ≡ waits_at old.waiting other
+
+module _ {D : Type 0} (state : D → DiskState) (sides : SidesGiven D) (gives_up : NotStartedState D → Type 0) where
   -- what was given for these entries was given up as it is: each cartridge at its home, or waiting for a drive that is
   -- not on, and each drive switched on (own)
   abbrev pub IsGivenUp : List CartridgeEntry → List DriveEntry → Type 0
   IsGivenUp entries drives =
-      (starting : StartingState D) × gives_up starting
+      (starting : StartingState D) × gives_up (record { starting = starting; store = None })
       × AreOn sides.gives_cartridge state sides.gives_store entries drives starting
+
+  -- one of these cartridges is refused so, the first, and all that was given before it is given up (own)
+  abbrev pub CartridgeIsRefused : List CartridgeEntry → VtlFault → Type 0
+  CartridgeIsRefused entries fault =
+      (refused : IsRefusedIn sides.gives_cartridge (λ entry. sides.refuses_cartridge entry fault) entries)
+      × IsGivenUp refused.before []
+
+  -- the store of one of these drives is refused so, the first, and all that was given before it is given up (own)
+  abbrev pub StoreIsRefused : List CartridgeEntry → List DriveEntry → VtlFault → Type 0
+  StoreIsRefused entries drives fault =
+      (refused : IsRefusedIn sides.gives_store (λ entry. sides.refuses_store entry fault) drives)
+      × IsGivenUp entries refused.before
+
+  -- Memory ran out as one of these drives was to be switched on over the store that was given for it. All that was
+  -- given is given up, that store too, and the drive's cartridge as the try left it (own).
+  pub record IsLeftOff (entries : List CartridgeEntry) (drives : List DriveEntry) : Type 0 where
+    pub before : List DriveEntry
+    pub entry : DriveEntry
+    pub behind : List DriveEntry
+    pub are : drives ≡ before ++ entry ∷ behind
+    pub store : OpenStore D
+    pub given : sides.gives_store entry store
+    pub old : StartingState D
+    pub on : AreOn sides.gives_cartridge state sides.gives_store entries before old
+    pub new : StartingState D
+    pub off : StaysOff state entry.number store old new
+    pub up : gives_up (record { starting = new; store = Some store })
 
   module _ (entries : List CartridgeEntry) (drives : List DriveEntry) where
     -- why a library is not switched on over such sides: one is refused, the first in the order of cartridges and then
-    -- of drives, and all that was given before it is given up; memory runs out, and then nothing is said of what was
-    -- given; or homes or numbers are double, which they are not in a configuration (own)
+    -- of drives, and all that was given before it is given up; memory runs out as a drive is switched on; or homes or
+    -- numbers are double, which they are not in a configuration (own)
     abbrev pub IsNotStarted : VtlFault → Type 0
-    IsNotStarted Device =
-        ((refused : IsRefusedIn sides.gives_cartridge (λ entry. sides.refuses_cartridge entry Device) entries)
-        × IsGivenUp refused.before [])
-        ⊎ ((refused : IsRefusedIn sides.gives_store (λ entry. sides.refuses_store entry Device) drives)
-        × IsGivenUp entries refused.before)
-    IsNotStarted NoMemory = Unit {0}
+    IsNotStarted Device = CartridgeIsRefused entries Device ⊎ StoreIsRefused entries drives Device
+    IsNotStarted Faults.NoMemory =
+        CartridgeIsRefused entries Faults.NoMemory ⊎ StoreIsRefused entries drives Faults.NoMemory
+        ⊎ IsLeftOff entries drives
     IsNotStarted Config = ¬ (AreDistinct (homes_of entries) × AreDistinct (numbers_of drives))
     IsNotStarted Words = ⊥
     IsNotStarted (Script line) = ⊥

@@ -6,7 +6,7 @@ ghost use Rattle.std.specs.declared.alloc.Global.{Global};
 ghost use Rattle.std.specs.declared.io.Error.{Error};
 ghost use Rattle.file_disk.specs.declared.error.FileError.{FileError};
 
-use crate::starting::Starting;
+use crate::starting::NotStarted;
 use bays::Held;
 use file_disk::{FileDisk, FileError};
 use std::{fs, io};
@@ -145,7 +145,7 @@ impl<'a> ChangeFiles<FileDisk> for SystemFiles<'a> {
     }
 }
 
-impl<'a> TakesBack<Held<FileDisk>, Starting<FileDisk>> for SystemFiles<'a> {
+impl<'a> TakesBack<Held<FileDisk>, NotStarted<FileDisk>> for SystemFiles<'a> {
     ghost closes_all = { λ library. Unit {0} };
 
     ghost gives_up = { λ starting. Unit {0} };
@@ -154,7 +154,7 @@ impl<'a> TakesBack<Held<FileDisk>, Starting<FileDisk>> for SystemFiles<'a> {
         drop(library);
     }
 
-    fn give_up(&self, starting: Starting<FileDisk>) {
+    fn give_up(&self, starting: NotStarted<FileDisk>) {
         drop(starting);
     }
 }

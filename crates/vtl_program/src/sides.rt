@@ -8,7 +8,7 @@ ghost use Rattle.vtl_program.specs.Sides.{IsNoStoreOn, IsStoreOn, SidesGiven};
 use crate::creating::slice_of;
 use crate::files::{ChangeFiles, TakesBack};
 use crate::programs::VtlFault;
-use crate::starting::Starting;
+use crate::starting::NotStarted;
 use aptpl_store::{AptplStore, StoreError, StoreRefused};
 use bays::{Held, Parked};
 use cartridge::{Cartridge, CartridgeError, NotCreated, Shelved};
@@ -122,7 +122,7 @@ impl<'a, D: Disk, F: ChangeFiles<D>> Sides<D> for FileSides<'a, F> {
     }
 }
 
-impl<'a, D: Disk, F: TakesBack<Held<D>, Starting<D>>> TakesBack<Held<D>, Starting<D>>
+impl<'a, D: Disk, F: TakesBack<Held<D>, NotStarted<D>>> TakesBack<Held<D>, NotStarted<D>>
     for FileSides<'a, F> {
     ghost closes_all = { F.closes_all };
 
@@ -132,7 +132,7 @@ impl<'a, D: Disk, F: TakesBack<Held<D>, Starting<D>>> TakesBack<Held<D>, Startin
         self.files.close_all(library);
     }
 
-    fn give_up(&self, starting: Starting<D>) {
+    fn give_up(&self, starting: NotStarted<D>) {
         self.files.give_up(starting);
     }
 }
@@ -162,7 +162,7 @@ impl Sides<MemDisk> for NewSides {
     }
 }
 
-impl TakesBack<Held<MemDisk>, Starting<MemDisk>> for NewSides {
+impl TakesBack<Held<MemDisk>, NotStarted<MemDisk>> for NewSides {
     ghost use Rattle.vtl_program.specs.Sides.{takes_any};
 
     ghost closes_all = { takes_any };
@@ -173,7 +173,7 @@ impl TakesBack<Held<MemDisk>, Starting<MemDisk>> for NewSides {
         drop(library);
     }
 
-    fn give_up(&self, starting: Starting<MemDisk>) {
+    fn give_up(&self, starting: NotStarted<MemDisk>) {
         drop(starting);
     }
 }

@@ -1,20 +1,20 @@
 //! A library is switched on: each cartridge is at its home.
-ghost use Rattle.std.specs.Prelude.{◌≡◌, ◌⊎◌, true, IfOk, IfErr, OnOk, is_some};
+ghost use Rattle.std.specs.Prelude.{◌≡◌, true, IfOk, IfErr, OnOk, is_some};
 ghost use Rattle.aptpl_store.specs.Kept.{store_kept};
 ghost use Rattle.drive_core.specs.State.{left_of};
-ghost use Rattle.bays.specs.Elements.{bay_at};
 ghost use Rattle.vtl_config.specs.Entries.{address_of};
-ghost use Rattle.vtl_program.specs.Inner.Waiting.{AreHome, IsBare, IsNotHome, PutsHome, SwitchesOnAt, home_at};
+ghost use Rattle.vtl_program.specs.Inner.Waiting.{AreHome, IsNotHome, IsOffAt, PutsHome, SwitchesOnAt};
 ghost use Rattle.vtl_program.specs.Orders.{IsStart, built_in_barcode, built_in_capacities};
 ghost use Rattle.vtl_program.specs.Sides.{memory_state};
 ghost use Rattle.vtl_program.specs.Starting.{IsBuiltIn, IsNotStarted, IsStarted};
+ghost use Rattle.vtl_program.specs.Unfinished.{IsBare, home_at};
 ghost use Rattle.vtl_program.specs.declared.programs.VtlFault.TheVariants as Faults;
 
 use crate::files::TakesBack;
 use crate::programs::VtlFault;
 use crate::sides::{DriveStore, Sides};
 use aptpl_store::AptplStore;
-use bays::{Bay, Held, Parked};
+use bays::{Bay, Held, NotOn, Parked};
 use cartridge::Cartridge;
 use pr_core::Reservations;
 use std::alloc::Global;
@@ -31,6 +31,31 @@ const DRIVE: u8 = 1;
 const BARCODE: &[u8] = b"T00001L6";
 
 const CAPACITY: u64 = 16_777_216;
+
+/// What was given for a library that was not switched on.
+#[derive(Drop)]
+pub struct NotStarted<D: Disk> {
+    /// The slots, the drives that are on, and the cartridges that wait for others.
+    pub starting: Starting<D>,
+    /// The store of the drive for which memory ran out as it was switched on.
+    pub store: Option<AptplStore<D>>,
+}
+
+impl<D: Disk> Model for NotStarted<D> {
+    ghost use Rattle.vtl_program.specs.Unfinished.{NotStartedState};
+
+    ghost Value = { NotStartedState D };
+
+    ghost view = { λ n. record { starting = n.starting; store = n.store } };
+}
+
+// A drive that is not switched on.
+#[derive(Drop)]
+struct Off<D: Disk> {
+    fault: VtlFault,
+    // its store, where memory ran out
+    store: Option<AptplStore<D>>,
+}
 
 /// A library that is being switched on: its slots are filled, and the cartridges for drives that are not on yet wait.
 #[derive(Drop)]
@@ -53,8 +78,8 @@ impl<D: Disk> Model for Starting<D> {
 }
 
 impl<D: Disk + Drop> Starting<D> {
-    // A library of no drive, with no cartridge.
-    fn new(alloc: Global) -> Result<Starting<D>, NoMemory>
+    /// A library of no drive, with no cartridge.
+    pub fn new(alloc: Global) -> Result<Starting<D>, NoMemory>
         ensures { IfOk result IsBare }
     {
         let held = Held::new(alloc)?;
@@ -107,85 +132,112 @@ impl<D: Disk + Drop> Starting<D> {
         Ok(())
     }
 
-    // Switches a drive on, with the cartridge that waits for it.
+    // Switches a drive on, with the cartridge that waits for it. Where memory runs out, the cartridge waits again, and
+    // the store comes back.
     fn switch_on(
         &mut self,
         alloc: Global,
         number: DriveNo,
         opened: DriveStore<D>,
-    ) -> Result<(), VtlFault>
+    ) -> Result<(), Off<D>>
         requires { opened.left ≡ left_of (store_kept opened.store).saved }
         ensures ok { OnOk result (SwitchesOnAt D.state number opened.store self.old self.new) }
-        ensures err { IfErr result (λ fault. (fault ≡ Faults.NoMemory)
-            ⊎ (fault ≡ Faults.Config) × (is_some (bay_at self.old.held.bays number) ≡ true)) }
+        ensures err { IfErr result (λ off.
+            IsOffAt D.state number opened.store self.old self.new off.store off.fault) }
     {
         // Asked for the proof's sake: the numbers of drives begin with 1.
         let _ = number.number();
         let DriveStore { store, left } = opened;
-        let cartridge = mem::replace(&mut self.waiting[number.place()], None);
+        let place = number.place();
+        let cartridge = mem::replace(&mut self.waiting[place], None);
         match Bay::power_on(alloc, store, left, cartridge) {
-            Ok(bay) => match self.held.install(number, bay) {
-                Ok(()) => Ok(()),
-                Err(_) => Err(VtlFault::Config),
-            },
-            Err(_) => Err(VtlFault::NoMemory),
+            Ok(bay) => {
+                if let Err(_bay) = self.held.install(number, bay) {
+                    return Err(Off {
+                        fault: VtlFault::Config,
+                        store: None,
+                    });
+                }
+                Ok(())
+            }
+            Err(NotOn { cartridge, store }) => {
+                self.waiting[place] = cartridge;
+                Err(Off {
+                    fault: VtlFault::NoMemory,
+                    store: Some(store),
+                })
+            }
         }
     }
 }
 
 // Gets the cartridges, in the order of the configuration, each into its home. Where one is refused, those before it are
 // given up.
-fn place_all<D: Disk + Drop, S: Sides<D> + TakesBack<Held<D>, Starting<D>>>(
+fn place_all<D: Disk + Drop, S: Sides<D> + TakesBack<Held<D>, NotStarted<D>>>(
     alloc: Global,
     sides: &S,
+    starting: Starting<D>,
     cartridges: Vec<CartridgeEntry>,
 ) -> Result<Starting<D>, VtlFault>
+    requires { IsBare starting }
     ensures ok { IfOk result (AreHome S.given.gives_cartridge cartridges.items) }
     ensures err { IfErr result (IsNotHome D.state S.given S.gives_up cartridges.items) }
 {
-    let mut starting = Starting::new(alloc)?;
+    let mut starting = starting;
     for entry in cartridges {
         let home = entry.home;
         let cartridge = match sides.cartridge(alloc, entry) {
             Ok(cartridge) => cartridge,
             Err(fault) => {
-                sides.give_up(starting);
+                sides.give_up(NotStarted {
+                    starting,
+                    store: None,
+                });
                 return Err(fault);
             }
         };
         if let Err(fault) = starting.put(home, cartridge) {
-            sides.give_up(starting);
+            sides.give_up(NotStarted {
+                starting,
+                store: None,
+            });
             return Err(fault);
         }
     }
     Ok(starting)
 }
 
-/// The library of a configuration, over these sides: first its cartridges, then its drives, in the
-/// order of the configuration. What is refused first decides the fault: `Device`, and then all that
-/// was given before it is given up; or `NoMemory`, of which the contract says no more.
-pub fn start<D: Disk + Drop, S: Sides<D> + TakesBack<Held<D>, Starting<D>>>(
+/// The library of a configuration, over these sides, made of one that has nothing: first its cartridges, then its
+/// drives, in the order of the configuration. What is refused first decides the fault: `Device` or `NoMemory`. Then all
+/// that was given before it is given up. Where memory runs out as a drive is switched on, its cartridge and its store
+/// are too.
+pub fn start<D: Disk + Drop, S: Sides<D> + TakesBack<Held<D>, NotStarted<D>>>(
     alloc: Global,
     sides: &S,
+    starting: Starting<D>,
     cartridges: Vec<CartridgeEntry>,
     drives: Vec<DriveEntry>,
 ) -> Result<Held<D>, VtlFault>
+    requires { IsBare starting }
     ensures ok { IfOk result
         (IsStarted S.given.gives_cartridge D.state S.given.gives_store cartridges.items drives.items) }
     ensures err { IfErr result (IsNotStarted D.state S.given S.gives_up cartridges.items drives.items) }
 {
-    let mut starting = place_all(alloc, sides, cartridges)?;
+    let mut starting = place_all(alloc, sides, starting, cartridges)?;
     for entry in drives {
         let number = entry.number;
         let opened = match sides.store(alloc, entry) {
             Ok(opened) => opened,
             Err(fault) => {
-                sides.give_up(starting);
+                sides.give_up(NotStarted {
+                    starting,
+                    store: None,
+                });
                 return Err(fault);
             }
         };
-        if let Err(fault) = starting.switch_on(alloc, number, opened) {
-            sides.give_up(starting);
+        if let Err(Off { fault, store }) = starting.switch_on(alloc, number, opened) {
+            sides.give_up(NotStarted { starting, store });
             return Err(fault);
         }
     }
@@ -211,6 +263,8 @@ pub fn built_in(alloc: Global) -> Result<Held<MemDisk>, VtlFault>
     let mut starting = Starting::new(alloc)?;
     starting.put(Address::Drive(number), cartridge)?;
     let left = Reservations::empty();
-    starting.switch_on(alloc, number, DriveStore { store, left })?;
-    Ok(starting.held)
+    match starting.switch_on(alloc, number, DriveStore { store, left }) {
+        Ok(()) => Ok(starting.held),
+        Err(off) => Err(off.fault),
+    }
 }

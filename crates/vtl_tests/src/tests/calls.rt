@@ -5,7 +5,10 @@ use assertions::{assert_equal, assert_holds};
 use file_disk::FileError;
 use std::alloc::Global;
 use std::process::Abort;
+use std::sync::Wait;
 use std::test::Fail;
+use std::thread::Threads;
+use std::time::Clock;
 use vtl_base::DevFault;
 use vtl_program::orders::run;
 use vtl_program::programs::Ended;
@@ -35,7 +38,8 @@ fn words_of(alloc: Global, line: &str) -> Result<Vec<String>, Fail> {
 }
 
 // A run over these files with these words, which writes to these streams.
-fn ran_over(
+fn ran_over<R: Threads + Wait + Clock + Sync>(
+    rt: &R,
     alloc: Global,
     files: &NotedFiles,
     line: &str,
@@ -44,12 +48,13 @@ fn ran_over(
 ) -> Result<Ended, Fail> {
     let words = words_of(alloc, line)?;
     let mut reader = BadReader::new(b"", None);
-    Ok(run(alloc, files, Ok(words), &mut reader, writer, lines))
+    Ok(run(rt, alloc, files, Ok(words), &mut reader, writer, lines))
 }
 
 // The text and the line that a run over these files writes, and how it ends. The call of the writer of this number
 // fails, if one does.
-fn ran(
+fn ran<R: Threads + Wait + Clock + Sync>(
+    rt: &R,
     alloc: Global,
     files: &NotedFiles,
     line: &str,
@@ -57,12 +62,12 @@ fn ran(
 ) -> Result<(Vec<u8>, Vec<u8>, Ended), Fail> {
     let mut writer = BadWriter::new(alloc, bad);
     let mut lines = BadWriter::new(alloc, None);
-    let ended = ran_over(alloc, files, line, &mut writer, &mut lines)?;
+    let ended = ran_over(rt, alloc, files, line, &mut writer, &mut lines)?;
     Ok((writer.into_text(), lines.into_text(), ended))
 }
 
-fn is_told(
-    abort: &impl Abort,
+fn is_told<R: Abort + Threads + Wait + Clock + Sync>(
+    rt: &R,
     alloc: Global,
     files: &NotedFiles,
     row: Row,
@@ -73,28 +78,37 @@ fn is_told(
         Failing::Write(call) => Some(call),
         _ => None,
     };
-    let (told, reported, ended) = ran(alloc, files, words, bad)?;
-    assert_equal!(abort; told.as_slice(), text.as_bytes(); at);
-    assert_equal!(abort; reported.as_slice(), line.as_bytes(); at);
+    let (told, reported, ended) = ran(rt, alloc, files, words, bad)?;
+    assert_equal!(rt; told.as_slice(), text.as_bytes(); at);
+    assert_equal!(rt; reported.as_slice(), line.as_bytes(); at);
     let wanted = Ended {
         status,
         is_reported: true,
     };
-    assert_equal!(abort; ended, wanted; at);
+    assert_equal!(rt; ended, wanted; at);
     Ok(())
 }
 
-fn assert_row(abort: &impl Abort, alloc: Global, row: Row, at: usize) -> Result<(), Fail> {
+fn assert_row<R: Abort + Threads + Wait + Clock + Sync>(
+    rt: &R,
+    alloc: Global,
+    row: Row,
+    at: usize,
+) -> Result<(), Fail> {
     let files = NotedFiles::new(alloc, row.0);
-    is_told(abort, alloc, &files, row, at)?;
+    is_told(rt, alloc, &files, row, at)?;
     let called = files.into_note();
-    assert_equal!(abort; called.as_slice(), row.2.as_bytes(); at);
+    assert_equal!(rt; called.as_slice(), row.2.as_bytes(); at);
     Ok(())
 }
 
-pub fn assert_rows(abort: &impl Abort, alloc: Global, rows: &[Row]) -> Result<(), Fail> {
+pub fn assert_rows<R: Abort + Threads + Wait + Clock + Sync>(
+    rt: &R,
+    alloc: Global,
+    rows: &[Row],
+) -> Result<(), Fail> {
     for (at, row) in rows.iter().enumerate() {
-        assert_row(abort, alloc, *row, at)?;
+        assert_row(rt, alloc, *row, at)?;
     }
     Ok(())
 }

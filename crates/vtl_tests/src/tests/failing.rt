@@ -6,14 +6,17 @@ use bays::{Held, Parked};
 use cartridge::Cartridge;
 use pr_core::Reservations;
 use std::alloc::Global;
+use std::sync::Wait;
 use std::test::Fail;
+use std::thread::Threads;
+use std::time::Clock;
 use tape_disk::{MemDisk, OnceDisk};
 use vtl_config::{CartridgeEntry, Config, DriveEntry, read_config};
 use vtl_program::files::TakesBack;
 use vtl_program::orders::run_started;
 use vtl_program::programs::VtlFault;
 use vtl_program::sides::{DriveStore, Sides};
-use vtl_program::starting::{Starting, start};
+use vtl_program::starting::{NotStarted, Starting, start};
 
 // New sides in memory, whose cartridges fail at the call after this many.
 #[derive(Clone, Copy)]
@@ -69,7 +72,7 @@ impl Sides<OnceDisk<MemDisk>> for FailingSides {
     }
 }
 
-impl TakesBack<Held<OnceDisk<MemDisk>>, Starting<OnceDisk<MemDisk>>> for FailingSides {
+impl TakesBack<Held<OnceDisk<MemDisk>>, NotStarted<OnceDisk<MemDisk>>> for FailingSides {
     ghost closes_all = { λ library. Unit {0} };
 
     ghost gives_up = { λ starting. Unit {0} };
@@ -78,7 +81,7 @@ impl TakesBack<Held<OnceDisk<MemDisk>>, Starting<OnceDisk<MemDisk>>> for Failing
         drop(library);
     }
 
-    fn give_up(&self, starting: Starting<OnceDisk<MemDisk>>) {
+    fn give_up(&self, starting: NotStarted<OnceDisk<MemDisk>>) {
         drop(starting);
     }
 }
@@ -88,7 +91,8 @@ const CONFIG: &[u8] =
     drive = [{ number = 1, reservations = \"1\" }]\n";
 
 // A library is started and runs a script; how it ends.
-fn run_over(
+fn run_over<R: Threads + Wait + Clock + Sync>(
+    rt: &R,
     alloc: Global,
     sides: &FailingSides,
     config: Config,
@@ -96,21 +100,27 @@ fn run_over(
     writer: &mut BadWriter,
 ) -> Result<(), VtlFault> {
     let Config { cartridges, drives } = config;
-    let held = start(alloc, sides, cartridges, drives);
+    let held = start(alloc, sides, Starting::new(alloc)?, cartridges, drives);
     let mut reader = BadReader::new(script, None);
-    run_started(alloc, sides, held, &mut reader, writer)
+    run_started(rt, alloc, sides, held, &mut reader, writer)
 }
 
 // What a script ends with, and what it writes.
 type Ran = (Vec<u8>, Result<(), VtlFault>);
 
 // Runs a script over a library whose cartridge fails at that call.
-fn ran(alloc: Global, script: &[u8], calls: u64) -> Result<Ran, Fail> {
+fn ran<R: Threads + Wait + Clock + Sync>(
+    rt: &R,
+    alloc: Global,
+    script: &[u8],
+    calls: u64,
+) -> Result<Ran, Fail> {
     let Ok(config) = read_config(alloc, CONFIG) else {
         return Err(Fail::from("no configuration"));
     };
     let mut writer = BadWriter::new(alloc, None);
-    let outcome = run_over(alloc, &FailingSides { calls }, config, script, &mut writer);
+    let sides = FailingSides { calls };
+    let outcome = run_over(rt, alloc, &sides, config, script, &mut writer);
     Ok((writer.into_text(), outcome))
 }
 
@@ -122,8 +132,13 @@ const REFUSED: &[u8] = b"1 1 000000000000\n1 1 0a0000000100 61\n--\nx\n";
 const GOOD: &str = "CHECK 700006000000000a00000000290000000000\nGOOD\n";
 
 // How a script ends that writes what it should; None where it writes something else.
-fn end_of(alloc: Global, script: &[u8], calls: u64) -> Result<Option<Result<(), VtlFault>>, Fail> {
-    let (text, outcome) = ran(alloc, script, calls)?;
+fn end_of<R: Threads + Wait + Clock + Sync>(
+    rt: &R,
+    alloc: Global,
+    script: &[u8],
+    calls: u64,
+) -> Result<Option<Result<(), VtlFault>>, Fail> {
+    let (text, outcome) = ran(rt, alloc, script, calls)?;
     if text.as_slice() != GOOD.as_bytes() {
         return Ok(None);
     }
@@ -134,10 +149,10 @@ fn end_of(alloc: Global, script: &[u8], calls: u64) -> Result<Option<Result<(), 
 fn the_first_fault_is_told(rt: HostRuntime) -> Result<(), Fail> {
     let mut unwritten = 0u32;
     for calls in 0..40 {
-        let Some(outcome) = end_of(rt.alloc(), WAITS, calls)? else {
+        let Some(outcome) = end_of(&rt, rt.alloc(), WAITS, calls)? else {
             continue;
         };
-        let refused = end_of(rt.alloc(), REFUSED, calls)?;
+        let refused = end_of(&rt, rt.alloc(), REFUSED, calls)?;
         assert_equal!(rt; refused, Some(Err(VtlFault::Script { line: 4 })); calls);
         if outcome.is_err() {
             assert_equal!(rt; outcome, Err(VtlFault::Device); calls);

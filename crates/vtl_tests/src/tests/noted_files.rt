@@ -8,7 +8,7 @@ use tape_disk::{MemDisk, OnceDisk};
 use vtl_base::DevFault;
 use vtl_config::{FileName, UsedName};
 use vtl_program::files::{ChangeFiles, MakeFiles, ReadFiles, TakesBack, TextFiles};
-use vtl_program::starting::Starting;
+use vtl_program::starting::NotStarted;
 
 // A configuration of two cartridges, in slot 1001 and in drive 2, and of two drives.
 const CONFIG: &[u8] = b"cartridge = [\
@@ -174,7 +174,7 @@ impl ChangeFiles<OnceDisk<MemDisk>> for NotedFiles {
     }
 }
 
-impl TakesBack<Held<OnceDisk<MemDisk>>, Starting<OnceDisk<MemDisk>>> for NotedFiles {
+impl TakesBack<Held<OnceDisk<MemDisk>>, NotStarted<OnceDisk<MemDisk>>> for NotedFiles {
     ghost closes_all = { λ library. Unit {0} };
 
     ghost gives_up = { λ starting. Unit {0} };
@@ -184,7 +184,7 @@ impl TakesBack<Held<OnceDisk<MemDisk>>, Starting<OnceDisk<MemDisk>>> for NotedFi
         drop(library);
     }
 
-    fn give_up(&self, starting: Starting<OnceDisk<MemDisk>>) {
+    fn give_up(&self, starting: NotStarted<OnceDisk<MemDisk>>) {
         let _ = self.noted("give", "up");
         drop(starting);
     }

@@ -5,7 +5,10 @@ use assertions::{assert_equal, assert_holds};
 use std::alloc::Global;
 use std::io::ErrorKind;
 use std::process::Abort;
+use std::sync::Wait;
 use std::test::Fail;
+use std::thread::Threads;
+use std::time::Clock;
 use vtl_program::orders::run_started;
 use vtl_program::programs::{Ended, Verdict, VtlFault, end, fault_line};
 use vtl_program::sides::NewSides;
@@ -36,7 +39,8 @@ const WHOLE: Plan = Plan {
 };
 
 // Starts a library and runs a script. Without a drive memory has run out before the start.
-fn outcome_of(
+fn outcome_of<R: Threads + Wait + Clock + Sync>(
+    rt: &R,
     alloc: Global,
     script: &[u8],
     read: BadCall,
@@ -49,17 +53,23 @@ fn outcome_of(
         Err(VtlFault::NoMemory)
     };
     let mut reader = BadReader::new(script, read);
-    match run_started(alloc, &NewSides, start, &mut reader, writer) {
+    match run_started(rt, alloc, &NewSides, start, &mut reader, writer) {
         Ok(()) => Ok(Verdict::Done),
         Err(fault) => Err(fault),
     }
 }
 
 // Runs the program.
-fn ran(alloc: Global, script: &[u8], plan: Plan, has_drive: bool) -> ProgramRun {
+fn ran<R: Threads + Wait + Clock + Sync>(
+    rt: &R,
+    alloc: Global,
+    script: &[u8],
+    plan: Plan,
+    has_drive: bool,
+) -> ProgramRun {
     let mut writer = BadWriter::new(alloc, plan.write);
     let mut lines = BadWriter::new(alloc, plan.error);
-    let outcome = outcome_of(alloc, script, plan.read, has_drive, &mut writer);
+    let outcome = outcome_of(rt, alloc, script, plan.read, has_drive, &mut writer);
     let ended = end(outcome, &mut lines);
     ProgramRun {
         text: writer.into_text(),
@@ -122,7 +132,7 @@ fn has_ended(rt: &impl Abort, ran: &ProgramRun, wanted: &End, at: usize) {
 fn status_and_line_of_each_end(rt: HostRuntime) {
     for (at, row) in ENDS.iter().enumerate() {
         let (script, plan, has_drive, _, _, _) = *row;
-        has_ended(&rt, &ran(rt.alloc(), script, plan, has_drive), row, at);
+        has_ended(&rt, &ran(&rt, rt.alloc(), script, plan, has_drive), row, at);
     }
 }
 
@@ -138,7 +148,7 @@ fn a_line_that_can_not_be_written(rt: HostRuntime) {
         error: Some(1),
         ..WHOLE
     };
-    is_silent(&rt, &ran(rt.alloc(), b"x\n", closed, true));
+    is_silent(&rt, &ran(&rt, rt.alloc(), b"x\n", closed, true));
 }
 
 // Faults of the program and of a script, each with its status and its line.

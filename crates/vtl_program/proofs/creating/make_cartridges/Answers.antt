@@ -1,8 +1,8 @@
-use Rattle.std.proofs.Common.{rules, ◌≡◌, ◌∙◌, ◌∷◌, ◌++◌, [], List, length, map, ap, refl, sym, subst, append_assoc, arith, Ok, Err}
+use Rattle.std.proofs.Common.{rules, ◌∙◌, ◌∷◌, ◌++◌, [], length, ap, refl, sym, arith, Ok, Err}
 use Rattle.std.specs.Vec.Iter.{into_iter_items}
 use Rattle.vtl_program.proofs.CreatingLemmas.{files_more, files_first, files_none}
-use Rattle.vtl_program.proofs.TakenLemmas.{all_taken, one_more, parted}
-use Rattle.vtl_program.specs.Creating.{CartridgeFile, TellsFiles}
+use Rattle.vtl_program.proofs.TakenLemmas.{all_taken, one_more}
+use Rattle.vtl_program.specs.Creating.{CartridgeFile}
 use Rattle.vtl_program.proofs.creating.make_cartridges.Goals as goal
 
 pub loop-entry-init : goal.loop-entry-init

@@ -9,8 +9,8 @@ use Rattle.vtl_program.specs.Unfinished.{StartingState}
 use Rattle.vtl_program.proofs.BuiltInLemmas.{built_in_is}
 use Rattle.vtl_program.proofs.starting.built_in.Goals as goal
 
-pub returns : goal.returns
-returns c =
+pub returns-in-Ok : goal.returns-in-Ok
+returns-in-Ok c =
     let number = c.in-Some-Ok.number in
     let store = c.in-Ok-Ok.store in
     let one : number ≡ 1 = c.in-Some-Ok.ensures.value in
@@ -33,7 +33,7 @@ returns c =
     c.in_ok-put.ensures.ok in
     let switched : SwitchesOnAt memory_state 1 store c.put.new.self c.switch_on.new.self =
     subst (λ (n : ℕ). SwitchesOnAt memory_state n store c.put.new.self c.switch_on.new.self) one
-    c.in_ok-switch_on.ensures.ok in
+    c.in-Ok.ensures.ok in
     subst (λ (s : StartingState MemDisk). IsBuiltIn memory_state built_in_barcode built_in_capacities s.held)
     (sym c.starting-2.view_is)
     (built_in_is memory_state built_in_barcode built_in_capacities c.of-cartridge.result store c.in_ok-starting.starting

@@ -1,8 +1,9 @@
-use Rattle.std.proofs.Common.{rules, ◌≡◌, ◌∙◌, ◌∷◌, ◌++◌, List, length, ap, refl, sym, subst, is_some, arith}
+use Rattle.std.proofs.Common.{rules, ◌∙◌, List, length, ap, refl, sym, subst, is_some, arith}
 use Rattle.std.specs.Vec.Iter.{into_iter_items}
-use Rattle.vtl_config.specs.Entries.{AreDistinct, address_of, homes_of}
+use Rattle.vtl_config.specs.Entries.{address_of}
 use Rattle.vtl_config.specs.declared.entries.CartridgeEntry.{CartridgeEntry}
-use Rattle.vtl_program.specs.Inner.Waiting.{AreHome, home_at}
+use Rattle.vtl_program.specs.Inner.Waiting.{AreHome}
+use Rattle.vtl_program.specs.Unfinished.{home_at}
 use Rattle.vtl_program.proofs.StartingLemmas.{double_home, home_on, home_yet, not_home, refused_home}
 use Rattle.vtl_program.proofs.TakenLemmas.{all_taken, one_more, parted}
 use Rattle.vtl_program.proofs.starting.place_all.Goals as goal
@@ -10,7 +11,7 @@ use Rattle.vtl_program.proofs.starting.place_all.Goals as goal
 pub loop-entry-init : goal.loop-entry-init
 loop-entry-init g c = (
   refl,
-  home_yet g.S.Sides.given.gives_cartridge c.in_ok-starting.starting c.in_ok-starting.ensures,
+  home_yet g.S.Sides.given.gives_cartridge c.args.starting c.requires,
   search (rules, c.into_iter-entry-iterator.ensures.into_iter_gives),
 )
 

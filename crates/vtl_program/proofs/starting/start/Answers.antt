@@ -1,7 +1,5 @@
-use Rattle.std.proofs.Common.{rules, ◌≡◌, ◌∙◌, ◌∷◌, ◌++◌, List, length, ap, refl, sym, subst, is_some, arith}
+use Rattle.std.proofs.Common.{rules, ◌∙◌, List, length, ap, refl, sym, subst, arith}
 use Rattle.std.specs.Vec.Iter.{into_iter_items}
-use Rattle.bays.specs.Elements.{bay_at}
-use Rattle.vtl_config.specs.Entries.{AreDistinct, numbers_of}
 use Rattle.vtl_config.specs.declared.entries.DriveEntry.{DriveEntry}
 use Rattle.vtl_program.specs.Starting.{AreOn, IsStarted}
 use Rattle.vtl_program.specs.Unfinished.{StartingState}
@@ -32,12 +30,14 @@ returns-in-Err-switch_on-clause-err g c =
     let at = c.loop-entry in
     let entry = c.in-Some.entry in
     let drives = c.args.drives.items in
+    let are = parted into_iter_items drives at.yielded entry at.entry-iterator c.next.new.self
+    (at.invariant.0 ∙ c.into_iter-entry-iterator.ensures.into_iter_gives.0) c.in-Some.ensures.steps.0 in
     not_on g.D.Disk.state g.S.Sides.given g.S.TakesBack.gives_up c.args.cartridges.items drives
-    c.in-Err-switch_on.fault (is_some (bay_at at.starting.held.bays entry.number)) c.in-Err-switch_on.ensures.err
-    (λ taken. rw (parted into_iter_items drives at.yielded entry at.entry-iterator c.next.new.self
-    (at.invariant.0 ∙ c.into_iter-entry-iterator.ensures.into_iter_gives.0) c.in-Some.ensures.steps.0)
-    (double_number g.S.Sides.given.gives_cartridge g.D.Disk.state g.S.Sides.given.gives_store c.args.cartridges.items
-    at.yielded (into_iter_items c.next.new.self) entry at.starting at.invariant.1 taken))
+    c.in-Err-switch_on.field-0.fault at.yielded (into_iter_items c.next.new.self) entry c.in-Ok.opened.store
+    c.in-Err-switch_on.field-0.store at.starting c.switch_on.new.self are at.invariant.1 c.in-Ok.ensures.ok
+    c.in-Err-switch_on.ensures.err c.give_up-in-Err-switch_on.ensures
+    (λ taken. rw are (double_number g.S.Sides.given.gives_cartridge g.D.Disk.state g.S.Sides.given.gives_store
+    c.args.cartridges.items at.yielded (into_iter_items c.next.new.self) entry at.starting at.invariant.1 taken))
 
 pub loop-entry-preserved : goal.loop-entry-preserved
 loop-entry-preserved g c =

@@ -1,6 +1,6 @@
 use Rattle.std.proofs.Common.{◌≡◌, ℕ, refl, subst, true, is_some}
-use Rattle.vtl_program.specs.Inner.Waiting.{PutsHome, home_at}
-use Rattle.vtl_program.specs.Unfinished.{StartingState}
+use Rattle.vtl_program.specs.Inner.Waiting.{PutsHome}
+use Rattle.vtl_program.specs.Unfinished.{StartingState, home_at}
 use Rattle.vtl_program.proofs.WaitingLemmas.{full_in_slot, puts_slot, slot_address}
 use Rattle.vtl_program.proofs.starting.Starting.put_in.Goals as goal
 use Rattle.vtl_program.proofs.starting.Starting.put_in.Goals.{in-Ok, in-Err}

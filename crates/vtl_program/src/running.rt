@@ -1,0 +1,115 @@
+//! A script is run over a library whose drives threads share.
+ghost use Rattle.std.specs.Prelude.{◌≡◌};
+ghost use Rattle.library.specs.Counts.{places_filled};
+ghost use Rattle.vtl_program.specs.Program.{HaveAcceptedNone, RunsHeld, every_nexus, outcome_of};
+
+use crate::pace::Pace;
+use crate::programs::VtlFault;
+use bays::{Bay, Held};
+use library::{FinishError, Finished, Ran, run_library};
+use std::alloc::Global;
+use std::io::{Read, Write};
+use std::marker::Brand;
+use std::sync::Wait;
+use std::sync::ledger::Blank;
+use std::thread::Threads;
+use std::time::Clock;
+use tape_disk::Disk;
+use vtl_base::Nexus;
+use vtl_base::limits::NEXUSES;
+use vtl_script::ScriptFault;
+
+/// What a run leaves.
+#[derive(Drop)]
+pub struct Left<D: Disk> {
+    /// The library.
+    pub held: Held<D>,
+    /// How the run ended.
+    pub outcome: Result<(), VtlFault>,
+}
+
+// The first fault decides: one of the script before one of the buffers.
+fn outcome_of(
+    ran: Result<(), ScriptFault>,
+    finished: Result<[Option<u64>; 16], FinishError>,
+) -> Result<(), VtlFault>
+    ensures { result ≡ outcome_of ran finished }
+{
+    match (ran, finished) {
+        (Err(fault), _) => Err(VtlFault::from(fault)),
+        (Ok(()), Ok(_)) => Ok(()),
+        (Ok(()), Err(_)) => Err(VtlFault::Device),
+    }
+}
+
+// All hosts that a script may name.
+fn every_host() -> [Nexus; 64]
+    ensures { result ≡ every_nexus }
+{
+    let mut hosts = [Nexus::new(1).unwrap(); 64];
+    for place in 0..NEXUSES {
+        hosts[place as usize] = Nexus::new(place + 1).unwrap();
+    }
+    hosts
+}
+
+// How many drives there are.
+fn count_drives<D: Disk>(bays: &[Option<Bay<D>>]) -> u64
+    ensures { result ≡ places_filled bays.now }
+{
+    let mut count = 0;
+    for bay in bays {
+        if bay.is_some() {
+            count += 1;
+        }
+    }
+    count
+}
+
+/// Runs a script over a library, and beside it a thread for each drive that stores what waits. Then every buffer is
+/// written out, whatever the script's end was. The first fault is answered: one of the script before one of the
+/// buffers. Where memory runs out before the script, nothing is read, and the library is as it was.
+pub fn run_shared<D: Disk + Drop + Send, R: Threads + Wait + Clock + Sync, I: Read, W: Write>(
+    rt: &R,
+    alloc: Global,
+    held: Held<D>,
+    reader: &mut I,
+    writer: &mut W,
+) -> Left<D>
+    requires { HaveAcceptedNone held }
+    ensures { RunsHeld D.state held (I.remaining reader.old) (I.remaining reader.new)
+        (W.contents writer.old) (W.contents writer.new) result.held result.outcome }
+{
+    let (bays, slots) = held.into_parts();
+    let drives = Blank::new(count_drives(bays.as_slice()));
+    let hosts = Blank::new(NEXUSES as u64);
+    let ran = run_library::<D, Brand, Brand, R, Pace<'_, R>, I, W>(
+        rt,
+        alloc,
+        bays,
+        slots,
+        &every_host(),
+        drives,
+        hosts,
+        &Pace { rt },
+        reader,
+        writer,
+    );
+    match ran {
+        Ok(Ran { finished, outcome }) => {
+            let Finished {
+                slots,
+                bays,
+                counts,
+            } = finished;
+            Left {
+                held: Held::from_parts(alloc, bays, slots),
+                outcome: outcome_of(outcome, counts),
+            }
+        }
+        Err(back) => Left {
+            held: Held::from_parts(alloc, back.bays, back.slots),
+            outcome: Err(VtlFault::NoMemory),
+        },
+    }
+}
