@@ -176,7 +176,9 @@ def refused_files(room, made):
 def ends_out_of_memory():
     """How often memory ran out over a range of limits, and what ended otherwise than it should."""
     fine, times, wrong = (0, ATTENTION + b"GOOD\n", b""), 0, []
-    short = [(0, ATTENTION + ABORTED, b""), (3, ATTENTION, MEMORY), (3, b"", MEMORY)]
+    # the last one: the block was accepted, and the disk in memory could not grow as it was stored
+    short = [(0, ATTENTION + ABORTED, b""), (3, ATTENTION, MEMORY), (3, b"", MEMORY),
+             (2, ATTENTION + b"GOOD\n", DEVICE)]
     limits = [limit for limit in range(1 << 20, 24 << 20, 1 << 18) if ended(b"", memory=limit) == (0, b"", b"")]
     for limit in [None, *limits]:
         run = ended(PHASE + LONG, memory=limit)
