@@ -2,7 +2,8 @@
 import collections
 
 from drive_model import check
-from fault_script import ABORTED, HAS_FAILED, NOT_PRESENT, READ_ERROR, RIGHT, STATUS, WRITE_ERROR, misanswered
+from fault_script import (ABORTED, DEFERRED, HAS_FAILED, NOT_PRESENT, READ_ERROR, RIGHT, STATUS, WRITE_ERROR,
+                          misanswered)
 
 Run = collections.namedtuple("Run", "status out err")
 # the places of some answers: of the first order; of a write, a filemark and a store on the first cartridge, and the
@@ -29,6 +30,7 @@ STAND = [
     ("memory", 0, {INTO: ABORTED, **each([READY, 18, OTHER_MARK, OTHER_WRITE, END], NOT_PRESENT)}),
     ("memory", 3, {}, 8), ("memory", 3, {}, 0), ("fault", 2, {}, 0), ("fault", 2, {}, 15), ("fault", 2, {}),
     ("fault", 0, FIRST_FAILED), ("fault", 2, SECOND_FAILED), ("fault", 2, STAYS), ("fault", 0, UNREAD),
+    ("fault", 0, {**FIRST_FAILED, MARK: DEFERRED}), ("fault", 0, {READY: DEFERRED, READY + 1: RIGHT[READY]}),
     ("fault", 0, UNOPENED), ("fault", 0, each([REGISTER, RESERVE], HAS_FAILED)),
     ("fault", 0, {RESERVE: HAS_FAILED}), ("interrupted", 0, {}), ("short", 0, {}),
 ]
@@ -40,6 +42,7 @@ FOUND = [
     ("fault", 0, {WRITE: WRITE_ERROR}), ("fault", 0, {WRITE: HAS_FAILED}), ("memory", 0, {0: ABORTED}),
     # two of them, and what does not follow from the one
     ("memory", 0, {WRITE: ABORTED, WRITE + 1: ABORTED}), ("memory", 0, {REGISTER: ABORTED}),
+    ("fault", 0, {MARK: DEFERRED}), ("memory", 0, {**FIRST_FAILED, MARK: DEFERRED}),
     ("fault", 0, {MARK: WRITE_ERROR}), ("fault", 0, {**FIRST_FAILED, LAST: "GOOD"}), ("fault", 2, {OUT: WRITE_ERROR}),
     ("fault", 0, {INTO: READ_ERROR}), ("fault", 0, {**UNREAD, READY: RIGHT[READY]}),
     ("fault", 0, {**UNOPENED, LAST: "GOOD"}), ("fault", 0, {**UNOPENED, INTO: READ_ERROR}),

@@ -8,6 +8,8 @@ FIRST, SECOND = "T00001L6", "T00002L6"
 STATUS = {"fault": (2, "vtl: device fault\n"), "memory": (3, "vtl: out of memory\n")}
 ABORTED, NOT_PRESENT, HAS_FAILED = check(0xB, 0x5503), check(2, 0x3A00), check(4, 0x4400)
 WRITE_ERROR, READ_ERROR = check(3, 0x0C00), check(3, 0x1100)
+# what a command is answered in the place of its own answer, once, after a flusher's turn that failed
+DEFERRED = WRITE_ERROR.replace("CHECK 70", "CHECK 71")
 
 # A line of the script and its answer. What it does to the cartridge that is loaded: the objects that it adds, and
 # whether all is stored then; which cartridge is loaded behind it; whether it is an order to the reservations.
@@ -51,6 +53,7 @@ class Drive:
         # whether a command was answered for a call that failed; whether the medium has failed, or the saving of orders
         self.is_hit, self.medium_failed, self.orders_failed = not is_open, False, False
         self.tape, self.is_loaded, self.told, self.is_registered = FIRST, is_open, 0x2900, False
+        self.has_moved = False
 
     def answer(self, line):
         """The answer to a line, which is carried out."""
@@ -69,7 +72,7 @@ class Drive:
             return check(5, 0x3B0D)
         if not tape and not self.tape:
             return check(5, 0x3B0E)
-        self.tape, self.is_loaded, self.medium_failed = tape, bool(tape), False
+        self.tape, self.is_loaded, self.medium_failed, self.has_moved = tape, bool(tape), False, True
         self.told = 0x2800 if tape else self.told
         return good()
 
@@ -95,6 +98,10 @@ class Drive:
 def followed(kind, drive, answers):
     """The drive behind these answers, and what is wrong with the first that can't stand where it does."""
     for at, (line, answer) in enumerate(zip(ANSWERED, answers)):
+        if answer == DEFERRED and kind == "fault" and not drive.is_hit and line.loads is False:
+            # the line is not carried out; what failed is the cartridge in the drive, or one that went out before
+            drive.is_hit, drive.medium_failed = True, not drive.has_moved or HAS_FAILED in answers[at + 1:]
+            continue
         hit = copy.copy(drive)
         wanted = drive.answer(line)
         if answer == wanted:

@@ -24,7 +24,7 @@ extern void *__libc_realloc(void *, size_t);
 static char kind;
 static long at, seen;
 static const char *name = "none";
-static int notes = -1, asked = -1;
+static int notes = -1, asked = -1, noting;
 
 // The file that a variable names, for writing behind its end, or -1.
 static int to_write(const char *variable) {
@@ -52,9 +52,16 @@ __attribute__((destructor)) static void end(void) {
     }
 }
 
+// A program that had threads ends by this call, and no destructor runs.
+void _exit(int status) {
+    end();
+    for (;;)
+        syscall(SYS_exit_group, status);
+}
+
 // Whether this call is the one.
 static int is_it(const char *call) {
-    if (++seen != at)
+    if (__atomic_add_fetch(&seen, 1, __ATOMIC_SEQ_CST) != at)
         return 0;
     name = call;
     return 1;
@@ -83,9 +90,13 @@ static long noted(long done, char letter, int file, const void *bytes, long plac
     char *last = file == 1 ? "-" : strrchr(path, '/') ? strrchr(path, '/') + 1 : path;
     long count = bytes ? done : 0;
     int size = snprintf(line, sizeof line, "%c %s %ld %ld\n", letter, last, place, count);
+    // two threads may note at once
+    while (__atomic_exchange_n(&noting, 1, __ATOMIC_ACQUIRE))
+        continue;
     syscall(SYS_write, notes, line, (size_t)size);
     if (count)
         syscall(SYS_write, notes, bytes, (size_t)count);
+    __atomic_store_n(&noting, 0, __ATOMIC_RELEASE);
     return done;
 }
 

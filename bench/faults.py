@@ -217,7 +217,8 @@ def sweep(tools, pristine, what, way, kind):
         room = Room(tools, pristine)
         with room.room:
             run, ended, wrong = way(room, kind, at)
-        if at and kind == "fault" and ended == "nothing" and run.name not in HARMLESS:
+        # (with threads a run may make fewer calls than the one that was counted: then no call was the one)
+        if at and kind == "fault" and ended == "nothing" and run.name not in (*HARMLESS, "none"):
             wrong.append("it was passed over")
         return run, ended, [f"{what}, {kind}, call {at} ({run.name}): {it}: {run.status} {run.err!r}" for it in wrong]
     run, ended, wrong = one(0)
