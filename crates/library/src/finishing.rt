@@ -44,7 +44,8 @@ pub struct Finished<D: Disk> {
 
 impl<D: Disk + Drop, B: Parties, H: Parties> Library<D, B, H> {
     /// Writes every buffer out, by a turn of each drive, and compares the drives' counts with the seats. It is for the
-    /// end, when nobody else shares the library, and takes no memory. A medium that has failed is told first.
+    /// end, when nobody else shares the library, and takes no memory. A medium that has failed is reported before seats
+    /// that are missing.
     pub fn finish<R: Wait>(self, _rt: &R, seats: Vec<Seat<H>>) -> Finished<D>
         ensures drives { which_are_there result.bays.items ≡ self }
         ensures counts { IfOk result.counts (λ counts. (counts ≡ counts_of result.bays.items)

@@ -10,8 +10,8 @@ use Rattle.library.proofs.runs.run_library.Goals as goal
 pub new-requires-clause-hosts : goal.new-requires-clause-hosts
 new-requires-clause-hosts g c = hosts_differ c.args.hosts.now c.requires.hosts
 
-pub run_opened-seats-requires-after_bounds : goal.run_opened-seats-requires-after_bounds
-run_opened-seats-requires-after_bounds g c κs within =
+pub run_opened-seats-requires-clause-places : goal.run_opened-seats-requires-clause-places
+run_opened-seats-requires-clause-places g c κs within =
     subst AreInPlace (sym c.in_ok-library.ensures.seats) (hosts_in_place c.args.hosts.now c.requires.hosts)
 
 pub returns-clause-runs : goal.returns-clause-runs
