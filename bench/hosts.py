@@ -108,8 +108,8 @@ def phases(programs, folder):
     few = PHASES // HOSTS
     works = [lambda p=p: seconds_of(p, folder, every + turn * few, HOSTS + HOSTS * few) for p in programs]
     for program, (least, median) in zip(programs, best(works)):
-        print(f"a phase of a line of each of {HOSTS} hosts: {least / few * 1e6:.0f} us (median {median / few * 1e6:.0f})"
-              f", {os.path.basename(program)}", flush=True)
+        print(f"a phase of a line of each of {HOSTS} hosts: {least / few * 1e6:.0f} us "
+              f"(median {median / few * 1e6:.0f}), {os.path.basename(program)}", flush=True)
 
 
 def appends(program, old, folder):

@@ -52,7 +52,8 @@ below_or_at k n less = by (nat_lt k n) refl
 pub none_seen : {P Q T E : Type 0} (see : P → Q) (answers : Q → List Item → List Reply → Q → Type 0) (old new : P)
     (item : Item) (result : Result T E) → answers (see old) (Phase [] ∷ []) [] (see old)
     → OnErr result (see new ≡ see old)
-    → OnErr result (AnswersSome (λ before items replies after. answers (see before) items replies (see after)) old item new)
+    → OnErr result
+    (AnswersSome (λ before items replies after. answers (see before) items replies (see after)) old item new)
 none_seen see answers old new item (Ok done) empty same = tt
 none_seen see answers old new item (Err fault) empty same =
     let none = none_of_item answers (see old) item empty in

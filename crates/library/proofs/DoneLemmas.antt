@@ -23,7 +23,9 @@ module _ {D : Type 0} (state : D → DiskState) where
   pub done_in_place : (old new : List JobState) → length new ≡ length old → AreDone state old new
       → AreInPlace (seats_of old) → AreInPlace (seats_of new)
   done_in_place old new long done places = record {
-    all = length-map new (λ (j : JobState). j.seat) ∙ long ∙ sym (length-map old (λ (j : JobState). j.seat)) ∙ places.all;
+    all =
+        length-map new (λ (j : JobState). j.seat) ∙ long ∙ sym (length-map old (λ (j : JobState). j.seat))
+        ∙ places.all;
     each = λ i d less.
         let e : JobState = record { seat = d; lines = []; replies = []; room = 0 } in
         let within : i < length old =

@@ -203,7 +203,8 @@ pub fn run_library<
         (O.contents writer.old) (O.contents writer.new) ran.outcome ran.finished.bays.items ran.finished.counts) }
     ensures past { IfOk result (λ ran. ran.outcome ≢ Err ScriptFault.ReadFault →
         TakesWithin (I.remaining reader.old) 0 (I.remaining reader.new)) }
-    ensures ends { IfOk result (λ ran. EndsShared D.state bays.items ran.finished.bays.items ran.finished.counts) }
+    ensures ends { IfOk result (λ ran. EndsShared D.state bays.items ran.finished.bays.items ran.finished.slots
+        ran.finished.counts) }
     ensures back { IfErr result (λ back. (back.bays ≡ bays) × (back.slots ≡ slots)
         × (back.bay_ledger ≡ bay_ledger) × (back.host_ledger ≡ host_ledger)
         × (reader.new ≡ reader.old) × (writer.new ≡ writer.old)) }

@@ -59,13 +59,15 @@ module _ {D : Type 0} where
 
   -- a script was run over the drives of a library, and it was put together again
   pub ran_over : (state : D → DiskState) (old new : HeldState D) (bays after : List (Option (BayState D)))
-      (hosts : List ℕ) (left left' before now : Option (List ℕ)) (ended : Result (Unit {0}) ScriptFault)
-      (counts : Result (List (Option ℕ)) FinishError) (outcome : Result (Unit {0}) VtlFault) → bays ≡ old.bays
-      → hosts ≡ every_nexus → new.bays ≡ after
+      (shelves : List (Option (BufferState D))) (hosts : List ℕ) (left left' before now : Option (List ℕ))
+      (ended : Result (Unit {0}) ScriptFault) (counts : Result (List (Option ℕ)) FinishError)
+      (outcome : Result (Unit {0}) VtlFault) → bays ≡ old.bays
+      → hosts ≡ every_nexus → new.bays ≡ after → new.slots ≡ shelves
       → RunsShared state bays hosts left before now ended after counts
-      → (ended ≢ Err ReadFault → TakesWithin left 0 left') → EndsShared state bays after counts
+      → (ended ≢ Err ReadFault → TakesWithin left 0 left') → EndsShared state bays after shelves counts
       → outcome ≡ outcome_of ended counts → RunsStarted state old left left' before now new outcome
-  ran_over state old new bays after hosts left left' before now ended counts outcome are all made runs takes ends told =
+  ran_over state old new bays after shelves hosts left left' before now ended counts outcome are all made shelved runs
+      takes ends told =
       record {
         ended = ended;
         counts = counts;
@@ -77,7 +79,9 @@ module _ {D : Type 0} where
             (sym made) runs));
         takes = takes;
         ends =
-            subst (λ (row : List (Option (BayState D))). EndsShared state row new.bays counts) are
-            (subst (λ (row : List (Option (BayState D))). EndsShared state bays row counts) (sym made) ends);
+            subst (λ (row : List (Option (BayState D))). EndsShared state row new.bays new.slots counts) are
+            (subst (λ (row : List (Option (BayState D))). EndsShared state bays row new.slots counts) (sym made)
+            (subst (λ (row : List (Option (BufferState D))). EndsShared state bays after row counts) (sym shelved)
+            ends));
         outcome_is = told;
       }

@@ -28,15 +28,18 @@ module _ {D : Type 0} (state : D → DiskState) (drives : List Bool) where
       → AnswersSession state before lines replies after
       → AnswersAllAmong state drives (front ++ before ∷ back) (map Command lines) replies (front ++ after ∷ back)
   session_among front back before after [] [] done = ap (λ (s : SeatState). front ++ s ∷ back) done
-  session_among front back before after (line ∷ lines) (reply ∷ replies) done =
-      (front ++ done.0 ∷ back, record {
-        place = length front;
-        before = before;
-        after = done.0;
-        seat = at_end front back before;
-        served = done.1;
-        seats = sym (set_end front back before done.0);
-      }, session_among front back done.0 after lines replies done.2)
+  session_among front back before after (line ∷ lines) (reply ∷ replies) done = (
+    front ++ done.0 ∷ back,
+    record {
+      place = length front;
+      before = before;
+      after = done.0;
+      seat = at_end front back before;
+      served = done.1;
+      seats = sym (set_end front back before done.0);
+    },
+    session_among front back done.0 after lines replies done.2,
+  )
   session_among front back before after [] (reply ∷ replies) done = absurd done
   session_among front back before after (line ∷ lines) [] done = absurd done
 

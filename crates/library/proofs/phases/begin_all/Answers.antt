@@ -19,7 +19,8 @@ loop-job-preserved g c =
       none = λ k d less.
           ⊎_elim
           (λ (before : k < at). subst IsNone
-          (sym (get_or-set_other items at k new d (λ same. absurd (omega (arith, same, before))))) (inv.none k d before))
+          (sym (get_or-set_other items at k new d (λ same. absurd (omega (arith, same, before)))))
+          (inv.none k d before))
           (λ (here : k ≡ at). subst IsNone
           (sym (ap (λ (i : ℕ). get_or (set items at new) i d) here ∙ get_or-set_same items at new d within))
           c.begin.ensures.none)

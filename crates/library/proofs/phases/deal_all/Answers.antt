@@ -67,7 +67,8 @@ loop-line-preserved g c =
           (inv.dealt k d (omega (arith, less, length-set jobs place new))))
           (same_or_not k place);
       lines =
-          lines_set jobs place new job line within grown (λ k d more less. inv.behind k d less (λ i e. before k i e more))
+          lines_set jobs place new job line within grown
+          (λ k d more less. inv.behind k d less (λ i e. before k i e more))
           ∙ ap (λ (l : List Line). l ++ line ∷ []) inv.lines
           ∙ sym (take_more lines at line c.loop-line-test.true
           ∙ ap (λ (l : Line). take at lines ++ l ∷ []) (next line));

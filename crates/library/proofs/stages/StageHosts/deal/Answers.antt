@@ -9,5 +9,5 @@ pub returns-clause-ready : goal.returns-clause-ready
 returns-clause-ready g c =
     if_dealt_ready c.self.inside.library.now c.self.inside.jobs.len c.deal_all.new.jobs _ c.args.lines.now
     c.deal_all.result (search rules) c.deal_all.ensures.dealt c.deal_all.ensures.lines
-    (subst (λ (s : StageState). list_all (λ line. has_drive s.drives line.drive) c.args.lines.now ≡ true) (sym c.self.view_is)
-    c.requires.configured)
+    (subst (λ (s : StageState). list_all (λ line. has_drive s.drives line.drive) c.args.lines.now ≡ true)
+    (sym c.self.view_is) c.requires.configured)
