@@ -26,7 +26,7 @@ pub record Balances (seats hosts counted held : ℕ) (counts : Result (List (Opt
   pub same : seats ≡ hosts → counted ≡ held
   pub all : seats ≡ hosts → IfErr counts (λ error. error ≡ Unwritten)
 
--- where seats are missing, both sums are told, and that of the seats is below that of the drives (own)
+-- where seats are missing, both sums are reported, and that of the seats is below that of the drives (own)
 abbrev pub IsShort : FinishError → ℕ → ℕ → Type 0
 IsShort Unwritten counted held = Unit {0}
 IsShort (SeatsMissing total seats) counted held = (total ≡ counted) × (seats ≡ held) × (held < counted)

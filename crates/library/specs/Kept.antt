@@ -40,8 +40,8 @@ module _ {D : Type 0} (state : D → DiskState) where
     pub at_source : KeepsAt source
     pub at_destination : KeepsAt destination
 
-  -- A drive is what a flusher's turn has left of one that its type kept, of each moment of the turn its event is told,
-  -- and its type keeps it (own).
+  -- A drive is what a flusher's turn has left of one that its type kept. At each moment of the turn a crash leaves what
+  -- the turn's event says, and the type of the drive keeps it (own).
   pub record IsLeftByTurn (bay : BayState D) : Type 0 where
     pub old : BayState D
     pub kept : KeepsDrive old

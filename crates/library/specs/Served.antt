@@ -25,10 +25,10 @@ pub record GrowsAsTold (cdb : List ℕ) (reply : Reply) (before after : ℕ) : T
   pub other : (IsChanging cdb → ⊥) → after ≡ before
 
 module _ {D : Type 0} (state : D → DiskState) where
-  -- A drive that its type keeps answers the host of a seat, of every moment inside the command its event is told, and
-  -- its type keeps it. The seat grows by one for each change that the drive accepted with it, which is what the reply
-  -- tells. Before it acknowledges a synchronizing command, all is stored, and all that its cartridge accepted is safe
-  -- (own).
+  -- A drive that its type keeps answers the host of a seat, and its type keeps it. At each moment inside the command a
+  -- crash leaves what the command's event says. The seat grows by one for each change that the drive accepted with it,
+  -- which is what the reply says. Before it acknowledges a synchronizing command, all is stored, and all that its
+  -- cartridge accepted is safe (own).
   pub record AnswersSeat
       (old : BayState D) (request : Request) (before : SeatState) (reply : Reply) (new : BayState D) (after : SeatState)
       : Type 0 where
