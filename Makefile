@@ -63,6 +63,7 @@ bench: need-rt
 	python3 bench/buffer.py
 	python3 bench/program.py
 	python3 bench/starts.py
+	python3 bench/hosts.py
 
 gate: need-rt
 	python3 bench/gate.py

@@ -5,10 +5,14 @@ use Rattle.volume_core.specs.declared.media.Turn.{Turn}
 use Rattle.drive_core.specs.declared.bays.Bay.{Bay}
 use Rattle.drive_core.specs.declared.bays.Bay.TheVariants.{Loaded}
 use Rattle.drive_core.specs.Media.{TakesTurn}
+use Rattle.drive_core.specs.Relations.{made_nothing}
+use Rattle.drive_core.specs.State.{medium_in}
 use Rattle.tape_buffer.specs.Moves.{buffer_below}
 use Rattle.tape_buffer.specs.State.{BufferState, state_of}
 use Rattle.aptpl_store.specs.Kept.{store_kept}
+use Rattle.bays.specs.Bays.{EveryMoment}
 use Rattle.bays.specs.Elements.{BayState, HeldState, bay_at}
+use Rattle.bays.specs.Reservations.{Turned}
 use Rattle.bays.specs.declared.finishing.Unwritten.{Unwritten}
 
 module _ {D : Type 0} (state : D → DiskState) where
@@ -22,11 +26,12 @@ module _ {D : Type 0} (state : D → DiskState) where
   IsWrittenIn (Loaded medium) = ((state_of state medium).failed ≡ false) × ((state_of state medium).pending ≡ [])
   IsWrittenIn _ = Unit {0}
 
-  -- a drive, where there is one, takes a flusher's turn (own)
+  -- a drive, where there is one, takes a flusher's turn, and of every moment inside it its event is told (own)
   abbrev pub TurnsAt : Option (BayState D) → Option (BayState D) → Type 0
   TurnsAt None None = Unit {0}
   TurnsAt (Some old) (Some new) =
       (turn : Turn) × TakesTurn (state_of state) (buffer_below state) store_kept old turn new
+      × EveryMoment state old (Turned turn) made_nothing (medium_in old.bay) (medium_in new.bay) new
   TurnsAt _ _ = ⊥
 
   -- nothing is left to be written of the drive, where there is one (own)

@@ -58,7 +58,8 @@ impl<D: Disk> Parked<D> {
 
     /// What the type keeps of it.
     pub fn known(&self)
-        ensures { KeepsCartridge D.state self.now }
+        ensures parked { (state_of D.state self.now).awake ≡ false }
+        ensures kept { KeepsCartridge D.state self.now }
     {
         // Looked at for the proof's sake: the facts are the type's.
         let _ = &self.medium;

@@ -65,6 +65,8 @@ impl<D: Disk + Drop> Runner for Held<D> {
 
     ghost answers = { LibraryAnswers D.state };
 
+    ghost is_ready = { λ held. Unit {0} };
+
     fn configured(&self, drive: DriveNo) -> bool {
         Held::configured(self, drive)
     }
@@ -84,9 +86,9 @@ impl<D: Disk + Drop> Runner for Held<D> {
 }
 
 /// Runs a script over a library, read to its end or to the first line that is refused, and writes a line for each
-/// reply. Where it is of one host, asks for no move, and was run to its end with no fault, want of memory or full side
-/// over honest media, what is written is the text of the replies that each drive's machine gives to its own lines, and
-/// nothing else.
+/// reply. Where it is of one host, asks for no move, and was run to its end over honest media with no fault, no full
+/// side and memory for everything, what is written is the text of the replies that each drive's machine gives to its
+/// own lines, and nothing else.
 pub fn run_held<D: Disk + Drop, R: Read, W: Write>(
     alloc: Global,
     held: &mut Held<D>,

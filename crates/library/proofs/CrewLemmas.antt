@@ -1,14 +1,18 @@
 -- Seats of hosts that are answered.
-use Rattle.std.proofs.Common.{zero, suc, ◌≡◌, ◌≢◌, ◌<◌, ◌+◌, ◌⊎◌, inl, inr, ℕ, List, [], ◌∷◌, ◌++◌, length, get_or, set, map, Some, Result, Ok, Err, IfOk, Bool, refl, sym, ap, ◌∙◌, subst, arith}
+use Rattle.std.proofs.Common.{zero, suc, ◌≡◌, ◌≢◌, ◌≤◌, ◌<◌, ◌+◌, ◌⊎◌, ◌==◌, nat_lt, inl, inr, ℕ, List, [], ◌∷◌, ◌++◌, length, get_or, set, map, Some, Result, Ok, Err, IfOk, Bool, true, false, refl, sym, ap, ◌∙◌, subst, arith}
+use Rattle.std.proofs.lemmas.Bool.Decides.{nat_tests}
 use Rattle.std.proofs.lemmas.List.{append-nil, get_or-set_other, get_or-set_same, length-set, map-append}
 use Rattle.std.proofs.lemmas.Option.{slice_get_within}
+use Rattle.std.specs.Prelude.{OnErr}
 use Rattle.std.specs.List.{slice_get}
 use Rattle.tape_disk.specs.Disk.{DiskState}
 use Rattle.scsi_sense.specs.declared.replies.Reply.{Reply}
 use Rattle.ledgers.specs.Ledgers.{SeatState}
+use Rattle.vtl_script.specs.Answered.{none_of_item}
+use Rattle.vtl_script.specs.Runs.{AnswersSome}
 use Rattle.vtl_script.specs.declared.lines.Line.{Line}
+use Rattle.vtl_script.specs.declared.items.Item.{Item}
 use Rattle.vtl_script.specs.declared.items.Item.TheVariants.{Phase, Move}
-use Rattle.bays.proofs.PlaceLemmas.{same_or_not}
 use Rattle.bays.specs.Runs.{Command, Order, line_request}
 use Rattle.library.specs.Crews.{AnswersAllAmong, AnswersCrew, AnswersLine, CrewState}
 use Rattle.library.specs.Inner.CrewsOn.{among_on}
@@ -27,6 +31,38 @@ module _ {X : Type 0} where
   found [] i d x is = absurd (cc)
   found (y ∷ xs) zero d x is = cc
   found (y ∷ xs) (suc i) d x is = found xs i d x is
+
+-- two numbers are the same or not
+pub same_or_not : (a b : ℕ) → (a ≡ b) ⊎ (a ≢ b)
+same_or_not a b = by (a == b) refl
+  where
+    by : (test : Bool) → (a == b) ≡ test → (a ≡ b) ⊎ (a ≢ b)
+    by true is = inl (grind (arith, nat_tests))
+    by false is = inr (λ same. let no : (a == b) ≡ true = grind (arith, nat_tests) in absurd (cc))
+
+-- what is below the next number is below this one, or is this one
+pub below_or_at : (k n : ℕ) → k < n + 1 → (k < n) ⊎ (k ≡ n)
+below_or_at k n less = by (nat_lt k n) refl
+  where
+    by : (test : Bool) → nat_lt k n ≡ test → (k < n) ⊎ (k ≡ n)
+    by true is = inl (grind (arith, nat_tests))
+    by false is = let no : n ≤ k = grind (arith, nat_tests) in inr (omega (arith, no, less))
+
+-- where a call fails and leaves what is seen as it was, nothing of the item was run
+pub none_seen : {P Q T E : Type 0} (see : P → Q) (answers : Q → List Item → List Reply → Q → Type 0) (old new : P)
+    (item : Item) (result : Result T E) → answers (see old) (Phase [] ∷ []) [] (see old)
+    → OnErr result (see new ≡ see old)
+    → OnErr result
+    (AnswersSome (λ before items replies after. answers (see before) items replies (see after)) old item new)
+none_seen see answers old new item (Ok done) empty same = tt
+none_seen see answers old new item (Err fault) empty same =
+    let none = none_of_item answers (see old) item empty in
+    record {
+      part = none.part;
+      begins = none.begins;
+      replies = none.replies;
+      answered = subst (λ q. answers (see old) (none.part ∷ []) none.replies q) (sym same) none.answered;
+    }
 
 -- the seat of a host has its place
 pub host_at : (seats : List SeatState) (i : ℕ) (d : SeatState) (host : ℕ) → AreInPlace seats → i < 64

@@ -9,15 +9,16 @@ use Rattle.bays.specs.Finish.{HasFailedAt, IsWrittenAt}
 use Rattle.bays.specs.declared.finishing.Unwritten.{Unwritten}
 use Rattle.library.specs.Counts.{count_of_drive, one_if_there, or_none}
 use Rattle.library.specs.Ends.{counts_of}
-use Rattle.library.specs.Inner.Ending.{AreWritten, HaveEnded, OneHasFailed, worse_of}
+use Rattle.library.specs.Inner.Ending.{HaveEnded, OfEach, OneHasFailed, worse_of}
+use Rattle.library.specs.Kept.{IsLeftAt}
 
 both : {b c : Bool} {bs cs : List Bool} → b ≡ c → bs ≡ cs → b ∷ bs ≡ c ∷ cs
 both {b = b} {cs = cs} one rest = ap (λ (xs : List Bool). b ∷ xs) rest ∙ ap (λ (x : Bool). x ∷ cs) one
 
 module _ {D : Type 0} (state : D → DiskState) where
   ok_on : (bay : Option (BayState D)) (bays : List (Option (BayState D))) (one all : Result Unit Unwritten)
-      → OnOk one (IsWrittenAt state bay) → OnOk all (AreWritten state bays)
-      → OnOk (worse_of all one) (AreWritten state (bay ∷ bays))
+      → OnOk one (IsWrittenAt state bay) → OnOk all (OfEach (IsWrittenAt state) bays)
+      → OnOk (worse_of all one) (OfEach (IsWrittenAt state) (bay ∷ bays))
   ok_on bay bays (Ok done) (Ok every) written before = (written, before)
   ok_on bay bays (Err unwritten) (Ok every) written before = tt
   ok_on bay bays one (Err unwritten) written before = tt
@@ -37,6 +38,7 @@ module _ {D : Type 0} (state : D → DiskState) where
         there = refl;
         shares = ap (λ (g : Gathered). g.shares) is;
         changes = ap (λ (g : Gathered). g.changes) is;
+        left = tt;
         ok = tt;
         err = tt;
       }
@@ -47,34 +49,18 @@ module _ {D : Type 0} (state : D → DiskState) where
   pub one_ended : {X : Type 0} (x : Option X) (shared : List (Option X)) (bay : Option (BayState D))
       (bays : List (Option (BayState D))) (old new : Gathered) (one all : Result Unit Unwritten)
       → is_some bay ≡ is_some x → new.shares ≡ old.shares + one_if_there x
-      → new.changes ≡ old.changes + or_none (count_of_drive bay)
+      → new.changes ≡ old.changes + or_none (count_of_drive bay) → IsLeftAt state bay
       → OnOk one (IsWrittenAt state bay) → OnErr one (HasFailedAt state bay) → HaveEnded state shared bays old all
       → HaveEnded state (x ∷ shared) (bay ∷ bays) new (worse_of all one)
-  one_ended {X = X} x shared bay bays old new one all there shares changes ok err so =
+  one_ended {X = X} x shared bay bays old new one all there shares changes left ok err so =
       record {
         there = both there so.there;
         shares = omega (arith, shares, so.shares, sum_by-cons (one_if_there {X = X}) x shared);
         changes = omega (arith, changes, so.changes, sum_by-cons or_none (count_of_drive bay) (counts_of bays));
+        left = (left, so.left);
         ok = ok_on bay bays one all ok so.ok;
         err = err_on bay bays one all err so.err;
       }
-
-  -- what is true of each drive of a row is so by their numbers
-  written_at : (bays : List (Option (BayState D))) (place : ℕ) → AreWritten state bays
-      → IsWrittenAt state (get_or bays place None)
-  written_at [] place all = tt
-  written_at (bay ∷ bays) zero all = all.0
-  written_at (bay ∷ bays) (suc place) all = written_at bays place all.1
-
-  written_if : (bay : Option (BayState D)) (there : Bool) → IsWrittenAt state bay
-      → IsWrittenAt state (cond there bay None)
-  written_if bay true written = written
-  written_if bay false written = tt
-
-  pub all_written : (bays : List (Option (BayState D))) → AreWritten state bays → (number : ℕ)
-      → IsWrittenAt state (bay_at bays number)
-  all_written bays all number =
-      written_if (get_or bays (number - 1) None) (nat_le 1 number) (written_at bays (number - 1) all)
 
   failed_at : (bays : List (Option (BayState D))) → OneHasFailed state bays
       → (place : ℕ) × HasFailedAt state (get_or bays place None)
@@ -96,3 +82,18 @@ module _ {D : Type 0} (state : D → DiskState) where
         found.0 + 1,
         subst (λ (bay : Option (BayState D)). HasFailedAt state bay) (sym (stands_at bays found.0)) found.1,
       )
+
+module _ {D : Type 0} (P : Option (BayState D) → Type 0) (none : P None) where
+  -- what is true of each drive of a row, and of a place that has none, is so by their numbers
+  each_at : (bays : List (Option (BayState D))) (place : ℕ) → OfEach P bays → P (get_or bays place None)
+  each_at [] place all = none
+  each_at (bay ∷ bays) zero all = all.0
+  each_at (bay ∷ bays) (suc place) all = each_at bays place all.1
+
+  if_there : (bay : Option (BayState D)) (there : Bool) → P bay → P (cond there bay None)
+  if_there bay true so = so
+  if_there bay false so = none
+
+  pub by_number : (bays : List (Option (BayState D))) → OfEach P bays → (number : ℕ) → P (bay_at bays number)
+  by_number bays all number =
+      if_there (get_or bays (number - 1) None) (nat_le 1 number) (each_at bays (number - 1) all)

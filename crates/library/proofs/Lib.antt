@@ -1,10 +1,13 @@
 pub mod CountLemmas
 pub mod CrewLemmas
+pub mod DoneLemmas
 pub mod EndLemmas
 pub mod HostLemmas
+pub mod JobLemmas
 pub mod LentLemmas
 pub mod LoopLemmas
 pub mod OutcomeLemmas
 pub mod RowLemmas
 pub mod SeenLemmas
 pub mod SessionLemmas
+pub mod ThreadLemmas

@@ -12,6 +12,7 @@ use Rattle.bays.specs.declared.finishing.Unwritten.{Unwritten}
 use Rattle.library.specs.Counts.{count_of_drive, one_if_there, or_none}
 use Rattle.library.specs.Ends.{counts_of}
 use Rattle.library.specs.Inner.Ending.{HaveEnded, worse_of}
+use Rattle.library.specs.Kept.{IsLeftAt}
 use Rattle.library.proofs.EndLemmas.{none_ended, one_ended}
 
 module _ {Y : Type 0} where
@@ -57,17 +58,18 @@ module _ {D : Type 0} (state : D → DiskState) where
       → all ≡ (items ++ x ∷ []) ++ drop n all → length items ≡ k → k + 1 ≡ n → at ≡ k → n ≤ 16 → length row ≡ 16
       → row' ≡ set row at bay → after ≡ worse_of before one → is_some bay ≡ is_some x
       → new.shares ≡ old.shares + one_if_there x → new.changes ≡ old.changes + or_none (count_of_drive bay)
-      → OnOk one (IsWrittenAt state bay) → OnErr one (HasFailedAt state bay)
+      → IsLeftAt state bay → OnOk one (IsWrittenAt state bay) → OnErr one (HasFailedAt state bay)
       → HaveEnded state (drop n all) (drop n row) old before → HaveEnded state (drop k all) (drop k row') new after
   ended_on {X = X} all items x row row' k n at bay old new one before after is long next here most sixteen put worse
-      there shares changes ok err so =
+      there shares changes left ok err so =
       let first : drop k all ≡ x ∷ drop n all =
       behind all items x (drop n all) k (popped all items x (drop n all) is) long in
       let second : drop k row' ≡ bay ∷ drop n row =
       ap (λ (l : List (Option (BayState D))). drop k l) put
       ∙ drop-set_at row at k bay (sym here) (omega (arith, here, next, most, sixteen))
       ∙ ap (λ (i : ℕ). bay ∷ drop i row) (omega (arith, here, next)) in
-      let done = one_ended state x (drop n all) bay (drop n row) old new one before there shares changes ok err so in
+      let done =
+      one_ended state x (drop n all) bay (drop n row) old new one before there shares changes left ok err so in
       subst (λ (r : Result Unit Unwritten). HaveEnded state (drop k all) (drop k row') new r) (sym worse)
       (subst (λ (l : List (Option X)). HaveEnded state l (drop k row') new (worse_of before one)) (sym first)
       (subst (λ (l : List (Option (BayState D))). HaveEnded state (x ∷ drop n all) l new (worse_of before one))

@@ -1,10 +1,10 @@
 -- What the answer at the end of a library tells.
-use Rattle.std.proofs.Common.{◌≡◌, ◌≢◌, ◌<◌, ℕ, List, Option, Result, Ok, Err, refl, sym, ap, ◌∙◌, subst, arith}
+use Rattle.std.proofs.Common.{◌≡◌, ◌≢◌, ◌<◌, ◌≤◌, ℕ, List, Option, Result, Ok, Err, refl, sym, ap, ◌∙◌, subst, arith}
 use Rattle.std.specs.Prelude.{IfErr, IfOk, OnErr, OnOk}
 use Rattle.ledgers.specs.declared.gathering.SeatsMissing.{SeatsMissing}
 use Rattle.bays.specs.Elements.{BayState}
 use Rattle.bays.specs.declared.finishing.Unwritten.{Unwritten}
-use Rattle.library.specs.Ends.{IsShort, counts_of, sum_of_counts}
+use Rattle.library.specs.Ends.{Balances, IsShort, counts_of, sum_of_counts}
 use Rattle.library.specs.Inner.Ending.{outcome_of}
 use Rattle.library.specs.declared.finishing.FinishError.{FinishError}
 use Rattle.library.specs.declared.finishing.FinishError.TheVariants as Errors
@@ -80,7 +80,7 @@ of_all total sum (Ok done) counts (Ok found) same short = tt
 of_all total sum (Ok done) counts (Err missing) same short =
     absurd (omega (arith, same, short.0, short.1, short.2))
 
-pub tells_all : (total sum : ℕ) (written : Result Unit Unwritten) (counts : List (Option ℕ))
+tells_all : (total sum : ℕ) (written : Result Unit Unwritten) (counts : List (Option ℕ))
     (compared : Result ℕ SeatsMissing) (result : Result (List (Option ℕ)) FinishError)
     → result ≡ outcome_of written counts compared → sum ≡ total
     → IfErr compared (λ m. (m.total ≡ total) × (m.seats ≡ sum) × (m.seats < m.total))
@@ -88,3 +88,22 @@ pub tells_all : (total sum : ℕ) (written : Result Unit Unwritten) (counts : Li
 tells_all total sum written counts compared result is same short =
     subst (λ (r : Result (List (Option ℕ)) FinishError). IfErr r (λ e. e ≡ Errors.Unwritten)) (sym is)
     (of_all total sum written counts compared same short)
+
+-- the sums of the drives and of the seats, by what was gathered of both
+pub balances : (seats hosts counted held total sum : ℕ) (written : Result Unit Unwritten) (counts : List (Option ℕ))
+    (compared : Result ℕ SeatsMissing) (result : Result (List (Option ℕ)) FinishError)
+    → result ≡ outcome_of written counts compared → counted ≡ total → sum ≡ held → sum ≤ total
+    → (seats ≡ hosts → sum ≡ total)
+    → IfErr compared (λ m. (m.total ≡ total) × (m.seats ≡ sum) × (m.seats < m.total))
+    → Balances seats hosts counted held result
+balances seats hosts counted held total sum written counts compared result is all summed within same short = record {
+  within = omega (arith, all, summed, within);
+  same = λ every. all ∙ sym (same every) ∙ summed;
+  all = λ every. tells_all total sum written counts compared result is (same every) short;
+}
+
+-- of a good end the counts alone
+pub told_of : (result : Result (List (Option ℕ)) FinishError) (counts : List (Option ℕ)) (sum : ℕ)
+    → IfOk result (λ c. (c ≡ counts) × (sum_of_counts c ≡ sum)) → IfOk result (λ c. c ≡ counts)
+told_of (Ok found) counts sum both = both.0
+told_of (Err error) counts sum both = tt

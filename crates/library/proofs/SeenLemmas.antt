@@ -1,14 +1,19 @@
 -- Rows of elements that are looked at one after another.
-use Rattle.std.proofs.Common.{◌≡◌, ◌<◌, ◌+◌, ◌⊎◌, inl, inr, ℕ, Bool, List, Option, None, length, get_or, set, ◌∙◌, ap, sym, arith}
+use Rattle.std.proofs.Common.{◌≡◌, ◌<◌, ◌+◌, ◌⊎◌, inl, inr, ℕ, Bool, true, List, Option, None, Some, length, get_or, set, ◌∙◌, ap, sym, arith}
 use Rattle.std.proofs.lemmas.List.{get_or-set_other, get_or_default}
 use Rattle.std.proofs.lemmas.Grind.{get_or-set_at}
 use Rattle.std.proofs.Math.Nat.{eq-or-lt_of_le}
 use Rattle.library.specs.Counts.{has_drive}
-use Rattle.library.specs.Seen.{is_drive_seen, seen_at}
+use Rattle.library.specs.Seen.{is_place_seen, seen_at}
 use Rattle.library.specs.declared.inventories.Element.{Element}
 use Rattle.library.specs.declared.inventories.Element.TheVariants.{Missing}
 
 module _ {X : Type 0} where
+  -- there is a slot that is seen as it is
+  pub slot_there : (one : Element) (x : Option X) → one ≡ seen_at x → is_place_seen one ≡ true
+  slot_there one None is = ap is_place_seen is
+  slot_there one (Some x) is = ap is_place_seen is
+
   -- one slot more is seen
   pub seen_on : (seen : List Element) (row : List (Option X)) (at : ℕ) (one : Element) (x d : Option X)
       → at < length seen → at < length row → get_or row at d ≡ x → one ≡ seen_at x
@@ -26,15 +31,15 @@ module _ {X : Type 0} where
 
 -- one drive more is seen
 pub drives_on : (seen : List Element) (row : List Bool) (at : ℕ) (one : Element) → at < length seen
-    → is_drive_seen one ≡ has_drive row (at + 1)
-    → ((k : ℕ) → k < at → is_drive_seen (get_or seen k Missing) ≡ has_drive row (k + 1))
-    → (k : ℕ) → k < at + 1 → is_drive_seen (get_or (set seen at one) k Missing) ≡ has_drive row (k + 1)
+    → is_place_seen one ≡ has_drive row (at + 1)
+    → ((k : ℕ) → k < at → is_place_seen (get_or seen k Missing) ≡ has_drive row (k + 1))
+    → (k : ℕ) → k < at + 1 → is_place_seen (get_or (set seen at one) k Missing) ≡ has_drive row (k + 1)
 drives_on seen row at one within is so k less = by (eq-or-lt_of_le (omega (arith, less)))
   where
-    by : (k ≡ at) ⊎ (k < at) → is_drive_seen (get_or (set seen at one) k Missing) ≡ has_drive row (k + 1)
+    by : (k ≡ at) ⊎ (k < at) → is_place_seen (get_or (set seen at one) k Missing) ≡ has_drive row (k + 1)
     by (inl same) =
-        ap is_drive_seen (get_or-set_at seen at k one Missing same within) ∙ is
+        ap is_place_seen (get_or-set_at seen at k one Missing same within) ∙ is
         ∙ ap (λ (n : ℕ). has_drive row (n + 1)) (sym same)
     by (inr lower) =
-        ap is_drive_seen
+        ap is_place_seen
         (get_or-set_other seen at k one Missing (λ same. absurd (omega (arith, same, lower)))) ∙ so k lower

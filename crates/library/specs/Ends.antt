@@ -1,5 +1,5 @@
 -- The end of a library that threads shared.
-use Rattle.std.specs.Prelude.{◌≡◌, ◌<◌, ℕ, List, Option, map, sum_by}
+use Rattle.std.specs.Prelude.{◌≡◌, ◌<◌, ◌≤◌, ℕ, List, Option, Result, IfErr, map, sum_by}
 use Rattle.ledgers.specs.Ledgers.{SeatState}
 use Rattle.bays.specs.Elements.{BayState}
 use Rattle.library.specs.Counts.{count_of_drive, or_none}
@@ -19,7 +19,14 @@ module _ {D : Type 0} where
 abbrev pub sum_of_counts : List (Option ℕ) → ℕ
 sum_of_counts counts = sum_by or_none counts
 
--- where seats are missing, both sums are told, and that of the seats is below that of the drives (own)
+-- What the seats that were handed back have together is not above what the drives counted. With as many seats as there
+-- are hosts it is just as much, also where not all is written out, and no seat is missing (own).
+pub record Balances (seats hosts counted held : ℕ) (counts : Result (List (Option ℕ)) FinishError) : Type 0 where
+  pub within : held ≤ counted
+  pub same : seats ≡ hosts → counted ≡ held
+  pub all : seats ≡ hosts → IfErr counts (λ error. error ≡ Unwritten)
+
+-- where seats are missing, both sums are reported, and that of the seats is below that of the drives (own)
 abbrev pub IsShort : FinishError → ℕ → ℕ → Type 0
 IsShort Unwritten counted held = Unit {0}
 IsShort (SeatsMissing total seats) counted held = (total ≡ counted) × (seats ≡ held) × (held < counted)

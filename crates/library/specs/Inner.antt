@@ -1,3 +1,9 @@
 pub mod CrewsOn
+pub mod Done
 pub mod Ending
 pub mod InPlace
+pub mod Jobs
+pub mod Serves
+pub mod Staged
+pub mod StagesOn
+pub mod Threads

@@ -2,6 +2,7 @@ pub mod Counts
 pub mod Crews
 pub mod Ends
 pub mod Inner
+pub mod Kept
 pub mod MovesAt
 pub mod Ran
 pub mod Seen

@@ -7,10 +7,11 @@ use Rattle.bays.specs.Elements.{BayState}
 use Rattle.bays.specs.Lent.{InEach}
 use Rattle.bays.specs.Moves.{KeepsCartridges, MovesMedium}
 use Rattle.library.specs.Counts.{has_drive}
+use Rattle.library.specs.Kept.{KeepsLent}
 
 module _ {D : Type 0} (state : D → DiskState) where
   -- In each library that has these slots, and these drives where the addresses name them, a cartridge is moved, and
-  -- none is lost (own).
+  -- none is lost. The types keep slots and drives, before the move and behind it (own).
   pub record MovesEach
       (from to : ℕ) (slots : List (Option (BufferState D))) (source destination : Option (BayState D)) (reply : Reply)
       (slots' : List (Option (BufferState D))) (source' destination' : Option (BayState D)) : Type 0 where
@@ -20,6 +21,8 @@ module _ {D : Type 0} (state : D → DiskState) where
     pub kept :
         InEach from to slots source destination slots' source' destination'
         (λ old new. KeepsCartridges state old from to reply new)
+    pub known : KeepsLent state slots source destination
+    pub left : KeepsLent state slots' source' destination'
 
   -- A move is answered as MOVE MEDIUM by some slots, and by a drive in some state at each address that is the number of
   -- a drive of this row. A drive that both addresses name is lent once (SMC-3, MOVE MEDIUM; the rest own).

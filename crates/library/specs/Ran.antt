@@ -4,17 +4,20 @@ use Rattle.tape_disk.specs.Disk.{DiskState}
 use Rattle.ledgers.specs.Ledgers.{SeatState}
 use Rattle.vtl_script.specs.declared.faults.ScriptFault.{ScriptFault}
 use Rattle.vtl_script.specs.Runs.{RunsScript}
+use Rattle.tape_buffer.specs.State.{BufferState}
 use Rattle.bays.specs.Elements.{BayState, bay_at}
 use Rattle.bays.specs.Finish.{HasFailedAt, IsWrittenAt}
 use Rattle.library.specs.Counts.{has_drive, new_seat, which_are_there}
 use Rattle.library.specs.Crews.{AnswersCrew}
 use Rattle.library.specs.Ends.{counts_of, sum_of_counts, sum_of_seats}
+use Rattle.library.specs.Kept.{AreLeft}
 use Rattle.library.specs.declared.finishing.FinishError.{FinishError}
 use Rattle.library.specs.declared.finishing.FinishError.TheVariants.{Unwritten}
 
 module _ {D : Type 0} (state : D → DiskState) where
-  -- A script was run for hosts whose seats were new, over a library with these drives, and then the library ended: what
-  -- its drives counted then is what the seats grew by in the run (own).
+  -- A script was run for hosts whose seats were new, over a library with these drives, and then the library ended: the
+  -- sum of what its drives counted then is that of what the seats grew by in the run, however it ended; and where it
+  -- ended well, what each drive counted is returned (own).
   pub record RunsShared (bays : List (Option (BayState D))) (hosts : List ℕ) (left before now : Option (List ℕ))
       (outcome : Result (Unit {0}) ScriptFault) (bays' : List (Option (BayState D)))
       (counts : Result (List (Option ℕ)) FinishError) : Type 0 where
@@ -23,14 +26,17 @@ module _ {D : Type 0} (state : D → DiskState) where
         RunsScript (has_drive (which_are_there bays)) (AnswersCrew state)
         (record { drives = which_are_there bays; seats = map new_seat hosts }) left before
         (record { drives = which_are_there bays; seats = seats }) now outcome
-    pub counted :
-        IfOk counts (λ counted. (counted ≡ counts_of bays') × (sum_of_counts counted ≡ sum_of_seats seats))
+    pub told : IfOk counts (λ counted. counted ≡ counts_of bays')
+    pub sums : sum_of_counts (counts_of bays') ≡ sum_of_seats seats
 
-  -- A library ended: it has the drives that it had. Nothing is left to be written, or a medium has failed, and that is
-  -- told; no seat is missing (own).
-  pub record EndsShared (bays bays' : List (Option (BayState D))) (counts : Result (List (Option ℕ)) FinishError)
-      : Type 0 where
+  -- A library ended with these slots and drives: it has the drives that it had. Each took a turn at the end, and the
+  -- types keep slots and drives. Nothing is left to be written, or a medium has failed, and that is reported; no seat
+  -- is missing (own).
+  pub record EndsShared
+      (bays bays' : List (Option (BayState D))) (slots' : List (Option (BufferState D)))
+      (counts : Result (List (Option ℕ)) FinishError) : Type 0 where
     pub drives : which_are_there bays' ≡ which_are_there bays
+    pub left : AreLeft state slots' bays'
     pub unwritten :
         counts ≡ Err Unwritten → (number : ℕ) × HasFailedAt state (bay_at bays' number)
     pub written : counts ≢ Err Unwritten → (number : ℕ) → IsWrittenAt state (bay_at bays' number)

@@ -17,7 +17,7 @@ module _ {D : Type 0} where
   seen_of_drive None = Missing
   seen_of_drive (Some bay) = seen_at (medium_in bay.bay)
 
--- whether a drive is seen (own)
-abbrev pub is_drive_seen : Element → Bool
-is_drive_seen Missing = false
-is_drive_seen _ = true
+-- whether there is such a place, by what is seen (own)
+abbrev pub is_place_seen : Element → Bool
+is_place_seen Missing = false
+is_place_seen _ = true

@@ -5,13 +5,15 @@ use Rattle.ledgers.specs.Ledgers.{SeatState}
 use Rattle.scsi_sense.specs.declared.replies.Reply.{Reply}
 use Rattle.tape_buffer.specs.Moves.{buffer_below}
 use Rattle.tape_buffer.specs.State.{state_of}
-use Rattle.aptpl_store.specs.Kept.{store_below, store_kept}
-use Rattle.drive_core.specs.Execute.{Answers, HonestIn}
+use Rattle.aptpl_store.specs.Kept.{store_kept}
+use Rattle.drive_core.specs.Execute.{HonestIn}
 use Rattle.drive_core.specs.State.{machine_of, medium_in}
 use Rattle.drive_core.specs.Synchronize.{Acknowledges, IsSynchronizing, NothingPending}
 use Rattle.drive_core.specs.Told.{IsChanging, TellsWriteError}
 use Rattle.drive_core.specs.Work.{Request}
+use Rattle.bays.specs.Bays.{AnswersInEvent, IsSafeIn}
 use Rattle.bays.specs.Elements.{BayState}
+use Rattle.library.specs.Kept.{KeepsDrive}
 
 -- A seat has grown from one amount to the other by what the reply to its host's command tells: by one where a WRITE of
 -- some bytes, a WRITE FILEMARKS of some or an ERASE is acknowledged; by one or not where it is a write error; and else
@@ -23,19 +25,26 @@ pub record GrowsAsTold (cdb : List ℕ) (reply : Reply) (before after : ℕ) : T
   pub other : (IsChanging cdb → ⊥) → after ≡ before
 
 module _ {D : Type 0} (state : D → DiskState) where
-  -- A drive answers the host of a seat, and the seat grows by one for each change that the drive accepted with it,
-  -- which is what the reply tells. Before it acknowledges a synchronizing command, all is stored (own).
+  -- A drive that its type keeps answers the host of a seat, and its type keeps it. At each moment inside the command a
+  -- crash leaves what the command's event says. The seat grows by one for each change that the drive accepted with it,
+  -- which is what the reply says. Before it acknowledges a synchronizing command, all is stored, and all that its
+  -- cartridge accepted is safe (own).
   pub record AnswersSeat
       (old : BayState D) (request : Request) (before : SeatState) (reply : Reply) (new : BayState D) (after : SeatState)
       : Type 0 where
-    pub step : Answers (state_of state) (buffer_below state) store_kept (store_below state) old request reply new
+    pub event : AnswersInEvent state old request reply new
+    pub kept : KeepsDrive state old
+    pub keeps : KeepsDrive state new
     pub settled :
         IsSynchronizing (machine_of (state_of state) store_kept old) request.cdb → Acknowledges reply
         → NothingPending (HonestIn (buffer_below state) (medium_in old.bay))
         (machine_of (state_of state) store_kept new)
+    pub safe :
+        IsSynchronizing (machine_of (state_of state) store_kept old) request.cdb → Acknowledges reply
+        → HonestIn (buffer_below state) (medium_in old.bay) → IsSafeIn state (medium_in new.bay)
     pub host : request.nexus ≡ before.nexus
     pub nexus : after.nexus ≡ before.nexus
-    pub grown : after.amount ≡ before.amount + length step.taken.made.changes
+    pub grown : after.amount ≡ before.amount + length event.step.taken.made.changes
     pub told : GrowsAsTold request.cdb reply before.amount after.amount
 
   -- the host of a seat is answered so by a drive in some state (own)

@@ -1,113 +1,68 @@
-//! The hosts of a library, for which the items of a script are run.
-ghost use Rattle.std.specs.Prelude.{◌≡◌, [], ◌∷◌, true, IfOk, OnErr};
+//! What runs the items of a script over a library.
+ghost use Rattle.std.specs.Prelude.{◌≡◌, ◌∷◌, [], true, IfOk, OnErr};
 ghost use Rattle.std.specs.List.{list_all};
 ghost use Rattle.vtl_script.specs.declared.items.Item.TheVariants as Kinds;
 ghost use Rattle.library.specs.Counts.{has_drive};
-ghost use Rattle.library.specs.Crews.{AnswersCrew};
-ghost use Rattle.library.specs.Inner.CrewsOn.{crew_empty, crew_none, crew_on};
-ghost use Rattle.library.specs.Inner.InPlace.{AreInPlace};
+ghost use Rattle.library.specs.Inner.Serves.{ServesHosts};
 
-use crate::libraries::Library;
-use crate::phases::serve_phase;
-use ledgers::{Parties, Seat};
+use crate::hosts::Hosts;
+use crate::phases::are_of_rising_hosts;
 use scsi_sense::Reply;
 use std::alloc::Global;
-use std::marker::Model;
-use std::sync::Wait;
-use tape_disk::Disk;
 use vtl_base::{DriveNo, NoMemory};
 use vtl_script::{Item, Line, Runner};
 
-/// The hosts of a library, each with its seat, from number 1 on. To a contract they are which drives there are, and the
-/// seats.
+/// The hosts of a library, and what carries out what was dealt to them, each host's in a thread of its own. A method of
+/// a trait can start no thread by itself, so it calls this function.
 #[derive(Drop)]
-pub(crate) struct Crew<'a, D: Disk, B: Parties, H: Parties, R> {
-    rt: &'a R,
-    library: &'a Library<D, B, H>,
-    seats: Vec<Seat<H>>,
+pub(crate) struct Crew<S: Hosts, F: Fn(&mut S)> {
+    pub(crate) hosts: S,
+    pub(crate) serve: F,
 }
 
-impl<'a, D: Disk, B: Parties, H: Parties, R> Model for Crew<'a, D, B, H, R> {
-    ghost use Rattle.library.specs.Crews.{CrewState};
-    ghost use Rattle.library.specs.Inner.InPlace.{AreInPlace};
-
-    ghost Value = { CrewState };
-
-    ghost view = { λ c. record { drives = c.library.now; seats = c.seats.items } };
-
-    ghost invariant = { λ c. AreInPlace c.seats.items };
-}
-
-impl<'a, D: Disk + Drop, B: Parties, H: Parties, R> Crew<'a, D, B, H, R> {
-    /// The hosts of these seats.
-    pub(crate) fn of(
-        rt: &'a R,
-        library: &'a Library<D, B, H>,
-        seats: Vec<Seat<H>>,
-    ) -> Crew<'a, D, B, H, R>
-        requires { AreInPlace seats.items }
-        ensures { result ≡ record { drives = library.now; seats = seats.items } }
-    {
-        Crew { rt, library, seats }
-    }
-
-    /// The seats.
-    pub(crate) fn into_seats(self) -> Vec<Seat<H>>
-        ensures seats { result.items ≡ self.entry.seats }
-        ensures places { AreInPlace result.items }
-    {
-        self.seats
-    }
-}
-
-impl<'a, D: Disk + Drop, B: Parties, H: Parties, R: Wait> Crew<'a, D, B, H, R> {
+impl<S: Hosts, F: Fn(&mut S)> Crew<S, F> {
     // Carries the lines of a phase out. Where memory runs out nothing is carried out.
     fn run_lines(&mut self, alloc: Global, lines: &mut [Line]) -> Result<Vec<Reply>, NoMemory>
-        requires { list_all (λ line. has_drive self.old.drives line.drive) lines.old ≡ true }
-        ensures ok { IfOk result (λ replies.
-            AnswersCrew D.state self.old (Kinds.Phase lines.old ∷ []) replies.items self.new) }
-        ensures err { OnErr result (self.new ≡ self.old) }
-        ensures same { self.new.drives ≡ self.old.drives }
+        requires serves { ServesHosts S.is_dealt S.is_served F.Fn self.old.serve }
+        requires configured { list_all (λ line. has_drive (S.crew self.old.hosts).drives line.drive) lines.old ≡ true }
+        ensures ok { IfOk result (λ replies. S.answers (S.crew self.old.hosts) (Kinds.Phase lines.old ∷ [])
+            replies.items (S.crew self.new.hosts)) }
+        ensures err { OnErr result (S.crew self.new.hosts ≡ S.crew self.old.hosts) }
+        ensures same { self.new.serve ≡ self.old.serve }
     {
-        let rt = self.rt;
-        let library = self.library;
-        serve_phase(rt, alloc, library, self.seats.as_mut_slice(), lines)
-    }
-
-    // Moves a cartridge. Where memory runs out nothing is moved.
-    fn run_move(&mut self, alloc: Global, from: u32, to: u32) -> Result<Vec<Reply>, NoMemory>
-        ensures ok { IfOk result (λ replies.
-            AnswersCrew D.state self.old (Kinds.Move from to ∷ []) replies.items self.new) }
-        ensures err { OnErr result (self.new ≡ self.old) }
-        ensures same { self.new.drives ≡ self.old.drives }
-    {
-        let mut replies = Vec::with_capacity(alloc, 1)?;
-        replies
-            .push(self.library.move_medium(self.rt, from, to))
-            .unwrap();
+        if !are_of_rising_hosts(lines) {
+            return self.hosts.run_in_turn(alloc, lines);
+        }
+        let mut replies = Vec::with_capacity(alloc, lines.len())?;
+        self.hosts.deal(lines)?;
+        let serve = &self.serve;
+        serve(&mut self.hosts);
+        self.hosts.give(&mut replies);
         Ok(replies)
     }
 }
 
-impl<'a, D: Disk + Drop, B: Parties, H: Parties, R: Wait> Runner for Crew<'a, D, B, H, R> {
-    ghost is_configured = { λ crew. has_drive crew.drives };
+impl<S: Hosts, F: Fn(&mut S)> Runner for Crew<S, F> {
+    ghost is_configured = { λ crew. has_drive (S.crew crew.hosts).drives };
 
-    ghost answers = { AnswersCrew D.state };
+    ghost answers = { λ old items replies new. S.answers (S.crew old.hosts) items replies (S.crew new.hosts) };
+
+    ghost is_ready = { λ crew. ServesHosts S.is_dealt S.is_served F.Fn crew.serve };
 
     fn configured(&self, drive: DriveNo) -> bool {
-        self.library.configured(drive)
+        self.hosts.configured(drive)
     }
 
     fn run(&mut self, alloc: Global, item: &mut Item) -> Result<Vec<Reply>, NoMemory> {
         match item {
             Item::Phase(commands) => self.run_lines(alloc, commands.as_mut_slice()),
-            Item::Move { from, to } => self.run_move(alloc, *from, *to),
+            Item::Move { from, to } => self.hosts.run_move(alloc, *from, *to),
         }
     }
 
-    ghost answers_none = { crew_none D.state };
+    ghost answers_none = { λ crew. S.answers_none (S.crew crew.hosts) };
 
-    ghost answers_empty = { crew_empty D.state };
+    ghost answers_empty = { λ crew. S.answers_empty (S.crew crew.hosts) };
 
-    ghost answers_on = { crew_on D.state };
+    ghost answers_on = { λ old mid new. S.answers_on (S.crew old.hosts) (S.crew mid.hosts) (S.crew new.hosts) };
 }

@@ -5,10 +5,13 @@ ghost use Rattle.ledgers.specs.Ledgers.{no_share};
 ghost use Rattle.bays.specs.Elements.{bay_at};
 ghost use Rattle.bays.specs.Finish.{HasFailedAt, IsWrittenAt};
 ghost use Rattle.library.specs.Counts.{count_of_drive, one_if_there, or_none, which_are_there};
-ghost use Rattle.library.specs.Ends.{IsShort, counts_of, sum_of_counts, sum_of_seats};
+ghost use Rattle.library.specs.Ends.{Balances, IsShort, counts_of, sum_of_counts, sum_of_seats};
 ghost use Rattle.library.specs.Inner.Ending.{HaveEnded, outcome_of, worse_of};
+ghost use Rattle.library.specs.Kept.{AreLeft, IsLeftAt};
 
+use crate::inventories::known_slots;
 use crate::libraries::Library;
+use crate::places::known_drive;
 use crate::rows::Row;
 use crate::shared::SharedBay;
 use bays::{Bay, Parked, Unwritten};
@@ -44,7 +47,8 @@ pub struct Finished<D: Disk> {
 
 impl<D: Disk + Drop, B: Parties, H: Parties> Library<D, B, H> {
     /// Writes every buffer out, by a turn of each drive, and compares the drives' counts with the seats. It is for the
-    /// end, when nobody else shares the library, and takes no memory. A medium that has failed is told first.
+    /// end, when nobody else shares the library, and takes no memory. A medium that has failed is reported before seats
+    /// that are missing.
     pub fn finish<R: Wait>(self, _rt: &R, seats: Vec<Seat<H>>) -> Finished<D>
         ensures drives { which_are_there result.bays.items ≡ self }
         ensures counts { IfOk result.counts (λ counts. (counts ≡ counts_of result.bays.items)
@@ -57,7 +61,11 @@ impl<D: Disk + Drop, B: Parties, H: Parties> Library<D, B, H> {
             → (number : ℕ) → IsWrittenAt D.state (bay_at result.bays.items number) }
         ensures missing { IfErr result.counts (λ error.
             IsShort error (sum_of_counts (counts_of result.bays.items)) (sum_of_seats seats.items)) }
-        ensures all { vec_len seats ≡ H.all → IfErr result.counts (λ error. error ≡ FinishError.Unwritten) }
+
+        // The two sums, whatever is answered.
+        ensures sums { Balances (vec_len seats) H.all (sum_of_counts (counts_of result.bays.items))
+            (sum_of_seats seats.items) result.counts }
+        ensures left { AreLeft D.state result.slots result.bays.items }
     {
         let Library {
             alloc: _,
@@ -72,8 +80,10 @@ impl<D: Disk + Drop, B: Parties, H: Parties> Library<D, B, H> {
         let written = end_drives(bays, &mut row, &mut gathering);
         take_seats(seats, &mut gathering);
         let counts = outcome(written, counts_in(&row), gathering.compare());
+        let slots = slots.into_inner();
+        known_slots(&slots);
         Finished {
-            slots: slots.into_inner(),
+            slots,
             bays: row.into_places(),
             counts,
         }
@@ -142,6 +152,7 @@ fn end_drive<D: Disk + Drop, B: Parties, H: Parties>(
     ensures shares { gathering.new.bays.shares ≡ gathering.old.bays.shares + one_if_there bay }
     ensures changes { gathering.new.bays.changes ≡ gathering.old.bays.changes + or_none (count_of_drive result.bay) }
     ensures hosts { (gathering.new.total ≡ gathering.old.total) × (gathering.new.hosts ≡ gathering.old.hosts) }
+    ensures left { IsLeftAt D.state result.bay }
     ensures ok { OnOk result.written (IsWrittenAt D.state result.bay) }
     ensures err { OnErr result.written (HasFailedAt D.state result.bay) }
 {
@@ -152,7 +163,10 @@ fn end_drive<D: Disk + Drop, B: Parties, H: Parties>(
         };
     };
     let (mut bay, share) = shared.into_place().into_parts();
+    // What is known of it before its turn and after, for the proof alone.
+    known_drive(&bay);
     let written = bay.write_out();
+    known_drive(&bay);
     gathering.take_bay(share);
     DriveEnd {
         bay: Some(bay),

@@ -1,8 +1,9 @@
 //! What stands at the element addresses of a library.
-ghost use Rattle.std.specs.Prelude.{◌≡◌, ◌<◌, ◌+◌, ℕ, None, Some, slice_index_or};
+ghost use Rattle.std.specs.Prelude.{◌≡◌, ◌<◌, ◌+◌, ℕ, None, Some, slice_index_or, true};
 ghost use Rattle.vtl_base.specs.declared.limits.TheConstants.{DRIVES, SLOTS};
 ghost use Rattle.library.specs.Counts.{has_drive};
-ghost use Rattle.library.specs.Seen.{is_drive_seen, seen_at, seen_of_drive};
+ghost use Rattle.library.specs.Kept.{KeepsShelvedIn, KeepsSlots};
+ghost use Rattle.library.specs.Seen.{is_place_seen, seen_at, seen_of_drive};
 
 use crate::libraries::Library;
 use crate::places::Place;
@@ -34,8 +35,27 @@ pub struct Inventory {
     pub drives: [Element; 16],
 }
 
-// What is seen in each slot.
-fn seen_in_slots<D: Disk + Drop>(slots: &Slots<Parked<D>>) -> [Element; 256]
+// What the types keep of the cartridges in the slots, in one fact.
+pub(crate) fn known_slots<D: Disk + Drop>(slots: &Slots<Parked<D>>)
+    ensures { KeepsSlots D.state slots.now }
+{
+    let row = slots.inventory();
+    for slot in row {
+        known_slot(slot);
+    }
+}
+
+// The same of what a slot holds, where it holds something.
+fn known_slot<D: Disk>(slot: &Option<Parked<D>>)
+    ensures { KeepsShelvedIn D.state slot.now }
+{
+    if let Some(cartridge) = slot {
+        cartridge.known();
+    }
+}
+
+/// What is seen in each slot, from element address 1001 on.
+pub fn seen_in_slots<D: Disk + Drop>(slots: &Slots<Parked<D>>) -> [Element; 256]
     ensures { (place : ℕ) → place < SLOTS
         → slice_index_or result place Element.Missing ≡ seen_at (slice_index_or slots.now place None) }
 {
@@ -51,8 +71,8 @@ fn seen_in_slots<D: Disk + Drop>(slots: &Slots<Parked<D>>) -> [Element; 256]
 }
 
 impl<D: Disk + Drop, B: Parties> Place<D, B> {
-    // What is seen of the drive.
-    fn seen(&self) -> Element
+    /// What is seen of the drive.
+    pub fn seen(&self) -> Element
         ensures { result ≡ seen_of_drive (Some self.now) }
     {
         if self.bay.is_empty() {
@@ -67,8 +87,10 @@ impl<D: Disk + Drop, B: Parties, H: Parties> Library<D, B, H> {
     /// What stands at each element address. The drives are looked at one after another, while the slots' lock is held:
     /// nothing is moved meanwhile, so no cartridge is seen twice, and none is missed. It takes no memory.
     pub fn inventory<R: Wait>(&self, rt: &R) -> Inventory
-        ensures { (number : ℕ) → number < DRIVES
-            → is_drive_seen (slice_index_or result.drives number Element.Missing) ≡ has_drive self.now (number + 1) }
+        ensures drives { (number : ℕ) → number < DRIVES
+            → is_place_seen (slice_index_or result.drives number Element.Missing) ≡ has_drive self.now (number + 1) }
+        ensures slots { (place : ℕ) → place < SLOTS
+            → is_place_seen (slice_index_or result.slots place Element.Missing) ≡ true }
     {
         let slots = self.slots.lock(rt);
         let mut drives = [Element::Missing; 16];
@@ -84,7 +106,7 @@ impl<D: Disk + Drop, B: Parties, H: Parties> Library<D, B, H> {
     // What is seen of the drive in this place.
     fn seen_in_drive<R: Wait>(&self, rt: &R, place: usize) -> Element
         requires { place < DRIVES }
-        ensures { is_drive_seen result ≡ has_drive self.now (place + 1) }
+        ensures { is_place_seen result ≡ has_drive self.now (place + 1) }
     {
         match &self.bays[place] {
             Some(bay) => bay.lock.lock(rt).seen(),

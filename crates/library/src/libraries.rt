@@ -84,7 +84,7 @@ impl<D: Disk + Drop, B: Parties, H: Parties> Library<D, B, H> {
     ) -> Reply
         requires { has_drive self.now drive ≡ true }
         ensures { (served : IsServed D.state (asked seat.old.nexus cdb.now sent.old) seat.old result seat.new)
-            × (sent.new ≡ data_left served.answers.step.taken.made.changes sent.old) }
+            × (sent.new ≡ data_left served.answers.event.step.taken.made.changes sent.old) }
     {
         match &self.bays[drive.place()] {
             Some(bay) => bay.serve_lent(rt, &self.tally, seat, cdb, sent),

@@ -5,8 +5,9 @@ ghost use Rattle.bays.specs.Lent.{IsDriveAddress};
 ghost use Rattle.library.specs.Counts.{has_drive};
 ghost use Rattle.library.specs.MovesAt.{IsMovedAmong, MovesEach};
 
+use crate::inventories::known_slots;
 use crate::libraries::Library;
-use crate::places::Place;
+use crate::places::{Place, known_drive};
 use crate::shared::SharedBay;
 use bays::{Parked, move_lent};
 use changer::Slots;
@@ -27,7 +28,10 @@ fn between_slots<D: Disk + Drop>(
 {
     let mut none = None;
     let mut nor = None;
+    // What is known before and after, here and below, for the proof alone.
+    known_slots(slots);
     let reply = move_lent(alloc, slots, none.as_mut(), nor.as_mut(), from, to);
+    known_slots(slots);
     drop(none);
     drop(nor);
     reply
@@ -40,8 +44,12 @@ impl<D: Disk + Drop, B: Parties> Place<D, B> {
         ensures { MovesEach D.state from to slots.old (Some self.old) None result slots.new (Some self.new) None }
     {
         let mut none = None;
+        known_slots(slots);
+        known_drive(&self.bay);
         let source = &mut self.bay;
         let reply = move_lent(alloc, slots, Some(source), none.as_mut(), from, to);
+        known_slots(slots);
+        known_drive(&self.bay);
         drop(none);
         reply
     }
@@ -53,8 +61,12 @@ impl<D: Disk + Drop, B: Parties> Place<D, B> {
         ensures { MovesEach D.state from to slots.old None (Some self.old) result slots.new None (Some self.new) }
     {
         let mut none = None;
+        known_slots(slots);
+        known_drive(&self.bay);
         let destination = &mut self.bay;
         let reply = move_lent(alloc, slots, none.as_mut(), Some(destination), from, to);
+        known_slots(slots);
+        known_drive(&self.bay);
         drop(none);
         reply
     }
@@ -74,9 +86,16 @@ impl<D: Disk + Drop, B: Parties> Place<D, B> {
         ensures { MovesEach D.state from to slots.old (Some self.old) (Some destination.old) result
             slots.new (Some self.new) (Some destination.new) }
     {
+        known_slots(slots);
+        known_drive(&self.bay);
+        known_drive(&destination.bay);
         let source = &mut self.bay;
         let other = &mut destination.bay;
-        move_lent(alloc, slots, Some(source), Some(other), from, to)
+        let reply = move_lent(alloc, slots, Some(source), Some(other), from, to);
+        known_slots(slots);
+        known_drive(&self.bay);
+        known_drive(&destination.bay);
+        reply
     }
 }
 

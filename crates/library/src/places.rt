@@ -3,9 +3,14 @@ ghost use Rattle.std.specs.Prelude.{◌≡◌, ◌≢◌, ◌+◌, ◌^◌, ◌<
 ghost use Rattle.drive_core.specs.Data.{data_left};
 ghost use Rattle.drive_core.specs.Execute.{asked};
 ghost use Rattle.drive_core.specs.Media.{TakesTurn};
+ghost use Rattle.drive_core.specs.Relations.{made_nothing};
+ghost use Rattle.drive_core.specs.State.{medium_in};
 ghost use Rattle.tape_buffer.specs.Moves.{buffer_below};
 ghost use Rattle.tape_buffer.specs.State.{state_of};
 ghost use Rattle.aptpl_store.specs.Kept.{store_kept};
+ghost use Rattle.bays.specs.Bays.{EveryMoment};
+ghost use Rattle.bays.specs.Reservations.{Turned};
+ghost use Rattle.library.specs.Kept.{KeepsDrive};
 ghost use Rattle.library.specs.Served.{AnswersSeat};
 
 use aptpl_store::AptplStore;
@@ -37,6 +42,13 @@ impl<D: Disk, B: Parties> Model for Place<D, B> {
     ghost view = { λ p. p.bay };
 
     ghost invariant = { λ p. p.share ≡ p.bay.accepted };
+}
+
+// What the type of a drive keeps, in one fact.
+pub(crate) fn known_drive<D: Disk>(bay: &Bay<D>)
+    ensures { KeepsDrive D.state bay.now }
+{
+    bay.known();
 }
 
 // Enters a change in both ledgers if a drive's count has risen from one number to another.
@@ -71,10 +83,12 @@ impl<D: Disk, B: Parties> Place<D, B> {
         ensures { AnswersSeat D.state self.old (asked seat.old.nexus cdb.now sent.now) seat.old
             result self.new seat.new }
     {
-        // The law, for the proof alone.
+        // The law, and what is known of the drive before and after, for the proof alone.
         laws::replies_tell_changes::<Buffered<D>, AptplStore<D>>();
         let before = self.count_below_limit(rt);
+        known_drive(&self.bay);
         let reply = self.bay.execute(seat.nexus(), cdb, sent);
+        known_drive(&self.bay);
         let after = self.bay.accepted();
         enter_if_risen(rt, tally, &mut self.share, seat, before, after);
         reply
@@ -91,11 +105,13 @@ impl<D: Disk, B: Parties> Place<D, B> {
     ) -> Reply
         ensures { (answers : AnswersSeat D.state self.old (asked seat.old.nexus cdb.now sent.old) seat.old
             result self.new seat.new)
-            × (sent.new ≡ data_left answers.step.taken.made.changes sent.old) }
+            × (sent.new ≡ data_left answers.event.step.taken.made.changes sent.old) }
     {
         laws::replies_tell_changes::<Buffered<D>, AptplStore<D>>();
         let before = self.count_below_limit(rt);
+        known_drive(&self.bay);
         let reply = self.bay.execute_lent(seat.nexus(), cdb, sent);
+        known_drive(&self.bay);
         let after = self.bay.accepted();
         enter_if_risen(rt, tally, &mut self.share, seat, before, after);
         reply
@@ -103,7 +119,11 @@ impl<D: Disk, B: Parties> Place<D, B> {
 
     /// A flusher's turn of the drive: stores what is pending. It takes no memory.
     pub fn turn(&mut self) -> Turn
-        ensures { TakesTurn (state_of D.state) (buffer_below D.state) store_kept self.old result self.new }
+        ensures turned { TakesTurn (state_of D.state) (buffer_below D.state) store_kept self.old result self.new }
+
+        // At every moment inside the call a crash leaves what that says.
+        ensures moments { EveryMoment D.state self.old (Turned result) made_nothing (medium_in self.old.bay)
+            (medium_in self.new.bay) self.new }
     {
         self.bay.turn()
     }

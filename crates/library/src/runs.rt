@@ -1,5 +1,5 @@
 //! A script that is run over a library whose drives threads share.
-ghost use Rattle.std.specs.Prelude.{◌≡◌, ◌≢◌, Err, IfOk, IfErr, length, All};
+ghost use Rattle.std.specs.Prelude.{◌≡◌, ◌≢◌, ◌≤◌, [], Err, IfOk, IfErr, length, All, vec_capacity};
 ghost use Rattle.std.specs.List.{range_with_len};
 ghost use Rattle.vtl_base.specs.declared.limits.TheConstants.{DRIVES, NEXUSES};
 ghost use Rattle.ledgers.specs.Ledgers.{IsBlankOf};
@@ -7,14 +7,19 @@ ghost use Rattle.vtl_script.specs.Runs.{RunsScript, TakesWithin};
 ghost use Rattle.library.specs.Counts.{AcceptedNone, has_drive, places_filled, which_are_there};
 ghost use Rattle.library.specs.Crews.{AnswersCrew};
 ghost use Rattle.library.specs.Inner.InPlace.{AreInPlace};
+ghost use Rattle.library.specs.Inner.Jobs.{IsServedStage};
+ghost use Rattle.library.specs.Inner.Staged.{AreReady};
 ghost use Rattle.library.specs.Ran.{EndsShared, RunsShared};
 
 use crate::beside::beside_flushers;
 use crate::crews::Crew;
 use crate::finishing::Finished;
 use crate::flushers::Gate;
+use crate::jobs::Job;
 use crate::libraries::Library;
 use crate::opening::NotOpened;
+use crate::serving::serve_all;
+use crate::stages::Stage;
 use bays::{Bay, Parked};
 use changer::Slots;
 use ledgers::{Parties, Seat};
@@ -25,7 +30,8 @@ use std::sync::Wait;
 use std::sync::ledger::Blank;
 use std::thread::Threads;
 use tape_disk::Disk;
-use vtl_base::Nexus;
+use vtl_base::limits::NEXUSES;
+use vtl_base::{Nexus, NoMemory};
 use vtl_script::{Runner, ScriptFault, run_script};
 
 /// What is left of a library over which a script was run.
@@ -46,6 +52,7 @@ fn run_and_close<D: Disk + Drop, B: Parties, H: Parties, R: Wait, P: Runner, I: 
     reader: &mut I,
     writer: &mut O,
 ) -> Result<(), ScriptFault>
+    requires { P.is_ready crew.old }
     ensures runs { RunsScript (P.is_configured crew.old) P.answers crew.old
         (I.remaining reader.old) (O.contents writer.old) crew.new (O.contents writer.new) result }
     ensures past { result ≢ Err ScriptFault.ReadFault →
@@ -75,12 +82,14 @@ fn run_beside<
     reader: &mut I,
     writer: &mut O,
 ) -> Result<(), ScriptFault>
+    requires { P.is_ready crew.old }
     ensures runs { RunsScript (P.is_configured crew.old) P.answers crew.old
         (I.remaining reader.old) (O.contents writer.old) crew.new (O.contents writer.new) result }
     ensures past { result ≢ Err ScriptFault.ReadFault →
         TakesWithin (I.remaining reader.old) 0 (I.remaining reader.new) }
 {
     let mut work = || -> Result<(), ScriptFault>
+        requires { P.is_ready crew.now }
         ensures runs { RunsScript (P.is_configured crew.entry.now) P.answers crew.entry.now
             (I.remaining reader.entry.now) (O.contents writer.entry.now) crew.exit.now
             (O.contents writer.exit.now) result }
@@ -97,6 +106,24 @@ struct RanFor<H: Parties> {
     outcome: Result<(), ScriptFault>,
 }
 
+// Room for the parts of all hosts, and for their seats once they are given back.
+#[derive(Drop)]
+struct Rooms<H: Parties> {
+    jobs: Vec<Job<H>>,
+    seats: Vec<Seat<H>>,
+}
+
+// Makes room for all hosts.
+fn make_rooms<H: Parties>(alloc: Global) -> Result<Rooms<H>, NoMemory>
+    ensures jobs { IfOk result (λ rooms. (rooms.jobs.items ≡ []) × (NEXUSES ≤ vec_capacity rooms.jobs)) }
+    ensures seats { IfOk result (λ rooms. (rooms.seats.items ≡ []) × (NEXUSES ≤ vec_capacity rooms.seats)) }
+{
+    Ok(Rooms {
+        jobs: Vec::with_capacity(alloc, NEXUSES as usize)?,
+        seats: Vec::with_capacity(alloc, NEXUSES as usize)?,
+    })
+}
+
 // Runs the script over a library that was opened, for the hosts of these seats.
 fn run_opened<
     'a,
@@ -111,12 +138,15 @@ fn run_opened<
     rt: &'a R,
     alloc: Global,
     library: &'a Library<D, B, H>,
+    rooms: Rooms<H>,
     seats: Vec<Seat<H>>,
     gate: &G,
     reader: &mut I,
     writer: &mut O,
 ) -> RanFor<H>
-    requires { AreInPlace seats.items }
+    requires jobs { (rooms.jobs.items ≡ []) × (NEXUSES ≤ vec_capacity rooms.jobs) }
+    requires seats { (rooms.seats.items ≡ []) × (NEXUSES ≤ vec_capacity rooms.seats) }
+    requires places { AreInPlace seats.items }
     ensures runs { RunsScript (has_drive library.now) (AnswersCrew D.state)
         (record { drives = library.now; seats = seats.items }) (I.remaining reader.old) (O.contents writer.old)
         (record { drives = library.now; seats = result.seats.items }) (O.contents writer.new) result.outcome }
@@ -124,18 +154,26 @@ fn run_opened<
         TakesWithin (I.remaining reader.old) 0 (I.remaining reader.new) }
     ensures places { AreInPlace result.seats.items }
 {
-    let mut crew = Crew::of(rt, library, seats);
+    let serve = |stage: &mut Stage<D, B, H, R>|
+        requires { AreReady stage.now }
+        ensures { IsServedStage D.state stage.entry.now stage.exit.now }
+    { serve_all(stage) };
+    let mut crew = Crew {
+        hosts: Stage::of(rt, alloc, library, rooms.jobs, seats),
+        serve,
+    };
     let outcome = run_beside(rt, alloc, library, gate, &mut crew, reader, writer);
     RanFor {
-        seats: crew.into_seats(),
+        seats: crew.hosts.into_seats(rooms.seats),
         outcome,
     }
 }
 
 /// Runs a script over these drives, each in the place of its number, and these slots, for hosts that have the numbers
-/// from 1 to 64, and writes a line for each reply. The lines run in the caller's thread, and beside it a flusher of
-/// each drive in a thread of its own. At the end all threads are joined, and every buffer is written out. Where memory
-/// runs out before the script begins all comes back, and nothing is read or written.
+/// from 1 to 64, and writes a line for each reply. The items run one after another. The lines of a phase of several
+/// hosts run in a thread of its own for each host, in order, those of one host in the caller's thread; each drive has a
+/// flusher beside them, in a thread of its own. At the end all threads are joined, and every buffer is written out.
+/// Where memory runs out before the script begins all comes back, and nothing is read or written.
 pub fn run_library<
     D: Disk + Drop + Send,
     B: Parties + Send + Sync,
@@ -165,11 +203,20 @@ pub fn run_library<
         (O.contents writer.old) (O.contents writer.new) ran.outcome ran.finished.bays.items ran.finished.counts) }
     ensures past { IfOk result (λ ran. ran.outcome ≢ Err ScriptFault.ReadFault →
         TakesWithin (I.remaining reader.old) 0 (I.remaining reader.new)) }
-    ensures ends { IfOk result (λ ran. EndsShared D.state bays.items ran.finished.bays.items ran.finished.counts) }
+    ensures ends { IfOk result (λ ran. EndsShared D.state bays.items ran.finished.bays.items ran.finished.slots
+        ran.finished.counts) }
     ensures back { IfErr result (λ back. (back.bays ≡ bays) × (back.slots ≡ slots)
         × (back.bay_ledger ≡ bay_ledger) × (back.host_ledger ≡ host_ledger)
         × (reader.new ≡ reader.old) × (writer.new ≡ writer.old)) }
 {
+    let Ok(rooms) = make_rooms(alloc) else {
+        return Err(NotOpened {
+            bays,
+            slots,
+            bay_ledger,
+            host_ledger,
+        });
+    };
     let (library, seats) = Library::<D, B, H>::new(
         alloc,
         bays,
@@ -178,7 +225,9 @@ pub fn run_library<
         bay_ledger,
         host_ledger,
     )?;
-    let RanFor { seats, outcome } = run_opened(rt, alloc, &library, seats, gate, reader, writer);
+    let RanFor { seats, outcome } = run_opened(
+        rt, alloc, &library, rooms, seats, gate, reader, writer,
+    );
     Ok(Ran {
         finished: library.finish(rt, seats),
         outcome,

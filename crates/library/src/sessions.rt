@@ -1,5 +1,5 @@
 //! The lines of a host in a phase.
-ghost use Rattle.std.specs.Prelude.{◌≡◌, nat_eq, true, IfOk, OnErr};
+ghost use Rattle.std.specs.Prelude.{◌≡◌, ◌≤◌, [], nat_eq, true, length, vec_capacity, IfOk, OnErr};
 ghost use Rattle.std.specs.List.{list_all};
 ghost use Rattle.bays.specs.Runs.{line_request};
 ghost use Rattle.library.specs.Counts.{has_drive};
@@ -32,11 +32,27 @@ impl<D: Disk + Drop, B: Parties, H: Parties> Library<D, B, H> {
         ensures err { OnErr result ((seat.new ≡ seat.old) × (lines.new ≡ lines.old)) }
     {
         let mut replies = Vec::with_capacity(alloc, lines.len())?;
+        self.session(rt, seat, lines, &mut replies);
+        Ok(replies)
+    }
+
+    // The same where there is room for the replies. It takes no memory.
+    pub(crate) fn session<R: Wait>(
+        &self,
+        rt: &R,
+        seat: &mut Seat<H>,
+        lines: &mut [Line],
+        replies: &mut Vec<Reply>,
+    )
+        requires hosts { list_all (λ line. nat_eq line.host seat.old.nexus) lines.old ≡ true }
+        requires configured { list_all (λ line. has_drive self.now line.drive) lines.old ≡ true }
+        requires room { (replies.old.items ≡ []) × (length lines.old ≤ vec_capacity replies.old) }
+        ensures { AnswersSession D.state seat.old lines.old replies.new.items seat.new }
+    {
         for line in lines {
             let reply = self.serve_line(rt, seat, line);
             replies.push(reply).unwrap();
         }
-        Ok(replies)
     }
 
     // Carries the command of a line out, by the drive that it names. Its data are taken where they become a block.

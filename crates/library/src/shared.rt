@@ -62,7 +62,7 @@ impl<D: Disk, B: Parties> SharedBay<D, B> {
         sent: &mut Bytes,
     ) -> Reply
         ensures { (served : IsServed D.state (asked seat.old.nexus cdb.now sent.old) seat.old result seat.new)
-            × (sent.new ≡ data_left served.answers.step.taken.made.changes sent.old) }
+            × (sent.new ≡ data_left served.answers.event.step.taken.made.changes sent.old) }
     {
         let before = seat.amount();
         let mut place = self.lock.lock(rt);

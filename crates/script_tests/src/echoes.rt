@@ -60,6 +60,8 @@ impl Runner for Echo {
 
     ghost answers = { λ _ _ _ _. Unit {0} };
 
+    ghost is_ready = { λ _. Unit {0} };
+
     fn configured(&self, drive: DriveNo) -> bool {
         drive.number() == 1
     }

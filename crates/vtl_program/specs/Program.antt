@@ -39,15 +39,16 @@ abbrev pub IsIdle : (left left' before now : Option (List ℕ)) → Type 0
 IsIdle left left' before now = Keeps left left' × Keeps before now
 
 -- A script was run for all hosts over this library, which threads shared: each command was answered by a drive in some
--- state. Then every buffer was written out, and the library is this: it has the drives that it had, and nothing is
--- left to be written of any, or what is loaded in one has failed. No more was read than a script may have (own).
+-- state. Then every buffer was written out, by a turn of each drive, and the library is this: it has the drives that it
+-- had, the types keep its slots and drives, and nothing is left to be written of any, or what is loaded in one has
+-- failed. No more was read than a script may have (own).
 pub record RunsStarted {D : Type 0} (state : D → DiskState) (old : HeldState D)
     (left left' before now : Option (List ℕ)) (new : HeldState D) (outcome : Result (Unit {0}) VtlFault) : Type 0 where
   pub ended : Result (Unit {0}) ScriptFault
   pub counts : Result (List (Option ℕ)) FinishError
   pub runs : RunsShared state old.bays every_nexus left before now ended new.bays counts
   pub takes : ended ≢ Err ReadFault → TakesWithin left 0 left'
-  pub ends : EndsShared state old.bays new.bays counts
+  pub ends : EndsShared state old.bays new.bays new.slots counts
   pub outcome_is : outcome ≡ outcome_of ended counts
 
 -- a script was run so; or memory ran out before it, nothing was read or written, and the library is what it was (own)

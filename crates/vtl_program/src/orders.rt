@@ -28,8 +28,8 @@ use vtl_config::Config;
 use vtl_words::{Order, WordsError, read_words};
 
 /// Runs a script over a library, where there is one, then writes every buffer out, whatever the script's end was, and
-/// hands the library back. The first fault is answered: one of the script before one of the buffers. Where memory runs
-/// out before the script, nothing is read, and the library is handed back as it was.
+/// returns the library. The first fault is answered: one of the script before one of the buffers. Where memory runs
+/// out before the script, nothing is read, and the library is returned as it was.
 pub fn run_started<
     D: Disk + Drop + Send,
     S: TakesBack<Held<D>, NotStarted<D>>,

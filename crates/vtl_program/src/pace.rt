@@ -29,7 +29,7 @@ pub fn rest_after(turn: Turn) -> u64
 /// sooner than ten milliseconds later, so that changes gather meanwhile.
 #[derive(Clone, Copy)]
 pub struct Pace<'a, R> {
-    /// What tells the time.
+    /// The clock.
     pub rt: &'a R,
 }
 

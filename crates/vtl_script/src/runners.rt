@@ -20,6 +20,9 @@ pub trait Runner {
     /// last.
     ghost answers: { Self → List Item → List Reply → Self → Type 0 };
 
+    /// It may run items. What it holds may ask that, as a closure does which it calls.
+    ghost is_ready: { Self → Type 0 };
+
     /// Whether this drive is configured.
     fn configured(&self, drive: DriveNo) -> bool
         ensures { result ≡ is_configured self.now drive };
@@ -27,10 +30,12 @@ pub trait Runner {
     /// Runs an item: a reply for each command of a phase, in order, and one for a move. Where memory runs out, only the
     /// first commands were run, and a move was run or not. The data of each command may be taken (`Bytes::take`).
     fn run(&mut self, alloc: Global, item: &mut Item) -> Result<Vec<Reply>, NoMemory>
-        requires { IsRunnable (is_configured self.old) item.old }
+        requires item { IsRunnable (is_configured self.old) item.old }
+        requires ready { is_ready self.old }
         ensures ok { IfOk result (λ replies. answers self.old (item.old ∷ []) replies.items self.new) }
         ensures err { OnErr result (AnswersSome answers self.old item.old self.new) }
-        ensures same { is_configured self.new ≡ is_configured self.old };
+        ensures same { is_configured self.new ≡ is_configured self.old }
+        ensures ready { is_ready self.new };
 
     /// No item is answered by standing still.
     ghost answers_none: { (runner : Self) → answers runner [] [] runner };

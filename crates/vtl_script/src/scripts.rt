@@ -25,10 +25,12 @@ fn run_item<P: Runner, W: Write>(
 ) -> Result<(), ScriptFault>
     requires item { IsRunnable (P.is_configured runner.old) item.old }
     requires text { text.old ≡ [] }
+    requires ready { P.is_ready runner.old }
     ensures runs { RunsItems P.answers runner.old (item.old ∷ []) (W.contents writer.old)
         runner.new (W.contents writer.new) result }
     ensures text { OnOk result (text.new ≡ []) }
     ensures same { P.is_configured runner.new ≡ P.is_configured runner.old }
+    ensures ready { P.is_ready runner.new }
 {
     let replies = runner.run(alloc, item)?;
     print_replies(text, writer, replies.as_slice())
@@ -46,10 +48,12 @@ fn run_items<P: Runner, W: Write>(
     requires phase { IsRunnable (P.is_configured runner.old) phase }
     requires moved { IfSome moved (IsRunnable (P.is_configured runner.old)) }
     requires text { text.old ≡ [] }
+    requires ready { P.is_ready runner.old }
     ensures runs { RunsItems P.answers runner.old (with_move phase moved)
         (W.contents writer.old) runner.new (W.contents writer.new) result }
     ensures text { OnOk result (text.new ≡ []) }
     ensures same { P.is_configured runner.new ≡ P.is_configured runner.old }
+    ensures ready { P.is_ready runner.new }
 {
     run_item(alloc, runner, &mut phase, text, writer)?;
     match moved {
@@ -68,13 +72,15 @@ fn run_next<P: Runner, R: Read, W: Write>(
     text: &mut AnswerText,
     writer: &mut W,
 ) -> Result<bool, ScriptFault>
-    requires { text.old ≡ [] }
+    requires text { text.old ≡ [] }
+    requires ready { P.is_ready runner.old }
     ensures runs { RunsNext (P.is_configured runner.old) P.answers
         line_reader.old runner.old (R.remaining reader.old) (W.contents writer.old)
         line_reader.new runner.new (R.remaining reader.new) (W.contents writer.new) result }
     ensures text { OnOk result (text.new ≡ []) }
     ensures less { result ≡ Ok true → work_left line_reader.new < work_left line_reader.old }
     ensures same { P.is_configured runner.new ≡ P.is_configured runner.old }
+    ensures ready { P.is_ready runner.new }
     ensures past { result ≢ Err ScriptFault.ReadFault →
         TakesWithin (R.remaining reader.old) line_reader.old.bytes (R.remaining reader.new) }
     ensures due { shows_phase (P.is_configured runner.old) line_reader.old.unread ≡ true → reader.new ≡ reader.old }
@@ -97,6 +103,8 @@ pub fn run_script<P: Runner, R: Read, W: Write>(
     reader: &mut R,
     writer: &mut W,
 ) -> Result<(), ScriptFault>
+    requires { P.is_ready runner.old }
+    ensures ready { P.is_ready runner.new }
     ensures runs { RunsScript (P.is_configured runner.old) P.answers
         runner.old (R.remaining reader.old) (W.contents writer.old)
         runner.new (W.contents writer.new) result }

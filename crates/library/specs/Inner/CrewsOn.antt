@@ -1,5 +1,5 @@
 -- What a crew runs goes on.
-use Rattle.std.proofs.Common.{Bool, List, [], ◌∷◌, ◌++◌, flat_map, refl, sym, subst, ◌∙◌}
+use Rattle.std.proofs.Common.{◌≡◌, Bool, List, [], ◌∷◌, ◌++◌, flat_map, refl, sym, subst, ◌∙◌}
 use Rattle.std.proofs.lemmas.Grind.{flat_map-append}
 use Rattle.tape_disk.specs.Disk.{DiskState}
 use Rattle.ledgers.specs.Ledgers.{SeatState}
@@ -21,6 +21,11 @@ module _ {D : Type 0} (state : D → DiskState) where
       (one.0, one.1, among_on drives one.0 mid new first rest replies others one.2 two)
   among_on drives old mid new [] rest (reply ∷ replies) others one two = absurd one
   among_on drives old mid new (order ∷ first) rest [] others one two = absurd one
+
+  -- the drives stay in their places
+  pub crew_drives : (old new : CrewState) (items : List Item) (replies : List Reply)
+      → AnswersCrew state old items replies new → new.drives ≡ old.drives
+  crew_drives old new items replies answered = answered.drives
 
   -- no item is answered by standing still
   pub crew_none : (crew : CrewState) → AnswersCrew state crew [] [] crew

@@ -8,6 +8,7 @@ use Rattle.bays.specs.Finish.{HasFailedAt, IsWrittenAt}
 use Rattle.bays.specs.declared.finishing.Unwritten.{Unwritten}
 use Rattle.library.specs.Counts.{places_filled, which_are_there}
 use Rattle.library.specs.Ends.{counts_of, sum_of_counts}
+use Rattle.library.specs.Kept.{IsLeftAt}
 use Rattle.library.specs.declared.finishing.FinishError.{FinishError}
 use Rattle.library.specs.declared.finishing.FinishError.TheVariants as Errors
 
@@ -23,24 +24,26 @@ abbrev pub worse_of : Result Unit Unwritten → Result Unit Unwritten → Result
 worse_of (Err unwritten) second = Err unwritten
 worse_of (Ok done) second = second
 
-module _ {D : Type 0} (state : D → DiskState) where
-  -- nothing is left to be written of these drives
-  abbrev pub AreWritten : List (Option (BayState D)) → Type 0
-  AreWritten [] = Unit {0}
-  AreWritten (bay ∷ bays) = IsWrittenAt state bay × AreWritten bays
+module _ {X : Type 0} where
+  -- this is so of each of these
+  abbrev pub OfEach : (X → Type 0) → List X → Type 0
+  OfEach P [] = Unit {0}
+  OfEach P (x ∷ xs) = P x × OfEach P xs
 
+module _ {D : Type 0} (state : D → DiskState) where
   -- what is loaded in one of these drives has failed
   abbrev pub OneHasFailed : List (Option (BayState D)) → Type 0
   OneHasFailed [] = ⊥
   OneHasFailed (bay ∷ bays) = HasFailedAt state bay ⊎ OneHasFailed bays
 
-  -- drives that were shared have ended as these: each is where it was, the shares of all were gathered, and with them
-  -- the changes that the drives counted; and nothing is left to be written, or one has failed
+  -- drives that were shared have ended as these: each is where it was, and took a turn; the shares of all were
+  -- gathered, and with them the changes that the drives counted; and nothing is left to be written, or one has failed
   pub record HaveEnded {X : Type 0}
       (shared : List (Option X)) (bays : List (Option (BayState D))) (gathered : Gathered)
       (written : Result Unit Unwritten) : Type 0 where
     pub there : which_are_there bays ≡ which_are_there shared
     pub shares : gathered.shares ≡ places_filled shared
     pub changes : gathered.changes ≡ sum_of_counts (counts_of bays)
-    pub ok : OnOk written (AreWritten bays)
+    pub left : OfEach (IsLeftAt state) bays
+    pub ok : OnOk written (OfEach (IsWrittenAt state) bays)
     pub err : OnErr written (OneHasFailed bays)

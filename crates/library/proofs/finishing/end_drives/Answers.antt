@@ -32,7 +32,7 @@ loop-bay-preserved g c =
           (vec_len c.loop-bay.bays) c.len.result c.end_drive-bay.result.bay c.loop-bay.gathering.bays
           c.end_drive-bay.new.gathering.bays c.end_drive-bay.result.written c.loop-bay.written c.worse-written.result
           is long next c.len.ensures inv.short inv.long c.put.ensures c.worse-written.ensures one.there one.shares
-          one.changes one.ok one.err inv.ended;
+          one.changes one.left one.ok one.err inv.ended;
       left = left_on c.args.bays.items c.pop.new.self.items c.in-Some.bay
           (drop (vec_len c.loop-bay.bays) c.args.bays.items) k is long;
       short = omega (arith, inv.short, next);

@@ -3,15 +3,17 @@ use Rattle.ledgers.specs.Ledgers.{SeatState}
 use Rattle.vtl_script.specs.Runs.{RunsScript}
 use Rattle.library.specs.Counts.{has_drive, new_seat}
 use Rattle.library.specs.Crews.{AnswersCrew}
+use Rattle.library.specs.Ends.{counts_of, sum_of_seats}
 use Rattle.library.specs.Inner.InPlace.{AreInPlace}
 use Rattle.library.proofs.HostLemmas.{hosts_differ, hosts_in_place}
+use Rattle.library.proofs.OutcomeLemmas.{told_of}
 use Rattle.library.proofs.runs.run_library.Goals as goal
 
 pub new-requires-clause-hosts : goal.new-requires-clause-hosts
 new-requires-clause-hosts g c = hosts_differ c.args.hosts.now c.requires.hosts
 
-pub run_opened-seats-requires-after_bounds : goal.run_opened-seats-requires-after_bounds
-run_opened-seats-requires-after_bounds g c κs within =
+pub run_opened-seats-requires-clause-places : goal.run_opened-seats-requires-clause-places
+run_opened-seats-requires-clause-places g c κs within =
     subst AreInPlace (sym c.in_ok-library.ensures.seats) (hosts_in_place c.args.hosts.now c.requires.hosts)
 
 pub returns-clause-runs : goal.returns-clause-runs
@@ -35,7 +37,17 @@ returns-clause-runs g c =
           (record { drives = c.in_ok-library.library; seats = seats }) left before
           (record { drives = c.in_ok-library.library; seats = after }) now outcome)
           c.in_ok-library.ensures.seats c.run_opened-seats.ensures.runs);
-      counted = c.finish.ensures.counts;
+      told =
+          told_of c.finish.result.counts (counts_of c.finish.result.bays.items) (sum_of_seats after)
+          c.finish.ensures.counts;
+      sums =
+          c.finish.ensures.sums.same
+          (omega (
+            arith,
+            c.run_opened-seats.result.seats.ok,
+            c.run_opened-seats.ensures.places.all,
+            c.requires.host_ledger.1,
+          ));
     }
 
 pub returns-clause-ends : goal.returns-clause-ends
@@ -43,8 +55,9 @@ returns-clause-ends g c = record {
   drives = c.finish.ensures.drives ∙ c.in_ok-library.ensures.drives;
   unwritten = c.finish.ensures.unwritten;
   written = c.finish.ensures.written;
+  left = c.finish.ensures.left;
   all =
-      c.finish.ensures.all
+      c.finish.ensures.sums.all
       (omega (
         arith,
         c.run_opened-seats.result.seats.ok,

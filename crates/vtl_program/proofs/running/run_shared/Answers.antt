@@ -15,12 +15,14 @@ from_parts-requires-in-Err g c = rw c.in-Err.ensures.back.0 c.into_parts-bays.en
 pub returns-in-Ok : goal.returns-in-Ok
 returns-in-Ok g c =
     inl (ran_over g.D.Disk.state c.args.held c.from_parts.result c.into_parts-bays.result.0.items
-    c.in-Ok.field-0.finished.bays.items c.every_host.result (g.I.Read.remaining c.args.reader.now)
-    (g.I.Read.remaining c.run_library-ran.new.reader) (g.W.Write.contents c.args.writer.now)
-    (g.W.Write.contents c.run_library-ran.new.writer) c.in-Ok.field-0.outcome c.in-Ok.field-0.finished.counts
+    c.in-Ok.field-0.finished.bays.items c.in-Ok.field-0.finished.slots c.every_host.result
+    (g.I.Read.remaining c.args.reader.now) (g.I.Read.remaining c.run_library-ran.new.reader)
+    (g.W.Write.contents c.args.writer.now) (g.W.Write.contents c.run_library-ran.new.writer)
+    c.in-Ok.field-0.outcome c.in-Ok.field-0.finished.counts
     c.outcome_of.result c.into_parts-bays.ensures.bays c.every_host.ensures
-    (ap (λ (held : HeldState g.row.D.Denot). held.bays) c.from_parts.ensures) c.in-Ok.ensures.runs c.in-Ok.ensures.past
-    c.in-Ok.ensures.ends c.outcome_of.ensures)
+    (ap (λ (held : HeldState g.row.D.Denot). held.bays) c.from_parts.ensures)
+    (ap (λ (held : HeldState g.row.D.Denot). held.slots) c.from_parts.ensures) c.in-Ok.ensures.runs
+    c.in-Ok.ensures.past c.in-Ok.ensures.ends c.outcome_of.ensures)
 
 pub returns-in-Err : goal.returns-in-Err
 returns-in-Err g c =

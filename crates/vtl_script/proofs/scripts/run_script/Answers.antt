@@ -31,6 +31,7 @@ loop-text-init g c =
             laws.answers_on unbegun c.args.runner.now _ _;
         same = refl;
       },
+      c.requires,
     )
 
 pub returns-in_err-run_next-clause-runs : goal.returns-in_err-run_next-clause-runs
@@ -58,6 +59,7 @@ loop-text-preserved g c =
             c.loop-text.runner c.run_next.new.runner _ _ _ _ _ _ c.loop-text.invariant.1.goes more;
         same = c.run_next.ensures.same ∙ c.loop-text.invariant.1.same;
       },
+      c.run_next.ensures.ready,
     )
 
 pub returns-clause-runs : goal.returns-clause-runs

@@ -1,19 +1,15 @@
-use Rattle.vtl_script.specs.Answered.{none_answered}
-use Rattle.library.specs.Inner.CrewsOn.{crew_empty}
+use Rattle.library.proofs.CrewLemmas.{none_seen}
 use Rattle.library.proofs.crews.CrewRunner.run.Goals as goal
-
-pub returns-in-Phase-clause-ok : goal.returns-in-Phase-clause-ok
-returns-in-Phase-clause-ok g c = rw c.in-Phase.is (rw c.as_mut_slice.ensures at c.run_lines.ensures.ok)
 
 pub returns-in-Phase-clause-err : goal.returns-in-Phase-clause-err
 returns-in-Phase-clause-err g c =
-    none_answered _ c.args.self.now _ c.args.item.now c.run_lines.result (crew_empty g.D.Disk.state c.args.self.now)
-    c.run_lines.ensures.err
-
-pub returns-in-Move-clause-ok : goal.returns-in-Move-clause-ok
-returns-in-Move-clause-ok g c = rw c.in-Move.is c.run_move.ensures.ok
+    let hosts = g.S.Hosts in
+    none_seen (λ crew. hosts.crew crew.hosts) hosts.answers c.args.self.now c.run_lines.new.self c.args.item.now
+    c.run_lines.result (g.met.S.Hosts.answers_empty (hosts.crew c.args.self.now.hosts)) c.run_lines.ensures.err
 
 pub returns-in-Move-clause-err : goal.returns-in-Move-clause-err
 returns-in-Move-clause-err g c =
-    none_answered _ c.args.self.now _ c.args.item.now c.run_move.result (crew_empty g.D.Disk.state c.args.self.now)
-    c.run_move.ensures.err
+    let hosts = g.S.Hosts in
+    none_seen (λ crew. hosts.crew crew.hosts) hosts.answers c.args.self.now
+    (record { hosts = c.run_move.new.self; serve = c.args.self.now.serve }) c.args.item.now c.run_move.result
+    (g.met.S.Hosts.answers_empty (hosts.crew c.args.self.now.hosts)) c.run_move.ensures.err

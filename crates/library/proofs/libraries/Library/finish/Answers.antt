@@ -1,12 +1,13 @@
-use Rattle.std.proofs.Common.{◌≡◌, ◌∙◌, ℕ, List, Option, ap, sym, subst, arith}
+use Rattle.std.proofs.Common.{◌≡◌, ◌∙◌, ℕ, List, Option, ap, sym, subst, arith, vec_len}
 use Rattle.std.specs.Prelude.{IfErr, IfOk}
 use Rattle.ledgers.specs.Ledgers.{Gathered, GatheringState}
 use Rattle.bays.specs.Elements.{BayState, bay_at}
 use Rattle.bays.specs.Finish.{HasFailedAt, IsWrittenAt}
 use Rattle.library.specs.Counts.{which_are_there}
-use Rattle.library.specs.Ends.{IsShort, counts_of, sum_of_counts, sum_of_seats}
-use Rattle.library.proofs.EndLemmas.{all_written, one_failed}
-use Rattle.library.proofs.OutcomeLemmas.{tells_all, tells_counts, tells_missing, tells_unwritten, tells_written}
+use Rattle.library.specs.Ends.{Balances, IsShort, counts_of, sum_of_counts, sum_of_seats}
+use Rattle.library.specs.Kept.{AreLeft, IsLeftAt}
+use Rattle.library.proofs.EndLemmas.{by_number, one_failed}
+use Rattle.library.proofs.OutcomeLemmas.{balances, tells_counts, tells_missing, tells_unwritten, tells_written}
 use Rattle.library.proofs.libraries.Library.finish.Goals as goal
 
 pub returns-clause-drives : goal.returns-clause-drives
@@ -52,7 +53,7 @@ returns-clause-written g c = λ differs number.
     let row = c.end_drives-written.new.row in
     subst (λ (l : List (Option (BayState g.row.D.Denot))). IsWrittenAt g.D.Disk.state (bay_at l number))
     (sym c.into_places.ensures.row)
-    (all_written g.D.Disk.state row
+    (by_number (λ (bay : Option (BayState g.row.D.Denot)). IsWrittenAt g.D.Disk.state bay) tt row
     (tells_written _ c.end_drives-written.result c.counts_in.result c.compare.result c.outcome-counts.result
     c.outcome-counts.ensures ended.ok differs) number)
 
@@ -78,11 +79,39 @@ returns-clause-missing g c =
     c.end_drives-written.result c.counts_in.result c.compare.result c.outcome-counts.result c.outcome-counts.ensures
     c.compare.ensures.missing))
 
-pub returns-clause-all : goal.returns-clause-all
-returns-clause-all g c = λ every.
+pub returns-clause-sums : goal.returns-clause-sums
+returns-clause-sums g c =
+    let ended = c.end_drives-written.ensures.ended in
+    let row = c.end_drives-written.new.row in
+    let bays = c.take_seats.ensures.bays.1 in
+    let counted : sum_of_counts (counts_of row) ≡ c.take_seats.new.gathering.total =
+    sym ended.changes ∙ ap (λ (x : Gathered). x.changes) (sym bays)
+    ∙ c.compare.ensures.bays (ap (λ (x : Gathered). x.shares) bays ∙ ended.shares ∙ c.self.invariant.1) in
+    let none : c.end_drives-written.new.gathering.hosts.changes ≡ 0 =
+    ap (λ (x : Gathered). x.changes) c.end_drives-written.ensures.hosts.1
+    ∙ ap (λ (x : GatheringState). x.hosts.changes) c.gather-gathering.ensures in
     let nobody : c.end_drives-written.new.gathering.hosts.shares ≡ 0 =
     ap (λ (x : Gathered). x.shares) c.end_drives-written.ensures.hosts.1
     ∙ ap (λ (x : GatheringState). x.hosts.shares) c.gather-gathering.ensures in
-    tells_all c.take_seats.new.gathering.total c.take_seats.new.gathering.hosts.changes c.end_drives-written.result
-    c.counts_in.result c.compare.result c.outcome-counts.result c.outcome-counts.ensures
-    (c.compare.ensures.hosts (omega (arith, c.take_seats.ensures.shares, nobody, every))) c.compare.ensures.missing
+    let summed : c.take_seats.new.gathering.hosts.changes ≡ sum_of_seats c.args.seats.items =
+    omega (arith, c.take_seats.ensures.changes, none) in
+    let shared : c.take_seats.new.gathering.hosts.shares ≡ vec_len c.args.seats =
+    omega (arith, c.take_seats.ensures.shares, nobody) in
+    subst (λ (l : List (Option (BayState g.row.D.Denot))).
+    Balances (vec_len c.args.seats) g.H.Parties.all (sum_of_counts (counts_of l)) (sum_of_seats c.args.seats.items)
+    c.outcome-counts.result) (sym c.into_places.ensures.row)
+    (balances (vec_len c.args.seats) g.H.Parties.all (sum_of_counts (counts_of row)) (sum_of_seats c.args.seats.items)
+    c.take_seats.new.gathering.total c.take_seats.new.gathering.hosts.changes c.end_drives-written.result
+    c.counts_in.result c.compare.result c.outcome-counts.result c.outcome-counts.ensures counted summed
+    c.compare.ensures.within.1 (λ every. c.compare.ensures.hosts (shared ∙ every)) c.compare.ensures.missing)
+
+pub returns-clause-left : goal.returns-clause-left
+returns-clause-left g c =
+    subst (λ (l : List (Option (BayState g.row.D.Denot))). AreLeft g.D.Disk.state c.into_inner-slots.result l)
+    (sym c.into_places.ensures.row)
+    (record {
+      shelved = c.known_slots.ensures;
+      drives =
+          by_number (λ (bay : Option (BayState g.row.D.Denot)). IsLeftAt g.D.Disk.state bay) tt
+          c.end_drives-written.new.row c.end_drives-written.ensures.ended.left;
+    })

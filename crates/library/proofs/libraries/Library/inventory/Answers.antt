@@ -1,6 +1,6 @@
 use Rattle.std.proofs.Common.{◌<◌, ◌∙◌, length, arith}
 use Rattle.std.proofs.lemmas.List.{length-set}
-use Rattle.library.proofs.SeenLemmas.{drives_on}
+use Rattle.library.proofs.SeenLemmas.{drives_on, slot_there}
 use Rattle.library.proofs.libraries.Library.inventory.Goals as goal
 
 pub loop-place-preserved : goal.loop-place-preserved
@@ -15,5 +15,9 @@ loop-place-preserved g c =
       so = drives_on seen c.args.self.now at one within c.seen_in_drive.ensures inv.so;
     }
 
-pub returns : goal.returns
-returns g c = λ number less. c.loop-place.invariant.so number (omega (arith, less, c.loop-place-test.false))
+pub returns-clause-drives : goal.returns-clause-drives
+returns-clause-drives g c = λ number less.
+    c.loop-place.invariant.so number (omega (arith, less, c.loop-place-test.false))
+
+pub returns-clause-slots : goal.returns-clause-slots
+returns-clause-slots g c = λ place less. slot_there _ _ (c.seen_in_slots.ensures place less)

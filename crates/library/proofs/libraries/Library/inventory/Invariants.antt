@@ -1,6 +1,6 @@
 use Rattle.std.proofs.Common.{◌≡◌, ◌<◌, ◌+◌, ℕ, length, get_or}
 use Rattle.library.specs.Counts.{has_drive}
-use Rattle.library.specs.Seen.{is_drive_seen}
+use Rattle.library.specs.Seen.{is_place_seen}
 use Rattle.library.specs.declared.inventories.Element.TheVariants.{Missing}
 use Rattle.library.proofs.libraries.Library.inventory.Given as goal
 
@@ -10,5 +10,5 @@ invariant-loop-place g l = record {
   long : length l.drives ≡ 16;
   so :
       (number : ℕ) → number < l.place
-      → is_drive_seen (get_or l.drives number Missing) ≡ has_drive l.fn.self (number + 1);
+      → is_place_seen (get_or l.drives number Missing) ≡ has_drive l.fn.self (number + 1);
 }

@@ -22,21 +22,24 @@ invariant_of-self g c =
 pub returns : goal.returns
 returns g c =
     let state = g.D.Disk.state in
-    let step = c.execute-reply.ensures.step in
-    let told = c.replies_tell_changes.ensures _ _ _ _ step in
+    let event = c.execute-reply.ensures.moments in
+    let told = c.replies_tell_changes.ensures _ _ _ _ event.step in
     let was =
     c.count_below_limit-before.ensures.count
     ∙ sym (ap (λ (b : BayState g.row.D.Denot). b.accepted) c.self.view_is) in
     let so =
     seat_grows state c.self.inside.bay (asked c.nexus.result c.args.cdb.now c.args.sent.now) c.args.seat.now
     c.execute-reply.result c.execute-reply.new.self c.enter_if_risen.new.seat c.count_below_limit-before.result
-    c.accepted-after.result step told was c.accepted-after.ensures c.count_below_limit-before.ensures.below
+    c.accepted-after.result event.step told was c.accepted-after.ensures c.count_below_limit-before.ensures.below
     (λ same. (c.enter_if_risen.ensures.same same).1) (λ risen. (c.enter_if_risen.ensures.risen risen).1) in
     let answers : AnswersSeat state c.self.inside.bay (asked c.nexus.result c.args.cdb.now c.args.sent.now)
     c.args.seat.now c.execute-reply.result c.execute-reply.new.self c.enter_if_risen.new.seat =
     record {
-      step = step;
+      event = event;
+      kept = c.known_drive.ensures;
+      keeps = c.known_drive-2.ensures;
       settled = c.execute-reply.ensures.settled;
+      safe = c.execute-reply.ensures.safe;
       host = c.nexus.ensures;
       nexus = so.0;
       grown = so.1;

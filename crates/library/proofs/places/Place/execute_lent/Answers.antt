@@ -23,31 +23,35 @@ invariant_of-self g c =
 pub returns : goal.returns
 returns g c =
     let state = g.D.Disk.state in
-    let lent = c.execute_lent-reply.ensures.step in
-    let told = c.replies_tell_changes.ensures _ _ _ _ lent.step in
+    let lent = c.execute_lent-reply.ensures.moments in
+    let step = lent.step.step in
+    let told = c.replies_tell_changes.ensures _ _ _ _ step in
     let was =
     c.count_below_limit-before.ensures.count
     ∙ sym (ap (λ (b : BayState g.row.D.Denot). b.accepted) c.self.view_is) in
     let So : BayState g.row.D.Denot → ℕ → Type 0 = λ b n.
     (answers : AnswersSeat state b (asked n c.args.cdb.now c.args.sent.now) c.args.seat.now c.execute_lent-reply.result
     c.execute_lent-reply.new.self c.enter_if_risen.new.seat)
-    × (c.execute_lent-reply.new.sent ≡ data_left answers.step.taken.made.changes c.args.sent.now) in
+    × (c.execute_lent-reply.new.sent ≡ data_left answers.event.step.taken.made.changes c.args.sent.now) in
     let so =
     seat_grows state c.self.inside.bay (asked c.nexus.result c.args.cdb.now c.args.sent.now) c.args.seat.now
     c.execute_lent-reply.result c.execute_lent-reply.new.self c.enter_if_risen.new.seat
-    c.count_below_limit-before.result c.accepted-after.result lent.step told was c.accepted-after.ensures
+    c.count_below_limit-before.result c.accepted-after.result step told was c.accepted-after.ensures
     c.count_below_limit-before.ensures.below (λ same. (c.enter_if_risen.ensures.same same).1)
     (λ risen. (c.enter_if_risen.ensures.risen risen).1) in
     let answers : So c.self.inside.bay c.nexus.result = (
       record {
-        step = lent.step;
+        event = record { step = step; moments = lent.moments };
+        kept = c.known_drive.ensures;
+        keeps = c.known_drive-2.ensures;
         settled = c.execute_lent-reply.ensures.settled;
+        safe = c.execute_lent-reply.ensures.safe;
         host = c.nexus.ensures;
         nexus = so.0;
         grown = so.1;
         told = so.2;
       },
-      lent.data_is,
+      lent.step.data_is,
     ) in
     subst (λ (b : BayState g.row.D.Denot). So b c.args.seat.now.nexus) c.self.view_is
     (subst (λ (n : ℕ). So c.self.inside.bay n) c.nexus.ensures answers)

@@ -1,5 +1,5 @@
--- What a library has just before a script is run over it: no drive has accepted a change.
-use Rattle.std.proofs.Common.{◌≡◌, ◌≢◌, ◌⊎◌, inl, inr, ℕ, ◌+◌, ◌-◌, ◌==◌, nat_le, Bool, true, false, List, get_or, Option, None, Some, Result, Ok, Err, IfOk, refl, sym, ap, ◌∙◌, arith, cond, subst}
+-- What a start gives: no drive has accepted a change.
+use Rattle.std.proofs.Common.{◌≡◌, ◌≢◌, ◌⊎◌, inl, inr, ℕ, ◌+◌, ◌-◌, nat_le, Bool, true, List, get_or, Option, None, Some, Result, Ok, Err, IfOk, refl, sym, ap, ◌∙◌, arith, cond, subst}
 use Rattle.std.proofs.lemmas.Bool.Decides.{nat_tests}
 use Rattle.std.proofs.lemmas.List.Elements.{All-from_get_or}
 use Rattle.tape_disk.specs.Disk.{DiskState}
@@ -16,14 +16,7 @@ use Rattle.vtl_program.specs.declared.programs.VtlFault.{VtlFault}
 use Rattle.vtl_program.specs.Orders.{IsStart}
 use Rattle.vtl_program.specs.Program.{HaveAcceptedNone}
 use Rattle.vtl_program.specs.Starting.{IsBuiltIn, IsDriveOf, IsStarted}
-
--- two numbers are the same or not
-same_or_not : (a b : ℕ) → (a ≡ b) ⊎ (a ≢ b)
-same_or_not a b = by (a == b) refl
-  where
-    by : (test : Bool) → (a == b) ≡ test → (a ≡ b) ⊎ (a ≢ b)
-    by true is = inl (grind (arith, nat_tests))
-    by false is = inr (λ same. let no : (a == b) ≡ true = grind (arith, nat_tests) in absurd (cc))
+use Rattle.vtl_program.proofs.DistinctLemmas.{same_or_not}
 
 module _ {D : Type 0} where
   -- the drive in a place of a row

@@ -5,7 +5,7 @@ use Rattle.bays.specs.Runs.{line_request}
 use Rattle.library.specs.Counts.{has_drive}
 use Rattle.library.specs.Served.{IsServed}
 use Rattle.library.proofs.SessionLemmas.{equal_if, passes_at, session_host, session_on}
-use Rattle.library.proofs.libraries.Library.host_session.Goals as goal
+use Rattle.library.proofs.libraries.Library.session.Goals as goal
 
 pub serve_line-reply-requires-clause-host : goal.serve_line-reply-requires-clause-host
 serve_line-reply-requires-clause-host g c =

@@ -1,7 +1,7 @@
 use Rattle.std.proofs.Common.{◌≡◌, ◌≤◌, ℕ, get_or, take, length, vec_len, vec_capacity}
 use Rattle.vtl_script.specs.declared.lines.Line.{Line}
 use Rattle.library.specs.Sessions.{AnswersSession}
-use Rattle.library.proofs.libraries.Library.host_session.Given as goal
+use Rattle.library.proofs.libraries.Library.session.Given as goal
 
 -- the lines so far were answered, there is room for all replies, and the other lines have their data still
 abbrev pub invariant-loop-line : goal.invariant-loop-line
