@@ -2,7 +2,6 @@ mod BuiltInLemmas
 pub mod CheckLemmas
 mod CreatingLemmas
 mod DistinctLemmas
-pub mod FreshLemmas
 pub mod OneTextLemmas
 mod OrdersLemmas
 mod RunningLemmas

@@ -3,6 +3,7 @@ pub mod Configured
 pub mod Creating
 pub mod Faults
 pub mod Files
+pub mod Fresh
 pub mod Inner
 pub mod Orders
 pub mod Pace

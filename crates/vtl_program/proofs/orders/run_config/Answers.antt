@@ -1,4 +1,4 @@
-use Rattle.vtl_program.proofs.FreshLemmas.{if_started_fresh}
+use Rattle.vtl_program.specs.Fresh.{if_started_fresh}
 use Rattle.vtl_program.proofs.orders.run_config.Goals as goal
 
 pub run_started-requires-after_bounds : goal.run_started-requires-after_bounds

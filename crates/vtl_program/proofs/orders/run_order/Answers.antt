@@ -5,7 +5,7 @@ use Rattle.vtl_program.specs.Sides.{file_sides, memory_state}
 use Rattle.vtl_program.specs.declared.programs.VtlFault.{VtlFault}
 use Rattle.vtl_program.specs.declared.programs.VtlFault.TheVariants as Faults
 use Rattle.vtl_program.proofs.OrdersLemmas.{not_configured}
-use Rattle.vtl_program.proofs.FreshLemmas.{if_built_in_fresh}
+use Rattle.vtl_program.specs.Fresh.{if_built_in_fresh}
 use Rattle.vtl_program.proofs.orders.run_order.Goals as goal
 
 pub run_started-requires-after_bounds : goal.run_started-requires-after_bounds

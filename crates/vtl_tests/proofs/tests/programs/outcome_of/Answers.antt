@@ -3,7 +3,7 @@ use Rattle.vtl_program.specs.Orders.{built_in_barcode, built_in_capacities}
 use Rattle.vtl_program.specs.Sides.{memory_state}
 use Rattle.vtl_program.specs.declared.programs.VtlFault.{VtlFault}
 use Rattle.vtl_program.specs.declared.programs.VtlFault.TheVariants as Faults
-use Rattle.vtl_program.proofs.FreshLemmas.{if_built_in_fresh}
+use Rattle.vtl_program.specs.Fresh.{if_built_in_fresh}
 use Rattle.vtl_tests.proofs.tests.programs.outcome_of.Goals.{then-has_drive, else-has_drive}
 use Rattle.vtl_tests.proofs.tests.programs.outcome_of.Goals as goal
 
