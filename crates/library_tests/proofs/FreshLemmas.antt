@@ -1,5 +1,5 @@
 -- Rows of drives that have accepted no change.
-use Rattle.std.proofs.Common.{◌≡◌, ◌≤◌, ◌<◌, ◌+◌, ◌∙◌, ℕ, List, length, get_or, take, sum_by, Option, None, Some, refl, ap, sym, subst, arith}
+use Rattle.std.proofs.Common.{◌≡◌, ◌≤◌, ◌<◌, ◌+◌, ◌∙◌, ℕ, List, length, get_or, take, sum_by, Option, None, Some, ap, sym, subst, arith}
 use Rattle.std.proofs.lemmas.List.{get_or_default, take_more}
 use Rattle.std.proofs.lemmas.List.Elements.{All-push}
 use Rattle.std.proofs.lemmas.List.Sums.{sum_by_more}
@@ -14,7 +14,7 @@ module _ {D : Type 0} where
     pub fresh : All (λ bay. AcceptedNone bay) (take at row)
     pub few : count ≤ at
 
-  at_most_one : (bay : Option (BayState D)) → one_if_there bay ≤ 1
+  pub at_most_one : (bay : Option (BayState D)) → one_if_there bay ≤ 1
   at_most_one None = omega arith
   at_most_one (Some bay) = omega arith
 

@@ -86,9 +86,10 @@ impl Script {
 // What the hosts of a drive are told at the beginning of a round: at the first that it was switched on, and later that
 // its cartridge is new where it was moved before.
 fn told(round: u32, drive: u32) -> &'static str {
+    let moved = 2 * (round % 8);
     if round == 0 {
         POWERED_ON
-    } else if drive == 2 * (round % 8) || drive + 1 == 2 * (round % 8) {
+    } else if drive == moved || drive == moved.saturating_sub(1) {
         CHANGED
     } else {
         GOOD
@@ -137,7 +138,7 @@ fn script_of(alloc: Global, lines: u32) -> Result<Script, Fail> {
     Ok(script)
 }
 
-// The script of so many lines is answered so, and all that it wrote is stored.
+// The script of so many lines is answered so, and the library ends with these counts.
 fn ends_after<R: Threads + Wait + Abort + Sync>(
     rt: &R,
     alloc: Global,

@@ -138,9 +138,7 @@ pub fn spend<D: Disk + Drop + Send, R: Threads + Wait + Abort + Clock + Sync>(
     day: &Day,
 ) -> Result<Finished<D>, Fail> {
     let Sample { bays, slots } = sample;
-    // `std`'s, since `spend_over` asks for what they say.
-    assert!(rt; bays.len() == 16);
-    let drives = count_fresh(bays.as_slice()).expect(rt, "new drives");
+    let drives = count_fresh(bays.as_slice())?;
     let hosts = hosts(rt, alloc, day.hosts.len().min(64) as u8)?;
     spend_over::<D, Brand, Brand, R>(
         rt,

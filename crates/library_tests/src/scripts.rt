@@ -34,9 +34,7 @@ pub fn runs<D: Disk + Drop + Send, R: Threads + Wait + Abort + Sync, G: Gate + S
     script: &str,
 ) -> Result<Written<D>, Fail> {
     let Sample { bays, slots } = sample;
-    // `std`'s, since `run_library` asks for what it says.
-    assert!(rt; bays.len() == 16);
-    let drives = count_fresh(bays.as_slice()).expect(rt, "new drives");
+    let drives = count_fresh(bays.as_slice())?;
     let hosts = hosts(rt, alloc, 64)?;
     let mut reader = script.as_bytes();
     let mut text = Vec::new(alloc);

@@ -54,10 +54,10 @@ fn add_line(alloc: Global, script: &mut String, host: u32, number: u32) -> Resul
 
 // A thousand lines of a host. Each number makes the next.
 fn add_lines(alloc: Global, script: &mut String, host: u32) -> Result<(), Fail> {
-    let mut number = host % 65_537;
+    let mut number = host;
     for _ in 0..LINES {
         add_line(alloc, script, host, number)?;
-        number = (75 * number + 74) % 65_537;
+        number = (75 * (number % 65_537) + 74) % 65_537;
     }
     Ok(())
 }

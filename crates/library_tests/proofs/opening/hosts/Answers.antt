@@ -9,13 +9,10 @@ loop-number-preserved g c =
     let inv = c.loop-number.invariant in
     let host : c.host_behind.result ≡ 1 + at = omega (arith, c.host_behind.ensures) in
     let more : suc at ≡ at + 1 = omega arith in
+    let next : range_with_len 1 at ++ c.host_behind.result ∷ [] ≡ range_with_len 1 (at + 1) =
+    ap (λ (n : ℕ). range_with_len 1 at ++ n ∷ []) host ∙ one_more 1 at ∙ ap (range_with_len 1) more in
     record {
-      hosts =
-          c.in_ok-push.ensures.items
-          ∙ ap (λ (hosts : List ℕ). hosts ++ c.host_behind.result ∷ []) inv.hosts
-          ∙ ap (λ (n : ℕ). range_with_len 1 at ++ n ∷ []) host
-          ∙ one_more 1 at
-          ∙ ap (range_with_len 1) more;
+      hosts = c.in_ok-push.ensures.items ∙ ap (λ (hosts : List ℕ). hosts ++ c.host_behind.result ∷ []) inv.hosts ∙ next;
       counted = c.in_ok-push.ensures.len ∙ ap (λ (n : ℕ). n + 1) inv.counted;
     }
 
