@@ -9,8 +9,9 @@ import sys
 import tempfile
 
 TOP = os.path.dirname(os.path.dirname(os.path.abspath(__file__)))
-# what the edit makes of a crate, the crate and its file, the old text and the new one (or several of each), the tests
-# that must fail, behind their crate where two have one of that name, and the rows that must, by their paths
+# what the edit makes of a crate, the crate and its file, the old text and the new one (or several of each, and of files
+# where they stand in several), the tests that must fail, behind their crate where two have one of that name, and the
+# rows that must, by their paths
 EDITS = [
     ("what waits is stored before each write", "tape_buffer", "src/adding.rt", "    if !pending.is_full_for(change) {",
      "    if pending.is_empty() {",
@@ -28,12 +29,12 @@ EDITS = [
      "    crate::storing::store_pending(medium)?;\n    let mut copy = Bytes::from_slice(alloc, sent)?;\n",
      ["writes_wait_for_one_frame", "a_turn_tells_how_many_waited"]),
     ("what waits is stored before each lent write", "drive_core", "src/drives/lending.rt",
-     "        write(self.alloc, medium, &mut self.position, self.buffered, sent)\n",
+     "        write(\n            self.alloc,\n            medium,\n",
      "        let (part, at, bytes) = (self.position.part, self.position.obj, sent.len() as u32);\n"
      "        let fits = bytes > 0 && medium.has_room_for(bytes) && at < 16_000_000\n"
      "            && medium.used(part, at) + bytes as u64 + 16 <= medium.capacity(part);\n"
      "        if fits {\n            crate::storing::store_pending(medium)?;\n        }\n"
-     "        write(self.alloc, medium, &mut self.position, self.buffered, sent)\n",
+     "        write(\n            self.alloc,\n            medium,\n",
      ["writes_wait_for_one_frame", "a_turn_tells_how_many_waited"]),
     ("a side that is refused at power on is told as memory that ran out", "drive_core", "src/opening.rt",
      "        Err(MediumError::Unreadable) => Ok(Bay::Unloaded(medium)),",
@@ -88,11 +89,11 @@ EDITS = [
      "    match Ok::<(), FileError>(()) {\n", ["a_file_is_opened_once", "a_refused_opening_writes_nothing"]),
     ("a file is written before its lock is asked for", "file_disk", "src/opening.rt", "    match lock(&file) {\n",
      "    let _ = file.set_len(3);\n    match lock(&file) {\n", ["a_refused_opening_writes_nothing"]),
-    ("a read that would block is made again", "vtl_script", "src/line_readers.rt",
+    ("a read that would block is made again", "vtl_script", "src/read_buffers.rt",
      "        Err(e) if is_interrupted(e.kind()) => Ok(None),",
      "        Err(e) if is_interrupted(e.kind()) || e.kind() == std::io::ErrorKind::WouldBlock => Ok(None),",
      ["reads_that_would_block_or_time_out"]),
-    ("any read that failed is made again", "vtl_script", "src/line_readers.rt",
+    ("any read that failed is made again", "vtl_script", "src/read_buffers.rt",
      "        Err(_) => Err(ScriptFault::ReadFault),",
      "        Err(_) => Ok(None),", ["reads_that_fail", "reads_that_would_block_or_time_out"]),
     ("a write that timed out is made again", "vtl_script", "src/texts.rt",
@@ -100,9 +101,8 @@ EDITS = [
      "            Err(e) if is_interrupted(e.kind()) || e.kind() == std::io::ErrorKind::TimedOut => {}",
      ["writes_that_would_block_or_time_out"]),
     ("answers are not flushed", "vtl_script", "src/texts.rt",
-     "    put(writer, &mut text)?;\n    if writer.flush().is_err() {\n        return Err(ScriptFault::WriteFault);\n"
-     "    }\n",
-     "    put(writer, &mut text)?;\n", ["reads_that_fail", "writes_that_fail"]),
+     "    if writer.flush().is_err() {\n        return Err(ScriptFault::WriteFault);\n    }\n", "",
+     ["reads_that_fail", "writes_that_fail"]),
     ("a line that is far too long is a read that failed", "vtl_script", "src/phases.rt",
      "        Found::TooLong => Err(ScriptFault::BadLine { line: number }),",
      "        Found::TooLong => Err(ScriptFault::ReadFault),",
@@ -199,6 +199,60 @@ EDITS = [
     ("the line of a fault that is out is said not to be out", "vtl_program", "src/programs.rt",
      "                is_reported: report(line, errors),",
      "                is_reported: report(line, errors) && false,", ["status_and_line_of_each_end"]),
+    ("one lock is held round each command and each turn of a library", "library",
+     ("src/libraries.rt", "src/libraries.rt", "src/flushers.rt"),
+     ("            Some(bay) => bay.serve(rt, &self.tally, seat, cdb, sent),",
+      "            Some(bay) => bay.serve_lent(rt, &self.tally, seat, cdb, sent),",
+      "            let (turn, count) = bay.take_turn(rt, gate);"),
+     ("            Some(bay) => {\n                let _all = self.row.lock(rt);\n"
+      "                bay.serve(rt, &self.tally, seat, cdb, sent)\n            }",
+      "            Some(bay) => {\n                let _all = self.row.lock(rt);\n"
+      "                bay.serve_lent(rt, &self.tally, seat, cdb, sent)\n            }",
+      "            let (turn, count) = {\n                let _all = self.row.lock(rt);\n"
+      "                bay.take_turn(rt, gate)\n            };"),
+     ["a_drive_works_while_another_stands_in_its_turn", "a_change_is_entered_while_another_drive_stores"]),
+    ("the hosts of a library have their sessions one after another", "library", "src/sessions.rt",
+     "        let mut replies = Vec::with_capacity(alloc, lines.len())?;",
+     "        let _all = self.row.lock(rt);\n        let mut replies = Vec::with_capacity(alloc, lines.len())?;",
+     ["a_drive_works_while_another_stands_in_its_turn"]),
+    ("a command takes the turn of its drive", "library", "src/shared.rt",
+     ("        let reply = place.execute(rt, tally, seat, cdb, sent);\n",
+      "        let reply = place.execute_lent(rt, tally, seat, cdb, sent);\n"),
+     ("        let reply = place.execute(rt, tally, seat, cdb, sent);\n        let _ = place.turn();\n",
+      "        let reply = place.execute_lent(rt, tally, seat, cdb, sent);\n        let _ = place.turn();\n"),
+     ["a_block_is_answered_before_a_turn_stores_it", "a_flusher_rests_until_a_change_is_accepted"]),
+    ("no change wakes a flusher", "library", "src/shared.rt", "        if before != after {\n",
+     "        if before > after {\n", ["a_flusher_rests_until_a_change_is_accepted"]),
+    ("a flusher takes turn after turn", "library", "src/shared.rt",
+     "        let _ = self.bell.wait_while(rt, held, |place| {\n"
+     "            place.accepted() == count && !closed.load(Ordering::SeqCst)\n        });\n",
+     "        let _ = held.accepted() == count && !closed.load(Ordering::SeqCst);\n",
+     ["a_flusher_rests_until_a_change_is_accepted"]),
+    ("a closed library leaves its flushers asleep", "library", "src/libraries.rt", "                bay.ring(rt);\n",
+     "                let _ = bay;\n", ["a_flusher_rests_until_a_change_is_accepted"]),
+    ("the ledgers are locked while a drive carries a command out", "library", "src/places.rt",
+     "        let before = self.count_below_limit(rt);\n"
+     "        let reply = self.bay.execute(seat.nexus(), cdb, sent);\n"
+     "        let after = self.bay.accepted();\n"
+     "        enter_if_risen(rt, tally, &mut self.share, seat, before, after);\n",
+     "        let mut held = tally.lock(rt);\n"
+     "        let before = self.count_below_limit(rt);\n"
+     "        let reply = self.bay.execute(seat.nexus(), cdb, sent);\n"
+     "        let after = self.bay.accepted();\n        if before != after {\n"
+     "            held.enter(rt, &mut self.share, seat);\n        }\n",
+     ["a_change_is_entered_while_another_drive_stores"]),
+    ("each command goes to drive 1 where there is one", "library", "src/libraries.rt",
+     ("        match &self.bays[drive.place()] {\n            Some(bay) => bay.serve(rt",
+      "        match &self.bays[drive.place()] {\n            Some(bay) => bay.serve_lent(rt"),
+     ("        let place = if self.bays[0].is_some() { 0 } else { drive.place() };\n"
+      "        match &self.bays[place] {\n            Some(bay) => bay.serve(rt",
+      "        let place = if self.bays[0].is_some() { 0 } else { drive.place() };\n"
+      "        match &self.bays[place] {\n            Some(bay) => bay.serve_lent(rt"),
+     ["two_hosts_at_two_drives", "a_block_and_a_filemark", "long_sessions_of_two_hosts"]),
+    ("an inventory lets the slots go before it looks at the drives", "library", "src/inventories.rt",
+     ("        let slots = self.slots.lock(rt);\n", "            slots: seen_in_slots(&slots),\n"),
+     ("        let slots = seen_in_slots(&self.slots.lock(rt));\n", "            slots,\n"),
+     ["cartridges_are_moved_while_hosts_write"]),
 ]
 
 
@@ -234,19 +288,29 @@ def rows_failed(room, names):
             if subprocess.run([*run, os.path.join(TOP, name)], capture_output=True).returncode}
 
 
+def write_texts(room, crate, texts):
+    """Writes these files of a crate."""
+    for file, text in texts.items():
+        with open(os.path.join(room, "crates", crate, file), "w", encoding="utf-8") as lines:
+            lines.write(text)
+
+
 def failed_in(room, edit):
     """The tests that fail with the edit, of the crates in which those stand that must, and the rows that must."""
-    what, crate, file, old, new, names = edit
-    path = os.path.join(room, "crates", crate, file)
-    with open(path, encoding="utf-8") as lines:
-        text = lines.read()
-    turned = text
-    for one, other in [(old, new)] if isinstance(old, str) else zip(old, new):
-        if turned.count(one) != 1:
-            sys.exit(f"{what}: its old text stands in {crate}/{file} {turned.count(one)} times")
-        turned = turned.replace(one, other)
-    with open(path, "w", encoding="utf-8") as lines:
-        lines.write(turned)
+    what, crate, files, old, new, names = edit
+    if isinstance(old, str):
+        old, new = (old,), (new,)
+    if isinstance(files, str):
+        files = (files,) * len(old)
+    texts, turned = {}, {}
+    for file, one, other in zip(files, old, new):
+        if file not in texts:
+            with open(os.path.join(room, "crates", crate, file), encoding="utf-8") as lines:
+                texts[file] = turned[file] = lines.read()
+        if turned[file].count(one) != 1:
+            sys.exit(f"{what}: its old text stands in {crate}/{file} {turned[file].count(one)} times")
+        turned[file] = turned[file].replace(one, other)
+    write_texts(room, crate, turned)
     rows = [name for name in names if name.startswith("rows/")]
     failed = rows_failed(room, rows)
     for tests in sorted({crate_of(room, name) for name in names if name not in rows}):
@@ -256,8 +320,7 @@ def failed_in(room, edit):
         if not said:
             sys.exit(f"{what}: no test ran\n{done.stdout}{done.stderr}")
         failed |= {name for name, end in said if end != "ok"}
-    with open(path, "w", encoding="utf-8") as lines:
-        lines.write(text)
+    write_texts(room, crate, texts)
     return failed
 
 

@@ -42,11 +42,15 @@ module _ {D : Type 0} (state : D → DiskState) where
 
   -- A drive is what a flusher's turn has left of one that its type kept. At each moment of the turn a crash leaves what
   -- the turn's event says, and the type of the drive keeps it (own).
-  pub record IsLeftByTurn (bay : BayState D) : Type 0 where
-    pub old : BayState D
+  pub record IsLeftBy (old bay : BayState D) : Type 0 where
     pub kept : KeepsDrive old
     pub turns : TurnsAt state (Some old) (Some bay)
     pub keeps : KeepsDrive bay
+
+  -- the same of some drive (own)
+  pub record IsLeftByTurn (bay : BayState D) : Type 0 where
+    pub old : BayState D
+    pub left : IsLeftBy old bay
 
   -- the same of a drive, where there is one (own)
   abbrev pub IsLeftAt : Option (BayState D) → Type 0

@@ -11,7 +11,7 @@ ghost use Rattle.library.specs.Kept.{AreLeft, IsLeftAt};
 
 use crate::inventories::known_slots;
 use crate::libraries::Library;
-use crate::places::known_drive;
+use crate::places::EndedPlace;
 use crate::rows::Row;
 use crate::shared::SharedBay;
 use bays::{Bay, Parked, Unwritten};
@@ -162,11 +162,11 @@ fn end_drive<D: Disk + Drop, B: Parties, H: Parties>(
             written: Ok(()),
         };
     };
-    let (mut bay, share) = shared.into_place().into_parts();
-    // What is known of it before its turn and after, for the proof alone.
-    known_drive(&bay);
-    let written = bay.write_out();
-    known_drive(&bay);
+    let EndedPlace {
+        bay,
+        share,
+        written,
+    } = shared.into_place().end();
     gathering.take_bay(share);
     DriveEnd {
         bay: Some(bay),

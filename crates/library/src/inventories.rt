@@ -3,10 +3,9 @@ ghost use Rattle.std.specs.Prelude.{◌≡◌, ◌<◌, ◌+◌, ℕ, None, Some
 ghost use Rattle.vtl_base.specs.declared.limits.TheConstants.{DRIVES, SLOTS};
 ghost use Rattle.library.specs.Counts.{has_drive};
 ghost use Rattle.library.specs.Kept.{KeepsShelvedIn, KeepsSlots};
-ghost use Rattle.library.specs.Seen.{is_place_seen, seen_at, seen_of_drive};
+ghost use Rattle.library.specs.Seen.{is_place_seen, seen_at};
 
 use crate::libraries::Library;
-use crate::places::Place;
 use bays::Parked;
 use changer::Slots;
 use ledgers::Parties;
@@ -68,19 +67,6 @@ pub fn seen_in_slots<D: Disk + Drop>(slots: &Slots<Parked<D>>) -> [Element; 256]
         };
     }
     seen
-}
-
-impl<D: Disk + Drop, B: Parties> Place<D, B> {
-    /// What is seen of the drive.
-    pub fn seen(&self) -> Element
-        ensures { result ≡ seen_of_drive (Some self.now) }
-    {
-        if self.bay.is_empty() {
-            Element::Empty
-        } else {
-            Element::Full
-        }
-    }
 }
 
 impl<D: Disk + Drop, B: Parties, H: Parties> Library<D, B, H> {

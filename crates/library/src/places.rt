@@ -1,5 +1,5 @@
-//! What stands behind a drive's lock.
-ghost use Rattle.std.specs.Prelude.{◌≡◌, ◌≢◌, ◌+◌, ◌^◌, ◌<◌, [], length, IfNone};
+//! What stands behind a drive's lock. Nothing else reaches the drive.
+ghost use Rattle.std.specs.Prelude.{◌≡◌, ◌≢◌, ◌+◌, ◌^◌, ◌<◌, [], length, Some, IfNone, OnErr, OnOk};
 ghost use Rattle.drive_core.specs.Data.{data_left};
 ghost use Rattle.drive_core.specs.Execute.{asked};
 ghost use Rattle.drive_core.specs.Media.{TakesTurn};
@@ -10,11 +10,16 @@ ghost use Rattle.tape_buffer.specs.State.{state_of};
 ghost use Rattle.aptpl_store.specs.Kept.{store_kept};
 ghost use Rattle.bays.specs.Bays.{EveryMoment};
 ghost use Rattle.bays.specs.Reservations.{Turned};
-ghost use Rattle.library.specs.Kept.{KeepsDrive};
+ghost use Rattle.bays.specs.Finish.{HasFailedAt, IsWrittenAt};
+ghost use Rattle.library.specs.Kept.{IsLeftBy, KeepsDrive};
+ghost use Rattle.library.specs.Seen.{seen_of_drive};
 ghost use Rattle.library.specs.Served.{AnswersSeat};
 
+mod moves;
+
+use crate::inventories::Element;
 use aptpl_store::AptplStore;
-use bays::Bay;
+use bays::{Bay, Unwritten};
 use drive_core::laws;
 use ledgers::{Parties, PartyShare, Seat, Tally};
 use scsi_sense::Reply;
@@ -29,8 +34,8 @@ use vtl_base::Bytes;
 /// accepted. To a contract it is the drive.
 #[derive(Drop)]
 pub struct Place<D: Disk, B: Parties> {
-    pub(crate) bay: Bay<D>,
-    pub(crate) share: PartyShare<B>,
+    bay: Bay<D>,
+    share: PartyShare<B>,
 }
 
 impl<D: Disk, B: Parties> Model for Place<D, B> {
@@ -44,8 +49,19 @@ impl<D: Disk, B: Parties> Model for Place<D, B> {
     ghost invariant = { λ p. p.share ≡ p.bay.accepted };
 }
 
+/// What stood behind a drive's lock, at the end of a library.
+#[derive(Drop)]
+pub struct EndedPlace<D: Disk, B: Parties> {
+    /// The drive.
+    pub bay: Bay<D>,
+    /// Its share of the ledger of drives.
+    pub share: PartyShare<B>,
+    /// Whether all that it accepted is written out.
+    pub written: Result<(), Unwritten>,
+}
+
 // What the type of a drive keeps, in one fact.
-pub(crate) fn known_drive<D: Disk>(bay: &Bay<D>)
+fn known_drive<D: Disk>(bay: &Bay<D>)
     ensures { KeepsDrive D.state bay.now }
 {
     bay.known();
@@ -154,6 +170,36 @@ impl<D: Disk, B: Parties> Place<D, B> {
         ensures { result ≡ bay }
     {
         Place { bay, share }
+    }
+
+    /// What is seen of the drive.
+    pub fn seen(&self) -> Element
+        ensures { result ≡ seen_of_drive (Some self.now) }
+    {
+        if self.bay.is_empty() {
+            Element::Empty
+        } else {
+            Element::Full
+        }
+    }
+
+    /// The drive once it took a turn, with its share, and whether all is written out. It takes no memory.
+    pub fn end(self) -> EndedPlace<D, B>
+        ensures left { IsLeftBy D.state self result.bay }
+        ensures share { result.share ≡ result.bay.accepted }
+        ensures ok { OnOk result.written (IsWrittenAt D.state (Some result.bay)) }
+        ensures err { OnErr result.written (HasFailedAt D.state (Some result.bay)) }
+    {
+        let (mut bay, share) = self.into_parts();
+        // What is known of it before its turn and after, for the proof alone.
+        known_drive(&bay);
+        let written = bay.write_out();
+        known_drive(&bay);
+        EndedPlace {
+            bay,
+            share,
+            written,
+        }
     }
 
     /// The drive, and its share, which stands at its count.

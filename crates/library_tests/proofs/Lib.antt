@@ -1,0 +1,2 @@
+pub mod FreshLemmas
+pub mod HostLemmas

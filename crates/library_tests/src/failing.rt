@@ -1,0 +1,109 @@
+//! A flusher's turn in which the device fails.
+use crate::acts::Act;
+use crate::days::{Day, spend_loaded};
+use crate::gates::Stands;
+use crate::replies::{Answer, END_OF_DATA, GOOD, POWERED_ON, READ_1, READY, Step, WRITE_1};
+use crate::stages::Sign;
+use library::FinishError;
+use scsi_sense::Status;
+use std::test::Fail;
+
+// 3, 0C/00, deferred
+const DEFERRED: Answer = (
+    Status::Check,
+    b"\x71\x00\x03\x00\x00\x00\x00\x0a\x00\x00\x00\x00\x0c\x00\x00\x00\x00\x00",
+    b"",
+);
+
+// 4, 44/00
+const FAILED: Answer = (
+    Status::Check,
+    b"\x70\x00\x04\x00\x00\x00\x00\x0a\x00\x00\x00\x00\x44\x00\x00\x00\x00\x00",
+    b"",
+);
+
+// A block is written, and waits for the flusher.
+const WRITES: Act = Act::Asks(&[(1, READY, b"", POWERED_ON), (1, WRITE_1, b"x", GOOD)]);
+
+// What is told of a turn that failed, once, and then of the cartridge.
+const IS_TOLD: Act = Act::Asks(&[
+    (1, READY, b"", DEFERRED),
+    (1, READY, b"", FAILED),
+    (1, WRITE_1, b"y", FAILED),
+]);
+
+// The cartridge is unloaded, and loaded again.
+const LOADS_AGAIN: Act = Act::Asks(&[
+    (1, &[0x1b, 0, 0, 0, 0, 0], b"", GOOD),
+    (1, &[0x1b, 0, 0, 0, 1, 0], b"", GOOD),
+    (1, READY, b"", GOOD),
+]);
+
+const READ_BACK: Step = (1, READ_1, b"", (Status::Good, b"", b"x"));
+
+const FLUSHES: &'static [Act] = &[Act::Flushes(1, Stands::Nowhere)];
+
+// No call of a turn fails.
+static STORES: Day = Day {
+    hosts: &[
+        &[
+            WRITES,
+            Act::Awaits(Sign::Stored(1), 1),
+            Act::Closes,
+            Act::Awaits(Sign::Ended, 1),
+            Act::Counts(Sign::Failed(1), 0),
+        ],
+        FLUSHES,
+    ],
+    amounts: &[1, 0],
+    kept: None,
+    end: Ok((1, 0)),
+};
+
+// A call of a turn fails: not all is written out.
+static FAILS: Day = Day {
+    hosts: &[
+        &[
+            WRITES,
+            Act::Awaits(Sign::Failed(1), 1),
+            IS_TOLD,
+            Act::Closes,
+            Act::Awaits(Sign::Ended, 1),
+            Act::Counts(Sign::Stored(1), 0),
+        ],
+        FLUSHES,
+    ],
+    amounts: &[1, 0],
+    kept: None,
+    end: Err(FinishError::Unwritten),
+};
+
+// Then the cartridge is loaded again: the tape is what it was before the turn, or that with the block.
+static LOADED_AGAIN: Day = Day {
+    hosts: &[
+        &[
+            WRITES,
+            Act::Awaits(Sign::Failed(1), 1),
+            IS_TOLD,
+            LOADS_AGAIN,
+            Act::Either(READ_BACK, END_OF_DATA),
+            Act::Closes,
+            Act::Awaits(Sign::Ended, 1),
+        ],
+        FLUSHES,
+    ],
+    amounts: &[1, 0],
+    kept: None,
+    end: Ok((1, 0)),
+};
+
+// The creation of a cartridge makes five calls of its disk, and its opening four. A turn makes four more: a write, a
+// sync, the write of the gate, and a sync.
+#[test]
+fn a_turn_in_which_the_device_fails(rt: HostRuntime) -> Result<(), Fail> {
+    for fails in 9..13u64 {
+        spend_loaded(&rt, rt.alloc(), fails, 0, &FAILS)?;
+        spend_loaded(&rt, rt.alloc(), fails, 0, &LOADED_AGAIN)?;
+    }
+    spend_loaded(&rt, rt.alloc(), 13, 0, &STORES)
+}
