@@ -14,7 +14,13 @@ use tape_disk::Disk;
 
 impl<D: Disk + Drop, B: Parties> Place<D, B> {
     /// A move out of this drive; `to` names no other.
-    pub(crate) fn move_out(&mut self, alloc: Global, slots: &mut Slots<Parked<D>>, from: u32, to: u32) -> Reply
+    pub(crate) fn move_out(
+        &mut self,
+        alloc: Global,
+        slots: &mut Slots<Parked<D>>,
+        from: u32,
+        to: u32,
+    ) -> Reply
         requires { IsDriveAddress from }
         ensures { MovesEach D.state from to slots.old (Some self.old) None result slots.new (Some self.new) None }
     {
@@ -30,7 +36,13 @@ impl<D: Disk + Drop, B: Parties> Place<D, B> {
     }
 
     /// A move into this drive; `from` names none.
-    pub(crate) fn move_in(&mut self, alloc: Global, slots: &mut Slots<Parked<D>>, from: u32, to: u32) -> Reply
+    pub(crate) fn move_in(
+        &mut self,
+        alloc: Global,
+        slots: &mut Slots<Parked<D>>,
+        from: u32,
+        to: u32,
+    ) -> Reply
         requires destination { IsDriveAddress to }
         requires apart { from ≢ to }
         ensures { MovesEach D.state from to slots.old None (Some self.old) result slots.new None (Some self.new) }
