@@ -67,7 +67,7 @@ module _ {D : Type 0} where
           (fresh_on state (Some built.cartridge) _ built.store built.bay built.on)
       by number false is =
           let differs : number ≢ 1 = λ same.
-              let no : (number == 1) ≡ true = grind (arith, nat_tests) in absurd (cc) in
+          let no : (number == 1) ≡ true = grind (arith, nat_tests) in absurd (cc) in
           subst (λ (bay : Option (BayState D)). AcceptedNone bay) (sym (built.others number differs)) refl
 
 module _ {D : Type 0} where
