@@ -212,9 +212,14 @@ EDITS = [
       "                bay.take_turn(rt, gate)\n            };"),
      ["a_drive_works_while_another_stands_in_its_turn", "a_change_is_entered_while_another_drive_stores"]),
     ("the hosts of a library have their sessions one after another", "library", "src/sessions.rt",
-     "        let mut replies = Vec::with_capacity(alloc, lines.len())?;",
-     "        let _all = self.row.lock(rt);\n        let mut replies = Vec::with_capacity(alloc, lines.len())?;",
-     ["a_drive_works_while_another_stands_in_its_turn"]),
+     "        for line in lines {\n", "        let _all = self.row.lock(rt);\n        for line in lines {\n",
+     ["sixteen_hosts_of_a_phase_meet"]),
+    ("the hosts of a phase run one after another", "library", "src/phases.rt",
+     "        [first, .., last] => first.host != last.host,\n", "        [first, .., last] => first.host == last.host,\n",
+     ["sixteen_hosts_of_a_phase_meet"]),
+    ("no host of a phase has a thread", "library", "src/threads.rt",
+     "    if first[0].is_idle() || are_idle(rest) {\n", "    if first[0].is_idle() || rest.len() < 64 {\n",
+     ["sixteen_hosts_of_a_phase_meet"]),
     ("a command takes the turn of its drive", "library", "src/shared.rt",
      ("        let reply = place.execute(rt, tally, seat, cdb, sent);\n",
       "        let reply = place.execute_lent(rt, tally, seat, cdb, sent);\n"),
@@ -231,13 +236,13 @@ EDITS = [
     ("a closed library leaves its flushers asleep", "library", "src/libraries.rt", "                bay.ring(rt);\n",
      "                let _ = bay;\n", ["a_flusher_rests_until_a_change_is_accepted"]),
     ("the ledgers are locked while a drive carries a command out", "library", "src/places.rt",
-     "        let before = self.count_below_limit(rt);\n"
-     "        let reply = self.bay.execute(seat.nexus(), cdb, sent);\n"
+     "        let before = self.count_below_limit(rt);\n        known_drive(&self.bay);\n"
+     "        let reply = self.bay.execute(seat.nexus(), cdb, sent);\n        known_drive(&self.bay);\n"
      "        let after = self.bay.accepted();\n"
      "        enter_if_risen(rt, tally, &mut self.share, seat, before, after);\n",
      "        let mut held = tally.lock(rt);\n"
-     "        let before = self.count_below_limit(rt);\n"
-     "        let reply = self.bay.execute(seat.nexus(), cdb, sent);\n"
+     "        let before = self.count_below_limit(rt);\n        known_drive(&self.bay);\n"
+     "        let reply = self.bay.execute(seat.nexus(), cdb, sent);\n        known_drive(&self.bay);\n"
      "        let after = self.bay.accepted();\n        if before != after {\n"
      "            held.enter(rt, &mut self.share, seat);\n        }\n",
      ["a_change_is_entered_while_another_drive_stores"]),

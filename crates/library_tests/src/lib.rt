@@ -6,6 +6,8 @@ mod acts;
 #[cfg(test)]
 mod asserted;
 #[cfg(test)]
+mod beside;
+#[cfg(test)]
 mod commands;
 #[cfg(test)]
 mod counts;

@@ -151,6 +151,25 @@ pub fn loaded(
     Ok(sample)
 }
 
+/// So many drives, in each a new cartridge of its number, on disks whose syncs may last.
+pub fn staged(
+    rt: &impl Abort,
+    alloc: Global,
+    stage: &Arc<Stage, Global>,
+    drives: u8,
+) -> Result<Sample<TestDisk>, Fail> {
+    let mut sample = Sample {
+        bays: Vec::new(alloc),
+        slots: Slots::new(alloc)?,
+    };
+    for place in 0..drives {
+        let side = staged_disk(alloc, NEVER, stage)?;
+        add_loaded(rt, alloc, &mut sample, place + 1, disk(alloc), side)?;
+    }
+    fill(&mut sample)?;
+    Ok(sample)
+}
+
 /// Drives 1 and 2 are empty, and cartridges 1 to 3 are in slots 1001 to 1003.
 pub fn shelved(rt: &impl Abort, alloc: Global) -> Result<Sample<TestDisk>, Fail> {
     let mut sample = Sample {

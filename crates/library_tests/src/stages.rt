@@ -95,11 +95,22 @@ pub struct Stage {
     late: Count,
     // How much has to be freed before a sync ends.
     wanted: u64,
+    // Whether each sync that lasts frees the others.
+    meets: bool,
 }
 
 impl Stage {
     /// A sync that is to last waits until so much is freed.
     pub fn new(wanted: u64) -> Stage {
+        Stage::of(wanted, false)
+    }
+
+    /// A sync that is to last waits until so many have begun.
+    pub fn meeting(wanted: u64) -> Stage {
+        Stage::of(wanted, true)
+    }
+
+    fn of(wanted: u64, meets: bool) -> Stage {
         Stage {
             one: Turns::new(),
             two: Turns::new(),
@@ -111,6 +122,7 @@ impl Stage {
             freed: Count::new(),
             late: Count::new(),
             wanted,
+            meets,
         }
     }
 
@@ -141,6 +153,9 @@ impl Stage {
             return;
         }
         self.held.raise();
+        if self.meets {
+            self.freed.raise();
+        }
         for _ in 0..5_000_000u32 {
             if self.freed.value() >= self.wanted {
                 return;
