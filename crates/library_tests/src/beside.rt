@@ -1,5 +1,7 @@
-//! The hosts of a phase run side by side.
-use crate::samples::staged;
+//! The hosts of a phase run side by side, and flushers beside them, from the first phase to the last.
+use crate::disks::NEVER;
+use crate::gates::FreeingGate;
+use crate::samples::{loaded, staged};
 use crate::scripts::{POWERED_ON, Written, runs};
 use crate::stages::{Sign, Stage};
 use assertions::assert_equal;
@@ -50,5 +52,28 @@ fn sixteen_hosts_of_a_phase_meet(rt: HostRuntime) -> Result<(), Fail> {
     assert_equal!(rt; stage.count(Sign::Held).value(), 16);
     assert_equal!(rt; stage.count(Sign::Late).value(), 0);
     assert_equal!(rt; text.as_slice(), wanted(alloc)?.as_bytes());
+    Ok(())
+}
+
+// Behind a phase of two hosts, host 2 writes a block to drive 2, and then host 1 a filemark to drive 1. The sync of that
+// lasts until a flusher has stored the block.
+const STORED_BETWEEN: &str = "1 1 000000000000\n2 2 000000000000\n--\n\
+    2 2 0a0000000100 78\n--\n1 1 100000000100\n";
+
+const ANSWERS: &str = "CHECK 700006000000000a00000000290000000000\n\
+    CHECK 700006000000000a00000000290000000000\nGOOD\nGOOD\n";
+
+#[test]
+fn a_flusher_stores_between_two_phases(rt: HostRuntime) -> Result<(), Fail> {
+    let alloc = rt.alloc();
+    let stage = Arc::new(alloc, Stage::new(1))?;
+    let sample = loaded(&rt, alloc, &stage, NEVER, 2)?;
+    stage.count(Sign::Armed).add(1);
+    let gate = FreeingGate { stage: &stage };
+    let Written { text, ran } = runs(&rt, alloc, sample, &gate, STORED_BETWEEN)?;
+    assert_equal!(rt; ran.outcome, Ok(()));
+    assert_equal!(rt; stage.count(Sign::Held).value(), 1);
+    assert_equal!(rt; stage.count(Sign::Late).value(), 0);
+    assert_equal!(rt; text.as_slice(), ANSWERS.as_bytes());
     Ok(())
 }

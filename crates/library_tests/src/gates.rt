@@ -55,3 +55,23 @@ impl<'a, R: Clock + Abort> Gate for StageGate<'a, R> {
         self.stage.turns(self.number).end(turn);
     }
 }
+
+/// The gate of all flushers of a library: each turn that stores something frees a sync that lasts.
+#[derive(Drop)]
+pub struct FreeingGate<'a> {
+    pub stage: &'a Stage,
+}
+
+impl<'a> Gate for FreeingGate<'a> {
+    fn before_turn(&self) -> bool {
+        true
+    }
+
+    fn in_turn(&self) {}
+
+    fn after_turn(&self, turn: Turn) {
+        if let Turn::Stored(_) = turn {
+            self.stage.count(Sign::Freed).raise();
+        }
+    }
+}
