@@ -55,8 +55,8 @@ fn sixteen_hosts_of_a_phase_meet(rt: HostRuntime) -> Result<(), Fail> {
     Ok(())
 }
 
-// Behind a phase of two hosts, host 2 writes a block to drive 2, and then host 1 a filemark to drive 1. The sync of that
-// lasts until a flusher has stored the block.
+// Behind a phase of two hosts, host 2 writes a block to drive 2, and then host 1 a filemark to drive 1. The sync of
+// that lasts until a flusher has stored the block.
 const STORED_BETWEEN: &str = "1 1 000000000000\n2 2 000000000000\n--\n\
     2 2 0a0000000100 78\n--\n1 1 100000000100\n";
 
