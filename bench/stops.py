@@ -77,8 +77,10 @@ def after_load(room, out):
     """The frame in flight is there or not; what was acknowledged is there."""
     answers, found = out.split("\n")[:-1], read_back(room)[0][FIRST]
     acknowledged = [answers[at:at + 1] == [good()] for at in (2, 6)]
-    # LOAD positions at the beginning, so the second block takes the place of the first one
-    ways = [FRAMES[1]] if acknowledged[1] else [*FRAMES, *[[]] * (not acknowledged[0])]
+    # LOAD positions at the beginning, so the second block takes the place of the first one. A flusher may store a block
+    # alone, before its filemark.
+    alone = [[body] for body in BODIES]
+    ways = [FRAMES[1]] if acknowledged[1] else [*FRAMES, alone[1], *[[], alone[0]] * (not acknowledged[0])]
     return [] if found in ways else [f"acknowledged {acknowledged}, and there is {brief(found)}"]
 
 
