@@ -29,8 +29,8 @@ import tempfile
 
 import fault_invented
 from drive_model import MARK
-from fault_script import (ABORTED, ANSWERED, FIRST, HAS_FAILED, NOT_PRESENT, RESERVED, RIGHT, SCRIPT, SECOND, STATUS,
-                          WRITE_ERROR, misanswered)
+from fault_script import (ABORTED, ANSWERED, DEFERRED, FIRST, HAS_FAILED, NOT_PRESENT, RESERVED, RIGHT, SCRIPT, SECOND,
+                          STATUS, WRITE_ERROR, misanswered)
 from life import LONGEST, PROVED, TOP, objects_of
 
 STORE = "DRIVE1"
@@ -179,8 +179,8 @@ def stored(name, crate="vtl"):
 
 def again(room, kind, at):
     """The stored run, in memory: a command that memory ran out for is given again, and then it has its answer. Where
-    the disk in memory could not grow, that is a device fault: the cartridge is not loaded, or one command fails and
-    then the medium has failed."""
+    the disk in memory could not grow, that is a device fault: the cartridge is not loaded, or one command fails, or
+    reports that a flusher's turn did, and then the medium has failed."""
     script, wanted = stored("stdin"), stored("stdout")
     run = room.run(["run"], "\n".join(script) + "\n", kind, at)
     answers, text = run.out.splitlines(), "\n".join(wanted) + "\n"
@@ -191,15 +191,18 @@ def again(room, kind, at):
     if run.status == 0 and answers[line:line + 1] == [ABORTED]:
         twice = "\n".join([*script[:line + 1], *script[line:]]) + "\n"
         both = "\n".join([*wanted[:line], ABORTED, *wanted[line:]]) + "\n"
-        # with a longer script the same growth may come a few growths later
-        done = any(room.run(["run"], twice, kind, other)[:3] == (0, both, "") for other in range(at, at + 8))
+        # with a longer script the same growth may come a few growths later; where a flusher stores at another time,
+        # also a few before, or at the next try
+        others = [*range(at, at + 8), *range(max(at - 8, 1), at)] * 3
+        done = any(room.run(["run"], twice, kind, other)[:3] == (0, both, "") for other in others)
     elif (run.status, run.err) == STATUS["fault"]:
-        done = answers[line:line + 1] == [WRITE_ERROR] and behind == [HAS_FAILED] * (len(wanted) - line - 1)
+        failed = answers[line:line + 1] in ([WRITE_ERROR], [DEFERRED])
+        done = failed and behind == [HAS_FAILED] * (len(wanted) - line - 1)
     elif run.status == 0:
         done = answers[line:] == [NOT_PRESENT] * (len(wanted) - line)
     else:
         return run, "the program", [] if fails(kind, text, run) else ["its end"]
-    return run, "commands", [] if done else [f"line {line + 1}"]
+    return run, "commands", [] if done else [f"line {line + 1}, {answers[line:line + 2]}"]
 
 
 def work(crate):
