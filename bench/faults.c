@@ -1,8 +1,8 @@
-// Stands before the C library (LD_PRELOAD), for faults.py, stops.py and asked.py. It lets one call of a program end
-// otherwise: of
-// the kind that FAULTS names the FAULTS_AT-th. "memory": no memory is given. "fault": a call for a file or a stream
-// fails (EIO). "interrupted": it fails once (EINTR). "short": of several bytes one is read or written. "lost": a write
-// at a place is said to be done, and is not. Without FAULTS_AT none does.
+// Stands before the C library (LD_PRELOAD), for faults.py, nomemory.py, stops.py and asked.py. It lets one call of a
+// program end otherwise: of the kind that FAULTS names the FAULTS_AT-th. "memory": no memory is given. "fault": a call
+// for a file or a stream fails (EIO). "interrupted": it fails once (EINTR). "short": of several bytes one is read or
+// written. "lost": a write at a place is said to be done, and is not. Without FAULTS_AT none does. With FAULTS_BEHIND
+// only the calls count between that read of standard input and the next one; 0 is the start.
 // The file that FAULTS_TOLD names gets how many calls of the kind there were, and the name of the one. The file that
 // FAULTS_ASKED names gets a line for each call of malloc and realloc: how many bytes were asked for. To the file
 // that FAULTS_NOTES names each call is added that did something to a file or to standard output: a letter, the last
@@ -22,7 +22,7 @@ extern void *__libc_malloc(size_t);
 extern void *__libc_realloc(void *, size_t);
 
 static char kind;
-static long at, seen;
+static long at, seen, behind = -1, reads;
 static const char *name = "none";
 static int notes = -1, asked = -1, noting;
 
@@ -33,8 +33,9 @@ static int to_write(const char *variable) {
 }
 
 __attribute__((constructor)) static void begin(void) {
-    const char *said = getenv("FAULTS"), *number = getenv("FAULTS_AT");
+    const char *said = getenv("FAULTS"), *number = getenv("FAULTS_AT"), *from = getenv("FAULTS_BEHIND");
     at = number ? atol(number) : 0;
+    behind = from ? atol(from) : -1;
     kind = said ? said[0] : 0;
     notes = to_write("FAULTS_NOTES");
     asked = to_write("FAULTS_ASKED");
@@ -61,6 +62,8 @@ void _exit(int status) {
 
 // Whether this call is the one.
 static int is_it(const char *call) {
+    if (behind >= 0 && __atomic_load_n(&reads, __ATOMIC_SEQ_CST) != behind)
+        return 0;
     if (__atomic_add_fetch(&seen, 1, __ATOMIC_SEQ_CST) != at)
         return 0;
     name = call;
@@ -134,7 +137,12 @@ int fcntl(int file, int order, ...) {
     return CALL(fcntl, file, order, argument);
 }
 
-ssize_t read(int file, void *to, size_t count) { return CALL(read, file, to, moved("read", count)); }
+ssize_t read(int file, void *to, size_t count) {
+    ssize_t done = CALL(read, file, to, moved("read", count));
+    if (file == 0)
+        __atomic_add_fetch(&reads, 1, __ATOMIC_SEQ_CST);
+    return done;
+}
 ssize_t write(int file, const void *from, size_t count) {
     return noted(CALL(write, file, from, moved("write", count)), 'A', file, from, 0);
 }
