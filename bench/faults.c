@@ -8,8 +8,10 @@
 // that FAULTS_NOTES names each call is added that did something to a file or to standard output: a letter, the last
 // part of the file's name, a place, how many bytes; then the bytes.
 #define _GNU_SOURCE
+#include <dlfcn.h>
 #include <errno.h>
 #include <fcntl.h>
+#include <pthread.h>
 #include <stdarg.h>
 #include <stdio.h>
 #include <stdlib.h>
@@ -25,6 +27,8 @@ static char kind;
 static long at, seen, behind = -1, reads;
 static const char *name = "none";
 static int notes = -1, asked = -1, noting;
+// This thread asks where its stack lies.
+static __thread int is_placed;
 
 // The file that a variable names, for writing behind its end, or -1.
 static int to_write(const char *variable) {
@@ -108,7 +112,17 @@ static int is_too_much(const char *call, size_t size) {
     char line[32];
     if (asked >= 0)
         syscall(SYS_write, asked, line, (size_t)snprintf(line, sizeof line, "%zu\n", size));
-    return kind == 'm' && is_it(call);
+    return kind == 'm' && !is_placed && is_it(call);
+}
+
+// Rust's standard library asks where the stack of a thread that starts lies, to name an overflow, and goes on where the
+// answer is an error. The growths that this takes in the C library end nothing, so they are not counted.
+int pthread_getattr_np(pthread_t thread, pthread_attr_t *to) {
+    is_placed = 1;
+    int (*call)(pthread_t, pthread_attr_t *) = (int (*)(pthread_t, pthread_attr_t *))dlsym(RTLD_NEXT, __func__);
+    int status = call(thread, to);
+    is_placed = 0;
+    return status;
 }
 
 void *malloc(size_t size) { return is_too_much("malloc", size) ? NULL : __libc_malloc(size); }
