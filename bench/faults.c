@@ -3,10 +3,10 @@
 // for a file or a stream fails (EIO). "interrupted": it fails once (EINTR). "short": of several bytes one is read or
 // written. "lost": a write at a place is said to be done, and is not. Without FAULTS_AT none does. With FAULTS_BEHIND
 // only the calls count between that read of standard input and the next one; 0 is the start.
-// The file that FAULTS_TOLD names gets how many calls of the kind there were, and the name of the one. The file that
-// FAULTS_ASKED names gets a line for each call of malloc and realloc: how many bytes were asked for. To the file
-// that FAULTS_NOTES names each call is added that did something to a file or to standard output: a letter, the last
-// part of the file's name, a place, how many bytes; then the bytes.
+// The file that FAULTS_TOLD names gets how many calls of the kind there were, the name of the one, and how many threads
+// were started. The file that FAULTS_ASKED names gets a line for each call of malloc and realloc: how many bytes were
+// asked for. To the file that FAULTS_NOTES names each call is added that did something to a file or to standard output:
+// a letter, the last part of the file's name, a place, how many bytes; then the bytes.
 #define _GNU_SOURCE
 #include <dlfcn.h>
 #include <errno.h>
@@ -24,11 +24,9 @@ extern void *__libc_malloc(size_t);
 extern void *__libc_realloc(void *, size_t);
 
 static char kind;
-static long at, seen, behind = -1, reads;
+static long at, seen, behind = -1, reads, threads;
 static const char *name = "none";
 static int notes = -1, asked = -1, noting;
-// This thread asks where its stack lies.
-static __thread int is_placed;
 
 // The file that a variable names, for writing behind its end, or -1.
 static int to_write(const char *variable) {
@@ -48,7 +46,7 @@ __attribute__((constructor)) static void begin(void) {
 __attribute__((destructor)) static void end(void) {
     const char *path = getenv("FAULTS_TOLD");
     char text[64];
-    int size = snprintf(text, sizeof text, "%ld %s", seen, name);
+    int size = snprintf(text, sizeof text, "%ld %s %ld", seen, name, threads);
     kind = 0;
     int file = path ? syscall(SYS_openat, AT_FDCWD, path, O_WRONLY | O_CREAT | O_TRUNC, 0600) : -1;
     if (file >= 0) {
@@ -112,16 +110,15 @@ static int is_too_much(const char *call, size_t size) {
     char line[32];
     if (asked >= 0)
         syscall(SYS_write, asked, line, (size_t)snprintf(line, sizeof line, "%zu\n", size));
-    return kind == 'm' && !is_placed && is_it(call);
+    return kind == 'm' && is_it(call);
 }
 
-// Rust's standard library asks where the stack of a thread that starts lies, to name an overflow, and goes on where the
-// answer is an error. The growths that this takes in the C library end nothing, so they are not counted.
-int pthread_getattr_np(pthread_t thread, pthread_attr_t *to) {
-    is_placed = 1;
-    int (*call)(pthread_t, pthread_attr_t *) = (int (*)(pthread_t, pthread_attr_t *))dlsym(RTLD_NEXT, __func__);
-    int status = call(thread, to);
-    is_placed = 0;
+// A thread that starts is counted.
+int pthread_create(pthread_t *thread, const pthread_attr_t *with, void *(*start)(void *), void *given) {
+    int (*call)(pthread_t *, const pthread_attr_t *, void *(*)(void *), void *) = dlsym(RTLD_NEXT, __func__);
+    int status = call(thread, with, start, given);
+    if (status == 0)
+        __atomic_add_fetch(&threads, 1, __ATOMIC_SEQ_CST);
     return status;
 }
 

@@ -76,7 +76,7 @@ class Room:
             given.seek(0)
             done = subprocess.run([self.program, *words], cwd=self.path, stdin=given, stdout=subprocess.PIPE,
                                   stderr=subprocess.PIPE, env={**os.environ, **more}, timeout=60)
-        calls, name = content(told).decode().split() if kind else (0, "")
+        calls, name, _ = content(told).decode().split() if kind else (0, "", 0)
         return Run(done.returncode, done.stdout.decode(), done.stderr.decode(), int(calls), name)
 
     def sides(self):

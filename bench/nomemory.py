@@ -9,8 +9,9 @@ number. All is done twice: a command that memory runs out for is given once more
 
 A run of which a growth is refused ends with status 3 and `vtl: out of memory`, behind the answers up to that line. Or
 memory runs out for the command of that line: it changes nothing, the lines behind it are answered so, and given again
-it has its own answer. Or the disk in memory does not grow, and then the answers are those to a device fault. No other
-end stands, and no refusal is passed over. The files hold what was accepted.
+it has its own answer. Or the disk in memory does not grow, and then the answers are those to a device fault. Or a
+thread does not start: there is one fewer, and all is as with no refusal. No other end stands, and no refusal is passed
+over. The files hold what was accepted.
 
 --program PATH: another program than the proved one; --selftest: ends that are invented must be judged as they should
 be, and wrong programs that stand in for the right one must be found."""
@@ -34,8 +35,9 @@ SECONDS = 300
 # a program that has a growth of each number is wrong
 MOST = 1_000
 
-# How a run ended, what it wrote and what its files hold; how many growths there were, and whether one was refused.
-Run = collections.namedtuple("Run", "status out err files calls refused")
+# How a run ended, what it wrote and what its files hold; how many growths there were, whether one was refused, and how
+# many threads were started.
+Run = collections.namedtuple("Run", "status out err files calls refused threads")
 # An end that stands: what the refusal ended, the status, the answers, and the contents that each file may have.
 End = collections.namedtuple("End", "what status answers files")
 
@@ -68,9 +70,12 @@ def is_at(run, end):
         run.files.keys() == end.files.keys()) and all(run.files[name] in end.files[name] for name in end.files)
 
 
-def ended(script, way, place, run):
-    """What a refusal ended, or None where a run may not end so."""
-    fitting = ends(script, way, place) if run.refused else [right_end(script)]
+def ended(script, way, place, run, threads):
+    """What a refusal ended, or None where a run may not end so. With none refused so many threads are started."""
+    fitting = [*ends(script, way, place)] if run.refused else [right_end(script)]
+    if run.refused and run.threads == threads - 1:
+        # its work is done by the thread that waits for it
+        fitting.append(right_end(script)._replace(what="a thread"))
     return next((end.what for end in fitting if is_at(run, end)), None)
 
 
@@ -111,8 +116,8 @@ def run(tools, script, way, place, at):
             finally:
                 watch.cancel()
         files = {name: read(os.path.join(folder, name)) for name in os.listdir(folder)}
-        calls, name = read(told).decode().split() if os.path.exists(told) else (0, "none")
-        return Run(child.returncode, out, err, files, int(calls), name != "none")
+        calls, name, threads = read(told).decode().split() if os.path.exists(told) else (0, "none", 0)
+        return Run(child.returncode, out, err, files, int(calls), name != "none", int(threads))
 
 
 def sweep(tools, script, way, pool):
@@ -122,7 +127,7 @@ def sweep(tools, script, way, pool):
 
     def one(place, at):
         done = run(tools, script, way, place, at)
-        return place, at, done, ended(script, way, place, done)
+        return place, at, done, ended(script, way, place, done, threads)
 
     def rest(counted):
         """The growths of a line that the first run did not have, and the run that has none of that number."""
@@ -132,9 +137,11 @@ def sweep(tools, script, way, pool):
             if not last[2].refused or last[3] is None or at >= MOST:
                 return
 
+    threads = run(tools, script, way, 0, 0).threads
     first = [*pool.map(one, places, itertools.repeat(0))]
-    if any(it[3] is None or it[2].refused for it in first) or not any(it[2].calls for it in first):
-        return [f"{said}: without a refusal {next((it for it in first if it[3] is None), first)}"]
+    bad = [it for it in first if it[3] is None or it[2].refused or it[2].threads != threads]
+    if bad or not any(it[2].calls for it in first):
+        return [f"{said}: without a refusal {next(iter(bad), first)}"]
     numbers = [(it[0], at) for it in first for at in range(1, it[2].calls + 1)]
     swept = [*pool.map(one, *zip(*numbers)), *itertools.chain(*pool.map(lambda it: [*rest(it)], first))]
     wrong = [f"{said}: growth {at} of line {place}: {done}" for place, at, done, what in swept if what is None]

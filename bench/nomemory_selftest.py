@@ -93,24 +93,37 @@ RIGHT = "counts none"
 WRONG = ["passes", "asks", "ends", "dies", "always", "ever", "counts", "writes", "starts"]
 
 
+# How many threads an invented run has.
+THREADS = 2
+
+
 def run_of(script, status, answers, content):
     """Such a run; the other files are as they are at its end."""
     files = {name: possible[0] for name, possible in held(script, len(script.lines)).items()}
     if content:
         files["store1" if script in (KEPT, LATER) else "tape"] = content[0]
-    return Run(status, "".join(f"{answer}\n" for answer in answers), ERRORS[status], files, 1, True)
+    return Run(status, "".join(f"{answer}\n" for answer in answers), ERRORS[status], files, 1, True, THREADS)
 
 
 def misjudged():
     """The invented ends that are not judged as they should be."""
     runs = [(row, run_of(row[0], *row[3:])) for rows in (STAND, FOUND) for row in rows]
-    wrong = [f"{row}: {run}" for row, run in runs if bool(ended(*row[:3], run)) != (row in STAND)]
+    wrong = [f"{row}: {run}" for row, run in runs if bool(ended(*row[:3], run, THREADS)) != (row in STAND)]
+    # a thread that does not start, two, and one that does not start in a run that has another answer or another file
+    whole, fewer = run_of(FILE, 0, WHOLE, TAPE), THREADS + 1
+    if ended(FILE, ONCE, 0, whole, fewer) != "a thread":
+        wrong.append(f"not let through: {whole}")
+    wrong += [f"let through, of {threads} threads: {run}" for threads, run in [
+        (THREADS, whole), (THREADS + 2, whole), (fewer, run_of(FILE, 0, NO_MARK, TAPE)),
+        (fewer, run_of(FILE, 0, WHOLE, BLOCK_TAPE)), (fewer, run_of(FILE, 2, WHOLE, TAPE))]
+        if ended(FILE, ONCE, 0, run, threads)]
     row, good = STAND[1], run_of(FILE, 3, *STAND[1][4:])
     bare = good._replace(files={name: good.files[name] for name in good.files if name != "tape"})
     others = [good._replace(err=""), good._replace(err=2 * good.err), good._replace(out=good.out[:-1]), bare,
               good._replace(out=good.out + good.err), good._replace(files={**good.files, "more": b""}),
               good._replace(refused=False), good._replace(status=-9)]
-    return len(runs) + len(others), wrong + [f"let through: {run}" for run in others if ended(*row[:3], run)]
+    return len(runs) + len(others) + 6, wrong + [
+        f"let through: {run}" for run in others if ended(*row[:3], run, THREADS)]
 
 
 def unfound(folder):
