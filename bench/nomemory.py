@@ -34,6 +34,8 @@ WAYS = ("not given again", "given again")
 SECONDS = 300
 # a program that has a growth of each number is wrong
 MOST = 1_000
+# so often a line is swept once more for whose command memory is to run out
+AGAIN = 20
 
 # How a run ended, what it wrote and what its files hold; how many growths there were, whether one was refused, and how
 # many threads were started.
@@ -120,22 +122,29 @@ def run(tools, script, way, place, at):
         return Run(child.returncode, out, err, files, int(calls), name != "none", int(threads))
 
 
+def line_of(one, place, begun):
+    """The runs of which the growths of a line from this number on are refused, up to the one that has none of it."""
+    for at in itertools.count(begun):
+        last = one(place, at)
+        yield last
+        if not last[2].refused or last[3] is None or at >= MOST:
+            return
+
+
+def missing(script, swept):
+    """The lines for whose commands memory is to run out, and did not."""
+    refused = {place for place, _, done, what in swept if done.refused and what == "the command"}
+    return [at + 1 for at in script.owed if at + 1 not in refused]
+
+
 def sweep(tools, script, way, pool):
     """Refuses each growth of a script in turn, and says what is wrong. That of the start is refused in one way only."""
-    said, tally, refused = f"{script.name}, {way}", collections.Counter(), set()
+    said, tally = f"{script.name}, {way}", collections.Counter()
     places = range(WAYS.index(way), len(script.lines) + 2)
 
     def one(place, at):
         done = run(tools, script, way, place, at)
         return place, at, done, ended(script, way, place, done, threads)
-
-    def rest(counted):
-        """The growths of a line that the first run did not have, and the run that has none of that number."""
-        for at in itertools.count(counted[2].calls + 1):
-            last = one(counted[0], at)
-            yield last
-            if not last[2].refused or last[3] is None or at >= MOST:
-                return
 
     threads = run(tools, script, way, 0, 0).threads
     first = [*pool.map(one, places, itertools.repeat(0))]
@@ -143,14 +152,15 @@ def sweep(tools, script, way, pool):
     if bad or not any(it[2].calls for it in first):
         return [f"{said}: without a refusal {next(iter(bad), first)}"]
     numbers = [(it[0], at) for it in first for at in range(1, it[2].calls + 1)]
-    swept = [*pool.map(one, *zip(*numbers)), *itertools.chain(*pool.map(lambda it: [*rest(it)], first))]
+    swept = [*pool.map(one, *zip(*numbers))]
+    swept += itertools.chain(*pool.map(lambda it: [*line_of(one, it[0], it[2].calls + 1)], first))
+    # the growth of that number may have been a flusher's in each run
+    for place in itertools.chain(*itertools.repeat(missing(script, swept), AGAIN)):
+        swept += line_of(one, place, 1) if place in missing(script, swept) else []
     wrong = [f"{said}: growth {at} of line {place}: {done}" for place, at, done, what in swept if what is None]
     wrong += [f"{said}: line {place} has {at} growths" for place, at, _, _ in swept if at >= MOST]
-    for place, _, done, what in swept:
-        if done.refused:
-            tally[what] += 1
-            refused |= {place - 1} if what == "the command" else set()
-    wrong += [f"{said}: memory never runs out for line {at + 1}" for at in script.owed if at not in refused]
+    wrong += [f"{said}: memory never runs out for line {place}" for place in missing(script, swept)]
+    tally.update(what for _, _, done, what in swept if done.refused)
     print(f"{said}: {sum(tally.values())} growths were refused, of which ended "
           f"{', '.join(f'{count} {what}' for what, count in tally.items())}", flush=True)
     return wrong
