@@ -18,7 +18,7 @@ import time
 
 TOP = os.path.dirname(os.path.dirname(os.path.abspath(__file__)))
 PROVED = os.path.join(TOP, "crates", "vtl", "out", "vtl")
-BLOCK, BLOCKS, SPACES, MARKS, PHASES, HOSTS, ROUNDS = 262_144, 20_000, 400, 100, 20_000, 64, 5
+BLOCK, BLOCKS, LOADS, MARKS, PHASES, HOSTS, ROUNDS = 262_144, 20_000, 20, 100, 20_000, 64, 5
 # a gibibyte, with a filemark and a phase's end each 64 MiB
 APPENDS, GROUP = 4_096, 256
 DRIVES, REST = 16, 3.0
@@ -75,24 +75,24 @@ def beside(name, one, two, none=(0.0, 0.0)):
 
 
 def two_hosts(program, folder):
-    write = b"0a0000000100 78"
-    over, back = b"1100%06x00" % BLOCKS, b"1100%06x00" % (0x1000000 - BLOCKS)
+    write, mark, unload, load = b"0a0000000100 78", b"100000000100", b"1b0000000000", b"1b0000000100"
     new_files(program, folder, 2)
-    seconds_of(program, folder, attentions(2, 2) + b"--\n" + phase(2, [write] * BLOCKS), 4 + 2 * BLOCKS)
+    # a frame for each block
+    seconds_of(program, folder, attentions(2, 2) + b"--\n" + phase(2, [write, mark] * BLOCKS), 4 + 4 * BLOCKS)
 
-    def spaces(hosts):
-        lines = [over, back] * (SPACES // 2)
-        return seconds_of(program, folder, attentions(2, 2) + b"--\n" + phase(hosts, lines), 4 + hosts * SPACES)
+    def loads(hosts):
+        script = attentions(2, 2) + b"--\n" + phase(hosts, [unload, load] * LOADS)
+        return seconds_of(program, folder, script, 4 + 2 * hosts * LOADS)
 
     def none():
         return seconds_of(program, folder, attentions(2, 2) + b"--\n", 4)
 
-    one, two, start = best([lambda: spaces(1), lambda: spaces(2), none])
-    beside(f"{SPACES} times SPACE over {BLOCKS:,} blocks", one, two, start)
+    one, two, start = best([lambda: loads(1), lambda: loads(2), none])
+    beside(f"{LOADS} loads of a cartridge of {BLOCKS:,} blocks and filemarks", one, two, start)
 
     def marks(hosts):
         new_files(program, folder, 2)
-        lines = [write, b"100000000100"] * MARKS
+        lines = [write, mark] * MARKS
         return seconds_of(program, folder, attentions(2, 2) + b"--\n" + phase(hosts, lines), 4 + 2 * hosts * MARKS)
 
     one, two = best([lambda: marks(1), lambda: marks(2)])

@@ -7,6 +7,7 @@ of blocks of 1 KiB, 64 KiB, 256 KiB and 1 MiB, cached and not cached; best of th
 --program PATH: another program than the proved one. --library PATH: that of crates/buffer_bench, which makes the files
 of larger blocks. The files lie in a new folder beside the repository's own, or in the one that a word names."""
 import argparse
+import itertools
 import os
 import subprocess
 import sys
@@ -17,23 +18,36 @@ TOP = os.path.dirname(os.path.dirname(os.path.abspath(__file__)))
 PROVED = os.path.join(TOP, "crates", "vtl", "out", "vtl")
 # an index has an entry of so many bytes for each block
 PIECE, ROUNDS, SMALL, ENTRY = 65_536, 3, 100_000, 24
+READY, TO_END = b"1 1 000000000000\n", b"1 1 110300000000\n--\n"
 CONFIG = """cartridge = [{ barcode = "T00001L6", file = "t1.tape", capacities = [1_099_511_627_776], home = 1 }]
 drive = [{ number = 1, reservations = "d1.pr" }]
 """
 
 
 def run(program, folder, script):
-    """Seconds and greatest memory of a run of this script over the files that there are."""
+    """Seconds of a run of this script, in pieces, over the files that there are."""
     with open(os.path.join(folder, "in"), "wb") as file:
-        file.write(script)
+        file.writelines(script)
     with open(os.path.join(folder, "in"), "rb") as stdin, open(os.path.join(folder, "out"), "wb") as stdout:
         start = time.perf_counter()
-        child = subprocess.Popen([program, "run", "--config", "lib.toml"], cwd=folder, stdin=stdin, stdout=stdout)
-        _, status, usage = os.wait4(child.pid, 0)
+        done = subprocess.run([program, "run", "--config", "lib.toml"], cwd=folder, stdin=stdin, stdout=stdout)
         seconds = time.perf_counter() - start
-    if status:
-        sys.exit(f"a run ended with status {os.waitstatus_to_exitcode(status)}")
-    return seconds, usage.ru_maxrss * 1024
+    if done.returncode:
+        sys.exit(f"a run ended with status {done.returncode}")
+    return seconds
+
+
+def memory(program, folder):
+    """The most memory that a run had once its cartridge was loaded, in bytes."""
+    with subprocess.Popen([program, "run", "--config", "lib.toml"], cwd=folder, stdin=subprocess.PIPE,
+                          stdout=subprocess.PIPE) as child:
+        child.stdin.write(READY + b"--\n")
+        child.stdin.flush()
+        child.stdout.readline()
+        with open(f"/proc/{child.pid}/status", encoding="ascii") as status:
+            most = next(int(line.split()[1]) for line in status if line.startswith("VmHWM:"))
+        child.communicate()
+    return most * 1024
 
 
 def new_library(program, folder):
@@ -65,7 +79,8 @@ def small_blocks(program, folder):
     """A cartridge of many blocks of 1 KiB; how many they are."""
     new_library(program, folder)
     write = b"1 1 0a0000040000 " + b"78" * 1_024 + b"\n"
-    run(program, folder, b"1 1 000000000000\n" + (write * 1_000 + b"--\n") * (SMALL // 1_000))
+    pieces = itertools.chain([READY], itertools.repeat(write * 100 + b"--\n", SMALL // 100))
+    run(program, folder, pieces)
     return SMALL
 
 
@@ -79,38 +94,34 @@ def large_blocks(program, library, folder, size, total):
         subprocess.run([library, "file", str(count), path], check=True, capture_output=True)
     else:
         write = b"1 1 0a00%06x00 " % size + b"5a" * size + b"\n"
-        with open(os.path.join(folder, "long"), "wb") as file:
-            file.write(b"1 1 000000000000\n")
-            for at in range(count):
-                file.write(write + (b"--\n" if at % 16 == 15 else b""))
-        with open(os.path.join(folder, "long"), "rb") as stdin:
-            subprocess.run([program, "run", "--config", "lib.toml"], cwd=folder, stdin=stdin, check=True,
-                           stdout=subprocess.DEVNULL)
-        os.remove(os.path.join(folder, "long"))
+        # a script has 2,147,483,648 bytes at most
+        each = (1 << 29) // size
+        for begun in range(0, count, each):
+            run(program, folder, itertools.chain([READY, TO_END], (
+                write + (b"--\n" if at % 16 == 15 else b"") for at in range(begun, min(begun + each, count)))))
+        os.remove(os.path.join(folder, "in"))
     return count
 
 
 def measured(program, folder, name, count, empty):
     """A load beside a plain reading; what it takes of memory beside a load of a new cartridge and its index."""
     path = os.path.join(folder, "t1.tape")
-    size = os.path.getsize(path)
+    size, most = os.path.getsize(path), memory(program, folder)
     for is_cold in (False, True):
-        loads, plain, memory = [], [], 0
+        loads, plain = [], []
         for _ in range(ROUNDS):
             if is_cold:
                 dropped(path)
             plain.append(reading(path))
             if is_cold:
                 dropped(path)
-            seconds, most = run(program, folder, b"")
-            loads.append(seconds)
-            memory = max(memory, most)
+            loads.append(run(program, folder, []))
         load, read = min(loads), min(plain)
         state = "not cached" if is_cold else "cached"
         print(f"a load of {count:,} blocks of {name}, a file of {size:,} bytes, {state}: {load:.3f} s, "
               f"{load / read:.2f} of a plain reading ({read:.3f} s), {size / 1e6 / load:,.0f} MB/s; "
-              f"{memory / 1024:,.0f} KiB, beside a new cartridge and 24 bytes a block "
-              f"{(memory - empty - ENTRY * count) / 1024:,.0f}", flush=True)
+              f"{most / 1024:,.0f} KiB, beside a new cartridge and 24 bytes a block "
+              f"{(most - empty - ENTRY * count) / 1024:,.0f}", flush=True)
 
 
 def main():
@@ -127,9 +138,8 @@ def main():
         with open(os.path.join(folder, "lib.toml"), "w", encoding="utf-8") as file:
             file.write(CONFIG)
         new_library(asked.program, folder)
-        empty = [run(asked.program, folder, b"") for _ in range(ROUNDS)]
-        least = min(memory for _, memory in empty)
-        print(f"a load of a new cartridge: {min(time for time, _ in empty):.3f} s, {least / 1024:,.0f} KiB", flush=True)
+        empty, least = min(run(asked.program, folder, []) for _ in range(ROUNDS)), memory(asked.program, folder)
+        print(f"a load of a new cartridge: {empty:.3f} s, {least / 1024:,.0f} KiB", flush=True)
         measured(asked.program, folder, "1 KiB", small_blocks(asked.program, folder), least)
         for size, name in ((65_536, "64 KiB"), (262_144, "256 KiB"), (1_048_576, "1 MiB")):
             count = large_blocks(asked.program, library, folder, size, asked.size)
