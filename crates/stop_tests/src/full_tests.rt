@@ -2,7 +2,8 @@
 use crate::drives::TestDrive;
 use crate::long_disks::LongDisk;
 use crate::samples::{
-    GOOD, LOAD, MARK, NEW_STORE, NONE, POWERED_ON, READY, REWIND, SELECT_4, UNLOAD, WRITE_1, Wanted, ask,
+    GOOD, LOAD, MARK, NEW_STORE, NONE, POWERED_ON, READY, REWIND, SELECT_4, UNLOAD, WRITE_1,
+    Wanted, ask,
 };
 use bays::Bay;
 use std::alloc::Global;
@@ -101,7 +102,8 @@ fn a_drive_fills_a_side(rt: HostRuntime) -> Result<(), Fail> {
     let mut drive = switched_on(rt.alloc())?;
     for (place, (cdb, sent, answer)) in ROWS.iter().enumerate() {
         let wanted = wanted_of(answer);
-        let row = (1, *cdb, &zeros.as_slice()[..*sent], wanted);
+        let size = zeros.len().min(*sent);
+        let row = (1, *cdb, &zeros.as_slice()[..size], wanted);
         ask(&rt, &mut drive, row, wanted, &place);
     }
     Ok(())

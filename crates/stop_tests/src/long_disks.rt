@@ -83,7 +83,9 @@ fn fill(buffer: &mut [u8], at: u64) {
 }
 
 impl Disk for LongDisk {
-    ghost state = { λ d. SparseDisk.state d.below };
+    ghost use Rattle.tape_disk.specs.SparseDisk.{sparse_state};
+
+    ghost state = { λ d. sparse_state d.below };
 
     fn len(&self) -> u64 {
         self.below.len()
