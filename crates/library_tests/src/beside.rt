@@ -1,7 +1,7 @@
 //! The hosts of a phase run side by side, and flushers beside them, from the first phase to the last.
 use crate::disks::NEVER;
 use crate::gates::FreeingGate;
-use crate::samples::{loaded, staged};
+use crate::samples::{freed_by_first, loaded, staged};
 use crate::scripts::{POWERED_ON, Written, runs};
 use crate::stages::{Sign, Stage};
 use assertions::assert_equal;
@@ -52,6 +52,57 @@ fn sixteen_hosts_of_a_phase_meet(rt: HostRuntime) -> Result<(), Fail> {
     assert_equal!(rt; stage.count(Sign::Held).value(), 16);
     assert_equal!(rt; stage.count(Sign::Late).value(), 0);
     assert_equal!(rt; text.as_slice(), wanted(alloc)?.as_bytes());
+    Ok(())
+}
+
+// Adds a command of each of 64 hosts to drive 1, and behind each one of that host to another drive.
+fn add_crowd(alloc: Global, script: &mut String, command: &str) -> Result<(), Fail> {
+    for place in 0..64u32 {
+        let host = place + 1;
+        let other = place % 15 + 2;
+        let lines = format!(in alloc; "{host} 1 {command}\n{host} {other} {command}\n")?;
+        script.push_str(lines.as_str())?;
+    }
+    Ok(())
+}
+
+// Each host asks whether its two drives are ready, and then, in one phase, each writes a filemark to both.
+fn crowd_script(alloc: Global) -> Result<String, Fail> {
+    let mut script = String::new(alloc);
+    add_crowd(alloc, &mut script, "000000000000")?;
+    script.push_str("--\n")?;
+    add_crowd(alloc, &mut script, "100000000100")?;
+    Ok(script)
+}
+
+// What it is to be answered.
+fn crowd_wanted(alloc: Global) -> Result<String, Fail> {
+    let mut wanted = String::new(alloc);
+    for _ in 0..128u32 {
+        wanted.push_str(POWERED_ON)?;
+        wanted.push('\n')?;
+    }
+    for _ in 0..128u32 {
+        wanted.push_str("GOOD\n")?;
+    }
+    Ok(wanted)
+}
+
+// A filemark takes two syncs. Those at the other drives last until there were 128 at drive 1, so no host ends before
+// each of the 64 has begun.
+#[test]
+fn all_hosts_of_a_phase_meet(rt: HostRuntime) -> Result<(), Fail> {
+    let alloc = rt.alloc();
+    let stage = Arc::new(alloc, Stage::new(128))?;
+    let sample = freed_by_first(&rt, alloc, &stage)?;
+    let script = crowd_script(alloc)?;
+    stage.count(Sign::Armed).add(128);
+    let Written { text, ran } = runs(&rt, alloc, sample, &OpenGate, script.as_str())?;
+    assert_equal!(rt; ran.outcome, Ok(()));
+    assert_equal!(rt; stage.count(Sign::Held).value(), 128);
+    assert_equal!(rt; stage.count(Sign::Freed).value(), 128);
+    assert_equal!(rt; stage.count(Sign::Late).value(), 0);
+    assert_equal!(rt; text.as_slice(), crowd_wanted(alloc)?.as_bytes());
     Ok(())
 }
 

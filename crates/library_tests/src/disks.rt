@@ -9,11 +9,12 @@ use vtl_base::DevFault;
 /// No call of a disk is this one.
 pub const NEVER: u64 = u64::MAX;
 
-/// A disk whose syncs may last, where it has a stage.
+/// A disk whose syncs may last, or free those that last, where it has a stage.
 #[derive(Drop)]
 pub struct SlowDisk<D> {
     below: D,
     stage: Option<Arc<Stage, Global>>,
+    frees: bool,
 }
 
 impl<D> SlowDisk<D> {
@@ -43,7 +44,11 @@ impl<D: Disk> Disk for SlowDisk<D> {
 
     fn sync(&mut self) -> Result<(), DevFault> {
         if let Some(stage) = &self.stage {
-            stage.sync();
+            if self.frees {
+                stage.free();
+            } else {
+                stage.sync();
+            }
         }
         self.below.sync()
     }
@@ -59,6 +64,7 @@ pub fn disk(alloc: Global) -> TestDisk {
     SlowDisk {
         below: OnceDisk::new(MemDisk::new(alloc), NEVER),
         stage: None,
+        frees: false,
     }
 }
 
@@ -71,5 +77,15 @@ pub fn staged_disk(
     Ok(SlowDisk {
         below: OnceDisk::new(MemDisk::new(alloc), fails),
         stage: Some(Arc::try_clone(stage)?),
+        frees: false,
+    })
+}
+
+/// A new disk whose syncs free those that last.
+pub fn freeing_disk(alloc: Global, stage: &Arc<Stage, Global>) -> Result<TestDisk, Fail> {
+    Ok(SlowDisk {
+        below: OnceDisk::new(MemDisk::new(alloc), NEVER),
+        stage: Some(Arc::try_clone(stage)?),
+        frees: true,
     })
 }

@@ -1,7 +1,7 @@
 //! Drives, cartridges and slots in memory.
 ghost use Rattle.std.specs.Prelude.{◌≡◌, [], IfOk};
 
-use crate::disks::{NEVER, TestDisk, disk, staged_disk};
+use crate::disks::{NEVER, TestDisk, disk, freeing_disk, staged_disk};
 use crate::stages::Stage;
 use aptpl_store::AptplStore;
 use bays::{Bay, Parked};
@@ -167,6 +167,26 @@ pub fn staged(
         add_loaded(rt, alloc, &mut sample, place + 1, disk(alloc), side)?;
     }
     fill(&mut sample)?;
+    Ok(sample)
+}
+
+/// Sixteen drives, in each a new cartridge of its number. The syncs of the others last until those of cartridge 1 free
+/// them.
+pub fn freed_by_first(
+    rt: &impl Abort,
+    alloc: Global,
+    stage: &Arc<Stage, Global>,
+) -> Result<Sample<TestDisk>, Fail> {
+    let mut sample = Sample {
+        bays: Vec::new(alloc),
+        slots: Slots::new(alloc)?,
+    };
+    let first = freeing_disk(alloc, stage)?;
+    add_loaded(rt, alloc, &mut sample, 1, disk(alloc), first)?;
+    for place in 1..16u8 {
+        let side = staged_disk(alloc, NEVER, stage)?;
+        add_loaded(rt, alloc, &mut sample, place + 1, disk(alloc), side)?;
+    }
     Ok(sample)
 }
 

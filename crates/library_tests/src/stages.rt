@@ -147,7 +147,15 @@ impl Stage {
         }
     }
 
-    /// A sync. If it is to last, it does so until enough is freed, or for five million looks.
+    /// A sync that frees one that lasts, once some are to last.
+    pub fn free(&self) {
+        if self.armed.value() > 0 {
+            self.freed.raise();
+        }
+    }
+
+    /// A sync. If it is to last, it does so until enough is freed, or for five million looks, or until another one was
+    /// late.
     pub fn sync(&self) {
         if self.armed.value() <= self.held.value() {
             return;
@@ -157,7 +165,7 @@ impl Stage {
             self.freed.raise();
         }
         for _ in 0..5_000_000u32 {
-            if self.freed.value() >= self.wanted {
+            if self.freed.value() >= self.wanted || self.late.value() > 0 {
                 return;
             }
             thread::yield_now();

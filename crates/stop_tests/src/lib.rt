@@ -14,6 +14,10 @@ mod fault_tables;
 #[cfg(test)]
 mod fault_tests;
 #[cfg(test)]
+mod full_tests;
+#[cfg(test)]
+mod long_disks;
+#[cfg(test)]
 mod samples;
 #[cfg(test)]
 mod stop_tables;

@@ -1,0 +1,110 @@
+//! A drive over a side that is nearly full: what fits is taken, to the byte.
+use crate::drives::TestDrive;
+use crate::long_disks::LongDisk;
+use crate::samples::{
+    GOOD, LOAD, MARK, NEW_STORE, NONE, POWERED_ON, READY, REWIND, SELECT_4, UNLOAD, WRITE_1,
+    Wanted, ask,
+};
+use bays::Bay;
+use std::alloc::Global;
+use std::process::Abort;
+use std::test::Fail;
+
+// How a command is answered.
+enum Answer {
+    Is(Wanted<'static>),
+    // A block of so many bytes, or so many filemarks, does not fit.
+    Full(u32),
+}
+
+fn wanted_of(answer: &Answer) -> Wanted<'static> {
+    match answer {
+        Answer::Is(wanted) => *wanted,
+        Answer::Full(count) => (Some((0xf0, 0x4d, *count, 0, 2)), NONE),
+    }
+}
+
+const NOTHING_ERASED: Wanted<'static> = (Some((0x70, 0x4d, 0, 0, 2)), &[]);
+
+const WRITE_MIB: &'static [u8] = &[0x0a, 0, 0x10, 0, 0, 0];
+
+// 393,066 and 393,035 bytes.
+const WRITE_TOO_LONG: &'static [u8] = &[0x0a, 0, 0x05, 0xff, 0x6a, 0];
+
+const WRITE_LONG: &'static [u8] = &[0x0a, 0, 0x05, 0xff, 0x4b, 0];
+
+const WRITE_16: &'static [u8] = &[0x0a, 0, 0, 0, 16, 0];
+
+const MARKS_0: &'static [u8] = &[0x10, 0, 0, 0, 0, 0];
+
+const ERASE: &'static [u8] = &[0x19, 0, 0, 0, 0, 0];
+
+const TO_END: &'static [u8] = &[0x11, 3, 0, 0, 0, 0];
+
+const POSITION: &'static [u8] = &[0x34, 0, 0, 0, 0, 0, 0, 0, 0, 0];
+
+// Behind ten objects.
+const TEN: Wanted<'static> = (None, b"\0\0\0\0\0\0\0\x0a\0\0\0\x0a\0\0\0\0\0\0\0\0");
+
+// A command, how many zeros are sent with it, and what is wanted. There is room for 7,733,217 bytes of frames. A block
+// takes 15 bytes and its own, as each is a frame of its own, and so does a filemark. The seven take 1,048,591 each and
+// leave 393,080.
+static ROWS: &'static [(&'static [u8], usize, Answer)] = &[
+    (READY, 0, Answer::Is(POWERED_ON)),
+    (SELECT_4, 4, Answer::Is(GOOD)),
+    (WRITE_MIB, 1_048_576, Answer::Is(GOOD)),
+    (WRITE_MIB, 1_048_576, Answer::Is(GOOD)),
+    (WRITE_MIB, 1_048_576, Answer::Is(GOOD)),
+    (WRITE_MIB, 1_048_576, Answer::Is(GOOD)),
+    (WRITE_MIB, 1_048_576, Answer::Is(GOOD)),
+    (WRITE_MIB, 1_048_576, Answer::Is(GOOD)),
+    (WRITE_MIB, 1_048_576, Answer::Is(GOOD)),
+    (WRITE_MIB, 1_048_576, Answer::Full(1_048_576)),
+    // it would take 393,081 bytes
+    (WRITE_TOO_LONG, 393_066, Answer::Full(393_066)),
+    // this leaves 30
+    (WRITE_LONG, 393_035, Answer::Is(GOOD)),
+    (WRITE_16, 16, Answer::Full(16)),
+    (MARK, 0, Answer::Is(GOOD)),
+    (WRITE_1, 1, Answer::Full(1)),
+    (REWIND, 0, Answer::Is(GOOD)),
+    (TO_END, 0, Answer::Is(GOOD)),
+    (MARK, 0, Answer::Is(GOOD)),
+    // nothing is left
+    (MARK, 0, Answer::Full(1)),
+    (MARKS_0, 0, Answer::Is(GOOD)),
+    (POSITION, 0, Answer::Is(TEN)),
+    (REWIND, 0, Answer::Is(GOOD)),
+    (ERASE, 0, Answer::Is(NOTHING_ERASED)),
+    (WRITE_1, 1, Answer::Full(1)),
+    (MARK, 0, Answer::Full(1)),
+    (TO_END, 0, Answer::Is(GOOD)),
+    (POSITION, 0, Answer::Is(TEN)),
+    // what was stored is there
+    (UNLOAD, 0, Answer::Is(GOOD)),
+    (LOAD, 0, Answer::Is(GOOD)),
+    (TO_END, 0, Answer::Is(GOOD)),
+    (POSITION, 0, Answer::Is(TEN)),
+];
+
+fn switched_on(alloc: Global) -> Result<Bay<LongDisk>, Fail> {
+    let tape = LongDisk::tape(alloc)?;
+    let store = LongDisk::of(alloc, NEW_STORE)?;
+    match Bay::switched_on(alloc, tape, store) {
+        Ok(drive) => Ok(drive),
+        Err(_) => Err(Fail::from("not switched on")),
+    }
+}
+
+#[test]
+fn a_drive_fills_a_side(rt: HostRuntime) -> Result<(), Fail> {
+    let zeros = vec![in rt.alloc(); 0u8; 1_048_576]?;
+    let mut drive = switched_on(rt.alloc())?;
+    for (place, (cdb, sent, answer)) in ROWS.iter().enumerate() {
+        let wanted = wanted_of(answer);
+        let size = zeros.len().min(*sent);
+        let row = (1, *cdb, &zeros.as_slice()[..size], wanted);
+        ask(&rt, &mut drive, row, wanted, &place);
+    }
+    Ok(())
+}
