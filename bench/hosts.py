@@ -19,8 +19,8 @@ import time
 TOP = os.path.dirname(os.path.dirname(os.path.abspath(__file__)))
 PROVED = os.path.join(TOP, "crates", "vtl", "out", "vtl")
 BLOCK, BLOCKS, LOADS, MARKS, PHASES, HOSTS, ROUNDS = 262_144, 20_000, 20, 100, 20_000, 64, 5
-# a gibibyte, with a filemark and a phase's end each 64 MiB
-APPENDS, GROUP = 4_096, 256
+# so many blocks, with a filemark and a phase's end each 64 MiB; a script has 2,147,483,648 bytes at most
+APPENDS, GROUP = 3_840, 256
 DRIVES, REST = 16, 3.0
 TICKS = os.sysconf("SC_CLK_TCK")
 
