@@ -4,7 +4,9 @@ use crate::commands::reply_to;
 use crate::days::{Day, spend, spend_well};
 use crate::ends::are_back;
 use crate::numbers::are_all_there;
-use crate::replies::{Answer, GOOD, READY, Told, WRITE_1, is_answer, is_one_of};
+use crate::replies::{
+    Answer, CHANGED, GOOD, NOT_PRESENT, POWERED_ON, READY, Told, WRITE_1, is_answer, is_one_of,
+};
 use crate::samples::shelved;
 use crate::stages::Stage;
 use assertions::{assert_equal, assert_holds};
@@ -137,14 +139,25 @@ const NO_ROOM: Answer = (
     b"",
 );
 
-// Moves that lend no drive, one as destination, one as source, or both.
+// Moves that lend no drive, one as destination, one as source, or both. The drive that a cartridge was moved to is ready,
+// and the other one is not.
 const ROUND: &'static [Act] = &[
+    Act::Asks(&[(1, READY, b"", POWERED_ON), (2, READY, b"", POWERED_ON)]),
     Act::Moves(&[
         (1001, 1300, NO_ADDRESS),
         (1004, 1, NO_SOURCE),
         (1001, 1, GOOD),
-        (1, 1, NO_ROOM),
-        (1, 2, GOOD),
+    ]),
+    Act::Asks(&[
+        (1, READY, b"", CHANGED),
+        (1, READY, b"", GOOD),
+        (2, READY, b"", NOT_PRESENT),
+    ]),
+    Act::Moves(&[(1, 1, NO_ROOM), (1, 2, GOOD)]),
+    Act::Asks(&[
+        (1, READY, b"", NOT_PRESENT),
+        (2, READY, b"", CHANGED),
+        (2, READY, b"", GOOD),
     ]),
     Act::Sees(3),
     Act::Moves(&[(2, 1256, GOOD), (1256, 1001, GOOD)]),

@@ -17,6 +17,20 @@ pub const POWERED_ON: Answer = (
     b"",
 );
 
+/// 6, 28/00
+pub const CHANGED: Answer = (
+    Status::Check,
+    b"\x70\x00\x06\x00\x00\x00\x00\x0a\x00\x00\x00\x00\x28\x00\x00\x00\x00\x00",
+    b"",
+);
+
+/// 2, 3A/00
+pub const NOT_PRESENT: Answer = (
+    Status::Check,
+    b"\x70\x00\x02\x00\x00\x00\x00\x0a\x00\x00\x00\x00\x3a\x00\x00\x00\x00\x00",
+    b"",
+);
+
 /// 0, 00/01: FILEMARK, INFORMATION 5
 pub const FILEMARK: Answer = (
     Status::Check,
