@@ -35,6 +35,7 @@ rows-wrong: need-rt
 nomemory: vtl
 	python3 bench/nomemory.py --selftest
 	python3 bench/nomemory.py
+	python3 bench/faults.py --stored
 
 mutants: need-rt
 	python3 bench/mutants.py

@@ -16,8 +16,8 @@ create told of is there, each file that is there is whole, and it goes on; check
 command at most is ended by want of memory, and has its stored answer when it is given again. The journal, the cartridge
 and the buffer, in memory, end with status 1 (their words) or 2 behind some of their stored answers, or change nothing.
 
---program PATH another program than the proved one; --selftest: writes are lost behind the program's back, which must be
-found, and so must invented answers."""
+--program PATH another program than the proved one; --stored: the growths of the stored run alone, as the gate does;
+--selftest: writes are lost behind the program's back, which must be found, and so must invented answers."""
 import argparse
 import collections
 import concurrent.futures
@@ -288,8 +288,9 @@ def main():
     parser = argparse.ArgumentParser()
     parser.add_argument("--program", default=PROVED)
     parser.add_argument("--selftest", action="store_true")
+    parser.add_argument("--stored", action="store_true")
     said = parser.parse_args()
-    missing = [path for path in (said.program, *map(built, WORKS)) if not os.path.exists(path)]
+    missing = [path for path in (said.program, *([] if said.stored else map(built, WORKS))) if not os.path.exists(path)]
     if missing:
         sys.exit(f"{missing[0]} is not there; build the programs first, as make faults does")
     with tempfile.TemporaryDirectory(prefix="vtl-faults-") as folder:
@@ -300,7 +301,7 @@ def main():
         rooms = made(tools, folder)
         if said.selftest:
             return selftest(tools, rooms[1])
-        wrong = sweeps(tools, *rooms)
+        wrong = sweep(tools, rooms[0], "the stored run", again, "memory") if said.stored else sweeps(tools, *rooms)
     print("\n".join([*wrong, f"faults: {len(wrong)} wrong"]))
     return 1 if wrong else 0
 

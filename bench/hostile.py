@@ -8,7 +8,7 @@ not apply; whole sides; frames as long as may be. None may stop the program or c
 stays empty; each answer comes for one file in a hundred at least.
 
 A file is opened in memory for eight times its bytes and a mebibyte, beside what a new cartridge takes. A program that
-the system can limit is held to that for each twentieth file. One that is built with checks, as that of unproved.py,
+the system can limit is held to that for each nineteenth file. One that is built with checks, as that of unproved.py,
 cannot be limited so: there no single growth may be larger.
 
 --program PATH another program than the proved one; --count N files; --seed S; --jobs J at a time; --one N looks at the
@@ -33,7 +33,8 @@ PROVED = os.path.join(TOP, "crates", "vtl", "out", "vtl")
 NEW = (b"\xa5VTLCART1\0\x01T00001L6" + b" " * 8 + (4_096).to_bytes(8, "big") + b"\0",
        b"cartridge T00001L6 partitions 1 frames 0\npartition 0 objects 0 used 0\n")
 ANSWERS = ("cartridge", "reservations", "not a side", "damaged at", "bad record at")
-BATCH, LIMITED, SECONDS, MIB = 500, 20, 60, 1 << 20
+# one file in so many is limited: of each kind some, since the kinds come in turn, and they are 15
+BATCH, LIMITED, SECONDS, MIB = 500, 19, 60, 1 << 20
 # where a sync asks nothing of a device
 MEMORY = "/dev/shm" if os.path.isdir("/dev/shm") else None
 

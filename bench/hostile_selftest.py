@@ -90,6 +90,9 @@ def main():
     whole = side_maker.made(3, 7) == side_maker.made(3, 7) != side_maker.made(4, 7)
     if not whole:
         said.append("a file is not that of its seed and number")
+    limited = {side_maker.kind_of(at) for at in range(0, 100_000, hostile.LIMITED)}
+    said += [f"no file of the kind {kind.__name__} is limited in memory"
+             for kind in (*side_maker.KINDS, side_maker.Maker.long) if kind not in limited]
     with tempfile.TemporaryDirectory(prefix="vtl-hostile-") as folder:
         base = hostile.least_memory(program_of("right", folder))
         if base is None:

@@ -236,8 +236,12 @@ KINDS = (Maker.whole, Maker.random_bytes, Maker.random_behind_a_header, Maker.ra
 LONG = 2_000
 
 
+def kind_of(at):
+    """What makes the file of that number."""
+    return Maker.long if at % LONG == LONG - 1 else KINDS[at % len(KINDS)]
+
+
 def made(seed, at):
     """The kind and the bytes of the file of that number."""
-    maker = Maker(seed, at)
-    kind = Maker.long if at % LONG == LONG - 1 else KINDS[at % len(KINDS)]
-    return kind.__name__.replace("_", " "), kind(maker)
+    kind = kind_of(at)
+    return kind.__name__.replace("_", " "), kind(Maker(seed, at))

@@ -1,5 +1,5 @@
 //! A stop and a fault at each call of the disk.
-use crate::samples::{FAULT, SIDE, erased, found, has, store_block, store_side, store_two};
+use crate::samples::{FAULT, SIDE, cut, erased, found, has, store_block, store_side, store_two};
 use assertions::{assert_equal, assert_holds};
 use cartridge::{Cartridge, CartridgeError, NotCreated, Shelved};
 use gate_journal::stops::{Run, Stop, stop_at_each_call};
@@ -134,6 +134,72 @@ fn are_openings(rt: &impl Abort, stops: &[Stop]) {
 fn a_stop_of_an_opening(rt: HostRuntime) -> Result<(), Fail> {
     let stops = stops_of(rt.alloc(), SIDE, &Opening)?;
     are_openings(&rt, stops.as_slice());
+    Ok(())
+}
+
+// The opening of a side that is refused: it has ended where that is not for a fault.
+struct Refusal;
+
+impl Run for Refusal {
+    fn run(&self, alloc: Global, disk: FuseDisk<MemDisk>) -> (MemDisk, bool) {
+        match Cartridge::open(alloc, Shelved::of(disk)) {
+            Ok(cartridge) => (cartridge.shelve().into_disk().into_inner(), true),
+            Err(refused) => {
+                let ended = refused.error != FAULT;
+                (refused.shelved.into_disk().into_inner(), ended)
+            }
+        }
+    }
+}
+
+// How many bytes of the side there are, a place and what stands there, how many calls of the disk the opening takes,
+// and why it is refused: a sync, two reads of the heading, one of each gate, and then one of each body.
+static REFUSED: &'static [(usize, usize, u8, u64, CartridgeError)] = &[
+    (26, 0, 0xa5, 1, CartridgeError::NotOurs),
+    (34, 0, 0xa5, 2, CartridgeError::NotOurs),
+    (71, 9, 0x07, 3, CartridgeError::NotOurs),
+    (35, 0, 0xa5, 3, CartridgeError::Damaged { at: 35 }),
+    (55, 0, 0xa5, 4, CartridgeError::Damaged { at: 35 }),
+    (70, 0, 0xa5, 5, CartridgeError::Damaged { at: 55 }),
+    (71, 70, 0xa5, 6, CartridgeError::Damaged { at: 70 }),
+    (71, 40, 0x04, 7, CartridgeError::BadRecord { at: 35 }),
+    (71, 65, 0x03, 8, CartridgeError::BadRecord { at: 55 }),
+];
+
+// The first bytes of the side, of which one is this.
+fn damaged(alloc: Global, len: usize, place: usize, value: u8) -> Result<Vec<u8>, NoMemory> {
+    let mut bytes = Vec::from_slice(alloc, cut(len))?;
+    if let Some(byte) = bytes.get_mut(place) {
+        *byte = value;
+    }
+    Ok(bytes)
+}
+
+// What such a stop leaves is as it was, and is refused as it would be without the stop.
+fn is_refused(
+    rt: &impl Abort,
+    alloc: Global,
+    stop: Stop,
+    bytes: &[u8],
+    end: (u64, CartridgeError),
+) {
+    let (total, error) = end;
+    let Stop { calls, ended, disk } = stop;
+    assert_equal!(rt; ended, calls == total; (calls, error));
+    assert_equal!(rt; disk.bytes(), bytes; (calls, error));
+    assert_equal!(rt; found(alloc, disk), Err(error); (calls, error));
+}
+
+#[test]
+fn a_stop_of_an_opening_that_is_refused(rt: HostRuntime) -> Result<(), Fail> {
+    for &(len, place, value, total, error) in REFUSED {
+        let bytes = damaged(rt.alloc(), len, place, value)?;
+        let stops = stops_of(rt.alloc(), bytes.as_slice(), &Refusal)?;
+        assert_equal!(rt; stops.len() as u64 / 9, total.saturating_add(1); error);
+        for stop in stops {
+            is_refused(&rt, rt.alloc(), stop, bytes.as_slice(), (total, error));
+        }
+    }
     Ok(())
 }
 

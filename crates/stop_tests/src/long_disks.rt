@@ -76,6 +76,9 @@ fn lay(buffer: &mut [u8], at: u64, place: u64, bytes: &[u8]) {
 fn fill(buffer: &mut [u8], at: u64) {
     let first = at.saturating_sub(at.saturating_sub(35) % FRAME);
     for frame in [first, first.saturating_add(FRAME)] {
+        if frame >= at.saturating_add(buffer.len() as u64) {
+            return;
+        }
         for &(place, bytes) in HEADS {
             lay(buffer, at, frame.saturating_add(place), bytes);
         }

@@ -101,3 +101,32 @@ pub fn judged(bytes: &[u8]) -> Found {
     }
     seen
 }
+
+/// The registrations that the last frame of a store with these bytes leaves, nine bytes each; none where it is none.
+pub fn registrations_left(bytes: &[u8]) -> &[u8] {
+    let mut rest = behind_header(bytes).unwrap_or(&[]);
+    let mut last: &[u8] = &[];
+    for _ in 0..bytes.len() {
+        if rest.first() != Some(&0xa5) {
+            break;
+        }
+        let Some((body, behind)) = frame(rest) else {
+            return &[];
+        };
+        last = body;
+        rest = behind;
+    }
+    match last.split_first_chunk::<4>() {
+        Some(([1, _, _, _], registrations)) => registrations,
+        _ => &[],
+    }
+}
+
+/// The key of a registration, and the place of its nexus from 0 on.
+pub fn key_of(registration: &[u8]) -> Option<(usize, u64)> {
+    let (nexus, key) = registration.split_first()?;
+    if key.len() != 8 {
+        return None;
+    }
+    Some((usize::from(nexus.checked_sub(1)?), BigEndian::read_u64(key)))
+}

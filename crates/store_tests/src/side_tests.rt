@@ -1,13 +1,13 @@
 //! Sides byte by byte, and long ones.
 use crate::asking::{NONE, made};
-use crate::plain_stores::judged;
+use crate::plain_stores::{judged, key_of, registrations_left};
 use crate::samples::{
     Found, NEW, NEW_SIDE, NO_STORE, RESERVED, SIDE, SIDE_OF_ALL, SIDE_WITHOUT_APTPL, WITHOUT_APTPL,
     found, seen_of,
 };
 use aptpl_store::{AptplStore, StoreError};
 use assertions::{assert_equal, assert_holds};
-use pr_core::{Keeper, Reservations};
+use pr_core::{Keeper, PrState, Reservations};
 use scsi_lists::PrOut;
 use std::alloc::Global;
 use std::process::Abort;
@@ -41,10 +41,24 @@ static SIDES: &'static [(&'static [u8], usize, Found)] = &[
     (BAD_FIRST, 64, Err(StoreError::BadRecord { at: 27 })),
 ];
 
+// Each host that the plain program finds registered has its key.
+fn has_keys(rt: &impl Abort, left: &PrState, bytes: &[u8]) {
+    for registration in registrations_left(bytes).chunks(9) {
+        let Some((place, key)) = key_of(registration) else {
+            assert_holds!(rt; false, "no registration");
+            return;
+        };
+        assert_equal!(rt; left.keys.get(place).copied(), Some(Some(key)); bytes);
+    }
+}
+
 // What is found where these bytes are on the disk. The plain program says the same.
 fn agreed(rt: &impl Abort, alloc: Global, bytes: &[u8]) -> Result<Found, NoMemory> {
     let seen = found(alloc, MemDisk::from_bytes(alloc, bytes)?);
     assert_equal!(rt; seen, judged(bytes); bytes);
+    if let Ok((_, left)) = AptplStore::open(alloc, MemDisk::from_bytes(alloc, bytes)?) {
+        has_keys(rt, left.state(), bytes);
+    }
     Ok(seen)
 }
 

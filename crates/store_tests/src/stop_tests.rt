@@ -4,8 +4,10 @@ use crate::asking::{
     host_over, new_host,
 };
 use crate::samples::{
-    Found, NEW, NO_STORE, REGISTERED, RESERVED, SIDE, SIDE_WITHOUT_APTPL, WITHOUT_APTPL, found,
+    FAULT, Found, NEW, NO_STORE, REGISTERED, RESERVED, SIDE, SIDE_WITHOUT_APTPL, WITHOUT_APTPL,
+    found,
 };
+use aptpl_store::{AptplStore, StoreError};
 use assertions::{assert_equal, assert_holds};
 use gate_journal::stops::{Run, Stop, stop_at_each_call};
 use std::alloc::Global;
@@ -176,6 +178,66 @@ fn stopped(
 fn an_order_is_stopped_at_each_call(rt: HostRuntime) -> Result<(), Fail> {
     for (bytes, work, total, moments) in RUNS {
         stopped(&rt, rt.alloc(), bytes, work, *total, moments)?;
+    }
+    Ok(())
+}
+
+// The opening of a store that is refused: it has ended where that is not for a fault.
+struct Refusal;
+
+impl Run for Refusal {
+    fn run(&self, alloc: Global, disk: FuseDisk<MemDisk>) -> (MemDisk, bool) {
+        match AptplStore::open(alloc, disk) {
+            Ok((store, _)) => (store.close().into_inner(), true),
+            Err(refused) => {
+                let ended = refused.error != FAULT;
+                (refused.disk.into_inner(), ended)
+            }
+        }
+    }
+}
+
+// How many bytes of the side there are, a place and what stands there, how many calls of the disk the opening takes,
+// and why it is refused: a sync, two reads of the heading, one of each gate, and then one of each body.
+static REFUSED: &'static [(usize, usize, u8, u64, StoreError)] = &[
+    (26, 0, 0xa5, 1, StoreError::NotOurs),
+    (64, 9, 0x07, 3, StoreError::NotOurs),
+    (27, 0, 0xa5, 3, StoreError::Damaged { at: 27 }),
+    (45, 0, 0xa5, 4, StoreError::Damaged { at: 27 }),
+    (63, 0, 0xa5, 5, StoreError::Damaged { at: 45 }),
+    (64, 63, 0xa5, 6, StoreError::Damaged { at: 63 }),
+    (64, 32, 0x02, 7, StoreError::BadRecord { at: 27 }),
+    (64, 50, 0x02, 8, StoreError::BadRecord { at: 45 }),
+];
+
+// The first bytes of the side, of which one is this.
+fn damaged(alloc: Global, len: usize, place: usize, value: u8) -> Result<Vec<u8>, NoMemory> {
+    let mut bytes = Vec::from_slice(alloc, SIDE.get(..len).unwrap_or(NONE))?;
+    if let Some(byte) = bytes.get_mut(place) {
+        *byte = value;
+    }
+    Ok(bytes)
+}
+
+// What such a stop leaves is as it was, and is refused as it would be without the stop.
+fn is_refused(rt: &impl Abort, alloc: Global, stop: Stop, bytes: &[u8], end: (u64, StoreError)) {
+    let (total, error) = end;
+    let Stop { calls, ended, disk } = stop;
+    assert_equal!(rt; ended, calls == total; (calls, error));
+    assert_equal!(rt; disk.bytes(), bytes; (calls, error));
+    assert_equal!(rt; found(alloc, disk), Err(error); (calls, error));
+}
+
+#[test]
+fn a_refused_opening_is_stopped_at_each_call(rt: HostRuntime) -> Result<(), Fail> {
+    for &(len, place, value, total, error) in REFUSED {
+        let bytes = damaged(rt.alloc(), len, place, value)?;
+        let disk = MemDisk::from_bytes(rt.alloc(), bytes.as_slice())?;
+        let stops = stop_at_each_call(rt.alloc(), &disk, &Refusal)?;
+        assert_equal!(rt; stops.len() as u64 / 9, total.saturating_add(1); error);
+        for stop in stops {
+            is_refused(&rt, rt.alloc(), stop, bytes.as_slice(), (total, error));
+        }
     }
     Ok(())
 }
