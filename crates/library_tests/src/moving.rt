@@ -139,8 +139,8 @@ const NO_ROOM: Answer = (
     b"",
 );
 
-// Moves that lend no drive, one as destination, one as source, or both. The drive that a cartridge was moved to is ready,
-// and the other one is not.
+// Moves that lend no drive, one as destination, one as source, or both. The drive that a cartridge was moved to is
+// ready, and the other one is not.
 const ROUND: &'static [Act] = &[
     Act::Asks(&[(1, READY, b"", POWERED_ON), (2, READY, b"", POWERED_ON)]),
     Act::Moves(&[
