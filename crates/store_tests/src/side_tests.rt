@@ -7,7 +7,7 @@ use crate::samples::{
 };
 use aptpl_store::{AptplStore, StoreError};
 use assertions::{assert_equal, assert_holds};
-use pr_core::{Keeper, PrState, Reservations};
+use pr_core::{Keeper, Reservations};
 use scsi_lists::PrOut;
 use std::alloc::Global;
 use std::process::Abort;
@@ -42,13 +42,13 @@ static SIDES: &'static [(&'static [u8], usize, Found)] = &[
 ];
 
 // Each host that the plain program finds registered has its key.
-fn has_keys(rt: &impl Abort, left: &PrState, bytes: &[u8]) {
+fn has_keys(rt: &impl Abort, left: &Reservations, bytes: &[u8]) {
     for registration in registrations_left(bytes).chunks(9) {
         let Some((place, key)) = key_of(registration) else {
             assert_holds!(rt; false, "no registration");
             return;
         };
-        assert_equal!(rt; left.keys.get(place).copied(), Some(Some(key)); bytes);
+        assert_equal!(rt; left.state().keys.get(place).copied(), Some(Some(key)); bytes);
     }
 }
 
@@ -56,8 +56,12 @@ fn has_keys(rt: &impl Abort, left: &PrState, bytes: &[u8]) {
 fn agreed(rt: &impl Abort, alloc: Global, bytes: &[u8]) -> Result<Found, NoMemory> {
     let seen = found(alloc, MemDisk::from_bytes(alloc, bytes)?);
     assert_equal!(rt; seen, judged(bytes); bytes);
-    if let Ok((_, left)) = AptplStore::open(alloc, MemDisk::from_bytes(alloc, bytes)?) {
-        has_keys(rt, left.state(), bytes);
+    match AptplStore::open(alloc, MemDisk::from_bytes(alloc, bytes)?) {
+        Ok(opened) => {
+            let (_store, left) = opened;
+            has_keys(rt, &left, bytes);
+        }
+        Err(_) => {}
     }
     Ok(seen)
 }
