@@ -1,4 +1,6 @@
 //! A buffered medium on its own: what waits, and what it costs.
+ghost use Rattle.std.specs.Prelude.{◌≡◌, true};
+
 use crate::samples::{EMPTY, ONE};
 use assertions::assert_equal;
 use cartridge::Shelved;
@@ -98,29 +100,75 @@ fn see<D: Disk + Drop>(
     Ok(())
 }
 
-// What a medium is seen to hold, and what all of it takes.
+// How many filemarks are among the first n objects, for each n up to one more than there are.
+fn count_marks<C: Catalog>(alloc: Global, catalog: &C) -> Result<Vec<u32>, Fail>
+    requires { (C.state catalog.now).awake ≡ true }
+{
+    let mut counts = Vec::new(alloc);
+    for n in 0..catalog.count(0) + 2 {
+        counts.push(catalog.marks_upto(0, n))?;
+    }
+    Ok(counts)
+}
+
+// The object of each filemark.
+#[tactic(auto, using(crate::proofs::TestLemmas::marks_of_all))]
+fn find_marks<C: Catalog>(alloc: Global, catalog: &C) -> Result<Vec<u32>, Fail>
+    requires { (C.state catalog.now).awake ≡ true }
+{
+    let mut places = Vec::new(alloc);
+    let count = catalog.marks_upto(0, catalog.count(0));
+    for k in 0..count {
+        places.push(catalog.mark_at(0, k))?;
+    }
+    Ok(places)
+}
+
+// What a medium is seen to hold.
+#[derive(Drop)]
+struct Contents {
+    text: Vec<u8>,
+    used: u64,
+    marks_before: Vec<u32>,
+    marks: Vec<u32>,
+}
+
 #[tactic(auto, using(crate::proofs::TestLemmas::opened_is_awake))]
-fn seen<D: Disk + Drop>(alloc: Global, medium: &mut Buffered<D>) -> Result<(Vec<u8>, u64), Fail> {
+fn texts<D: Disk + Drop>(alloc: Global, medium: &mut Buffered<D>) -> Result<Vec<u8>, Fail> {
     medium.wake()?;
     let count = medium.count(0);
-    let used = medium.used(0, count);
     let mut text = Vec::new(alloc);
     let mut block = Vec::new(alloc);
     for at in 0..count {
         see(medium, at, &mut block, &mut text)?;
     }
-    Ok((text, used))
+    Ok(text)
 }
 
-// A medium over a block `a` takes one change behind another; what it holds then, and what all of it takes.
-static CHANGES: &'static [(Option<u8>, u32, u32, &'static [u8], u64)] = &[
-    (None, 1, 2, b"a||", 49),
-    (Some(b'b'), 2, 1, b"a|b", 50),
-    (None, 3, 1, b"a|b|", 66),
-    (None, 1, 0, b"a", 17),
-    (Some(b'c'), 1, 1, b"ac", 34),
-    (None, 2, 1, b"ac|", 50),
-    (Some(b'd'), 0, 1, b"d", 17),
+#[tactic(auto, using(crate::proofs::TestLemmas::opened_is_awake))]
+fn seen<D: Disk + Drop>(alloc: Global, medium: &mut Buffered<D>) -> Result<Contents, Fail> {
+    let text = texts(alloc, medium)?;
+    medium.wake()?;
+    Ok(Contents {
+        text,
+        used: medium.used(0, medium.count(0)),
+        marks_before: count_marks(alloc, medium)?,
+        marks: find_marks(alloc, medium)?,
+    })
+}
+
+// The objects, what all of them take, how many filemarks are among the first ones, and the object of each filemark.
+type View<'a> = (&'a [u8], u64, &'a [u32], &'a [u32]);
+
+// A medium over a block `a` takes one change behind another; what it holds then.
+static CHANGES: &'static [(Option<u8>, u32, u32, View<'static>)] = &[
+    (None, 1, 2, (b"a||", 49, &[0, 0, 1, 2, 2], &[1, 2])),
+    (Some(b'b'), 2, 1, (b"a|b", 50, &[0, 0, 1, 1, 1], &[1])),
+    (None, 3, 1, (b"a|b|", 66, &[0, 0, 1, 1, 2, 2], &[1, 3])),
+    (None, 1, 0, (b"a", 17, &[0, 0, 0], &[])),
+    (Some(b'c'), 1, 1, (b"ac", 34, &[0, 0, 0, 0], &[])),
+    (None, 2, 1, (b"ac|", 50, &[0, 0, 0, 1, 1], &[2])),
+    (Some(b'd'), 0, 1, (b"d", 17, &[0, 0, 0], &[])),
 ];
 
 // A block of this byte, so many marks, or, with none, an erase, behind the first objects.
@@ -157,11 +205,17 @@ fn is_seen<D: Disk + Drop>(
     rt: &impl Abort,
     alloc: Global,
     medium: &mut Buffered<D>,
-    wanted: (&[u8], u64),
+    wanted: View,
     at: usize,
 ) -> Result<(), Fail> {
-    let (found, all) = seen(alloc, medium)?;
-    assert_equal!(rt; (found.as_slice(), all), wanted; at);
+    let found = seen(alloc, medium)?;
+    let view = (
+        found.text.as_slice(),
+        found.used,
+        found.marks_before.as_slice(),
+        found.marks.as_slice(),
+    );
+    assert_equal!(rt; view, wanted; at);
     Ok(())
 }
 
@@ -173,12 +227,12 @@ fn sees<D: Disk + Drop>(
     behind: usize,
     parks: bool,
 ) -> Result<(), Fail> {
-    for (i, &(block, at, count, text, used)) in CHANGES.iter().enumerate() {
+    for (i, &(block, at, count, wanted)) in CHANGES.iter().enumerate() {
         takes(alloc, medium, block, at, count)?;
         if i == behind {
             stores(medium, parks)?;
         }
-        is_seen(rt, alloc, medium, (text, used), i)?;
+        is_seen(rt, alloc, medium, wanted, i)?;
     }
     Ok(())
 }

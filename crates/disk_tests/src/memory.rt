@@ -4,7 +4,7 @@ ghost use Rattle.tape_disk.specs.CallLog.{syncs_of};
 ghost use Rattle.tape_disk.specs.FuseDisk.{fuse_calls_left, fuse_disk_below};
 ghost use Rattle.tape_disk.specs.MemDisk.{mem_log};
 
-use crate::steps::{Step, act, fails};
+use crate::steps::{Step, act, fails, failures, get};
 use assertions::assert_equal;
 use std::process::Abort;
 use std::test::Fail;
@@ -51,6 +51,70 @@ fn a_read(rt: HostRuntime) -> Result<(), Fail> {
     let mut buffer = [0; 3];
     assert_equal!(rt; disk.read_at(3, &mut buffer), Ok(()));
     assert_equal!(rt; buffer, *b"dXY");
+    Ok(())
+}
+
+// A read of so many bytes from a place on, as far as the disk has them.
+fn read_wide<D: Disk>(disk: &mut D, at: u64, width: usize) -> Result<(), DevFault> {
+    let mut buffer = [0u8; 8];
+    let width = buffer.len().min(width);
+    get(disk, at, &mut buffer[..width])
+}
+
+// Reads of a disk of seven bytes: the place, how many bytes are asked for, and the widest read behind it.
+static READS: &'static [(u64, usize, usize)] = &[
+    (0, 0, 0),
+    (6, 1, 1),
+    (2, 3, 3),
+    (4, 2, 3),
+    (5, 8, 3),
+    (1, 5, 5),
+    (0, 4, 5),
+    (0, 7, 7),
+    (0, 1, 7),
+    (7, 8, 7),
+    (0, 6, 7),
+];
+
+fn reads_wider(rt: &impl Abort, disk: &mut MemDisk) {
+    for &(at, width, widest) in READS {
+        assert_equal!(rt; read_wide(disk, at, width), Ok(()); (at, width));
+        assert_equal!(rt; disk.widest_read(), widest; (at, width));
+    }
+}
+
+// A copy has it from the disk, and goes on alone. What a crash leaves was never read.
+fn is_kept_by_a_copy(rt: &impl Abort, disk: &MemDisk) -> Result<(), NoMemory> {
+    let mut copy = disk.copy()?;
+    assert_equal!(rt; (copy.widest_read(), act(&mut copy, Step::Put(7, b"h"))), (7, Ok(())));
+    assert_equal!(rt; read_wide(&mut copy, 0, 8), Ok(()));
+    assert_equal!(rt; (copy.widest_read(), disk.widest_read()), (8, 7));
+    assert_equal!(rt; copy.crash(0, b'.')?.widest_read(), 0);
+    Ok(())
+}
+
+// A read that is refused does not count, nor does a call that is no read.
+fn counts_no_other_call(rt: &impl Abort, disk: MemDisk) {
+    let mut fuse = FuseDisk::new(disk, 4);
+    for step in [Step::Put(0, b"0123456789"), Step::Cut(8), Step::Sync] {
+        assert_equal!(rt; (act(&mut fuse, step), fuse.inner().widest_read()), (Ok(()), 7));
+    }
+    for (width, failed, widest) in [(2, 0, 7), (8, 1, 7)] {
+        assert_equal!(rt; failures(read_wide(&mut fuse, 0, width)), failed; width);
+        assert_equal!(rt; fuse.inner().widest_read(), widest; width);
+    }
+    let mut disk = fuse.into_inner();
+    assert_equal!(rt; (read_wide(&mut disk, 0, 8), disk.widest_read()), (Ok(()), 8));
+}
+
+#[test]
+fn the_widest_read(rt: HostRuntime) -> Result<(), Fail> {
+    assert_equal!(rt; MemDisk::new(rt.alloc()).widest_read(), 0);
+    let mut disk = MemDisk::from_bytes(rt.alloc(), b"abcdefg")?;
+    assert_equal!(rt; disk.widest_read(), 0);
+    reads_wider(&rt, &mut disk);
+    is_kept_by_a_copy(&rt, &disk)?;
+    counts_no_other_call(&rt, disk);
     Ok(())
 }
 

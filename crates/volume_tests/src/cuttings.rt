@@ -1,5 +1,10 @@
 //! A body that is read in pieces, however it is cut, against the whole of it.
+ghost use Rattle.std.specs.Prelude.{◌≤◌, IfOk, length};
+
+mod bodies;
+
 use assertions::assert_equal;
+use bodies::{Body, damage, drawn_body, drawn_cuts, drawn_place, read_plainly};
 use record_index::{Fed, Found, Record, RecordError, RecordReader, decode_changes};
 use std::alloc::Global;
 use std::process::Abort;
@@ -40,19 +45,44 @@ static RECORDS: &'static [Found; 3] = &[
 
 // The records that are found in a body, and the place of its first bad record, if it has one.
 #[derive(Drop, Debug, PartialEq)]
-struct Answer {
-    found: Vec<Found>,
-    bad: Option<usize>,
+pub(crate) struct Answer {
+    pub(crate) found: Vec<Found>,
+    pub(crate) bad: Option<usize>,
 }
 
-// Gives a piece to the reader, of a body of few bytes. False is that it is bad.
-fn fed(reader: &mut RecordReader, piece: &[u8], answer: &mut Answer) -> Result<bool, Fail> {
+// The reader passes over bytes of a block at the front of a piece: over how many.
+fn passed(reader: &mut RecordReader, piece: &[u8], answer: &mut Answer) -> Result<usize, Fail>
+    ensures { IfOk result (λ count. count ≤ length piece.now) }
+{
+    let count = reader.unseen().min(piece.len());
+    if count == 0 || reader.at() > 1_000 {
+        return Ok(0);
+    }
+    if let Some(found) = reader.pass(count) {
+        answer.found.push(found)?;
+    }
+    Ok(count)
+}
+
+// Gives a piece of a body of few bytes to the reader, which passes over those of a block or not. False is that it is
+// bad.
+fn fed(
+    reader: &mut RecordReader,
+    piece: &[u8],
+    passes: bool,
+    answer: &mut Answer,
+) -> Result<bool, Fail> {
     let mut from = 0usize;
     for _ in 0..100u8 {
         if from >= piece.len() || reader.at() > 1_000 {
             break;
         }
-        match reader.feed(&piece[from..]) {
+        let rest = &piece[from..];
+        if passes && reader.unseen() > 0 {
+            from += passed(reader, rest, answer)?;
+            continue;
+        }
+        match reader.feed(rest) {
             Fed::Found { item, at, taken } => {
                 answer.found.push(Found { item, at })?;
                 from += taken;
@@ -68,7 +98,12 @@ fn fed(reader: &mut RecordReader, piece: &[u8], answer: &mut Answer) -> Result<b
 }
 
 // What a reader finds in bytes that are cut at these places.
-fn read_in_pieces(alloc: Global, bytes: &[u8], cuts: &[usize]) -> Result<Answer, Fail> {
+fn read_in_pieces(
+    alloc: Global,
+    bytes: &[u8],
+    cuts: &[usize],
+    passes: bool,
+) -> Result<Answer, Fail> {
     let mut reader = RecordReader::new();
     let mut answer = Answer {
         found: Vec::new(alloc),
@@ -77,13 +112,14 @@ fn read_in_pieces(alloc: Global, bytes: &[u8], cuts: &[usize]) -> Result<Answer,
     let mut from = 0;
     for cut in cuts {
         if from <= *cut && *cut <= bytes.len() {
-            if !fed(&mut reader, &bytes[from..*cut], &mut answer)? {
+            if !fed(&mut reader, &bytes[from..*cut], passes, &mut answer)? {
                 return Ok(answer);
             }
             from = *cut;
         }
     }
-    if fed(&mut reader, &bytes[from.min(bytes.len())..], &mut answer)? {
+    let last = &bytes[from.min(bytes.len())..];
+    if fed(&mut reader, last, passes, &mut answer)? {
         answer.bad = match reader.end() {
             Err(RecordError::BadRecord { at }) => Some(at),
             _ => None,
@@ -111,9 +147,13 @@ fn read_whole(alloc: Global, bytes: &[u8]) -> Result<Answer, Fail> {
     Ok(Answer { found, bad })
 }
 
+// A body is read in pieces as it is read whole, and as a plain program reads it.
 fn are_alike(rt: &impl Abort, alloc: Global, bytes: &[u8], cuts: &[usize]) -> Result<(), Fail> {
-    let wanted = read_whole(alloc, bytes)?;
-    assert_equal!(rt; read_in_pieces(alloc, bytes, cuts)?, wanted; cuts);
+    assert_equal!(rt; read_whole(alloc, bytes)?, read_plainly(alloc, bytes)?; bytes);
+    for passes in [false, true] {
+        let wanted = read_whole(alloc, bytes)?;
+        assert_equal!(rt; read_in_pieces(alloc, bytes, cuts, passes)?, wanted; (bytes, cuts, passes));
+    }
     Ok(())
 }
 
@@ -168,5 +208,40 @@ fn cuttings_by_chance(rt: HostRuntime) -> Result<(), Fail> {
         }
         are_alike(&rt, alloc, BODY, &cuts)?;
     }
+    Ok(())
+}
+
+// Whether a body is bad or not whole, once it was read in all ways.
+fn is_bad(rt: &impl Abort, alloc: Global, bytes: &[u8], cuts: &[usize]) -> Result<bool, Fail> {
+    are_alike(rt, alloc, bytes, cuts)?;
+    Ok(read_plainly(alloc, bytes)?.bad.is_some())
+}
+
+// A body by chance has the records that it is made of. How many are bad or not whole: of this one without its last
+// bytes, and of five with one byte changed.
+fn bad_ones(rt: &impl Abort, alloc: Global, state: &mut u32) -> Result<u32, Fail> {
+    let Body { bytes, found } = drawn_body(alloc, state)?;
+    let cuts = drawn_cuts(alloc, state, bytes.len())?;
+    assert_equal!(rt; read_plainly(alloc, &bytes)?, Answer { found, bad: None });
+    are_alike(rt, alloc, &bytes, &cuts)?;
+    let end = drawn_place(state, bytes.len()).min(bytes.len());
+    let mut count = u32::from(is_bad(rt, alloc, &bytes[..end], &cuts)?);
+    for _ in 0..5u8 {
+        let mut changed = bytes.to_vec(alloc)?;
+        damage(state, changed.as_mut_slice());
+        count = count.saturating_add(u32::from(is_bad(rt, alloc, &changed, &cuts)?));
+    }
+    Ok(count)
+}
+
+// How many of 1,800 shortened and changed bodies are bad or not whole was counted by a program in another language.
+#[test]
+fn bodies_by_chance(rt: HostRuntime) -> Result<(), Fail> {
+    let mut state = 7u32;
+    let mut count = 0u32;
+    for _ in 0..300u32 {
+        count = count.saturating_add(bad_ones(&rt, rt.alloc(), &mut state)?);
+    }
+    assert_equal!(rt; count, 667);
     Ok(())
 }
