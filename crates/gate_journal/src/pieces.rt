@@ -19,8 +19,8 @@ use tape_disk::Disk;
 /// where it is as many.
 pub(crate) const PIECE_BYTES: usize = 65_536;
 
-// So many bytes are read behind those that were passed over, at most.
-const JUMP_BYTES: usize = 4_096;
+/// So many bytes are read behind those that were passed over, at most.
+pub(crate) const JUMP_BYTES: usize = 4_096;
 
 // How many bytes of a body were taken so far, how many are read next, at most, and which they were.
 #[derive(Drop)]
