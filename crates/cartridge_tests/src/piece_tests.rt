@@ -70,15 +70,15 @@ fn opened_by(
 
 // Blocks of so many bytes, and how often an opening asks the disk.
 static ROWS: &'static [(usize, usize, u64)] = &[
-    (131_062, 100, 7),
-    (131_061, 100, 8),
+    (131_063, 100, 7),
+    (131_062, 100, 8),
     (1_048_576, 4_086, 7),
     (1_048_576, 4_087, 8),
 ];
 
 // Five calls come before the body: a sync, two reads of the header, one of the frame's mark, one of the end gate. A
-// first piece has 65,526 bytes of the first block. Where 65,536 of it are left, they are passed over, and the next
-// piece has at most 4,096 bytes. Where 65,535 are left, they are read, with one byte behind them.
+// first piece has 65,526 bytes of the first block. Where 65,537 of it are left, they are passed over, and the next
+// piece has at most 4,096 bytes. Where 65,536 are left, they are read.
 #[test]
 fn how_often_the_disk_is_asked(rt: HostRuntime) -> Result<(), Fail> {
     let alloc = rt.alloc();

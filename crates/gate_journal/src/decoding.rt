@@ -19,7 +19,7 @@ use tape_disk::Disk;
 impl<D: Disk> Journal<D> {
     /// Opens the side of the decoder's kind that the disk holds, as `open_as` does. Then the bodies are
     /// given to a new decoder, each once and in order, in pieces of at most 65,536 bytes. Where it need
-    /// not see 65,536 bytes or more, these are not read; the piece behind them has at most 4,096. The
+    /// not see more than 65,536 bytes, these are not read; the piece behind them has at most 4,096. The
     /// first body that it refuses is `BadRecord`, also where later ones are good. Room is made in memory
     /// for that many frames that are spelled in place, and for one piece while it works.
     pub fn open_decoded<T: Decodes>(

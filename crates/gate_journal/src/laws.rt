@@ -4,6 +4,7 @@ ghost use Rattle.gate_journal.specs.Side.{Heading, StandsFor, IsNotOurs, IsDamag
 ghost use Rattle.gate_journal.specs.SideOn.{side_on};
 ghost use Rattle.gate_journal.specs.declared.header.TheConstants.{NAME_BYTES};
 ghost use Rattle.gate_journal.specs.declared.frame.TheConstants.{AROUND, LENGTH_BYTES};
+ghost use Rattle.gate_journal.specs.declared.pieces.TheConstants.{JUMP_BYTES, PIECE_BYTES};
 
 /// Each image stands for some side, is no side of this library, or is damaged at some place.
 pub fn each_image_is_decided()
@@ -29,10 +30,12 @@ pub fn the_side_on_an_image()
         (side_on image ≡ Some (h, bs)) ↔ StandsFor h bs image }
 {}
 
-/// The lengths that this crate names itself: of a name, of a body's length, and of all that stands
-/// around a body.
+/// The lengths that this crate names itself: of a name, of a body's length, of all that stands around
+/// a body, of the longest piece of a body, and of the longest behind bytes that were passed over.
 pub fn the_lengths()
     ensures name { NAME_BYTES ≡ 16 }
     ensures length { LENGTH_BYTES ≡ 4 }
     ensures around { AROUND ≡ 5 }
+    ensures piece { PIECE_BYTES ≡ 65536 }
+    ensures jump { JUMP_BYTES ≡ 4096 }
 {}

@@ -16,11 +16,11 @@ use crate::noted::NotedBytes;
 use tape_disk::Disk;
 
 /// So many bytes of a body are read at a time, at most. What a decoder need not see is passed over
-/// where it is as many.
+/// where it is more.
 pub(crate) const PIECE_BYTES: usize = 65_536;
 
-// So many bytes are read behind those that were passed over, at most.
-const JUMP_BYTES: usize = 4_096;
+/// So many bytes are read behind those that were passed over, at most.
+pub(crate) const JUMP_BYTES: usize = 4_096;
 
 // How many bytes of a body were taken so far, how many are read next, at most, and which they were.
 #[derive(Drop)]
@@ -102,14 +102,14 @@ fn take_next<D: Disk, T: Decodes>(
     ensures refused { IfErr result (λ error.
         IsNotRead error (D.state journal.old.disk) (D.state journal.new.disk)) }
 {
-    if decoder.unseen() >= PIECE_BYTES {
+    if decoder.unseen() > PIECE_BYTES {
         pass_over(journal, frame, decoder, so_far)
     } else {
         read_on(journal, frame, decoder, buffer, so_far)
     }
 }
 
-// Passes over what the decoder need not see of the body.
+// Passes over what the decoder need not see of the body, which is more than a piece.
 fn pass_over<D: Disk, T: Decodes>(
     journal: &Journal<D>,
     frame: usize,
@@ -117,7 +117,7 @@ fn pass_over<D: Disk, T: Decodes>(
     so_far: &mut SoFar,
 ) -> Result<bool, OpenError>
     requires frame { frame < length journal.now.extents }
-    requires unseen { 1 ≤ T.unseen decoder.old }
+    requires unseen { PIECE_BYTES < T.unseen decoder.old }
     requires so_far { IsSoFar so_far.old (slice_index_or journal.now.extents frame (0, 0)).1
         (D.state journal.now.disk).honest (slice_index_or journal.now.bodies frame []) }
     requires more { so_far.old.from < (slice_index_or journal.now.extents frame (0, 0)).1 }
@@ -139,7 +139,7 @@ fn pass_over<D: Disk, T: Decodes>(
     Ok(good)
 }
 
-// Reads the next bytes of the body, and gives them to the decoder.
+// Reads the next bytes of the body, and gives them to the decoder, which need not see more than a piece.
 fn read_on<D: Disk, T: Decodes>(
     journal: &mut Journal<D>,
     frame: usize,
@@ -150,6 +150,7 @@ fn read_on<D: Disk, T: Decodes>(
     requires fine { journal.old.failed ≡ false }
     requires frame { frame < length journal.old.extents }
     requires room { 1 ≤ length buffer.old }
+    requires unseen { T.unseen decoder.old ≤ PIECE_BYTES }
     requires so_far { IsSoFar so_far.old (slice_index_or journal.old.extents frame (0, 0)).1
         (D.state journal.old.disk).honest (slice_index_or journal.old.bodies frame []) }
     requires more { so_far.old.from < (slice_index_or journal.old.extents frame (0, 0)).1 }
