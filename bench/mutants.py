@@ -90,6 +90,14 @@ EDITS = [
      "    match Ok::<(), FileError>(()) {\n", ["a_file_is_opened_once", "a_refused_opening_writes_nothing"]),
     ("a file is written before its lock is asked for", "file_disk", "src/opening.rt", "    match lock(&file) {\n",
      "    let _ = file.set_len(3);\n    match lock(&file) {\n", ["a_refused_opening_writes_nothing"]),
+    ("the memory for a run behind 500,000 runs of filemarks is refused", "record_index", "src/runs.rt",
+     "        self.entries.reserve(count)\n",
+     "        if self.entries.len() >= 500_000 {\n            return Err(AllocError);\n        }\n"
+     "        self.entries.reserve(count)\n", ["a_million_runs_are_searched_in_20_steps"]),
+    ("the memory for the fourth change of a body is refused", "record_index", "src/spelling.rt",
+     "        changes.reserve(1)?;\n",
+     "        if changes.len() >= 3 {\n            return Err(RecordError::NoMemory);\n        }\n"
+     "        changes.reserve(1)?;\n", ["bodies_by_chance"]),
     ("a read that would block is made again", "vtl_script", "src/read_buffers.rt",
      "        Err(e) if is_interrupted(e.kind()) => Ok(None),",
      "        Err(e) if is_interrupted(e.kind()) || e.kind() == std::io::ErrorKind::WouldBlock => Ok(None),",
