@@ -18,6 +18,7 @@ import os
 import re
 import shutil
 import subprocess
+import time
 from dataclasses import dataclass
 
 import wrong_bodies
@@ -119,7 +120,7 @@ def name_of(body, crate):
     words = re.sub(r"^(?:unsafe )?impl\b(?:<(?:[^<>]|<(?:[^<>]|<[^<>]*>)*>)*>)?", "", body.owner)
     words = re.split(r"\bwhere\b|\{", words)[0]
     trait, _, kind = words.rpartition(" for ")
-    plain = lambda text: re.sub(r"\W", "", text.split("::")[-1]).lower()
+    plain = lambda text: re.sub(r"\W", "", re.sub(r"^\s*(?:\w+::)+", "", text)).lower()
     start, whole = plain(without_generics(kind)) + plain(without_generics(trait)), plain(kind) + plain(trait)
     near = [it for it in ends if it[-2].lower().startswith(start) and (trait or it[-2].lower() == start)]
     exact = [it for it in near if it[-2].lower() in (start, whole)]
@@ -202,7 +203,9 @@ def tried_together(crate, batch, note):
     """Tries the edits of a batch in one check, and notes what refuses each; returns those that are not refused."""
     changed = {key: lines for edit in batch.values() for key, lines in edit.items()}
     texts = wrong_bodies.made(crate.texts, changed)
+    started = time.monotonic()
     lines = checked(crate, texts)
+    print(f"{crate.name}: a check of {len(batch)} edits, {time.monotonic() - started:.0f} seconds", flush=True)
     faults = {(path, wrong_bodies.body_at(path, texts[path], line) if path in texts else None)
               for path, line in unread(lines)}
     bad = [name for name, edit in batch.items() if any(key in faults for key in edit)]

@@ -30,6 +30,7 @@ def copied(room, chosen, known):
             shutil.copytree(kept, os.path.join(folder, "out"), symlinks=True)
         if subprocess.run(["rt", "lib"], cwd=folder, stdout=subprocess.DEVNULL).returncode:
             sys.exit(f"{crate} is not proved, so nothing above it was tried")
+        shutil.rmtree(os.path.join(folder, "out", "incremental"), ignore_errors=True)
 
 
 def own_room(room, crate, known):
