@@ -22,7 +22,8 @@ check: need-rt
 	.ci/run
 
 wrong: need-rt
-	python3 bench/wrong.py $(CRATE) $(EDIT)
+	python3 bench/wrong.py --selftest
+	python3 bench/wrong.py $(if $(RESULTS),--into $(RESULTS)) $(CRATE) $(EDIT)
 
 rows: $(if $(PROGRAM),,vtl)
 	python3 bench/rows.py --selftest

@@ -15,7 +15,7 @@ import tempfile
 from concurrent.futures import ThreadPoolExecutor
 
 import rows
-import wrong
+import wrong_edits
 
 TOP = os.path.dirname(os.path.dirname(os.path.abspath(__file__)))
 LIST = os.path.join(TOP, "rows", "wrong.txt")
@@ -35,12 +35,12 @@ def edited(room, name):
     """Makes the edit in the copy; the old texts by path."""
     crate, _, edit = name.partition("/")
     old, texts, path = None, {}, None
-    for line in wrong.read(TOP, "crates", crate, "wrong", f"{edit}.edit").removesuffix("\n").split("\n"):
+    for line in wrong_edits.read(TOP, "crates", crate, "wrong", f"{edit}.edit").removesuffix("\n").split("\n"):
         word, _, rest = line.partition(":")
         rest = rest[1:]
         if word == "file":
             path = os.path.join(room, "crates", crate, rest)
-            texts.setdefault(path, wrong.read(path))
+            texts.setdefault(path, wrong_edits.read(path))
         elif word == "old":
             old = rest
         else:
@@ -104,7 +104,7 @@ def main():
     for name in names:
         crate, _, edit = name.partition("/")
         path = os.path.join(TOP, "crates", crate, "wrong", f"{edit}.edit")
-        why = wrong.fault_in(crate, path) if os.path.isfile(path) else "there is no such edit"
+        why = wrong_edits.fault_in(crate, path) if os.path.isfile(path) else "there is no such edit"
         if why:
             sys.exit(f"{name}: {why}")
     ordered, said = rows.read_all([os.path.join(TOP, "rows")])

@@ -1,20 +1,26 @@
 #!/usr/bin/env python3
-"""Tries the edits of crates/*/wrong/, each of which the prover must refuse, with the gate's tool on a copy of the
-repository.
+"""Tries the edits of crates/*/wrong/, each of which the prover must refuse, on copies of the repository.
 
-wrong.py [CRATE [EDIT..]]   every edit, those of a crate, or those named: for each, refused or PROVED (a hole)
+wrong.py [--alone] [--into FILE] [CRATE [EDIT..]]
+                            every edit, those of a crate, or those named: for each, what refuses it, or PROVED (a hole)
 wrong.py --lint             tries none, and looks at the form of each edit of must-fail/ and wrong/, at
                             docs/CLAIMS.md, and at where the sources make counts of steps
+wrong.py --selftest         tries none, and looks at how edits are put together and how a check is read
+
+Edits of different functions are tried in one check, as wrong_batches.py says; what isn't clearly refused so is tried by
+the gate's tool, `rt must-fail`, which has the last word. With --alone that tool tries each. With --into each result is
+added to the file as a line, and an edit that has a line there is not tried again: so a run that broke off goes on.
 """
 import os
 import re
-import shutil
-import subprocess
 import sys
 import tempfile
 from concurrent.futures import ThreadPoolExecutor
 
-TOP = os.path.dirname(os.path.dirname(os.path.abspath(__file__)))
+import wrong_runs
+import wrong_selftest
+from wrong_edits import TOP, crates, edits_in, fault_in, read
+
 # the edits of a crate that the gate tries, at most: each costs it half a processor minute and more
 MOST = 8
 AT_ONCE = 2
@@ -22,77 +28,12 @@ AT_ONCE = 2
 # one of its own would be proved, however long it is.
 COUNTS = [("record_index/src/index.rt", "marks_upto"), ("record_index/src/index.rt", "mark_at"),
           ("record_index/src/tables.rt", "cut"), ("record_index/src/tables.rt", "add_marks")]
-SAID = re.compile(r"rt: must-fail (\w+)/([\w.-]+)\.edit: (refused, as it must be|NOT REFUSED|BAD EDIT)(.*)")
-
-
-def read(*path):
-    with open(os.path.join(*path), encoding="utf-8") as file:
-        return file.read()
-
-
-def crates():
-    """Each crate of crates.txt with the names behind its colon."""
-    found = {}
-    for line in read(TOP, "crates.txt").splitlines():
-        line = line.partition("#")[0].strip()
-        if line:
-            name, _, below = line.partition(":")
-            found[name.split()[0]] = re.split(r"[\s,]+", below.strip()) if below.strip() else []
-    return found
-
-
-def lowest_first(names, known):
-    """These crates and all of the repository below them, each behind those that it uses."""
-    found = []
-    for name in names:
-        below = lowest_first([it for it in known[name] if it in known], known)
-        found += [it for it in [*below, name] if it not in found]
-    return found
-
-
-def libraries_below(names, known):
-    below = {it for name in names for it in lowest_first([name], known)[:-1]}
-    return [it for it in lowest_first([*names], known) if it in below]
-
-
-def edits_in(crate, folder):
-    """The edits of the crate in must-fail/ or wrong/, by name."""
-    place = os.path.join(TOP, "crates", crate, folder)
-    files = sorted(os.listdir(place)) if os.path.isdir(place) else []
-    return {file[: -len(".edit")]: os.path.join(place, file) for file in files if file.endswith(".edit")}
 
 
 def strange_files(crate, folder):
     place = os.path.join(TOP, "crates", crate, folder)
     files = sorted(os.listdir(place)) if os.path.isdir(place) else []
     return [file for file in files if not re.fullmatch(r"\w+\.edit|[\w-]+\.md", file)]
-
-
-def fault_in(crate, edit):
-    """Why the edit would not be tried as it reads, or None."""
-    text, texts, path, old, pairs = read(edit), {}, None, None, 0
-    for line in text.removesuffix("\n").split("\n"):
-        word, _, rest = line.partition(": ")
-        if word == "file" and rest and old is None:
-            path = rest
-            if not re.fullmatch(r"src/[\w/]+\.rt", path):
-                return f"{path}: an edit is one of the code, a file src/*.rt"
-            if not os.path.isfile(os.path.join(TOP, "crates", crate, path)):
-                return f"there is no file {path}"
-        elif word == "old" and rest and path and old is None:
-            old = rest
-        elif (word == "new" and rest or line == "new:") and old is not None:
-            before = texts.setdefault(path, read(TOP, "crates", crate, path))
-            if before.count(old) != 1:
-                return f"its old text stands in {path} {before.count(old)} times, and not once: {old[:60]}"
-            if rest == old:
-                return "its new text is the old one"
-            texts[path], old, pairs = before.replace(old, rest), None, pairs + 1
-        else:
-            return f"a line that is not 'file: ', 'old: ' or 'new: ' in its place is not read: {line[:60]!r}"
-    if old is not None:
-        return "an old text has no new one"
-    return None if pairs else "it has no pair of old and new"
 
 
 def claims():
@@ -193,46 +134,8 @@ def lint():
     return 1 if said else 0
 
 
-def copied(room, chosen, known):
-    """A repository like this one, in which the chosen edits stand in must-fail/, and no others."""
-    for file in ("crates.txt", "HANDLES"):
-        shutil.copy(os.path.join(TOP, file), room)
-    leave = shutil.ignore_patterns("out", "must-fail", "wrong")
-    for crate in known:
-        shutil.copytree(os.path.join(TOP, "crates", crate), os.path.join(room, "crates", crate), ignore=leave)
-    # what earlier checks kept of the libraries below: one whose text has changed since is proved again
-    for crate in libraries_below(chosen, known):
-        kept = os.path.join(TOP, "crates", crate, "out")
-        if os.path.isdir(kept):
-            shutil.copytree(kept, os.path.join(room, "crates", crate, "out"), symlinks=True)
-    for crate, edits in chosen.items():
-        folder = os.path.join(room, "crates", crate, "must-fail")
-        os.mkdir(folder)
-        for edit in edits.values():
-            shutil.copy(edit, folder)
-    subprocess.run(["git", "init", "-q", room], check=True)
-
-
-def tried(room, crate, edits):
-    """What the gate's tool says of each edit of the crate, as (edit, kind, words)."""
-    print(f"{crate}: trying {len(edits)} edits", flush=True)
-    done = subprocess.run(["rt", "must-fail", crate], cwd=room, stdout=subprocess.PIPE, stderr=subprocess.STDOUT,
-                          text=True, errors="replace")
-    said = {it[2]: (it[3], it[4]) for it in map(SAID.fullmatch, done.stdout.splitlines()) if it and it[1] == crate}
-    rows, named = [], {"refused, as it must be": "refused", "NOT REFUSED": "PROVED (a hole)",
-                       "BAD EDIT": "NOT TRIED (a bad edit)"}
-    for name in edits:
-        kind, words = said.get(name, ("NOT TRIED", f": rt ended with {done.returncode}: {done.stdout.strip()[-400:]}"))
-        told = named.get(kind, kind)
-        rows.append((name, kind, words))
-        print(f"{crate}/{name}: {told}{words[:200] if kind != 'NOT REFUSED' else ''}", flush=True)
-    return rows
-
-
-def main(words):
-    known = crates()
-    if words == ["--lint"]:
-        return lint()
+def asked(words, known, results):
+    """The edits that the command line names, by crate, but for those that have a result."""
     if words and (words[0] not in known or any(it.startswith("-") for it in words)):
         sys.exit(f"{words[0]} is no crate of crates.txt\n\n{__doc__}")
     chosen = {crate: edits_in(crate, "wrong") for crate in (words[:1] or known)}
@@ -244,25 +147,36 @@ def main(words):
     for crate in words[:1]:
         if not chosen[crate]:
             print(f"crates/{crate}/wrong has no edits")
+    chosen = {crate: {name: edit for name, edit in edits.items() if f"{crate}/{name}" not in results.had}
+              for crate, edits in chosen.items()}
     chosen = {crate: edits for crate, edits in chosen.items() if edits}
     faults = {(crate, name): fault_in(crate, edit) for crate, edits in chosen.items() for name, edit in edits.items()}
     bad = [f"{crate}/{name}: {why}" for (crate, name), why in faults.items() if why]
     if bad:
         sys.exit("\n".join([*bad, "no edit was tried"]))
+    return chosen
+
+
+def main(words):
+    if words == ["--lint"]:
+        return lint()
+    if words == ["--selftest"]:
+        return wrong_selftest.main()
+    is_alone = words[:1] == ["--alone"]
+    words = words[is_alone:]
+    path = words[1] if words[:1] == ["--into"] and len(words) > 1 else None
+    known, results = crates(), wrong_runs.Results(path)
+    chosen = asked(words[2:] if path else words, known, results)
     with tempfile.TemporaryDirectory(prefix="wrong_") as room:
-        copied(room, chosen, known)
-        for crate in libraries_below(chosen, known):
-            folder = os.path.join(room, "crates", crate)
-            if subprocess.run(["rt", "lib"], cwd=folder, stdout=subprocess.DEVNULL).returncode:
-                sys.exit(f"{crate} is not proved, so nothing above it was tried")
+        wrong_runs.copied(room, chosen, known)
         with ThreadPoolExecutor(AT_ONCE) as pool:
-            rows = {crate: pool.submit(tried, room, crate, edits) for crate, edits in chosen.items()}
-            rows = [(f"{crate}/{name}", kind, words)
-                    for crate, row in rows.items() for name, kind, words in row.result()]
-    refused = [name for name, kind, words in rows if kind.startswith("refused")]
-    by_name = [name for name, kind, words in rows if "only because a proof file names" in words]
-    others = [f"{name}: {kind}" for name, kind, words in rows if not kind.startswith("refused")]
-    print(f"{len(rows)} edits: {len(refused)} refused, {len(others)} not")
+            for done in [pool.submit(wrong_runs.tried, room, crate, edits, known, results, is_alone)
+                         for crate, edits in chosen.items()]:
+                done.result()
+    refused = [name for name, kind in results.rows if kind.startswith("refused")]
+    by_name = [name for name, kind in results.rows if kind == wrong_runs.BY_NAME]
+    others = [f"{name}: {kind}" for name, kind in results.rows if not kind.startswith("refused")]
+    print(f"{len(results.rows)} edits: {len(refused)} refused, {len(others)} not")
     if by_name:
         print(f"of the refused, by a name in a proof file alone: {', '.join(by_name)}")
     print("\n".join(others), end="\n" if others else "")
