@@ -1,4 +1,4 @@
-"""Tries the edits of a crate on a copy of the repository: many in one check, and what that leaves by the gate's tool."""
+"""Tries the edits of a crate on a copy of the repository: many in one check, and what is left by the gate's tool."""
 import os
 import re
 import shutil
