@@ -1,0 +1,4 @@
+pub mod Choosing
+pub mod Inner
+pub mod Pairs
+pub mod Passes
