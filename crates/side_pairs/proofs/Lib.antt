@@ -1,4 +1,5 @@
 pub mod ChooseLemmas
+pub mod CopyLemmas
 pub mod CutLemmas
 pub mod GateLemmas
 pub mod HoleLemmas
