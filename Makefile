@@ -1,7 +1,8 @@
 # docs/GATE.md says what each target does.
 RT := $(shell command -v rt)
 
-.PHONY: demo vtl check wrong rows rows-wrong mutants faults asked endings examples stops kills bench gate definitions need-rt
+.PHONY: demo vtl check wrong rows rows-wrong nomemory mutants faults hostile asked endings examples stops kills bench \
+	gate definitions need-rt
 .DEFAULT_GOAL := demo
 
 need-rt:
@@ -31,6 +32,10 @@ rows: $(if $(PROGRAM),,vtl)
 rows-wrong: need-rt
 	python3 bench/rows_wrong.py $(EDIT)
 
+nomemory: vtl
+	python3 bench/nomemory.py --selftest
+	python3 bench/nomemory.py
+
 mutants: need-rt
 	python3 bench/mutants.py
 
@@ -38,6 +43,10 @@ faults: vtl
 	@for crate in journal_bench cartridge_bench buffer_bench; do (cd crates/$$crate && rt run > /dev/null) || exit 1; done
 	python3 bench/faults.py --selftest
 	python3 bench/faults.py
+
+hostile: $(if $(PROGRAM),,vtl)
+	python3 bench/hostile.py --selftest
+	python3 bench/hostile.py $(if $(PROGRAM),--program $(PROGRAM)) $(if $(COUNT),--count $(COUNT)) $(if $(SEED),--seed $(SEED))
 
 asked: vtl
 	python3 bench/asked.py
@@ -64,6 +73,7 @@ bench: need-rt
 	python3 bench/program.py
 	python3 bench/starts.py
 	python3 bench/hosts.py
+	python3 bench/loads.py
 
 gate: need-rt
 	python3 bench/gate.py

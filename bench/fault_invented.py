@@ -33,6 +33,8 @@ STAND = [
     ("fault", 0, {**FIRST_FAILED, MARK: DEFERRED}), ("fault", 0, {READY: DEFERRED, READY + 1: RIGHT[READY]}),
     ("fault", 0, UNOPENED), ("fault", 0, each([REGISTER, RESERVE], HAS_FAILED)),
     ("fault", 0, {RESERVE: HAS_FAILED}), ("interrupted", 0, {}), ("short", 0, {}),
+    # a flusher's turn failed, on the cartridge in the drive or on the one before it
+    ("fault", 0, {END: DEFERRED}), ("fault", 2, {END: DEFERRED}),
 ]
 FOUND = [
     ("interrupted", 0, {WRITE: ABORTED}), ("short", 2, {}), ("lost", 0, {WRITE: "GOOD 00"}),
@@ -51,7 +53,7 @@ FOUND = [
     # another status than the answers ask for
     ("fault", 2, FIRST_FAILED), ("fault", 0, SECOND_FAILED), ("fault", 0, STAYS), ("fault", 2, UNREAD),
     ("memory", 3, {WRITE: ABORTED}), ("memory", 2, {}), ("memory", 2, {}, 0), ("fault", 3, {}, 8), ("fault", 1, {}),
-    ("memory", 0, {}, 8),
+    ("memory", 0, {}, 8), ("fault", 2, {OTHER_WRITE: DEFERRED}), ("fault", 3, {END: DEFERRED}),
     # what was written is no beginning of the answers
     ("memory", 3, {WRITE: "CONFLICT"}, 8), ("fault", 2, {MARK: WRITE_ERROR}, 8), ("fault", 2, {0: "GOOD"}, 8),
     ("fault", 2, {WRITE: f"GOOD\n{READ_ERROR}"}, 8), ("fault", 0, {END: "GOOD\nGOOD"}), ("fault", 2, {7: "GOO"}, 8),

@@ -53,7 +53,8 @@ class Drive:
         # whether a command was answered for a call that failed; whether the medium has failed, or the saving of orders
         self.is_hit, self.medium_failed, self.orders_failed = not is_open, False, False
         self.tape, self.is_loaded, self.told, self.is_registered = FIRST, is_open, 0x2900, False
-        self.has_moved = False
+        # whether a cartridge was moved; whether no answer shows if the one in the drive has failed or one before it
+        self.has_moved, self.is_unsure = False, False
 
     def answer(self, line):
         """The answer to a line, which is carried out."""
@@ -101,6 +102,7 @@ def followed(kind, drive, answers):
         if answer == DEFERRED and kind == "fault" and not drive.is_hit and line.loads is False:
             # the line is not carried out; what failed is the cartridge in the drive, or one that went out before
             drive.is_hit, drive.medium_failed = True, not drive.has_moved or HAS_FAILED in answers[at + 1:]
+            drive.is_unsure = drive.has_moved and line is ANSWERED[-1]
             continue
         hit = copy.copy(drive)
         wanted = drive.answer(line)
@@ -121,6 +123,8 @@ def ill_ended(kind, drive, run):
     whole = len(answers) == len(ANSWERED) and run.out.endswith("\n")
     end = run.status, run.err
     if whole and end == (STATUS["fault"] if drive.medium_failed else (0, "")):
+        return None
+    if whole and drive.is_unsure and end == STATUS["fault"]:
         return None
     text = "".join(f"{answer}\n" for answer in RIGHT)
     # a stream has failed, or the writing out at the end, or no command was answered for want of memory

@@ -1,15 +1,17 @@
-// Stands before the C library (LD_PRELOAD), for faults.py, stops.py and asked.py. It lets one call of a program end
-// otherwise: of
-// the kind that FAULTS names the FAULTS_AT-th. "memory": no memory is given. "fault": a call for a file or a stream
-// fails (EIO). "interrupted": it fails once (EINTR). "short": of several bytes one is read or written. "lost": a write
-// at a place is said to be done, and is not. Without FAULTS_AT none does.
-// The file that FAULTS_TOLD names gets how many calls of the kind there were, and the name of the one. The file that
-// FAULTS_ASKED names gets a line for each call of malloc and realloc: how many bytes were asked for. To the file
-// that FAULTS_NOTES names each call is added that did something to a file or to standard output: a letter, the last
-// part of the file's name, a place, how many bytes; then the bytes.
+// Stands before the C library (LD_PRELOAD), for faults.py, nomemory.py, stops.py and asked.py. It lets one call of a
+// program end otherwise: of the kind that FAULTS names the FAULTS_AT-th. "memory": no memory is given. "fault": a call
+// for a file or a stream fails (EIO). "interrupted": it fails once (EINTR). "short": of several bytes one is read or
+// written. "lost": a write at a place is said to be done, and is not. Without FAULTS_AT none does. With FAULTS_BEHIND
+// only the calls count between that read of standard input and the next one; 0 is the start.
+// The file that FAULTS_TOLD names gets how many calls of the kind there were, the name of the one, and how many threads
+// were started. The file that FAULTS_ASKED names gets a line for each call of malloc and realloc: how many bytes were
+// asked for. To the file that FAULTS_NOTES names each call is added that did something to a file or to standard output:
+// a letter, the last part of the file's name, a place, how many bytes; then the bytes.
 #define _GNU_SOURCE
+#include <dlfcn.h>
 #include <errno.h>
 #include <fcntl.h>
+#include <pthread.h>
 #include <stdarg.h>
 #include <stdio.h>
 #include <stdlib.h>
@@ -22,7 +24,7 @@ extern void *__libc_malloc(size_t);
 extern void *__libc_realloc(void *, size_t);
 
 static char kind;
-static long at, seen;
+static long at, seen, behind = -1, reads, threads;
 static const char *name = "none";
 static int notes = -1, asked = -1, noting;
 
@@ -33,8 +35,9 @@ static int to_write(const char *variable) {
 }
 
 __attribute__((constructor)) static void begin(void) {
-    const char *said = getenv("FAULTS"), *number = getenv("FAULTS_AT");
+    const char *said = getenv("FAULTS"), *number = getenv("FAULTS_AT"), *from = getenv("FAULTS_BEHIND");
     at = number ? atol(number) : 0;
+    behind = from ? atol(from) : -1;
     kind = said ? said[0] : 0;
     notes = to_write("FAULTS_NOTES");
     asked = to_write("FAULTS_ASKED");
@@ -43,7 +46,7 @@ __attribute__((constructor)) static void begin(void) {
 __attribute__((destructor)) static void end(void) {
     const char *path = getenv("FAULTS_TOLD");
     char text[64];
-    int size = snprintf(text, sizeof text, "%ld %s", seen, name);
+    int size = snprintf(text, sizeof text, "%ld %s %ld", seen, name, threads);
     kind = 0;
     int file = path ? syscall(SYS_openat, AT_FDCWD, path, O_WRONLY | O_CREAT | O_TRUNC, 0600) : -1;
     if (file >= 0) {
@@ -61,6 +64,8 @@ void _exit(int status) {
 
 // Whether this call is the one.
 static int is_it(const char *call) {
+    if (behind >= 0 && __atomic_load_n(&reads, __ATOMIC_SEQ_CST) != behind)
+        return 0;
     if (__atomic_add_fetch(&seen, 1, __ATOMIC_SEQ_CST) != at)
         return 0;
     name = call;
@@ -108,6 +113,15 @@ static int is_too_much(const char *call, size_t size) {
     return kind == 'm' && is_it(call);
 }
 
+// A thread that starts is counted.
+int pthread_create(pthread_t *thread, const pthread_attr_t *with, void *(*start)(void *), void *given) {
+    int (*call)(pthread_t *, const pthread_attr_t *, void *(*)(void *), void *) = dlsym(RTLD_NEXT, __func__);
+    int status = call(thread, with, start, given);
+    if (status == 0)
+        __atomic_add_fetch(&threads, 1, __ATOMIC_SEQ_CST);
+    return status;
+}
+
 void *malloc(size_t size) { return is_too_much("malloc", size) ? NULL : __libc_malloc(size); }
 void *realloc(void *from, size_t size) { return is_too_much("realloc", size) ? NULL : __libc_realloc(from, size); }
 
@@ -134,7 +148,12 @@ int fcntl(int file, int order, ...) {
     return CALL(fcntl, file, order, argument);
 }
 
-ssize_t read(int file, void *to, size_t count) { return CALL(read, file, to, moved("read", count)); }
+ssize_t read(int file, void *to, size_t count) {
+    ssize_t done = CALL(read, file, to, moved("read", count));
+    if (file == 0)
+        __atomic_add_fetch(&reads, 1, __ATOMIC_SEQ_CST);
+    return done;
+}
 ssize_t write(int file, const void *from, size_t count) {
     return noted(CALL(write, file, from, moved("write", count)), 'A', file, from, 0);
 }

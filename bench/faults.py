@@ -76,7 +76,7 @@ class Room:
             given.seek(0)
             done = subprocess.run([self.program, *words], cwd=self.path, stdin=given, stdout=subprocess.PIPE,
                                   stderr=subprocess.PIPE, env={**os.environ, **more}, timeout=60)
-        calls, name = content(told).decode().split() if kind else (0, "")
+        calls, name, _ = content(told).decode().split() if kind else (0, "", 0)
         return Run(done.returncode, done.stdout.decode(), done.stderr.decode(), int(calls), name)
 
     def sides(self):
@@ -133,8 +133,10 @@ def serve(room, kind, at):
 def judged(room, kind, answers, ended):
     """What is wrong with what the files hold, behind these answers."""
     volumes, reserved = read_back(room)
-    loaded, orders = FIRST, 0
+    loaded, orders, gone = FIRST, 0, []
     accepted, stored, tried = {FIRST: [], SECOND: []}, {FIRST: 0, SECOND: 0}, {}
+    # what is stored by commands, without the moves
+    marked = {FIRST: 0, SECOND: 0}
     for at, line in enumerate(ANSWERED):
         told = at < len(answers)
         done = not told or answers[at] == line.answer
@@ -145,7 +147,13 @@ def judged(room, kind, answers, ended):
             accepted[loaded] += line.adds
             if line.stores and told and loaded not in tried:
                 stored[loaded] = len(accepted[loaded])
+                marked[loaded] = stored[loaded] if line.loads is False else marked[loaded]
+        # The host may be told of a flusher's turn that failed once that cartridge is out, and what waited is given up.
+        for name in gone if told and answers[at] == DEFERRED else []:
+            tried.setdefault(name, accepted[name])
+            stored[name] = marked[name]
         if done and line.loads is not False:
+            gone += [loaded] if loaded else []
             loaded = line.loads
     wrong = []
     for name, those in accepted.items():

@@ -6,7 +6,8 @@ after which a lone buffered write is in the file; and the processor's time of a 
 Of five times, taken in turns, the best and the median.
 
 --program PATH: another program than the proved one. --old PATH: a program of before, whose phases and appends are
-measured beside it. The files lie in a new folder beside the repository's own, or in the one that a word names."""
+measured beside it; --appends measures these appends alone. The files lie in a new folder beside the repository's own,
+or in the one that a word names."""
 import argparse
 import os
 import statistics
@@ -17,7 +18,9 @@ import time
 
 TOP = os.path.dirname(os.path.dirname(os.path.abspath(__file__)))
 PROVED = os.path.join(TOP, "crates", "vtl", "out", "vtl")
-BLOCK, BLOCKS, SPACES, MARKS, APPENDS, PHASES, HOSTS, ROUNDS = 262_144, 20_000, 400, 100, 256, 20_000, 64, 5
+BLOCK, BLOCKS, SPACES, MARKS, PHASES, HOSTS, ROUNDS = 262_144, 20_000, 400, 100, 20_000, 64, 5
+# a gibibyte, with a filemark and a phase's end each 64 MiB
+APPENDS, GROUP = 4_096, 256
 DRIVES, REST = 16, 3.0
 TICKS = os.sysconf("SC_CLK_TCK")
 
@@ -113,15 +116,31 @@ def phases(programs, folder):
 
 
 def appends(program, old, folder):
-    script = attentions(1, 1) + (b"1 1 0a0004000000 " + b"5a" * BLOCK + b"\n") * APPENDS + b"1 1 100000000100\n"
+    """The text is twice as long as the blocks, so it is in a file."""
+    path = os.path.join(folder, "appends")
+    with open(path, "wb") as file:
+        file.write(attentions(1, 1) + b"--\n")
+        for _ in range(APPENDS // GROUP):
+            for _ in range(GROUP):
+                file.write(b"1 1 0a0004000000 " + b"5a" * BLOCK + b"\n")
+            file.write(b"1 1 100000000100\n--\n")
+    wanted = 1 + APPENDS + APPENDS // GROUP
 
     def run(which):
         new_files(program, folder, 1)
-        return seconds_of(which, folder, script, 2 + APPENDS)
+        start = time.perf_counter()
+        with open(path, "rb") as script:
+            done = subprocess.run([which, "run", "--config", "lib.toml"], cwd=folder, stdin=script, capture_output=True)
+        seconds = time.perf_counter() - start
+        if done.returncode or done.stdout.count(b"GOOD\n") != wanted - 1 or done.stdout.count(b"\n") != wanted:
+            sys.exit(f"status {done.returncode}, {done.stdout.count(10)} answers of {wanted}: {done.stderr.decode()}")
+        return seconds
 
     new, before = best([lambda: run(program), lambda: run(old)])
-    print(f"{APPENDS} blocks of {BLOCK:,} bytes with flushers beside: {before[0] / new[0]:.2f} "
-          f"({before[1] / new[1]:.2f}) times as fast as without", flush=True)
+    os.remove(path)
+    print(f"{APPENDS} blocks of {BLOCK:,} bytes, a filemark each {GROUP}, with flushers beside: {new[0]:.3f} s "
+          f"({new[1]:.3f}), without: {before[0]:.3f} s ({before[1]:.3f}): {before[0] / new[0]:.2f} "
+          f"({before[1] / new[1]:.2f}) times as fast; load {os.getloadavg()[0]:.1f}", flush=True)
 
 
 def lone_write(program, folder):
@@ -175,11 +194,16 @@ def main():
     words = argparse.ArgumentParser()
     words.add_argument("--program", default=PROVED)
     words.add_argument("--old")
+    words.add_argument("--appends", action="store_true")
     words.add_argument("folder", nargs="?", default=os.path.dirname(TOP))
     asked = words.parse_args()
     if not os.path.exists(asked.program):
         sys.exit("build the program first: make vtl")
+    if asked.appends and not asked.old:
+        sys.exit("appends are measured beside another program: --old")
     with tempfile.TemporaryDirectory(dir=asked.folder) as folder:
+        if asked.appends:
+            return appends(asked.program, asked.old, folder)
         two_hosts(asked.program, folder)
         phases([asked.program, *([asked.old] if asked.old else [])], folder)
         if asked.old:

@@ -1,6 +1,7 @@
 #!/usr/bin/env python3
 """Tries bodies that the contracts allow, and that a test or a row has to refuse: on a copy of the repository, by the
-toolchain's unproved run, and by a program that is built without its proofs."""
+toolchain's unproved run, and by a program that is built without its proofs. Some that the contracts refuse too show
+that the tests of stops and faults can fail."""
 import os
 import re
 import shutil
@@ -221,6 +222,9 @@ EDITS = [
     ("no host of a phase has a thread", "library", "src/threads.rt",
      "    if first[0].is_idle() || are_idle(rest) {\n", "    if first[0].is_idle() || rest.len() < 64 {\n",
      ["sixteen_hosts_of_a_phase_meet"]),
+    ("a script has no flushers beside it", "library", "src/beside.rt", "    if !library.configured(drive) {\n",
+     "    if !library.configured(drive) || number < 17 {\n",
+     ["a_flusher_stores_between_two_phases"]),
     ("the flushers end behind the first phase of several hosts", "library", "src/stages.rt",
      "        give_all(self.jobs.as_mut_slice(), replies);\n",
      "        give_all(self.jobs.as_mut_slice(), replies);\n        self.library.close(self.rt);\n",
@@ -251,6 +255,37 @@ EDITS = [
      "        let after = self.bay.accepted();\n        if before != after {\n"
      "            held.enter(rt, &mut self.share, seat);\n        }\n",
      ["a_change_is_entered_while_another_drive_stores"]),
+    ("the ledgers are locked while a drive carries a command out whose data are lent", "library", "src/places.rt",
+     "        laws::replies_tell_changes::<Buffered<D>, AptplStore<D>>();\n"
+     "        let before = self.count_below_limit(rt);\n        known_drive(&self.bay);\n"
+     "        let reply = self.bay.execute_lent(seat.nexus(), cdb, sent);\n        known_drive(&self.bay);\n"
+     "        let after = self.bay.accepted();\n"
+     "        enter_if_risen(rt, tally, &mut self.share, seat, before, after);\n",
+     "        let mut held = tally.lock(rt);\n"
+     "        let before = self.count_below_limit(rt);\n        known_drive(&self.bay);\n"
+     "        let reply = self.bay.execute_lent(seat.nexus(), cdb, sent);\n        known_drive(&self.bay);\n"
+     "        let after = self.bay.accepted();\n        if before != after {\n"
+     "            held.enter(rt, &mut self.share, seat);\n        }\n",
+     ["sixteen_hosts_of_a_phase_meet"]),
+    ("each command is answered as at the beginning of the tape", "library", "src/shared.rt",
+     ("        let reply = place.execute(rt, tally, seat, cdb, sent);\n",
+      "        let reply = place.execute_lent(rt, tally, seat, cdb, sent);\n"),
+     ("        let _ = place.execute(rt, tally, seat, &[0x01, 0, 0, 0, 0, 0], &[]);\n"
+      "        let reply = place.execute(rt, tally, seat, cdb, sent);\n",
+      "        let _ = place.execute(rt, tally, seat, &[0x01, 0, 0, 0, 0, 0], &[]);\n"
+      "        let reply = place.execute_lent(rt, tally, seat, cdb, sent);\n"),
+     ["two_hosts_at_two_drives", "a_block_and_a_filemark", "long_sessions_of_two_hosts"]),
+    ("the bytes that a host is given are changed", "library", "src/libraries.rt",
+     ("            Some(bay) => bay.serve(rt, &self.tally, seat, cdb, sent),\n",
+      "            Some(bay) => bay.serve_lent(rt, &self.tally, seat, cdb, sent),\n"),
+     tuple("            Some(bay) => {\n"
+           f"                let mut reply = bay.{call}(rt, &self.tally, seat, cdb, sent);\n"
+           "                let mut other = Vec::new(self.alloc);\n"
+           "                for byte in reply.bytes.as_slice() {\n"
+           "                    let _ = other.push(*byte ^ 1);\n                }\n"
+           "                reply.bytes = Bytes::from_vec(other);\n                reply\n            }\n"
+           for call in ("serve", "serve_lent")),
+     ["two_hosts_at_two_drives", "a_block_and_a_filemark", "long_sessions_of_two_hosts"]),
     ("each command goes to drive 1 where there is one", "library", "src/libraries.rt",
      ("        match &self.bays[drive.place()] {\n            Some(bay) => bay.serve(rt",
       "        match &self.bays[drive.place()] {\n            Some(bay) => bay.serve_lent(rt"),
@@ -259,10 +294,71 @@ EDITS = [
       "        let place = if self.bays[0].is_some() { 0 } else { drive.place() };\n"
       "        match &self.bays[place] {\n            Some(bay) => bay.serve_lent(rt"),
      ["two_hosts_at_two_drives", "a_block_and_a_filemark", "long_sessions_of_two_hosts"]),
+    ("a move goes to the drive beside the one that it names, where both are there", "library", "src/libraries.rt",
+     "            Some(drive) => self.bays[drive.place()].as_ref(),\n",
+     "            Some(drive) => {\n                let there = self.bays[drive.place()].as_ref();\n"
+     "                let beside = self.bays[drive.place() ^ 1].as_ref();\n"
+     "                if there.is_some() && beside.is_some() { beside } else { there }\n            }\n",
+     ["a_cartridge_goes_round_both_drives"]),
+    ("two drives change places as a library is opened", "library", "src/opening.rt",
+     "        let bay = share_one(row.take(place), tally);\n",
+     "        let both = place == 0 && row.count(0).is_some() && row.count(1).is_some();\n"
+     "        let other = if both { 1 } else { place };\n"
+     "        let bay = share_one(row.take(other), tally);\n"
+     "        if both {\n            let first = row.take(0);\n            row.put(1, first);\n        }\n",
+     ["a_turn_in_which_the_device_fails"]),
+    ("two drives have changed places at the end", "library", "src/finishing.rt",
+     "        row.put(bays.len(), bay);\n        written = worse(written, one);\n    }\n",
+     "        row.put(bays.len(), bay);\n        written = worse(written, one);\n    }\n"
+     "    if row.count(0).is_some() && row.count(1).is_some() {\n"
+     "        let (first, second) = (row.take(0), row.take(1));\n"
+     "        row.put(0, second);\n        row.put(1, first);\n    }\n",
+     ["all_hosts_come_to_one_drive_at_once"]),
     ("an inventory lets the slots go before it looks at the drives", "library", "src/inventories.rt",
      ("        let slots = self.slots.lock(rt);\n", "            slots: seen_in_slots(&slots),\n"),
      ("        let slots = seen_in_slots(&self.slots.lock(rt));\n", "            slots,\n"),
      ["cartridges_are_moved_while_hosts_write"]),
+]
+# bodies that a contract refuses too, in the same form: they show that the tests of stops and faults can fail. Where a
+# sync is left out a read stands in its place, so that it is not the number of calls that fails.
+STOPS = [
+    ("a gate is opened with no sync before", "gate_journal", "src/device.rt",
+     "    store_at(disk, end + 1, bytes)?;\n    open_gate(disk, end)\n",
+     "    disk.write_at(end + 1, bytes)?;\n    disk.read_at(end, &mut [0u8])?;\n    open_gate(disk, end)\n",
+     ["a_stop_at_each_call_of_a_drive"]),
+    ("a frame and its gate are written with no sync between", "gate_journal", "src/device.rt",
+     "    store_at(disk, end + 1, bytes)?;\n    open_gate(disk, end)\n",
+     "    disk.write_at(end, &[OPEN])?;\n    disk.write_at(end + 1, bytes)?;\n    disk.sync()?;\n    disk.sync()\n",
+     ["a_stop_at_each_call_of_a_drive", "a_fault_at_each_call_of_a_drive"]),
+    ("a gate that is opened is not synced", "gate_journal", "src/device.rt",
+     "    store_at(disk, at, &[OPEN])\n", "    disk.write_at(at, &[OPEN])?;\n    disk.read_at(at, &mut [0u8])\n",
+     ["a_stop_at_each_call_of_a_drive"]),
+    ("an opening begins with no sync", "gate_journal", "src/reading.rt", "    disk.sync()\n",
+     "    if disk.len() == 0 {\n        return disk.sync();\n    }\n    disk.read_at(0, &mut [0u8])\n",
+     ["a_stop_at_each_call_of_a_drive", "a_fault_at_each_call_of_a_drive"]),
+    ("a journal goes on after a fault", "gate_journal", "src/placing.rt", "                self.failed = true;\n", "",
+     ["a_fault_at_each_call_of_a_drive"]),
+    ("an order saves the state before it", "drive_core", "src/drives/reserving.rt",
+     "        self.keeper.save(&reservations)?;\n",
+     "        let before = self.reservations;\n        self.keeper.save(&before)?;\n",
+     ["a_stop_at_each_call_of_a_drive", "a_fault_at_each_call_of_a_drive"]),
+    ("a store gives its last state as it was", "aptpl_store", "src/opening.rt",
+     "                Ok((store, last.power_loss()))\n", "                Ok((store, last))\n",
+     ["a_stop_at_each_call_of_a_drive"]),
+    ("a block over another is stored as a cut and a block", "tape_buffer", "src/adding.rt",
+     "    match add_over(cartridge, pending, change) {\n        Ok(()) => Ok(()),",
+     "    if let Change::Put { part, at, .. } = &change {\n        let (part, at) = (*part, *at);\n"
+     "        if pending.is_empty() && at < cartridge.count(part) {\n"
+     "            let _ = reserve_over(cartridge, pending, &change);\n"
+     "            let _ = cartridge.store(&[Change::Erase { part, at }]);\n        }\n    }\n"
+     "    match add_over(cartridge, pending, change) {\n        Ok(()) => Ok(()),",
+     ["a_stop_at_each_call_of_a_drive"]),
+    ("what is pending over a cartridge that failed is kept", "tape_buffer", "src/closing.rt",
+     "    pending.clear();\n", "", ["a_fault_at_each_call_of_a_drive"]),
+    ("a command that is to store is answered with nothing stored", "drive_core", "src/storing.rt",
+     "    match medium.settle() {\n",
+     "    if medium.pending() < 64 {\n        return Ok(());\n    }\n    match medium.settle() {\n",
+     ["a_stop_at_each_call_of_a_drive", "a_fault_at_each_call_of_a_drive"]),
 ]
 
 
@@ -336,7 +432,7 @@ def failed_in(room, edit):
 
 def main():
     crates = set(sys.argv[1:])
-    edits = [edit for edit in EDITS if not crates or edit[1] in crates]
+    edits = [edit for edit in EDITS + STOPS if not crates or edit[1] in crates]
     wrong = 0
     with tempfile.TemporaryDirectory() as room:
         shutil.copy(os.path.join(TOP, "crates.txt"), room)

@@ -125,6 +125,13 @@ def filemarks(count):
     return [(READY, 1), (line(f"1000{count:06x}00"), 1), (REWIND + BREAK, 1)], [ATTENTION, (GOOD, 2)]
 
 
+def runs(count):
+    """A tape of so many filemarks, a multiple of 1,000, with a block before each."""
+    pair = ONE + line("100100000100")
+    return ([(READY, 1), (pair * 1_000 + BREAK, count // 1_000), (REWIND + BREAK, 1)],
+            [ATTENTION, (GOOD, 2 * count + 1)])
+
+
 def time_of(folder, name, before, pair, times, answer=GOOD):
     """Seconds of a command of this pair, each answered so and given so often, less the time of what comes before."""
     script, answers = before
@@ -135,12 +142,15 @@ def time_of(folder, name, before, pair, times, answer=GOOD):
 
 
 def motions(folder):
-    long, short = 100_000, 1_000
-    for kind, code, tape in (("blocks", 0, blocks), ("filemarks", 1, filemarks)):
-        name = f"SPACE over {long:,} {kind}, both ways"
-        seconds = time_of(folder, name, tape(long), (space(code, long), space(code, -long)), 100)
-        print(f"{name}: {seconds * 1e3:.2f} ms a command, {seconds / long * 1e9:.1f} ns an object")
+    long, short, few = 100_000, 1_000, 10
     grown = []
+    for kind, code, tape in (("blocks", 0, blocks), ("filemarks", 1, filemarks),
+                             ("filemarks with a block before each", 1, runs)):
+        name = f"SPACE over {long:,} {kind}, both ways"
+        near, far = (time_of(folder, name, tape(long), (space(code, count), space(code, -count)), 500_000)
+                     for count in (few, long))
+        print(f"{name}: {far * 1e9:.0f} ns a command; over {few} {near * 1e9:.0f} ns: {far / near:.2f} times")
+        grown += [name] if far > 1.5 * near else []
     for name, there in (("LOCATE", locate), ("SPACE to the end of data", lambda _: space(3, 0))):
         near, far = (time_of(folder, name, blocks(count), (there(count), locate(0)), 500_000)
                      for count in (short, long))

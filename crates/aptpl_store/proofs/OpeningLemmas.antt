@@ -1,5 +1,5 @@
 -- A side is read, a body after the other.
-use Rattle.std.proofs.Common.{◌≡◌, inl, inr, ℕ, ◌<◌, List, [], ◌∷◌, ◌++◌, length, take, refl, sym, ◌∙◌, ap, subst, arith, length-append}
+use Rattle.std.proofs.Common.{◌≡◌, inl, inr, ℕ, ◌<◌, ◌+◌, List, [], ◌∷◌, ◌++◌, length, take, Bool, true, false, refl, sym, ◌∙◌, ap, subst, arith, length-append}
 use Rattle.std.specs.Prelude.{slice_index_or}
 use Rattle.std.proofs.lemmas.List.{length-map, length-take-le}
 use Rattle.std.proofs.lemmas.List.Elements.{All-push}
@@ -7,13 +7,13 @@ use Rattle.tape_disk.specs.Disk.{DiskState}
 use Rattle.gate_journal.specs.declared.error.OpenError.{OpenError}
 use Rattle.gate_journal.specs.declared.error.OpenError.TheVariants.{NotOurs, Damaged, BadRecord, Device, NoMemory}
 use Rattle.gate_journal.specs.declared.header.SideKind.TheVariants as SideKinds
-use Rattle.gate_journal.specs.Decoding.{IsNotDecoded}
+use Rattle.gate_journal.specs.Decoding.{IsNotDecoded, TakesPiece}
 use Rattle.gate_journal.specs.Side.{Heading, IsNotOf, spell}
 use Rattle.pr_core.specs.declared.states.PrState.{PrState}
 use Rattle.aptpl_store.specs.Answers.{IsStoreNotOpened}
 use Rattle.aptpl_store.specs.Contents.{IsBadState, IsNoStore}
 use Rattle.aptpl_store.specs.Inner.Causes.{store_error}
-use Rattle.aptpl_store.specs.Inner.Reading.{HasRead, IsNoState}
+use Rattle.aptpl_store.specs.Inner.Reading.{HasRead, IsNoState, IsWithin}
 use Rattle.aptpl_store.specs.NotedStates.{NotedStates, with_state}
 use Rattle.aptpl_store.specs.Spelling.{IsSavable, SpellsState, spell_state}
 use Rattle.aptpl_store.proofs.ContentsLemmas.{bodies_more, latest_more}
@@ -83,6 +83,32 @@ pub no_store : (image : List ℕ) → IsNotOf SideKinds.Store image → IsNoStor
 no_store image (inl never) = inl never
 no_store image (inr (SideKinds.Cartridge, other, begins)) = inr begins
 no_store image (inr (SideKinds.Store, other, begins)) = absurd (other refl)
+
+-- the next bytes of a body are taken, or there are more than a state has
+module _ {T : Type 0} (notes : T → NotedStates) (last : T → PrState) (body : T → List ℕ) where
+  pub piece_taken : (good : Bool) (start old new : T) (place : ℕ) (so_far piece : List ℕ)
+      → (good ≡ true → body new ≡ body old ++ piece)
+      → (good ≡ false → 580 < length (body old) + length piece)
+      → notes new ≡ notes old → last new ≡ last old
+      → IsWithin (notes start) (last start) (notes old) (last old) (body old) so_far
+      → TakesPiece (λ (d : T). HasRead (notes d) (last d)) (λ (d : T). IsNoState)
+      (λ (s d : T) (at : ℕ). IsWithin (notes s) (last s) (notes d) (last d) (body d)) good start new place
+      (so_far ++ piece)
+  piece_taken true start old new place so_far piece added long same_notes same_last within = record {
+    notes_same = same_notes ∙ within.notes_same;
+    last_same = same_last ∙ within.last_same;
+    body_is = added refl ∙ ap (λ (l : List ℕ). l ++ piece) within.body_is;
+  }
+  piece_taken false start old new place so_far piece added long same_notes same_last within =
+      λ heading extents bodies had more.
+      too_long ((so_far ++ piece) ++ more)
+      (omega (
+        arith,
+        long refl,
+        ap (λ (l : List ℕ). length l) within.body_is,
+        length-append so_far piece,
+        length-append (so_far ++ piece) more,
+      ))
 
 -- why its side is not decoded is why a store is not opened, by what is noted of a decoder
 module _ {T : Type 0} (notes : T → NotedStates) (last : T → PrState) where

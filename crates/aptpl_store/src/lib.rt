@@ -9,6 +9,7 @@ mod opening;
 mod recovering;
 mod saving;
 mod spelling;
+mod state_body;
 pub mod stores;
 mod telling;
 

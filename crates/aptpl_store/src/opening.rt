@@ -1,4 +1,4 @@
-//! A store is opened: each frame's body is read whole, once, and the last one counts.
+//! A store is opened: each frame's body is read once, and the last one counts.
 ghost use Rattle.std.specs.Prelude.{◌≡◌, ◌≤◌, None, IfOk, IfErr, false};
 ghost use Rattle.tape_disk.specs.Disk.{Keeps, Only};
 ghost use Rattle.tape_disk.specs.Moments.{LeavesOnly};
@@ -39,7 +39,12 @@ impl<D: Disk> AptplStore<D> {
     {
         match Journal::open_decoded::<Recovered>(alloc, disk, RESERVED_SAVES) {
             Ok((journal, recovered)) => {
-                let Recovered { frame, noted, last } = recovered;
+                let Recovered {
+                    frame,
+                    noted,
+                    last,
+                    ..
+                } = recovered;
                 let store = AptplStore {
                     journal,
                     frame,

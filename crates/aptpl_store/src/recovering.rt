@@ -5,8 +5,9 @@ ghost use Rattle.aptpl_store.specs.declared.spelling.TheConstants.{STATE_BYTES};
 use crate::creating::make_frame;
 use crate::noted::Noted;
 use crate::spelling::STATE_BYTES;
+use crate::state_body::StateBody;
 use crate::telling::decode;
-use gate_journal::{Decodes, Frame, Header, SideKind};
+use gate_journal::{Decodes, Frame, Header, NotedBytes, SideKind};
 use pr_core::Reservations;
 use std::alloc::Global;
 use vtl_base::NoMemory;
@@ -17,18 +18,25 @@ pub(crate) struct Recovered {
     pub frame: Frame,
     pub noted: Noted,
     pub last: Reservations,
+    // The body that is under way.
+    pub body: StateBody,
     ghost room: { STATE_BYTES ≤ frame.room },
 }
 
 impl Decodes for Recovered {
     ghost use Rattle.gate_journal.specs.declared.header.SideKind.TheVariants.{Store};
-    ghost use Rattle.aptpl_store.specs.Inner.Reading.{HasRead, IsNoState};
+    ghost use Rattle.aptpl_store.specs.Inner.Reading.{HasRead, IsNoState, IsWithin};
 
     ghost KIND = { Store };
 
     ghost has_read = { λ found. HasRead found.noted.notes found.last };
 
     ghost refuses = { λ found. IsNoState };
+
+    ghost is_within = { λ start found at.
+        IsWithin start.noted.notes start.last found.noted.notes found.last found.body };
+
+    ghost unseen = { λ found. 0 };
 
     const KIND: SideKind = SideKind::Store;
 
@@ -38,6 +46,7 @@ impl Decodes for Recovered {
             frame,
             noted: Noted::none(),
             last: Reservations::empty(),
+            body: StateBody::new(),
         })
     }
 
@@ -45,12 +54,29 @@ impl Decodes for Recovered {
         size as usize <= STATE_BYTES
     }
 
-    fn take(&mut self, _at: u64, body: &[u8]) -> Result<bool, NoMemory> {
-        let Some(state) = decode(body, &mut self.frame) else {
-            return Ok(false);
+    fn begin_body(&mut self) {
+        self.body = StateBody::new();
+    }
+
+    fn unseen(&self) -> usize {
+        0
+    }
+
+    fn feed(&mut self, _at: u64, piece: &[u8]) -> Result<bool, NoMemory> {
+        Ok(self.body.add(piece))
+    }
+
+    fn pass(&mut self, _at: u64, _count: usize) -> Result<bool, NoMemory> {
+        // It sees each byte, so none is passed over.
+        Ok(true)
+    }
+
+    fn end_body(&mut self, _at: u64, _body: &NotedBytes) -> bool {
+        let Some(state) = decode(self.body.bytes(), &mut self.frame) else {
+            return false;
         };
         self.noted = self.noted.with_state(&state);
         self.last = state;
-        Ok(true)
+        true
     }
 }

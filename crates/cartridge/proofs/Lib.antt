@@ -4,6 +4,7 @@ pub mod GrowingLemmas
 pub mod OpenLemmas
 pub mod OpenedLemmas
 pub mod OpeningLemmas
+pub mod PieceLemmas
 pub mod PlacingLemmas
 pub mod RecordLemmas
 pub mod StoreLemmas

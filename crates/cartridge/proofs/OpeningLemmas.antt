@@ -1,5 +1,5 @@
 -- What is recovered of a side, a body after the other.
-use Rattle.std.proofs.Common.{◌≡◌, ℕ, ◌<◌, List, [], ◌∷◌, ◌++◌, length, take, map, Option, true, false, refl, sym, ◌∙◌, ap, subst, arith, length-append}
+use Rattle.std.proofs.Common.{◌≡◌, ℕ, ◌<◌, List, [], ◌∷◌, ◌++◌, length, take, map, Option, Bool, true, false, refl, sym, ◌∙◌, ap, subst, arith, length-append}
 use Rattle.std.specs.Prelude.{IsTrue, slice_index_or, unwrap_or}
 use Rattle.std.specs.List.{All, list_all}
 use Rattle.std.proofs.lemmas.Bool.{and_from}
@@ -11,15 +11,17 @@ use Rattle.gate_journal.specs.declared.header.SideKind.{SideKind}
 use Rattle.gate_journal.specs.declared.header.SideKind.TheVariants.{Cartridge}
 use Rattle.vtl_base.specs.Limits.{is_capacity}
 use Rattle.volume_core.specs.Volume.{Part, AllApply, are_capacities}
+use Rattle.gate_journal.specs.Decoding.{TakesPiece}
 use Rattle.gate_journal.specs.Side.{Heading, IsCount, IsHeading, spell}
 use Rattle.record_index.specs.Records.{IsRecord, spell_all}
 use Rattle.record_index.specs.ChangesOn.{changes_on, changes_on_is}
 use Rattle.record_index.specs.Places.{PlacedPart, empty_placed}
+use Rattle.record_index.specs.Readers.{ReaderState}
 use Rattle.record_index.specs.Indexes.{Indexes, indexes_empty}
 use Rattle.cartridge.specs.Contents.{IsBadFrame, IsContents, bodies_of, contents_from, volume_made}
 use Rattle.cartridge.specs.Notes.{Notes, noted_contents, with_frame}
 use Rattle.cartridge.specs.Lying.{LiesIn, LiesOnSide}
-use Rattle.cartridge.specs.Inner.Reading.{BehindEach, HasRead, IsBadBody, WalksTo}
+use Rattle.cartridge.specs.Inner.Reading.{BehindEach, HasRead, IsBadBody, IsWithin, Walks, WalksTo}
 use Rattle.cartridge.specs.Extending.{bodies_more, contents_more, volume_more}
 
 module _ (index : List PlacedPart) (notes : Notes) (heading : Heading) (extents : List (ℕ × ℕ))
@@ -108,6 +110,23 @@ module _ (index : List PlacedPart) (notes : Notes) (heading : Heading) (extents 
             ap (λ (b : List (List ℕ)). length b) (sym so_far.spelled ∙ read),
             length-take-le good all (omega (arith, inside)),
           )
+
+-- the next bytes of a body are taken, or it is bad, by what is indexed, noted and read of a decoder
+module _ {T : Type 0} (index : T → List PlacedPart) (notes : T → Notes) (reader : T → ReaderState) where
+  pub piece_taken : (good : Bool) (start old new : T) (place : ℕ) (so_far bytes : List ℕ) → notes new ≡ notes old
+      → IsWithin (index start) (notes start) (index old) (notes old) (reader old) place so_far
+      → Walks good (index start) place bytes (index new) (reader new)
+      → TakesPiece (λ (d : T). HasRead (index d) (notes d))
+      (λ (d : T). IsBadBody (volume_made (noted_contents (notes d))))
+      (λ (s d : T). IsWithin (index s) (notes s) (index d) (notes d) (reader d)) good start new place bytes
+  piece_taken true start old new place so_far bytes same within walks = record {
+    notes_same = same ∙ within.notes_same;
+    walked = walks;
+  }
+  piece_taken false start old new place so_far bytes same within walks =
+      λ heading extents bodies had more.
+      refused_behind (index start) (notes start) heading extents bodies had (index new) place (bytes ++ more)
+      (walks more)
 
 -- no frame was read
 pub read_none : (heading : Heading) (index : List PlacedPart) (notes : Notes) → heading.kind ≡ Cartridge

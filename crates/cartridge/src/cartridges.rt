@@ -2,7 +2,7 @@
 ghost use Rattle.std.specs.Prelude.{◌≡◌, ◌<◌, ◌≤◌, [], length, true, false};
 ghost use Rattle.tape_disk.specs.Disk.{Each};
 ghost use Rattle.vtl_base.specs.declared.limits.TheConstants.{MAX_CAPACITY, MAX_OBJECTS, MAX_PARTITIONS};
-ghost use Rattle.volume_core.specs.Volume.{capacity_of, count_of, kind_at, used_up_to};
+ghost use Rattle.volume_core.specs.Volume.{IsMarkOf, capacity_of, count_of, kind_at, mark_count, marks_upto, used_up_to};
 ghost use Rattle.gate_journal.specs.Side.{spell};
 ghost use Rattle.gate_journal.specs.State.{room_behind};
 ghost use Rattle.cartridge.specs.Contents.{GivesContents, IsContents, ShowsContents, bodies_of, volume_made};
@@ -137,6 +137,25 @@ impl<D: Disk> Cartridge<D> {
     {
         a_volume_is_seen_by_its_shape();
         self.index.used(part, n)
+    }
+
+    /// How many filemarks are among the first n objects of a partition; among all of them where
+    /// there are fewer.
+    pub fn marks_upto(&self, part: PartNo, n: ObjNo) -> u32
+        ensures marks { result ≡ marks_upto (volume_made self.now.contents) part n }
+        ensures bound { result ≤ MAX_OBJECTS }
+    {
+        a_volume_is_seen_by_its_shape();
+        self.index.marks_upto(part, n)
+    }
+
+    /// The object number of a partition's filemark of number k, from 0 on.
+    pub fn mark_at(&self, part: PartNo, k: u32) -> ObjNo
+        requires { k < mark_count (volume_made self.now.contents) part }
+        ensures { IsMarkOf (volume_made self.now.contents) part k result }
+    {
+        a_volume_is_seen_by_its_shape();
+        self.index.mark_at(part, k)
     }
 
     /// Whether the disk failed: then nothing more is read or written.

@@ -5,7 +5,7 @@ ghost use Rattle.cartridge.specs.Notes.{Notes, with_frame, with_torn};
 ghost use Rattle.cartridge.specs.Codes.{notes_code};
 ghost use Rattle.record_index.specs.ChangesOn.{changes_on};
 
-use gate_journal::Header;
+use gate_journal::{Header, NotedBytes};
 use std::marker::{Model, PhantomData};
 use volume_core::Change;
 
@@ -45,8 +45,9 @@ impl Noted {
     }
 
     /// With one frame more, of the changes that this body spells.
-    pub(crate) fn with_body(&self, body: &[u8]) -> Noted
-        ensures { result.notes ≡ with_frame self.now.notes (unwrap_or (changes_on body.now) []) }
+    pub(crate) fn with_body(&self, body: &NotedBytes) -> Noted
+        ensures { result.notes
+            ≡ with_frame self.now.notes (unwrap_or (changes_on body.now.bytes) []) }
     {
         by_body(self, body)
     }
@@ -76,7 +77,7 @@ fn by_changes(_noted: &Noted, _changes: &[Change]) -> Noted
 }
 
 // What the caller names, which may speak of what was noted and of a body.
-fn by_body(_noted: &Noted, _body: &[u8]) -> Noted
+fn by_body(_noted: &Noted, _body: &NotedBytes) -> Noted
     ghost notes: { Notes }
     ensures { result.notes ≡ notes }
 {

@@ -1,4 +1,5 @@
-//! A closed cartridge is opened: each frame's body is read whole, once.
+//! A closed cartridge is opened: the bodies of its frames are read once, in pieces, and most bytes of long blocks are
+//! not read.
 ghost use Rattle.std.specs.Prelude.{◌≡◌, [], IfOk, IfErr, false};
 ghost use Rattle.tape_disk.specs.Disk.{Keeps, Only};
 ghost use Rattle.tape_disk.specs.Moments.{LeavesOnly};

@@ -1,9 +1,9 @@
-//! What is recovered of a cartridge's side, a frame's body after the other.
+//! What is recovered of a cartridge's side, a frame's body after the other, each in pieces.
 
 use crate::noted::Noted;
-use crate::walking::walk_body;
-use gate_journal::{Decodes, Header, SideKind};
-use record_index::Index;
+use crate::walking::{walk_over, walk_piece};
+use gate_journal::{Decodes, Header, NotedBytes, SideKind};
+use record_index::{Index, RecordReader};
 use std::alloc::Global;
 use vtl_base::NoMemory;
 
@@ -12,12 +12,14 @@ use vtl_base::NoMemory;
 pub(crate) struct Recovered {
     pub index: Index,
     pub noted: Noted,
+    // Reads the body that is under way.
+    pub reader: RecordReader,
 }
 
 impl Decodes for Recovered {
     ghost use Rattle.gate_journal.specs.declared.header.SideKind.TheVariants.{Cartridge};
     ghost use Rattle.cartridge.specs.Contents.{volume_made};
-    ghost use Rattle.cartridge.specs.Inner.Reading.{HasRead, IsBadBody};
+    ghost use Rattle.cartridge.specs.Inner.Reading.{HasRead, IsBadBody, IsWithin};
     ghost use Rattle.cartridge.specs.Notes.{noted_contents};
 
     ghost KIND = { Cartridge };
@@ -26,19 +28,45 @@ impl Decodes for Recovered {
 
     ghost refuses = { λ found. IsBadBody (volume_made (noted_contents found.noted.notes)) };
 
+    ghost is_within = { λ start found.
+        IsWithin start.index start.noted.notes found.index found.noted.notes found.reader };
+
+    ghost unseen = { λ found. found.reader.left };
+
     const KIND: SideKind = SideKind::Cartridge;
 
     fn begin(alloc: Global, header: &Header) -> Result<Self, NoMemory> {
         let index = Index::new(alloc, &header.capacities)?;
         let noted = Noted::new(header);
-        Ok(Recovered { index, noted })
+        let reader = RecordReader::new();
+        Ok(Recovered {
+            index,
+            noted,
+            reader,
+        })
     }
 
-    fn take(&mut self, at: u64, body: &[u8]) -> Result<bool, NoMemory> {
-        if !walk_body(&mut self.index, at, body)? {
-            return Ok(false);
+    fn begin_body(&mut self) {
+        self.reader = RecordReader::new();
+    }
+
+    fn unseen(&self) -> usize {
+        self.reader.unseen()
+    }
+
+    fn feed(&mut self, at: u64, piece: &[u8]) -> Result<bool, NoMemory> {
+        walk_piece(&mut self.index, &mut self.reader, at, piece)
+    }
+
+    fn pass(&mut self, at: u64, count: usize) -> Result<bool, NoMemory> {
+        walk_over(&mut self.index, &mut self.reader, at, count)
+    }
+
+    fn end_body(&mut self, _at: u64, body: &NotedBytes) -> bool {
+        if self.reader.end().is_err() {
+            return false;
         }
         self.noted = self.noted.with_body(body);
-        Ok(true)
+        true
     }
 }

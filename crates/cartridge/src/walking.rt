@@ -1,30 +1,76 @@
-//! The records of a body are carried out on the index, one after the other.
-ghost use Rattle.std.specs.Prelude.{◌≡◌, ◌+◌, ◌^◌, ◌<◌, length, true, false, IfOk};
-ghost use Rattle.cartridge.specs.Inner.Reading.{BehindEach, WalksTo};
+//! The records of a body are carried out on the index, as their bytes come.
+ghost use Rattle.std.specs.Prelude.{◌≡◌, ◌+◌, ◌^◌, ◌<◌, ◌≤◌, ◌++◌, ℕ, List, length, IfOk};
+ghost use Rattle.record_index.specs.Records.{size_of};
+ghost use Rattle.record_index.specs.Places.{PlacedPart};
+ghost use Rattle.cartridge.specs.Lying.{HasBlock};
+ghost use Rattle.cartridge.specs.Inner.Reading.{EntersAt, IsBodyWalked, MayWalk, Walks};
 
 use crate::placing::place_of;
-use record_index::{Index, Record};
+use record_index::{Fed, Found, Index, Record, RecordReader};
 use volume_core::ApplyError;
 use vtl_base::NoMemory;
 
-// Carries out on the index what the next body spells, which lies at that place. False is that it spells no
-// changes, or one that does not apply.
-pub(crate) fn walk_body(index: &mut Index, place: u64, body: &[u8]) -> Result<bool, NoMemory>
-    requires fits { place + length body.now < 2 ^ 64 }
-    ensures { IfOk result (λ good. BehindEach place body.now index.old
-        (λ volume P. WalksTo good body.now volume P index.new)) }
+// Carries out on the index the records that end in the next bytes of a body, which lies at that place. False is
+// that it spells no changes, or one that does not apply, whatever follows.
+pub(crate) fn walk_piece(
+    index: &mut Index,
+    reader: &mut RecordReader,
+    place: u64,
+    piece: &[u8],
+) -> Result<bool, NoMemory>
+    requires { MayWalk place (length piece.now) index.old reader.old }
+    ensures { IfOk result (λ good. (start : List PlacedPart) (so_far : List ℕ) →
+        IsBodyWalked start place so_far index.old reader.old →
+        Walks good start place (so_far ++ piece.now) index.new reader.new) }
 {
     let mut from = 0;
-    while from < body.len() {
-        let Some(item) = Record::read(&body[from..]) else {
-            return Ok(false);
-        };
-        match index.apply(item, place_of(item, place + from as u64)) {
-            Ok(()) => {}
-            Err(ApplyError::Refused(_)) => return Ok(false),
-            Err(ApplyError::NoMemory) => return Err(NoMemory),
+    while from < piece.len() {
+        match reader.feed(&piece[from..]) {
+            Fed::Found { item, at, taken } => {
+                if !enter(index, item, place + at as u64)? {
+                    return Ok(false);
+                }
+                from += taken;
+            }
+            Fed::More => return Ok(true),
+            Fed::Bad { .. } => return Ok(false),
         }
-        from += item.size();
     }
     Ok(true)
+}
+
+// Passes over the next bytes of a body, which are a block's, and carries out its record where they end it. False is
+// that the change does not apply.
+pub(crate) fn walk_over(
+    index: &mut Index,
+    reader: &mut RecordReader,
+    place: u64,
+    count: usize,
+) -> Result<bool, NoMemory>
+    requires unseen { count ≤ reader.old.left }
+    requires may { MayWalk place count index.old reader.old }
+    ensures { IfOk result (λ good. (start : List PlacedPart) (so_far bytes : List ℕ) →
+        length bytes ≡ count → IsBodyWalked start place so_far index.old reader.old →
+        Walks good start place (so_far ++ bytes) index.new reader.new) }
+{
+    if count == 0 {
+        return Ok(true);
+    }
+    match reader.pass(count) {
+        Some(Found { item, at }) => enter(index, item, place + at as u64),
+        None => Ok(true),
+    }
+}
+
+// Carries out on the index a record that begins at that place. False is that it does not apply.
+fn enter(index: &mut Index, item: Record, at: u64) -> Result<bool, NoMemory>
+    requires sized { HasBlock item }
+    requires fits { at + size_of item < 2 ^ 64 }
+    ensures { IfOk result (λ good. EntersAt good item at index.old index.new) }
+{
+    match index.apply(item, place_of(item, at)) {
+        Ok(()) => Ok(true),
+        Err(ApplyError::Refused(_)) => Ok(false),
+        Err(ApplyError::NoMemory) => Err(NoMemory),
+    }
 }

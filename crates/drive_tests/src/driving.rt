@@ -1,7 +1,7 @@
 //! Each public call once, over a medium whose side has an end and whose device fails.
 use crate::motions::{
     AFTER_A_FAULT, AFTER_A_LATE_FAULT, AFTER_A_MOVE, AFTER_AN_UNLOADING, AFTER_ANOTHER,
-    BEFORE_A_FAULT, MOVES, NO_ERASURE, STORED_FIRST,
+    BEFORE_A_FAULT, MANY_MARKS, MOVES, NO_ERASURE, STORED_FIRST,
 };
 use crate::samples::{assert_reply, assert_row, assert_rows, load, switched_on, with_side};
 use crate::tables;
@@ -200,6 +200,15 @@ fn a_drive_moves_and_tells(rt: HostRuntime) -> Result<(), Fail> {
     let alloc = rt.alloc();
     assert_moves(&rt, alloc, 1_000, MOVES)?;
     assert_moves(&rt, alloc, 20, NO_ERASURE)
+}
+
+#[test]
+fn a_drive_passes_a_thousand_filemarks(rt: HostRuntime) -> Result<(), Fail> {
+    let alloc = rt.alloc();
+    let medium = StagedMedium::new(alloc, &[65_536], 1_000, SOUND)?;
+    let mut drive = switched_on(alloc, Some(medium))?;
+    assert_rows(&rt, &mut drive, MANY_MARKS);
+    Ok(())
 }
 
 // A drive whose device fails as it stores for the first time.

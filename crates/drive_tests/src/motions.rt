@@ -97,6 +97,36 @@ pub static MOVES: &'static [Row<'static>] = &[
     (1, &[0x11, 0, 0, 0, 0, 0], NONE, GOOD),
 ];
 
+const AT_OBJECT_500: Wanted<'static> = (
+    None,
+    &[
+        0, 0, 0, 0, 0, 0, 1, 0xf4, 0, 0, 1, 0xf4, 0, 0, 0, 0, 0, 0, 0, 0,
+    ],
+);
+
+const AT_THE_BEGINNING: Wanted<'static> = (
+    None,
+    &[
+        0x80, 0, 0, 0, 0, 0, 0, 0, 0, 0, 0, 0, 0, 0, 0, 0, 0, 0, 0, 0,
+    ],
+);
+
+// A thousand filemarks, 500 of them passed forward, and 501 backward: one is left.
+pub static MANY_MARKS: &'static [Row<'static>] = &[
+    (1, TEST_UNIT_READY, NONE, POWERED_ON),
+    (1, &[0x10, 0, 0, 3, 0xe8, 0], NONE, GOOD),
+    (1, REWIND, NONE, GOOD),
+    (1, &[0x11, 1, 0, 1, 0xf4, 0], NONE, GOOD),
+    (1, POSITION, NONE, AT_OBJECT_500),
+    (
+        1,
+        &[0x11, 1, 0xff, 0xfe, 0x0b, 0],
+        NONE,
+        (Some((0xf0, 0x40, 1, 0, 4)), &[]),
+    ),
+    (1, POSITION, NONE, AT_THE_BEGINNING),
+];
+
 // A side of 20 bytes: a block of five bytes takes it all, and an erasing would take 15.
 pub static NO_ERASURE: &'static [Row<'static>] = &[
     (1, TEST_UNIT_READY, NONE, POWERED_ON),

@@ -8,6 +8,7 @@ pub mod Marks
 pub mod Names
 pub mod Numbers
 pub mod Parts
+pub mod PieceLemmas
 pub mod Smears
 pub mod SpelledLemmas
 pub mod Walks

@@ -1,5 +1,5 @@
 -- The bodies of a side are decoded while it is opened.
-use Rattle.std.specs.Prelude.{◌≡◌, ◌<◌, ◌≤◌, ℕ, List, [], ◌∷◌, ◌++◌, length, take, slice_index_or, Bool, true, false, Result, Ok, Err}
+use Rattle.std.specs.Prelude.{◌≡◌, ◌<◌, ◌≤◌, ◌+◌, ◌^◌, ℕ, List, [], ◌∷◌, ◌++◌, length, take, slice_index_or, Bool, true, false, Result, Ok, Err}
 use Rattle.tape_disk.specs.Disk.{DiskState, Only}
 use Rattle.gate_journal.specs.declared.header.SideKind.{SideKind}
 use Rattle.gate_journal.specs.declared.error.OpenError.{OpenError}
@@ -23,6 +23,14 @@ module _ {T : Type 0} (has_read : T → Heading → List (ℕ × ℕ) → List (
   TakesBody true old new heading extents bodies at body =
       has_read new heading (extents ++ (at, length body) ∷ []) (bodies ++ body ∷ [])
   TakesBody false old new heading extents bodies at body = refuses old body
+
+  -- What a decoder makes of a body at that place, of which these bytes came since the first decoder had read others: it
+  -- has them, or the body is bad, whatever follows (own).
+  abbrev pub TakesPiece : (T → T → ℕ → List ℕ → Type 0) → Bool → T → T → ℕ → List ℕ → Type 0
+  TakesPiece is_within true start new at bytes = is_within start new at bytes
+  TakesPiece is_within false start new at bytes =
+      (heading : Heading) (extents : List (ℕ × ℕ)) (bodies : List (List ℕ)) → has_read start heading extents bodies
+      → (more : List ℕ) → refuses start (bytes ++ more)
 
   -- a decoder has read the first so many bodies and refuses the next, whose frame has its gate at that place (own)
   pub record IsRefused (decoder : T) (good : ℕ) (extents : List (ℕ × ℕ)) (heading : Heading)
@@ -63,3 +71,8 @@ module _ {T : Type 0} (has_read : T → Heading → List (ℕ × ℕ) → List (
   abbrev pub HasDecoded : T → Heading → List (ℕ × ℕ) → List (List ℕ) → Type 0 → Type 0
   HasDecoded decoder heading extents bodies honest =
       (read : List (List ℕ)) × has_read decoder heading extents read × (honest → read ≡ bodies)
+
+-- a body is under way at that place, and so many bytes more of it end before the last place there is (own)
+abbrev pub IsUnderWay : {T : Type 0} → (T → T → ℕ → List ℕ → Type 0) → T → ℕ → ℕ → Type 0
+IsUnderWay {T} is_within decoder at count =
+    (start : T) × (so_far : List ℕ) × is_within start decoder at so_far × (at + (length so_far + count) < 2 ^ 64)

@@ -7,6 +7,8 @@ pub mod Gates
 pub mod Headings
 pub mod Heads
 pub mod HeadsRead
+pub mod Padding
+pub mod Pieces
 pub mod Reading
 pub mod Sides
 pub mod Spare

@@ -1,14 +1,17 @@
 //! What decodes the bodies of a side while it is opened.
-ghost use Rattle.std.specs.Prelude.{◌≡◌, ◌+◌, ◌<◌, ◌^◌, ℕ, List, [], length, false, IfOk};
-ghost use Rattle.gate_journal.specs.Decoding.{TakesBody};
+ghost use Rattle.std.specs.Prelude.{◌≡◌, ◌≤◌, ◌++◌, ℕ, List, [], length, false, IfOk};
+ghost use Rattle.gate_journal.specs.Decoding.{IsUnderWay, TakesBody, TakesPiece};
 ghost use Rattle.gate_journal.specs.Side.{Heading, IsHeading, heading_of};
 ghost use Rattle.gate_journal.specs.declared.header.SideKind.{SideKind};
 
 use crate::header::{Header, SideKind};
+use crate::noted::NotedBytes;
 use std::alloc::Global;
 use vtl_base::NoMemory;
 
-/// Decodes the bodies of a side, one after the other.
+/// Decodes the bodies of a side, one after the other. A body comes in pieces, of which it may keep what it
+/// needs: `begin_body`, `feed` or `pass` until all of it came, `end_body`. Behind a body that is bad nothing
+/// comes.
 pub trait Decodes: Drop {
     ghost KIND: { SideKind };
 
@@ -17,6 +20,12 @@ pub trait Decodes: Drop {
 
     // Behind what it has read this body is bad.
     ghost refuses: { Self → List ℕ → Type 0 };
+
+    // Since the first, which had read other bodies, the second has these bytes of the body at that place.
+    ghost is_within: { Self → Self → ℕ → List ℕ → Type 0 };
+
+    // How many bytes come next that it need not see.
+    ghost unseen: { Self → ℕ };
 
     /// The kind of side that it decodes.
     const KIND: SideKind;
@@ -35,11 +44,34 @@ pub trait Decodes: Drop {
         true
     }
 
-    /// Reads the next body, which lies at that place. False is that it is bad.
-    fn take(&mut self, at: u64, body: &[u8]) -> Result<bool, NoMemory>
-        requires { at + length body.now < 2 ^ 64 }
-        ensures { IfOk result (λ good.
-            (heading : Heading) (extents : List (ℕ × ℕ)) (bodies : List (List ℕ)) →
-            has_read self.old heading extents bodies →
-            TakesBody has_read refuses good self.old self.new heading extents bodies at body.now) };
+    /// Begins the next body, of which nothing came.
+    fn begin_body(&mut self)
+        ensures { (at : ℕ) → is_within self.old self.new at [] };
+
+    /// How many bytes come next that it need not see.
+    fn unseen(&self) -> usize
+        ensures { result ≡ unseen self.now };
+
+    /// Takes the next bytes of the body that lies at that place. False is that it is bad, whatever
+    /// follows.
+    fn feed(&mut self, at: u64, piece: &[u8]) -> Result<bool, NoMemory>
+        requires { IsUnderWay is_within self.old at (length piece.now) }
+        ensures { IfOk result (λ good. (start : Self) (so_far : List ℕ) →
+            is_within start self.old at so_far →
+            TakesPiece has_read refuses is_within good start self.new at (so_far ++ piece.now)) };
+
+    /// Passes over the next bytes of the body that lies at that place, whatever they are: it need not
+    /// see them. False is that the body is bad, whatever follows.
+    fn pass(&mut self, at: u64, count: usize) -> Result<bool, NoMemory>
+        requires unseen { count ≤ unseen self.old }
+        requires under_way { IsUnderWay is_within self.old at count }
+        ensures { IfOk result (λ good. (start : Self) (so_far bytes : List ℕ) → length bytes ≡ count →
+            is_within start self.old at so_far →
+            TakesPiece has_read refuses is_within good start self.new at (so_far ++ bytes)) };
+
+    /// All of the body came that lies at that place. False is that it is bad.
+    fn end_body(&mut self, at: u64, body: &NotedBytes) -> bool
+        ensures { (start : Self) (heading : Heading) (extents : List (ℕ × ℕ)) (bodies : List (List ℕ)) →
+            has_read start heading extents bodies → is_within start self.old at body.now.bytes →
+            TakesBody has_read refuses result start self.new heading extents bodies at body.now.bytes };
 }

@@ -1,24 +1,27 @@
 //! A side is opened, and what its bodies spell is decoded as they are read.
-ghost use Rattle.std.specs.Prelude.{◌≡◌, ◌<◌, ◌≤◌, [], Some, length, slice_index_or, IfOk, IfErr, true, false, is_some};
+ghost use Rattle.std.specs.Prelude.{◌≡◌, ◌≤◌, [], length, Some, OnOk, IfOk, IfErr, true, false, is_some};
 ghost use Rattle.tape_disk.specs.Disk.{Keeps, Only};
 ghost use Rattle.tape_disk.specs.Moments.{LeavesOnly};
 ghost use Rattle.gate_journal.specs.Answers.{NoneFailed};
 ghost use Rattle.gate_journal.specs.Crash.{Unwritten};
 ghost use Rattle.gate_journal.specs.Decoding.{HasDecoded, IsNotDecoded, disk_decoded};
-ghost use Rattle.gate_journal.specs.Inner.Decoding.{IsNotRead, NotFinished, opening_cause};
+ghost use Rattle.gate_journal.specs.Inner.Decoding.{NotFinished, opening_cause};
 ghost use Rattle.gate_journal.specs.Side.{StandsFor};
+ghost use Rattle.gate_journal.specs.declared.pieces.TheConstants.{PIECE_BYTES};
 
 use crate::decoders::Decodes;
 use crate::error::{JournalError, NotDecoded, OpenError};
+use crate::pieces::{PIECE_BYTES, decode_body};
 use crate::{Journal, Refused};
 use std::alloc::Global;
 use tape_disk::Disk;
 
 impl<D: Disk> Journal<D> {
-    /// Opens the side of the decoder's kind that the disk holds, as `open_as` does. Then each body is
-    /// read once, whole, in order, and given to a new decoder. The first that it refuses is
-    /// `BadRecord`, also where later ones are good. Room is made in memory for that many frames that
-    /// are spelled in place.
+    /// Opens the side of the decoder's kind that the disk holds, as `open_as` does. Then the bodies are
+    /// given to a new decoder, each once and in order, in pieces of at most 65,536 bytes. Where it need
+    /// not see 65,536 bytes or more, these are not read; the piece behind them has at most 4,096. The
+    /// first body that it refuses is `BadRecord`, also where later ones are good. Room is made in memory
+    /// for that many frames that are spelled in place, and for one piece while it works.
     pub fn open_decoded<T: Decodes>(
         alloc: Global,
         disk: D,
@@ -59,7 +62,7 @@ impl<D: Disk> Journal<D> {
 }
 
 // The same cause, of an opening that decodes.
-fn of_opening(error: JournalError) -> OpenError
+pub(crate) fn of_opening(error: JournalError) -> OpenError
     requires { is_some (opening_cause error) ≡ true }
     ensures { opening_cause error ≡ Some result }
 {
@@ -100,46 +103,55 @@ fn decode_frames<D: Disk, T: Decodes>(
         return Err(OpenError::NoMemory);
     };
     let mut decoder = T::begin(alloc, journal.header())?;
+    let mut buffer = vec![in alloc; 0; room_for_pieces(journal)]?;
+    decode_each(journal, &mut decoder, &mut buffer)?;
+    Ok(decoder)
+}
+
+// How many bytes of memory serve for pieces: the longest body's, and no more than a piece has.
+fn room_for_pieces<D: Disk>(journal: &Journal<D>) -> usize
+    ensures { (1 ≤ result) × (result ≤ PIECE_BYTES) }
+{
+    let mut room = 1;
+    for number in 0..journal.frames() {
+        let (_, size) = journal.body_at(number);
+        room = room.max(size as usize);
+    }
+    room.min(PIECE_BYTES).max(1)
+}
+
+// Gives the bodies of a side to the decoder, which has read none. A piece of each is in the buffer.
+fn decode_each<D: Disk, T: Decodes>(
+    journal: &mut Journal<D>,
+    decoder: &mut T,
+    buffer: &mut [u8],
+) -> Result<(), OpenError>
+    requires fine { journal.old.failed ≡ false }
+    requires begun { T.has_read decoder.old journal.old.heading [] [] }
+    requires room { 1 ≤ length buffer.old }
+    ensures disk { Keeps (D.state journal.old.disk) (D.state journal.new.disk) }
+    ensures unwritten { (D.state journal.old.disk).honest →
+        Unwritten (D.state journal.old.disk) (D.state journal.new.disk) }
+    ensures same { (journal.new.heading ≡ journal.old.heading)
+        × (journal.new.extents ≡ journal.old.extents)
+        × (journal.new.reserved_extents ≡ journal.old.reserved_extents)
+        × ((D.state journal.old.disk).honest → journal.new.bodies ≡ journal.old.bodies) }
+    ensures ok { OnOk result ((journal.new.failed ≡ false)
+        × NoneFailed (D.state journal.old.disk) (D.state journal.new.disk)
+        × HasDecoded T.has_read decoder.new journal.old.heading journal.old.extents
+        journal.old.bodies (D.state journal.old.disk).honest) }
+    ensures refused { IfErr result (λ error. NotFinished T.has_read T.refuses error
+        journal.old.heading journal.old.bodies
+        (D.state journal.old.disk) (D.state journal.new.disk)) }
+{
     for frame in 0..journal.frames() {
         let (at, size) = journal.body_at(frame);
         if !decoder.may_have(size) {
             return Err(OpenError::BadRecord { at: at - 5 });
         }
-        let body = read_frame(alloc, journal, frame)?;
-        if !decoder.take(at, &body)? {
+        if !decode_body(journal, frame, decoder, buffer)? {
             return Err(OpenError::BadRecord { at: at - 5 });
         }
     }
-    Ok(decoder)
-}
-
-// The body of a frame.
-fn read_frame<D: Disk>(
-    alloc: Global,
-    journal: &mut Journal<D>,
-    frame: usize,
-) -> Result<Vec<u8>, OpenError>
-    requires fine { journal.old.failed ≡ false }
-    requires frame { frame < length journal.old.extents }
-    ensures disk { Keeps (D.state journal.old.disk) (D.state journal.new.disk) }
-    ensures same { (journal.new.extents ≡ journal.old.extents)
-        × (journal.new.heading ≡ journal.old.heading)
-        × (journal.new.reserved_extents ≡ journal.old.reserved_extents) }
-    ensures unwritten { (D.state journal.old.disk).honest →
-        Unwritten (D.state journal.old.disk) (D.state journal.new.disk)
-        × (journal.new.bodies ≡ journal.old.bodies) }
-    ensures ok { IfOk result (λ body. (journal.new.failed ≡ false)
-        × NoneFailed (D.state journal.old.disk) (D.state journal.new.disk)
-        × (length body.items ≡ (slice_index_or journal.old.extents frame (0, 0)).1)) }
-    ensures body { (D.state journal.old.disk).honest → IfOk result (λ body.
-        body.items ≡ slice_index_or journal.old.bodies frame []) }
-    ensures refused { IfErr result (λ error.
-        IsNotRead error (D.state journal.old.disk) (D.state journal.new.disk)) }
-{
-    let (at, size) = journal.body_at(frame);
-    let mut body = vec![in alloc; 0; size as usize]?;
-    match journal.read_body(at, &mut body) {
-        Ok(()) => Ok(body),
-        Err(error) => Err(of_opening(error)),
-    }
+    Ok(())
 }

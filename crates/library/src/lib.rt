@@ -21,7 +21,7 @@ mod shared;
 mod stages;
 mod threads;
 
-pub use bays::{Bay, NotOn, Parked};
+pub use bays::{Bay, NotOn, Parked, laws, move_lent};
 pub use finishing::{FinishError, Finished};
 pub use flushers::Gate;
 pub use inventories::{Element, Inventory};
@@ -30,3 +30,4 @@ pub use libraries::Library;
 pub use opening::NotOpened;
 pub use places::Place;
 pub use runs::{Ran, run_library};
+pub use vtl_script::{Line, run_script};

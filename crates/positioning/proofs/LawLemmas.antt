@@ -5,7 +5,8 @@ use Rattle.volume_core.specs.declared.objects.Object.{Object}
 use Rattle.vtl_base.specs.declared.space_codes.SpaceCode.TheVariants.{Blocks, Filemarks, EndOfData}
 use Rattle.positioning.specs.declared.positions.Stop.{Stop}
 use Rattle.positioning.specs.declared.positions.Stop.TheVariants.{Done, AtMark, AtEnd, AtStart}
-use Rattle.positioning.specs.Motion.{IsMarkAt, IsBehindMark, AreBlocksFrom, AreBlocksBefore, IsGreatest, EndsForward, EndsBackward, ForwardOverMarks, BackwardOverMarks, Reaches, is_mark, marks_between}
+use Rattle.volume_core.specs.Volume.{is_mark}
+use Rattle.positioning.specs.Motion.{IsMarkAt, IsBehindMark, AreBlocksFrom, AreBlocksBefore, IsGreatest, EndsForward, EndsBackward, ForwardOverMarks, BackwardOverMarks, Reaches, marks_between}
 use Rattle.positioning.specs.Laws.{NoSpaceEndsTwice, ForwardMeetsNoStart, BackwardMeetsNoEnd, FilemarksStopNone, OnlyDoneLeavesNothing, EachLocateEnds, NoLocateEndsTwice}
 use Rattle.positioning.proofs.MarkLemmas.{mark_inside, marks_split, mark_behind, mark_before}
 

@@ -1,4 +1,5 @@
 pub mod MarkLemmas
+pub mod CountLemmas
 pub mod EndLemmas
 pub mod WalkLemmas
 pub mod LawLemmas

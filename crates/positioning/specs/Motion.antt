@@ -1,10 +1,9 @@
 -- Where a motion over the objects of a partition ends. A place is the number of an object, or the end of data, which is
 -- the number behind the last.
-use Rattle.std.specs.Prelude.{◌≡◌, ◌≤◌, ◌<◌, ◌+◌, ◌-◌, ℕ, ℤ, pos, negsuc, suc, zero, List, length, count_by, slice_get, slice_range, Some, Bool, true, false}
+use Rattle.std.specs.Prelude.{◌≡◌, ◌≤◌, ◌<◌, ◌+◌, ◌-◌, ℕ, ℤ, pos, negsuc, suc, zero, List, length, count_by, slice_get, slice_range, Some}
 use Rattle.volume_core.specs.declared.objects.Object.{Object}
-use Rattle.volume_core.specs.declared.objects.Object.TheVariants.{Block, Mark}
 use Rattle.volume_core.specs.declared.objects.Kind.TheVariants as Kinds
-use Rattle.volume_core.specs.Volume.{Part, count_of, kind_in}
+use Rattle.volume_core.specs.Volume.{Part, count_of, is_mark, kind_in}
 use Rattle.positioning.specs.declared.positions.Pos.{Pos}
 use Rattle.vtl_base.specs.declared.space_codes.SpaceCode.{SpaceCode}
 use Rattle.vtl_base.specs.declared.space_codes.SpaceCode.TheVariants.{Blocks, Filemarks, EndOfData}
@@ -28,11 +27,6 @@ IsMarkAt objects at = kind_in (slice_get objects at) ≡ Some Kinds.Mark
 -- the objects from one place up to another exist and are blocks (own)
 abbrev pub AreBlocks : List Object → ℕ → ℕ → Type 0
 AreBlocks objects from to = (at : ℕ) → from ≤ at → at < to → IsBlockAt objects at
-
--- whether an object is a filemark (SSC-4, logical objects)
-abbrev pub is_mark : Object → Bool
-is_mark Mark = true
-is_mark (Block bytes) = false
 
 -- how many filemarks lie from one place up to another (own)
 abbrev pub marks_between : List Object → ℕ → ℕ → ℕ

@@ -98,7 +98,7 @@ fn marks_backward<C: Catalog>(catalog: &C, pos: Pos, count: u32) -> Moved
 }
 
 /// Goes over so many blocks or filemarks, backward where the count is below 0, or to the end of data.
-/// It always succeeds, and looks at no more objects than the partition has.
+/// It always succeeds, and looks at no object.
 pub fn space<C: Catalog>(catalog: &C, pos: Pos, code: SpaceCode, count: i32) -> Moved
     requires awake { (C.state catalog.now).awake ≡ true }
     requires on_tape { IsOnTape (volume_of (C.state catalog.now)) pos }

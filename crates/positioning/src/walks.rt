@@ -1,12 +1,11 @@
-//! Walks from object to object. A motion that has to look at objects looks at them here, and nowhere else.
-ghost use Rattle.std.specs.Prelude.{◌≡◌, ◌≤◌, ◌<◌, true};
-ghost use Rattle.std.specs.Bool.{MatchBool};
+//! Over filemarks by their numbers. A motion looks at no object: it asks how many filemarks stand before a place, and
+//! where the one of a number stands.
+ghost use Rattle.std.specs.Prelude.{◌≡◌, ◌≤◌, true};
 ghost use Rattle.volume_core.specs.Volume.{count_of, objects_of};
 ghost use Rattle.volume_core.specs.Medium.{volume_of};
-ghost use Rattle.positioning.specs.Motion.{IsBlockAt, IsMarkAt};
 ghost use Rattle.positioning.specs.Inner.Walks.{WalksBackward, WalksForward};
 
-use volume_core::{Catalog, Kind};
+use volume_core::Catalog;
 use vtl_base::{ObjNo, PartNo};
 
 // Where a walk ended, and how many filemarks were still to come.
@@ -16,18 +15,7 @@ pub(crate) struct Walk {
     pub(crate) left: u32,
 }
 
-// Whether a filemark stands at a place, or else a block.
-fn is_mark_at<C: Catalog>(catalog: &C, part: PartNo, at: ObjNo) -> bool
-    requires awake { (C.state catalog.now).awake ≡ true }
-    requires object { at < count_of (volume_of (C.state catalog.now)) part }
-    ensures { MatchBool result (IsMarkAt (objects_of (volume_of (C.state catalog.now)) part) at)
-        (IsBlockAt (objects_of (volume_of (C.state catalog.now)) part) at) }
-{
-    matches!(catalog.kind_at(part, at), Some(Kind::Mark))
-}
-
-// Walks on until so many filemarks were passed, but no further than the limit.
-#[tactic(auto, using(crate::proofs::MarkLemmas::mark_behind, crate::proofs::MarkLemmas::block_behind))]
+// Goes on until so many filemarks are passed, but no further than the limit.
 pub(crate) fn forward<C: Catalog>(
     catalog: &C,
     part: PartNo,
@@ -42,20 +30,22 @@ pub(crate) fn forward<C: Catalog>(
     ensures { WalksForward (objects_of (volume_of (C.state catalog.now)) part) from limit marks
         result.at result.left }
 {
-    let mut left = marks;
-    for at in from..limit {
-        if is_mark_at(catalog, part, at) {
-            left -= 1;
-            if left == 0 {
-                return Walk { at: at + 1, left };
-            }
-        }
+    let passed = catalog.marks_upto(part, from);
+    let ahead = catalog.marks_upto(part, limit) - passed;
+    if ahead < marks {
+        return Walk {
+            at: limit,
+            left: marks - ahead,
+        };
     }
-    Walk { at: limit, left }
+    let last = catalog.mark_at(part, passed + (marks - 1));
+    Walk {
+        at: last + 1,
+        left: 0,
+    }
 }
 
-// Walks back until so many filemarks were passed, but no further than the limit.
-#[tactic(auto, using(crate::proofs::MarkLemmas::mark_before, crate::proofs::MarkLemmas::block_before))]
+// Goes back until so many filemarks are passed, but no further than the limit.
 pub(crate) fn backward<C: Catalog>(
     catalog: &C,
     part: PartNo,
@@ -70,14 +60,14 @@ pub(crate) fn backward<C: Catalog>(
     ensures { WalksBackward (objects_of (volume_of (C.state catalog.now)) part) from limit marks
         result.at result.left }
 {
-    let mut left = marks;
-    for at in (limit..from).rev() {
-        if is_mark_at(catalog, part, at) {
-            left -= 1;
-            if left == 0 {
-                return Walk { at, left };
-            }
-        }
+    let before = catalog.marks_upto(part, from);
+    let behind = before - catalog.marks_upto(part, limit);
+    if behind < marks {
+        return Walk {
+            at: limit,
+            left: marks - behind,
+        };
     }
-    Walk { at: limit, left }
+    let last = catalog.mark_at(part, before - marks);
+    Walk { at: last, left: 0 }
 }

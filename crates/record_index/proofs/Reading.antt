@@ -21,7 +21,7 @@ none_begins bytes none w =
     let e : None ≡ Some (record_of w.0) = sym none ∙ ap told w.3 ∙ told_again w.0 w.1 w.2 in cc
 
 -- what a head with these numbers says of a record
-abbrev Tells : ℕ → ℕ → ℕ → ℕ → ℕ → Record → Type 0
+abbrev pub Tells : ℕ → ℕ → ℕ → ℕ → ℕ → Record → Type 0
 Tells kind part at number there (Put p a n) =
     (kind ≡ 1) × (p ≡ part) × (a ≡ at) × (n ≡ number) × (1 ≤ n) × (n ≤ MAX_BLOCK) × (n ≤ there)
 Tells kind part at number there (Marks p a n) =
@@ -87,7 +87,7 @@ second kind part at number there item is = elim (cases_Bool (kind == 2)) [
       (if kind == 3 then erase_told part at number else None) fails) ∙ is)
 ]
 
-kind_tells : (kind part at number there : ℕ) (item : Record) → kind_told kind part at number there ≡ Some item
+pub kind_tells : (kind part at number there : ℕ) (item : Record) → kind_told kind part at number there ≡ Some item
     → Tells kind part at number there item
 kind_tells kind part at number there item is = elim (cases_Bool (kind == 1)) [
   | inl holds ↦ subst (λ (k : ℕ). Tells k part at number there item) (sym (eqb-true kind 1 holds))
@@ -118,7 +118,24 @@ module _ (a b c d e f g h i j : ℕ) (tail : List ℕ) where
   abbrev number : ℕ
   number = big_number 4 (drop 6 cells)
 
-  module _ (fits : (k : ℕ) → get_or cells k 0 < 256) where
+  abbrev ten : List ℕ
+  ten = a ∷ b ∷ c ∷ d ∷ e ∷ f ∷ g ∷ h ∷ i ∷ j ∷ []
+
+  -- the first ten are bytes if all are
+  first_ten : ((k : ℕ) → get_or cells k 0 < 256) → (k : ℕ) → get_or ten k 0 < 256
+  first_ten fits zero = fits 0
+  first_ten fits (suc zero) = fits 1
+  first_ten fits (suc (suc zero)) = fits 2
+  first_ten fits (suc (suc (suc zero))) = fits 3
+  first_ten fits (suc (suc (suc (suc zero)))) = fits 4
+  first_ten fits (suc (suc (suc (suc (suc zero))))) = fits 5
+  first_ten fits (suc (suc (suc (suc (suc (suc zero)))))) = fits 6
+  first_ten fits (suc (suc (suc (suc (suc (suc (suc zero))))))) = fits 7
+  first_ten fits (suc (suc (suc (suc (suc (suc (suc (suc zero)))))))) = fits 8
+  first_ten fits (suc (suc (suc (suc (suc (suc (suc (suc (suc zero))))))))) = fits 9
+  first_ten fits (suc (suc (suc (suc (suc (suc (suc (suc (suc (suc k)))))))))) = omega arith
+
+  module _ (fits : (k : ℕ) → get_or ten k 0 < 256) where
     at_bytes : (n : ℕ) → n ≡ at → c ∷ d ∷ e ∷ f ∷ [] ≡ to_be_bytes w32 n
     at_bytes n is = sym (be_bytes_4 (c ∷ d ∷ e ∷ f ∷ []) n refl (four c d e f (fits 2) (fits 3) (fits 4) (fits 5))
         (omega (arith, is)))
@@ -132,7 +149,7 @@ module _ (a b c d e f g h i j : ℕ) (tail : List ℕ) where
         let f2 = fits 2 in let f3 = fits 3 in let f4 = fits 4 in let f5 = fits 5 in
         omega (arith, f2, f3, f4, f5)
 
-    found_cells : (item : Record) → Tells a b at number (length tail) item → IsAtFront item cells
+    pub found_cells : (item : Record) → Tells a b at number (length tail) item → IsAtFront item cells
     found_cells (Put p n s) (kind, part, where_at, told, some, few, there) =
         let sized : length (take s tail) ≡ s = length-take-le s tail there in
         let rest : drop s tail ≡ drop (10 + s) cells = drop-drop s 10 cells in
@@ -198,7 +215,7 @@ short_tells bytes item short is =
 pub told_found : (bytes : List ℕ) → ((k : ℕ) → get_or bytes k 0 < 256) → (item : Record) → told bytes ≡ Some item
     → IsAtFront item bytes
 told_found (a ∷ b ∷ c ∷ d ∷ e ∷ f ∷ g ∷ h ∷ i ∷ j ∷ tail) fits item is =
-    told_cells a b c d e f g h i j tail fits item is
+    told_cells a b c d e f g h i j tail (first_ten a b c d e f g h i j tail fits) item is
 told_found [] fits item is = short_tells [] item (omega arith) is
 told_found (a ∷ []) fits item is = short_tells (a ∷ []) item (omega arith) is
 told_found (a ∷ b ∷ []) fits item is = short_tells (a ∷ b ∷ []) item (omega arith) is

@@ -68,3 +68,10 @@ pub set_here : {A : Type 0} (xs : List A) (k : ℕ) (x : A) → slice_get xs k �
 set_here [] k x is = absurd (cc)
 set_here (y ∷ xs) zero x is = (let same : x ≡ y = cc in λ i. same i ∷ xs)
 set_here (y ∷ xs) (suc k) x is = ap (λ l. y ∷ l) (set_here xs k x is)
+
+-- what stands at a place stands there among more of the first as well
+pub slice_get_kept : {A : Type 0} (n : ℕ) (xs : List A) (k : ℕ) → k < n → slice_get (take n xs) k ≡ slice_get xs k
+slice_get_kept zero xs k within = absurd (omega (arith, within))
+slice_get_kept (suc n) [] k within = refl
+slice_get_kept (suc n) (x ∷ xs) zero within = refl
+slice_get_kept (suc n) (x ∷ xs) (suc k) within = slice_get_kept n xs k (omega (arith, within))

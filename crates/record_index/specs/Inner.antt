@@ -5,3 +5,4 @@ pub mod Spelled
 pub mod Decided
 pub mod Table
 pub mod Tables
+pub mod RunSearch

@@ -1,7 +1,10 @@
 pub mod Records
+pub mod Readers
 pub mod Places
+pub mod MarkRuns
 pub mod Shapes
 pub mod Facts
+pub mod MarkFacts
 pub mod Indexes
 pub mod ChangesOn
 pub mod Inner

@@ -2,21 +2,23 @@
 ghost use Rattle.std.specs.Prelude.{◌≡◌, ◌≤◌, ◌<◌, ◌+◌, ◌-◌, ◌^◌, ◌++◌, IsTrue, Err, IfOk, IfSome, OnOk, OnErr, Some, length, map, take, slice_get};
 ghost use Rattle.std.specs.Option.{option_copied};
 ghost use Rattle.vtl_base.specs.declared.limits.TheConstants.{MAX_CAPACITY, MAX_OBJECTS, MAX_PARTITIONS};
-ghost use Rattle.volume_core.specs.Volume.{AppliesUnless, IsVolume, are_capacities, capacity_of, count_of, kind_at, refusal_of, used_up_to};
+ghost use Rattle.volume_core.specs.Volume.{AppliesUnless, IsMarkOf, IsVolume, are_capacities, capacity_of, count_of, kind_at, mark_count, marks_upto, refusal_of, used_up_to};
+ghost use Rattle.record_index.specs.MarkRuns.{AddsDigitsOfRuns, IsRunUpto, IsRunWith};
 ghost use Rattle.record_index.specs.Places.{CanAdd, empty_placed, objects_of_run, outline, outlined, record_part, placed_after, placed_objects, reserved_of, runs_of, with_objects};
 ghost use Rattle.volume_core.specs.declared.volumes.ApplyError.TheVariants as Errors;
 
 use crate::partitions::PlacedPartition;
 use crate::places::{Placed, Run};
 use crate::records::Record;
+use crate::runs::MarkRun;
 use std::alloc::Global;
 use std::marker::Model;
 use volume_core::{ApplyError, Kind, Refusal};
-use vtl_base::{NoMemory, ObjNo, PartNo};
+use vtl_base::{NoMemory, ObjNo, PartNo, Steps};
 
 /// Where each object of a cartridge lies: 1 to 4 partitions, with an entry of 24 bytes for each
-/// block and each run of filemarks. To a contract it is the list of its partitions, each with the
-/// list of its objects and their places. No call walks over a partition.
+/// block and one of 12 for each run of filemarks. To a contract it is the list of its partitions,
+/// each with the list of its objects and their places. No call walks over a partition.
 #[derive(Drop)]
 pub struct Index {
     partitions: Vec<PlacedPartition>,
@@ -113,6 +115,61 @@ impl Index {
         }
     }
 
+    /// The last run of filemarks of a partition that begins before the object of that number; None
+    /// where no filemark stands before it. It is found by halving, in 24 steps at most.
+    pub fn run_upto(&self, part: PartNo, n: ObjNo, steps: &mut Steps) -> Option<MarkRun>
+        ensures found { IsRunUpto (placed_objects self.now part) n result }
+        ensures steps { AddsDigitsOfRuns (placed_objects self.now part) steps.old steps.new }
+        ensures most { steps.new ≤ steps.old + 24 }
+    {
+        match self.partition(part) {
+            Some(partition) => partition.run_upto(n, steps),
+            None => None,
+        }
+    }
+
+    /// The run of a partition that has the filemark of number k, from 0 on; None where there are no
+    /// more than k. It is found by halving, in 24 steps at most.
+    pub fn run_of(&self, part: PartNo, k: u32, steps: &mut Steps) -> Option<MarkRun>
+        ensures found { IsRunWith (placed_objects self.now part) k result }
+        ensures steps { AddsDigitsOfRuns (placed_objects self.now part) steps.old steps.new }
+        ensures most { steps.new ≤ steps.old + 24 }
+    {
+        match self.partition(part) {
+            Some(partition) => partition.run_of(k, steps),
+            None => None,
+        }
+    }
+
+    /// How many filemarks are among the first n objects of a partition; among all of them where
+    /// there are fewer.
+    pub fn marks_upto(&self, part: PartNo, n: ObjNo) -> u32
+        ensures marks { result ≡ marks_upto (outline self.now) part n }
+        ensures bound { result ≤ MAX_OBJECTS }
+    {
+        // Asked for the proof's sake: a partition has no more objects than it may.
+        let _ = self.count(part);
+        let mut steps = Steps::new();
+        match self.run_upto(part, n, &mut steps) {
+            Some(run) => run.before + run.count.min(n - run.first),
+            None => 0,
+        }
+    }
+
+    /// The object number of a partition's filemark of number k, from 0 on.
+    pub fn mark_at(&self, part: PartNo, k: u32) -> ObjNo
+        requires { k < mark_count (outline self.now) part }
+        ensures { IsMarkOf (outline self.now) part k result }
+    {
+        // Asked for the proof's sake: a partition has no more objects than it may.
+        let _ = self.count(part);
+        let mut steps = Steps::new();
+        match self.run_of(part, k, &mut steps) {
+            Some(run) => run.first + (k - run.before),
+            None => unreachable!(),
+        }
+    }
+
     /// Why a change with this record is refused: the first cause that holds, None where there is
     /// none.
     pub fn refusal(&self, item: Record) -> Option<Refusal>
@@ -125,7 +182,7 @@ impl Index {
     }
 
     /// Makes room in memory for so many blocks and runs of marks more in a partition, which then
-    /// take none: 24 bytes each.
+    /// take none: 24 bytes for a block, and 12 for a run.
     pub fn reserve(&mut self, part: PartNo, runs: usize) -> Result<(), NoMemory>
         requires { part < length self.old }
         ensures same { self.new ≡ with_objects self.old part (placed_objects self.old part)

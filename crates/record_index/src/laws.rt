@@ -1,7 +1,7 @@
 //! Laws of the definitions. Each is a function that does nothing, and its contract is the law.
 ghost use Rattle.std.specs.Prelude.{◌≡◌, ◌⊎◌, ◌↔◌, ◌++◌, ℕ, List, Some, None, length};
 ghost use Rattle.volume_core.specs.declared.changes.Change.{Change};
-ghost use Rattle.volume_core.specs.Volume.{Part, IsVolume, capacity_of, changed, count_of, kind_at, refusal_of, used_up_to};
+ghost use Rattle.volume_core.specs.Volume.{Part, IsVolume, capacity_of, changed, count_of, kind_at, mark_count, marks_upto, refusal_of, used_up_to};
 ghost use Rattle.record_index.specs.Records.{IsBadAt, IsRecord, Spells, SpellsAll, record_of, size_of, spell_change};
 ghost use Rattle.record_index.specs.ChangesOn.{changes_on};
 ghost use Rattle.record_index.specs.Places.{PlacedPart, Reading, change_by, outline, placed_after, volume_by};
@@ -45,7 +45,7 @@ pub fn what_applies_has_a_spelling()
         refusal_of volume change ≡ None → IsRecord change }
 {}
 
-/// What no byte of a block decides: counts, kinds, costs and refusals.
+/// What no byte of a block decides: counts, kinds, filemarks, costs and refusals.
 pub fn a_volume_is_seen_by_its_shape()
     ensures capacity { (volume : List Part) (part : ℕ) →
         capacity_of (shape_of volume) part ≡ capacity_of volume part }
@@ -53,6 +53,10 @@ pub fn a_volume_is_seen_by_its_shape()
         count_of (shape_of volume) part ≡ count_of volume part }
     ensures kind { (volume : List Part) (part at : ℕ) →
         kind_at (shape_of volume) part at ≡ kind_at volume part at }
+    ensures marks { (volume : List Part) (part n : ℕ) →
+        marks_upto (shape_of volume) part n ≡ marks_upto volume part n }
+    ensures mark_count { (volume : List Part) (part : ℕ) →
+        mark_count (shape_of volume) part ≡ mark_count volume part }
     ensures used { (volume : List Part) (part n : ℕ) →
         used_up_to (shape_of volume) part n ≡ used_up_to volume part n }
     ensures refusal { (volume : List Part) (change : Change) →

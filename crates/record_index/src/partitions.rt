@@ -4,23 +4,25 @@ ghost use Rattle.vtl_base.specs.declared.limits.TheConstants.{MAX_CAPACITY, MAX_
 ghost use Rattle.vtl_base.specs.Limits.{is_capacity};
 ghost use Rattle.volume_core.specs.Volume.{AppliesUnless, IsPart, refusal_in, used_of};
 ghost use Rattle.volume_core.specs.declared.volumes.ApplyError.TheVariants as Errors;
+ghost use Rattle.record_index.specs.MarkRuns.{AddsDigitsOfRuns, IsRunUpto, IsRunWith};
 ghost use Rattle.record_index.specs.Places.{CanAdd, IsPlace, blank, empty_placed, filled_part, record_kept, objects_of_run, outlined, placed_by, runs_of, with_run};
 
 use crate::places::{Placed, Run};
 use crate::records::Record;
-use crate::tables::RunTable;
+use crate::runs::MarkRun;
+use crate::tables::ObjectTable;
 use std::alloc::{AllocError, Global};
 use std::marker::Model;
 use volume_core::{ApplyError, Refusal};
-use vtl_base::ObjNo;
 use vtl_base::limits::{MAX_OBJECTS, OBJECT_COST};
+use vtl_base::{ObjNo, Steps};
 
 // A partition. To a contract it is its capacity, its objects with their places, and how many runs
 // may be added without memory.
 #[derive(Drop)]
 pub(crate) struct PlacedPartition {
     capacity: u64,
-    table: RunTable,
+    table: ObjectTable,
 }
 
 impl Model for PlacedPartition {
@@ -50,7 +52,7 @@ impl PlacedPartition {
     {
         PlacedPartition {
             capacity,
-            table: RunTable::new(alloc),
+            table: ObjectTable::new(alloc),
         }
     }
 
@@ -80,6 +82,24 @@ impl PlacedPartition {
         ensures bound { result ≤ self.now.capacity }
     {
         self.table.used(n)
+    }
+
+    // The last run of filemarks that begins before the object of that number.
+    pub(crate) fn run_upto(&self, n: ObjNo, steps: &mut Steps) -> Option<MarkRun>
+        ensures found { IsRunUpto self.now.objects n result }
+        ensures steps { AddsDigitsOfRuns self.now.objects steps.old steps.new }
+        ensures most { steps.new ≤ steps.old + 24 }
+    {
+        self.table.run_upto(n, steps)
+    }
+
+    // The run that has the filemark of number k, from 0 on.
+    pub(crate) fn run_of(&self, k: u32, steps: &mut Steps) -> Option<MarkRun>
+        ensures found { IsRunWith self.now.objects k result }
+        ensures steps { AddsDigitsOfRuns self.now.objects steps.old steps.new }
+        ensures most { steps.new ≤ steps.old + 24 }
+    {
+        self.table.run_of(k, steps)
     }
 
     // Why a record that is meant for this partition is refused; None where it is not.

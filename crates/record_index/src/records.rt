@@ -13,7 +13,7 @@ ghost use Rattle.record_index.specs.Records.{BeginsWithRecord, IsAtFront, IsReco
 ghost use Rattle.volume_core.specs.Volume.{added_by, is_well_formed, used_of};
 ghost use Rattle.record_index.specs.Places.{record_kept, outlined, record_part};
 ghost use Rattle.record_index.specs.Inner.Tables.{AddsRun};
-ghost use Rattle.record_index.specs.Inner.Told.{block_told, erase_told, marks_told, told};
+ghost use Rattle.record_index.specs.Inner.Told.{block_told, erase_told, head_told, marks_told, told};
 
 use crate::places::Run;
 use byteorder::{BigEndian, ByteOrder};
@@ -221,11 +221,19 @@ fn told(bytes: &[u8]) -> Option<Record>
     if bytes.len() < HEAD_BYTES {
         return None;
     }
-    let part = bytes[1];
-    let at = BigEndian::read_u32(&bytes[2..]);
-    let number = BigEndian::read_u32(&bytes[6..]);
-    match bytes[0] {
-        BLOCK => block_told(part, at, number, bytes.len() - HEAD_BYTES),
+    head_told(bytes, bytes.len() - HEAD_BYTES)
+}
+
+// The record whose head these bytes begin with, where so many bytes of its block are there.
+pub(crate) fn head_told(head: &[u8], there: usize) -> Option<Record>
+    requires { 10 ≤ length head.now }
+    ensures { result ≡ head_told head.now there }
+{
+    let part = head[1];
+    let at = BigEndian::read_u32(&head[2..]);
+    let number = BigEndian::read_u32(&head[6..]);
+    match head[0] {
+        BLOCK => block_told(part, at, number, there),
         MARKS => marks_told(part, at, number),
         ERASE => erase_told(part, at, number),
         _ => None,

@@ -1,216 +1,190 @@
-//! The table of a partition: an entry for each block, and one for each run of marks.
-ghost use Rattle.std.specs.Prelude.{◌≡◌, ◌≤◌, ◌<◌, ◌+◌, ◌^◌, ◌++◌, [], All, OnOk, OnErr, length, take, slice_get, vec_len, vec_capacity};
-ghost use Rattle.record_index.specs.declared.tables.TheConstants.{NOWHERE};
-ghost use Rattle.record_index.specs.Places.{IsPlace, objects_of_run};
-ghost use Rattle.record_index.specs.Inner.Tables.{IsTable, StandsForSome, cost_of_objects, objects_of, objects_of_entry};
+//! The two tables of a partition: one of its blocks, one of its runs of filemarks.
+ghost use Rattle.std.specs.Prelude.{◌≡◌, ◌≤◌, ◌<◌, ◌+◌, ◌^◌, ◌++◌, ◌∷◌, [], OnOk, OnErr, length, replicate, take, slice_get};
+ghost use Rattle.record_index.specs.declared.places.Placed.TheVariants as Placeds;
+ghost use Rattle.record_index.specs.Places.{objects_of_run};
+ghost use Rattle.record_index.specs.MarkRuns.{AddsDigitsOfRuns, IsRunUpto, IsRunWith};
+ghost use Rattle.record_index.specs.Inner.Tables.{IsTable, blocks_of, cost_of_objects, objects_of, padded};
 
-use crate::halving::entries_before;
+use crate::halving::{Key, blocks_before, runs_below};
 use crate::places::{Placed, Run};
+use crate::runs::{MarkRun, Runs};
 use std::alloc::{AllocError, Global};
 use std::marker::Model;
-use vtl_base::ObjNo;
 use vtl_base::limits::OBJECT_COST;
+use vtl_base::{ObjNo, Steps};
 
-// The place of an entry that has no block.
-pub(crate) const NOWHERE: u64 = 0xffff_ffff_ffff_ffff;
-
-// A block or a run of marks, in 24 bytes.
+// A block, in 24 bytes.
 #[derive(Clone, Copy)]
-pub(crate) struct Entry {
-    // Where its block lies, `NOWHERE` of a run of marks.
+pub(crate) struct BlockEntry {
+    // Where it lies.
     pub place: u64,
-    // What the objects up to its last one take, that one included, in bytes.
+    // What the objects up to it take, itself included, in bytes.
     pub cost: u64,
-    // The number of the object behind its last one.
-    pub end: ObjNo,
-    // How many bytes its block has, or of how many marks it is.
+    // The number of its object.
+    pub number: ObjNo,
+    // How many bytes it has.
     pub size: u32,
 }
 
-// The entries of a partition. To a contract it is the list of its objects, and how many entries may
-// be added without memory.
+const _: () = prove!(size_of::<BlockEntry>() == 24);
+
+// The objects of a partition: an entry for each block, one for each run of filemarks, and how many
+// objects there are. To a contract it is their list, and how many entries may be added without
+// memory.
 #[derive(Drop)]
-pub(crate) struct RunTable {
-    entries: Vec<Entry>,
+pub(crate) struct ObjectTable {
+    blocks: Vec<BlockEntry>,
+    runs: Runs,
+    count: ObjNo,
+    reserved: usize,
 }
 
-impl Model for RunTable {
+impl Model for ObjectTable {
+    ghost use Rattle.std.specs.Prelude.{◌+◌, ◌≤◌, vec_len, vec_capacity};
     ghost use Rattle.record_index.specs.Inner.Table.{Table};
+    ghost use Rattle.record_index.specs.Inner.Tables.{AreTables, objects_of};
 
     ghost Value = { Table };
 
-    ghost use Rattle.std.specs.Prelude.{◌-◌, ◌<◌, ◌^◌, All, vec_len, vec_capacity};
-    ghost use Rattle.record_index.specs.Inner.Tables.{IsTable, StandsForSome, cost_of_objects, objects_of};
-
     ghost view = { λ t. record {
-      objects = objects_of t.entries.items;
-      reserved = vec_capacity t.entries - vec_len t.entries;
+      objects = objects_of t.blocks.items t.count;
+      reserved = t.reserved;
     } };
 
-    ghost invariant = { λ t. IsTable t.entries.items
-        × All StandsForSome t.entries.items
-        × (cost_of_objects (objects_of t.entries.items) < 2 ^ 64) };
+    ghost invariant = { λ t. AreTables t.blocks.items t.runs.runs t.count
+        × (vec_len t.blocks + t.reserved ≤ vec_capacity t.blocks)
+        × (t.reserved ≤ t.runs.free) };
 }
 
-impl Entry {
-    // What it stands for.
-    fn run(&self) -> Run
-        ensures { objects_of_run result ≡ objects_of_entry self.now }
-    {
-        if self.place == NOWHERE {
-            Run::Marks { count: self.size }
-        } else {
-            Run::Block {
-                place: self.place,
-                length: self.size,
-            }
-        }
-    }
-}
-
-// The number of the object behind the first so many entries.
-fn end_of(entries: &[Entry], count: usize) -> ObjNo
-    requires count { count ≤ length entries.now }
-    requires table { IsTable entries.now }
-    ensures { result ≡ length (objects_of (take count entries.now)) }
+// The number of the object behind the first so many blocks.
+fn end_of(blocks: &[BlockEntry], count: usize) -> ObjNo
+    requires count { count ≤ length blocks.now }
+    requires table { IsTable blocks.now }
+    ensures { result ≡ length (blocks_of (take count blocks.now)) }
 {
     if count == 0 {
         0
     } else {
-        entries[count - 1].end
+        blocks[count - 1].number + 1
     }
 }
 
-// What the objects of the first so many entries take, in bytes.
-fn cost_of(entries: &[Entry], count: usize) -> u64
-    requires count { count ≤ length entries.now }
-    requires table { IsTable entries.now }
-    ensures { result ≡ cost_of_objects (objects_of (take count entries.now)) }
+// What the objects up to the first so many blocks take, in bytes.
+fn cost_of(blocks: &[BlockEntry], count: usize) -> u64
+    requires count { count ≤ length blocks.now }
+    requires table { IsTable blocks.now }
+    ensures { result ≡ cost_of_objects (blocks_of (take count blocks.now)) }
 {
     if count == 0 {
         0
     } else {
-        entries[count - 1].cost
+        blocks[count - 1].cost
     }
 }
 
-// Puts an entry for the run behind the others.
-fn push_run(entries: &mut Vec<Entry>, run: Run)
-    requires table { IsTable entries.old.items }
-    requires filled { All StandsForSome entries.old.items }
-    requires room { vec_len entries.old < vec_capacity entries.old }
-    requires some { 1 ≤ length (objects_of_run run) }
-    requires place { IsPlace run }
-    requires end { length (objects_of entries.old.items ++ objects_of_run run) < 2 ^ 32 }
-    requires cost { cost_of_objects (objects_of entries.old.items ++ objects_of_run run) < 2 ^ 64 }
-    ensures table { IsTable entries.new.items }
-    ensures filled { All StandsForSome entries.new.items }
-    ensures objects { objects_of entries.new.items ≡ objects_of entries.old.items ++ objects_of_run run }
-    ensures len { vec_len entries.new ≡ vec_len entries.old + 1 }
-    ensures capacity { vec_capacity entries.new ≡ vec_capacity entries.old }
+// What n objects take, in bytes: the first so many blocks, those before them, and marks.
+fn cost_up_to(blocks: &[BlockEntry], count: usize, n: ObjNo) -> u64
+    requires count { count ≤ length blocks.now }
+    requires table { IsTable blocks.now }
+    requires behind { length (blocks_of (take count blocks.now)) ≤ n }
+    requires cost { cost_of_objects (padded (blocks_of (take count blocks.now)) n) < 2 ^ 64 }
+    ensures { result ≡ cost_of_objects (padded (blocks_of (take count blocks.now)) n) }
 {
-    let end = end_of(entries, entries.len());
-    let cost = cost_of(entries, entries.len());
-    entries.push_reserved(match run {
-        Run::Block { place, length } => Entry {
-            place,
-            cost: cost + length as u64 + OBJECT_COST,
-            end: end + 1,
-            size: length,
-        },
-        Run::Marks { count } => Entry {
-            place: NOWHERE,
-            cost: cost + count as u64 * OBJECT_COST,
-            end: end + count,
-            size: count,
-        },
-    });
-}
-
-// Keeps the first n objects; all of them where there are fewer.
-fn cut_entries(entries: &mut Vec<Entry>, n: ObjNo)
-    requires table { IsTable entries.old.items }
-    requires filled { All StandsForSome entries.old.items }
-    requires cost { cost_of_objects (objects_of entries.old.items) < 2 ^ 64 }
-    ensures table { IsTable entries.new.items }
-    ensures filled { All StandsForSome entries.new.items }
-    ensures objects { objects_of entries.new.items ≡ take n (objects_of entries.old.items) }
-    ensures len { vec_len entries.new ≤ vec_len entries.old }
-    ensures capacity { vec_capacity entries.new ≡ vec_capacity entries.old }
-{
-    let kept = entries_before(entries, n);
-    if kept == entries.len() {
-        return;
-    }
-    let end = end_of(entries, kept);
-    entries.truncate(kept);
-    if end < n {
-        push_run(entries, Run::Marks { count: n - end });
-    }
+    cost_of(blocks, count) + (n - end_of(blocks, count)) as u64 * OBJECT_COST
 }
 
 // The object of a number, None where there is none.
-fn object_at(entries: &[Entry], at: ObjNo) -> Option<Placed>
-    requires { IsTable entries.now }
-    ensures { result ≡ slice_get (objects_of entries.now) at }
+fn object_at(blocks: &[BlockEntry], count: ObjNo, at: ObjNo) -> Option<Placed>
+    requires table { IsTable blocks.now }
+    requires within { length (blocks_of blocks.now) ≤ count }
+    ensures { result ≡ slice_get (objects_of blocks.now count) at }
 {
-    let before = entries_before(entries, at);
-    Some(match entries.get(before)?.run() {
-        Run::Block { place, length } => Placed::Block { place, length },
-        Run::Marks { .. } => Placed::Mark,
+    if at >= count {
+        return None;
+    }
+    let before = blocks_before(blocks, at);
+    if before == blocks.len() {
+        return Some(Placed::Mark);
+    }
+    let next = blocks[before];
+    if next.number > at {
+        return Some(Placed::Mark);
+    }
+    Some(Placed::Block {
+        place: next.place,
+        length: next.size,
     })
 }
 
-// What the first n objects take, in bytes; all of them where there are fewer.
-fn cost_up_to(entries: &[Entry], n: ObjNo) -> u64
-    requires table { IsTable entries.now }
-    requires cost { cost_of_objects (objects_of entries.now) < 2 ^ 64 }
-    ensures { result ≡ cost_of_objects (take n (objects_of entries.now)) }
-{
-    let before = entries_before(entries, n);
-    let cost = cost_of(entries, before);
-    if before == entries.len() {
-        return cost;
-    }
-    cost + (n - end_of(entries, before)) as u64 * OBJECT_COST
-}
-
-impl RunTable {
+impl ObjectTable {
     pub(crate) fn new(alloc: Global) -> Self
         ensures { result ≡ record { objects = []; reserved = 0 } }
     {
-        RunTable {
-            entries: Vec::new(alloc),
+        ObjectTable {
+            blocks: Vec::new(alloc),
+            runs: Runs::new(alloc),
+            count: 0,
+            reserved: 0,
         }
     }
 
     pub(crate) fn count(&self) -> ObjNo
         ensures { result ≡ length self.now.objects }
     {
-        end_of(&self.entries, self.entries.len())
+        self.count
     }
 
     pub(crate) fn place(&self, at: ObjNo) -> Option<Placed>
         ensures { result ≡ slice_get self.now.objects at }
     {
-        object_at(&self.entries, at)
+        object_at(&self.blocks, self.count, at)
     }
 
     // What the first n objects take, in bytes; all of them where there are fewer.
     pub(crate) fn used(&self, n: ObjNo) -> u64
         ensures { result ≡ cost_of_objects (take n self.now.objects) }
     {
-        cost_up_to(&self.entries, n)
+        let n = n.min(self.count);
+        cost_up_to(&self.blocks, blocks_before(&self.blocks, n), n)
+    }
+
+    // The last run of filemarks that begins before the object of that number.
+    pub(crate) fn run_upto(&self, n: ObjNo, steps: &mut Steps) -> Option<MarkRun>
+        ensures found { IsRunUpto self.now.objects n result }
+        ensures steps { AddsDigitsOfRuns self.now.objects steps.old steps.new }
+    {
+        runs_below(&self.runs, Key::First, n as u64, steps).last
+    }
+
+    // The run that has the filemark of number k, from 0 on.
+    pub(crate) fn run_of(&self, k: u32, steps: &mut Steps) -> Option<MarkRun>
+        ensures found { IsRunWith self.now.objects k result }
+        ensures steps { AddsDigitsOfRuns self.now.objects steps.old steps.new }
+    {
+        let Some(run) = runs_below(&self.runs, Key::Before, k as u64 + 1, steps).last else {
+            return None;
+        };
+        if k - run.before < run.count {
+            Some(run)
+        } else {
+            None
+        }
     }
 
     // Makes room for so many entries more, which then take no memory.
-    pub(crate) fn reserve(&mut self, runs: usize) -> Result<(), AllocError>
+    pub(crate) fn reserve(&mut self, entries: usize) -> Result<(), AllocError>
         ensures objects { self.new.objects ≡ self.old.objects }
         ensures grows { self.old.reserved ≤ self.new.reserved }
-        ensures ok { OnOk result (runs ≤ self.new.reserved) }
-        ensures err { OnErr result ((self.old.reserved < runs) × (self.new ≡ self.old)) }
+        ensures ok { OnOk result (entries ≤ self.new.reserved) }
+        ensures err { OnErr result ((self.old.reserved < entries) × (self.new ≡ self.old)) }
     {
-        self.entries.reserve(runs)
+        if entries <= self.reserved {
+            return Ok(());
+        }
+        self.blocks.reserve(entries)?;
+        self.runs.reserve(entries)?;
+        self.reserved = entries;
+        Ok(())
     }
 
     // Keeps the first n objects; all of them where there are fewer.
@@ -218,20 +192,82 @@ impl RunTable {
         ensures objects { self.new.objects ≡ take n self.old.objects }
         ensures reserved { self.old.reserved ≤ self.new.reserved }
     {
-        cut_entries(&mut self.entries, n);
+        if n >= self.count {
+            return;
+        }
+        let kept = blocks_before(&self.blocks, n);
+        let end = end_of(&self.blocks, kept);
+        let mut steps = Steps::new();
+        let whole = runs_below(&self.runs, Key::First, end as u64, &mut steps);
+        self.blocks.truncate(kept);
+        self.runs.keep(whole.count);
+        self.count = n;
+        if end < n {
+            self.runs.push(MarkRun {
+                first: end,
+                count: n - end,
+                before: end - kept as u32,
+            });
+        }
+    }
+
+    // Puts a block behind the objects.
+    fn add_block(&mut self, place: u64, size: u32)
+        requires room { 1 ≤ self.old.reserved }
+        requires end { length self.old.objects + 1 < 2 ^ 32 }
+        requires cost { cost_of_objects (self.old.objects ++ Placeds.Block place size ∷ []) < 2 ^ 64 }
+        ensures objects { self.new.objects ≡ self.old.objects ++ Placeds.Block place size ∷ [] }
+        ensures reserved { self.old.reserved ≤ self.new.reserved + 1 }
+    {
+        let before = cost_up_to(&self.blocks, self.blocks.len(), self.count);
+        self.blocks.push_reserved(BlockEntry {
+            place,
+            cost: before + size as u64 + OBJECT_COST,
+            number: self.count,
+            size,
+        });
+        self.count += 1;
+        self.reserved -= 1;
+    }
+
+    // Puts filemarks behind the objects. With those behind the last block they are one run.
+    fn add_marks(&mut self, count: u32)
+        requires room { 1 ≤ self.old.reserved }
+        requires some { 1 ≤ count }
+        requires end { length self.old.objects + count < 2 ^ 32 }
+        requires cost { cost_of_objects (self.old.objects ++ replicate count Placeds.Mark) < 2 ^ 64 }
+        ensures objects { self.new.objects ≡ self.old.objects ++ replicate count Placeds.Mark }
+        ensures reserved { self.old.reserved ≤ self.new.reserved + 1 }
+    {
+        let blocks = self.blocks.len();
+        let end = end_of(&self.blocks, blocks);
+        let mut steps = Steps::new();
+        let closed = runs_below(&self.runs, Key::First, end as u64, &mut steps);
+        self.runs.keep(closed.count);
+        self.count += count;
+        self.runs.push(MarkRun {
+            first: end,
+            count: self.count - end,
+            before: end - blocks as u32,
+        });
+        self.reserved -= 1;
     }
 
     // Puts a run behind the objects; one of no object takes no entry.
     pub(crate) fn add(&mut self, run: Run)
         requires room { 1 ≤ self.old.reserved }
-        requires place { IsPlace run }
         requires end { length (self.old.objects ++ objects_of_run run) < 2 ^ 32 }
         requires cost { cost_of_objects (self.old.objects ++ objects_of_run run) < 2 ^ 64 }
         ensures objects { self.new.objects ≡ self.old.objects ++ objects_of_run run }
         ensures reserved { self.old.reserved ≤ self.new.reserved + 1 }
     {
-        if run.count() > 0 {
-            push_run(&mut self.entries, run);
+        match run {
+            Run::Block { place, length } => self.add_block(place, length),
+            Run::Marks { count } => {
+                if count > 0 {
+                    self.add_marks(count);
+                }
+            }
         }
     }
 }

@@ -12,16 +12,14 @@ use Rattle.volume_core.specs.declared.changes.Change.{Change}
 use Rattle.volume_core.specs.declared.changes.Change.TheVariants.{Put}
 use Rattle.volume_core.specs.declared.media.MediumError.{MediumError}
 use Rattle.volume_core.specs.declared.media.MediumError.TheVariants.{Refused, NoMemory, SideFull, Device, Failed, Unreadable}
-use Rattle.volume_core.specs.Volume.{AllApply, Part, after, block_at, block_in, changed}
+use Rattle.volume_core.specs.Volume.{AllApply, Part, after, block_at, changed}
 use Rattle.volume_core.specs.Medium.{met_fault}
 use Rattle.cartridge.specs.State.{OpenCartridge}
 use Rattle.accepting.specs.Device.{one_disk, one_is_device, one_keeps, one_rests}
 use Rattle.accepting.specs.Events.{ShowsCore}
 use Rattle.accepting.specs.Kinds.{moves_faulting, moves_resting}
-use Rattle.tape_buffer.specs.declared.overlay.Seen.TheVariants as Places
 use Rattle.tape_buffer.specs.Inner.Fetching.{IsCopied, IsFetched, IsPut}
 use Rattle.tape_buffer.specs.Moves.{buffer_below}
-use Rattle.tape_buffer.specs.Overlay.{IsSeenOn}
 use Rattle.tape_buffer.specs.Rules.{medium_rules}
 use Rattle.tape_buffer.specs.State.{open_buffer, open_core}
 use Rattle.tape_buffer.proofs.AddingLemmas.{well_formed}
@@ -37,15 +35,20 @@ short_block volume (change ∷ changes) zero part kept block all at =
 short_block volume (change ∷ changes) (suc i) part kept block all at =
     short_block (changed volume change) changes i part kept block all.1 at
 
--- a block that is seen in a pending change
+-- a block that is seen, and that is the block of the pending change of that number
+abbrev pub IsPendingBlock : List Part → List Change → ℕ → ℕ → ℕ → Type 0
+IsPendingBlock volume pending part at i =
+    (of : ℕ) × (kept : ℕ) × (block : List ℕ) × (slice_get pending i ≡ Some (Put of kept block))
+    × (block_at (after volume pending) part at ≡ Some block)
+
 module _ (volume : List Part) (pending : List Change) (part at i : ℕ) (all : AllApply volume pending)
-    (seen : IsSeenOn volume pending part at (Places.Block i)) where
+    (seen : IsPendingBlock volume pending part at i) where
   pub block_inside : i < length pending
-  block_inside = slice_get_within pending i (Put part seen.0 seen.1) seen.2
+  block_inside = slice_get_within pending i (Put seen.0 seen.1 seen.2) seen.3
 
   module _ (change : Change) (is : change ≡ slice_index_or pending i change) where
-    is_put : change ≡ Put part seen.0 seen.1
-    is_put = is ∙ get_or_from_slice_get pending i (Put part seen.0 seen.1) change seen.2
+    is_put : change ≡ Put seen.0 seen.1 seen.2
+    is_put = is ∙ get_or_from_slice_get pending i (Put seen.0 seen.1 seen.2) change seen.3
 
     pub can_copy : IsPut change
     can_copy = subst IsPut (sym is_put) tt
@@ -56,9 +59,9 @@ module _ (volume : List Part) (pending : List Change) (part at i : ℕ) (all : A
     copied_block capacity result bytes copied =
         by result (subst (λ (c : Change). IsCopied c capacity result bytes) is_put copied)
       where
-        by : (result : Result Unit MediumError) → IsCopied (Put part seen.0 seen.1) capacity result bytes
+        by : (result : Result Unit MediumError) → IsCopied (Put seen.0 seen.1 seen.2) capacity result bytes
             → OnOk result (block_at (after volume pending) part at ≡ Some bytes)
-        by (Ok done) same = ap block_in seen.3 ∙ ap Some (sym same)
+        by (Ok done) same = seen.4 ∙ ap Some (sym same)
         by (Err error) same = tt
 
     pub copied_short : (capacity : ℕ) (result : Result Unit MediumError) (bytes : List ℕ)
@@ -67,10 +70,10 @@ module _ (volume : List Part) (pending : List Change) (part at i : ℕ) (all : A
     copied_short capacity result bytes copied =
         by result (subst (λ (c : Change). IsCopied c capacity result bytes) is_put copied)
       where
-        by : (result : Result Unit MediumError) → IsCopied (Put part seen.0 seen.1) capacity result bytes
+        by : (result : Result Unit MediumError) → IsCopied (Put seen.0 seen.1 seen.2) capacity result bytes
             → OnOk result (length bytes ≤ MAX_BLOCK)
         by (Ok done) same =
-            omega (arith, ap length same, short_block volume pending i part seen.0 seen.1 all seen.2)
+            omega (arith, ap length same, short_block volume pending i seen.0 seen.1 seen.2 all seen.3)
         by (Err error) same = tt
 
     pub copied_well : (capacity : ℕ) (result : Result Unit MediumError) (bytes : List ℕ)
@@ -79,7 +82,7 @@ module _ (volume : List Part) (pending : List Change) (part at i : ℕ) (all : A
     copied_well capacity result bytes copied =
         by result (subst (λ (c : Change). IsCopied c capacity result bytes) is_put copied)
       where
-        by : (result : Result Unit MediumError) → IsCopied (Put part seen.0 seen.1) capacity result bytes
+        by : (result : Result Unit MediumError) → IsCopied (Put seen.0 seen.1 seen.2) capacity result bytes
             → met_fault result ≡ false
         by (Ok done) same = refl
         by (Err NoMemory) same = refl
@@ -93,8 +96,8 @@ module _ (volume : List Part) (pending : List Change) (part at i : ℕ) (all : A
         → IsCopied change capacity result bytes → result ≡ Err NoMemory
         → IfSome (block_at (after volume pending) part at) (λ block. capacity < length block)
     copied_lack capacity result bytes copied none =
-        subst (λ (o : Option (List ℕ)). IfSome o (λ block. capacity < length block)) (sym (ap block_in seen.3))
-        (subst (λ (r : Result Unit MediumError). IsCopied (Put part seen.0 seen.1) capacity r bytes) none
+        subst (λ (o : Option (List ℕ)). IfSome o (λ block. capacity < length block)) (sym seen.4)
+        (subst (λ (r : Result Unit MediumError). IsCopied (Put seen.0 seen.1 seen.2) capacity r bytes) none
         (subst (λ (c : Change). IsCopied c capacity result bytes) is_put copied))
 
 -- memory ran out for its cause

@@ -6,7 +6,6 @@ use Rattle.tape_disk.specs.Disk.{DiskState, Each, IsDisk}
 use Rattle.volume_core.specs.declared.changes.Change.{Change}
 use Rattle.volume_core.specs.Volume.{Part, capacity_of}
 use Rattle.volume_core.specs.Medium.{volume_of}
-use Rattle.gate_journal.specs.Side.{Heading}
 use Rattle.cartridge.specs.Contents.{Contents, GivesContents, ShowsContents, changes_in, changes_of, volume_made}
 use Rattle.cartridge.specs.ContentsOn.{contents_on, contents_on_gives}
 use Rattle.cartridge.specs.State.{ClosedCartridge, OpenCartridge}

@@ -1,7 +1,6 @@
 -- What changes that apply make of a volume: each changes the objects of its partition, and nothing else.
-use Rattle.std.proofs.Common.{◌≡◌, ◌≢◌, ℕ, zero, suc, ◌<◌, ◌≤◌, ◌+◌, List, [], ◌∷◌, ◌++◌, length, take, set, Option, None, Some, refl, sym, ◌∙◌, ap, arith, add-one, ⊎_elim}
-use Rattle.std.specs.Prelude.{slice_get, slice_set, slice_index_or, nat_lt, if◌then◌else◌, not, Bool, true, false}
-use Rattle.std.proofs.Math.Seq.{take-suc}
+use Rattle.std.proofs.Common.{◌≡◌, ◌≢◌, ℕ, zero, suc, ◌≤◌, List, [], ◌∷◌, ◌++◌, length, take, set, Option, None, Some, refl, sym, ◌∙◌, ap, arith, ⊎_elim}
+use Rattle.std.specs.Prelude.{slice_get, slice_set, nat_lt, if◌then◌else◌, not, Bool, true, false}
 use Rattle.std.proofs.lemmas.Bool.{and_parts, cases_eq, leb-true, ltb-false}
 use Rattle.std.proofs.lemmas.List.{get_or-set_same, length-set}
 use Rattle.std.proofs.lemmas.Option.{slice_get-get_or, slice_get_within}
@@ -10,16 +9,17 @@ use Rattle.volume_core.specs.declared.changes.Change.{Change}
 use Rattle.volume_core.specs.declared.changes.Refusal.TheVariants.{PastEnd, NoRoom, TooLong}
 use Rattle.volume_core.specs.declared.objects.Object.{Object}
 use Rattle.volume_core.specs.Volume.{AllApply, Part, added_by, after, capacity_in, capacity_of, changed, count_of, has_room, is_well_formed, kept_of, objects_after, objects_in, objects_of, part_after, part_of, refusal_in, refusal_of, used_of}
-use Rattle.volume_core.specs.Stores.{after_append}
 
-get_set_same : {X : Type 0} (xs : List X) (i : ℕ) (x y : X) → slice_get xs i ≡ Some x
+-- what is set at a place that is there stands there
+pub get_set_same : {X : Type 0} (xs : List X) (i : ℕ) (x y : X) → slice_get xs i ≡ Some x
     → slice_get (set xs i y) i ≡ Some y
 get_set_same xs i x y at =
     let inside = slice_get_within xs i x at in
     slice_get-get_or (set xs i y) i y (omega (arith, inside, length-set xs i y))
     ∙ ap Some (get_or-set_same xs i y y inside)
 
-get_set_other : {X : Type 0} (xs : List X) (i j : ℕ) (y : X) → j ≢ i → slice_get (set xs i y) j ≡ slice_get xs j
+-- what stands elsewhere stays
+pub get_set_other : {X : Type 0} (xs : List X) (i j : ℕ) (y : X) → j ≢ i → slice_get (set xs i y) j ≡ slice_get xs j
 get_set_other [] i j y apart = refl
 get_set_other (x ∷ xs) zero zero y apart = absurd (apart refl)
 get_set_other (x ∷ xs) zero (suc j) y apart = refl
@@ -103,26 +103,14 @@ changes_so volume change none =
     let found = taken (slice_get volume (part_of change)) change none in
     rw found.1 (changed_found volume change found.0 found.1 found.2)
 
--- the change of each place applies to what the ones before it made
-applies_at : (volume : List Part) (changes : List Change) (i : ℕ) (change : Change) → AllApply volume changes
-    → i < length changes → change ≡ slice_index_or changes i change
-    → refusal_of (after volume (take i changes)) change ≡ None
-applies_at volume [] i change all inside is = absurd (omega (arith, inside))
-applies_at volume (c ∷ cs) zero change all inside is = rw is all.0
-applies_at volume (c ∷ cs) (suc i) change all inside is =
-    applies_at (changed volume c) cs i change all.1 (omega (arith, inside)) is
-
--- the change of each place leads from what the ones before it made to what it makes of that
-pub changed_at : (volume : List Part) (changes : List Change) (i next : ℕ) (change : Change)
-    → AllApply volume changes → i < length changes → next ≡ i + 1 → change ≡ slice_index_or changes i change
-    → IsChanged (after volume (take i changes)) (after volume (take next changes)) change
-changed_at volume changes i next change all inside is_next is =
-    let reached : after volume (take next changes) ≡ changed (after volume (take i changes)) change =
-    ap (λ (n : ℕ). after volume (take n changes)) (is_next ∙ add-one i)
-    ∙ ap (after volume) (take-suc changes i change inside)
-    ∙ after_append volume (take i changes) (slice_index_or changes i change ∷ [])
-    ∙ ap (changed (after volume (take i changes))) (sym is) in
-    rw reached (changes_so (after volume (take i changes)) change (applies_at volume changes i change all inside is))
+-- of changes that apply the first ones apply, and the last one behind them
+pub apply_less : (volume : List Part) (changes : List Change) (change : Change)
+    → AllApply volume (changes ++ change ∷ [])
+    → AllApply volume changes × (refusal_of (after volume changes) change ≡ None)
+apply_less volume [] change all = (tt, all.0)
+apply_less volume (c ∷ cs) change all =
+    let rest = apply_less (changed volume c) cs change all.1 in
+    ((all.0, rest.0), rest.1)
 
 -- the capacity of a partition stays through changes that apply, and its objects fit it still
 pub record IsSameKind (old new : List Part) : Type 0 where
@@ -130,10 +118,12 @@ pub record IsSameKind (old new : List Part) : Type 0 where
   pub capacities : (part : ℕ) → capacity_of new part ≡ capacity_of old part
   pub fits : (part : ℕ) → used_of (objects_of old part) ≤ capacity_of old part
       → used_of (objects_of new part) ≤ capacity_of new part
+  pub few : (part : ℕ) → count_of old part ≤ MAX_OBJECTS → count_of new part ≤ MAX_OBJECTS
 
 pub stays_so : (volume : List Part) (changes : List Change) → AllApply volume changes
     → IsSameKind volume (after volume changes)
-stays_so volume [] all = record { parts = refl; capacities = λ part. refl; fits = λ part fits. fits }
+stays_so volume [] all =
+    record { parts = refl; capacities = λ part. refl; fits = λ part fits. fits; few = λ part few. few }
 stays_so volume (change ∷ changes) all =
     let is = changes_so volume change all.0 in
     let rest = stays_so (changed volume change) changes all.1 in
@@ -143,5 +133,9 @@ stays_so volume (change ∷ changes) all =
       fits = λ part fits. rest.fits part (⊎_elim
           (λ e. rw e (omega (arith, is.fits, is.capacities (part_of change))))
           (λ apart. omega (arith, fits, ap used_of (is.others part apart), is.capacities part))
+          (cases_eq part (part_of change)));
+      few = λ part few. rest.few part (⊎_elim
+          (λ e. rw e is.few)
+          (λ apart. omega (arith, few, ap (λ (l : List Object). length l) (is.others part apart)))
           (cases_eq part (part_of change)));
     }

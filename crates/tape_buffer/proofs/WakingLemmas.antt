@@ -1,6 +1,6 @@
 -- A closed cartridge that is not opened stays closed, and what its side gives stays; one that was not opened before and
 -- whose device failed may give something else.
-use Rattle.std.specs.Prelude.{◌≡◌, ◌≢◌, ◌+◌, ◌++◌, ℕ, List, [], Bool, true, false, not, Option, None, Some, Err, length, take, option_map, if◌then◌else◌, refl}
+use Rattle.std.specs.Prelude.{◌≡◌, ◌≢◌, ◌+◌, ◌++◌, ℕ, List, [], Bool, true, false, not, Option, None, Some, Err, length, option_map, if◌then◌else◌, refl}
 use Rattle.std.proofs.Common.{sym, ◌∙◌, ap, subst, arith, ⊎_elim}
 use Rattle.std.proofs.lemmas.List.{append-nil, take_at, take_all}
 use Rattle.vtl_base.specs.Below.{Advances}

@@ -3,6 +3,6 @@ pub mod Inner
 pub mod Invariants
 pub mod Limits
 pub mod Moves
-pub mod Overlay
 pub mod Rules
 pub mod State
+pub mod Tail

@@ -11,8 +11,8 @@ ghost use Rattle.tape_buffer.specs.State.{IsPendingOver, open_buffer, open_state
 ghost use Rattle.tape_buffer.specs.Moves.{buffer_below};
 ghost use Rattle.tape_buffer.specs.Inner.Adding.{IsReady, IsWay};
 
-use crate::overlay::refusal_seen;
 use crate::pending::Pending;
+use crate::seen::refusal_seen;
 use crate::storing::{reserve_over, settle_over};
 use cartridge::Cartridge;
 use tape_disk::Disk;
@@ -42,7 +42,7 @@ pub(crate) fn accept_over<D: Disk>(
         let error = MediumError::Failed;
         return Err(NotAccepted { error, change });
     }
-    match refusal_seen(cartridge, pending.as_slice(), &change) {
+    match refusal_seen(cartridge, pending, &change) {
         Some(cause) => {
             let error = MediumError::Refused(cause);
             return Err(NotAccepted { error, change });
@@ -122,9 +122,11 @@ fn add_over<D: Disk>(
     ensures ok { OnOk result (pending.new ≡ pending.old ++ change ∷ []) }
     ensures err { IfErr result (λ back. (back ≡ change) × (pending.new ≡ pending.old)) }
 {
-    // Asked for the proof's sake: at rest nothing is under way, and the partition is there.
+    // Asked for the proof's sake: at rest nothing is under way, and the partition is there, within its limits.
     cartridge.known();
     let _ = cartridge.parts();
+    let _ = cartridge.count(change.part());
+    let _ = cartridge.capacity(change.part());
     let Ok(()) = reserve_over(cartridge, pending, &change) else {
         return Err(change);
     };

@@ -1,7 +1,7 @@
 //! A buffered medium tells of its volume: what is stored, with what is pending carried out.
 use crate::buffered::Buffered;
 use crate::holding::Holding;
-use crate::overlay::{count_seen, kind_seen, used_seen};
+use crate::seen::{count_seen, kind_seen, mark_seen, marks_seen, used_seen};
 use tape_disk::Disk;
 use volume_core::{Catalog, Kind};
 use vtl_base::{ObjNo, PartNo};
@@ -29,7 +29,7 @@ impl<D: Disk> Catalog for Buffered<D> {
 
     fn count(&self, part: PartNo) -> u32 {
         match &self.held {
-            Holding::Open(cartridge) => count_seen(cartridge, self.pending.as_slice(), part),
+            Holding::Open(cartridge) => count_seen(cartridge, &self.pending, part),
             Holding::Closed(_) => unreachable!(),
             Holding::Between => unreachable!(),
         }
@@ -37,7 +37,7 @@ impl<D: Disk> Catalog for Buffered<D> {
 
     fn kind_at(&self, part: PartNo, at: ObjNo) -> Option<Kind> {
         match &self.held {
-            Holding::Open(cartridge) => kind_seen(cartridge, self.pending.as_slice(), part, at),
+            Holding::Open(cartridge) => kind_seen(cartridge, &self.pending, part, at),
             Holding::Closed(_) => unreachable!(),
             Holding::Between => unreachable!(),
         }
@@ -45,7 +45,23 @@ impl<D: Disk> Catalog for Buffered<D> {
 
     fn used(&self, part: PartNo, n: ObjNo) -> u64 {
         match &self.held {
-            Holding::Open(cartridge) => used_seen(cartridge, self.pending.as_slice(), part, n),
+            Holding::Open(cartridge) => used_seen(cartridge, &self.pending, part, n),
+            Holding::Closed(_) => unreachable!(),
+            Holding::Between => unreachable!(),
+        }
+    }
+
+    fn marks_upto(&self, part: PartNo, n: ObjNo) -> u32 {
+        match &self.held {
+            Holding::Open(cartridge) => marks_seen(cartridge, &self.pending, part, n),
+            Holding::Closed(_) => unreachable!(),
+            Holding::Between => unreachable!(),
+        }
+    }
+
+    fn mark_at(&self, part: PartNo, k: u32) -> ObjNo {
+        match &self.held {
+            Holding::Open(cartridge) => mark_seen(cartridge, &self.pending, part, k),
             Holding::Closed(_) => unreachable!(),
             Holding::Between => unreachable!(),
         }

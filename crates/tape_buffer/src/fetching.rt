@@ -14,8 +14,10 @@ ghost use Rattle.cartridge.specs.Contents.{volume_made};
 ghost use Rattle.tape_buffer.specs.State.{IsPendingOver, open_buffer, open_state};
 ghost use Rattle.tape_buffer.specs.Moves.{buffer_below};
 
-use crate::overlay::{Seen, look_up};
+use crate::pending::Pending;
+use crate::seen::front_of;
 use cartridge::{Cartridge, CartridgeError};
+use record_index::Placed;
 use tape_disk::Disk;
 use volume_core::{Change, MediumError};
 use vtl_base::{ObjNo, PartNo};
@@ -23,7 +25,7 @@ use vtl_base::{ObjNo, PartNo};
 // Gives the bytes of a block that is seen.
 pub(crate) fn fetch_over<D: Disk>(
     cartridge: &mut Cartridge<D>,
-    pending: &[Change],
+    pending: &Pending,
     part: PartNo,
     at: ObjNo,
     into: &mut Vec<u8>,
@@ -46,11 +48,16 @@ pub(crate) fn fetch_over<D: Disk>(
         return Err(MediumError::Failed);
     }
     cartridge.known();
-    match look_up(pending, part, at) {
-        Seen::Block(i) => copy_block(&pending[i], into),
-        Seen::Below => fetch_stored(cartridge, part, at, into),
-        Seen::Gone => unreachable!(),
-        Seen::Mark => unreachable!(),
+    let tail = pending.tail();
+    let front = front_of(cartridge, tail, part);
+    if at < front {
+        return fetch_stored(cartridge, part, at, into);
+    }
+    let changes = pending.as_slice();
+    match tail.place(part, at - front) {
+        Some(Placed::Block { place, .. }) => copy_block(&changes[place as usize], into),
+        Some(Placed::Mark) => unreachable!(),
+        None => unreachable!(),
     }
 }
 
@@ -69,7 +76,7 @@ fn copy_block(change: &Change, into: &mut Vec<u8>) -> Result<(), MediumError>
     }
 }
 
-// Reads the block of an object that no pending change concerns.
+// Reads the block of an object that is stored.
 fn fetch_stored<D: Disk>(
     cartridge: &mut Cartridge<D>,
     part: PartNo,

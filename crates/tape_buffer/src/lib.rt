@@ -8,9 +8,10 @@ mod closing;
 mod fetching;
 pub mod holding;
 mod media;
-mod overlay;
 mod pending;
+mod seen;
 mod storing;
+mod tail;
 
 pub use buffered::Buffered;
 pub use holding::Holding;

@@ -50,9 +50,7 @@ impl<D: Disk> Medium for Buffered<D> {
 
     fn fetch(&mut self, part: PartNo, at: ObjNo, into: &mut Vec<u8>) -> Result<(), MediumError> {
         match &mut self.held {
-            Holding::Open(cartridge) => {
-                fetch_over(cartridge, self.pending.as_slice(), part, at, into)
-            }
+            Holding::Open(cartridge) => fetch_over(cartridge, &self.pending, part, at, into),
             Holding::Closed(_) => unreachable!(),
             Holding::Between => unreachable!(),
         }

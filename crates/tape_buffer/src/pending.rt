@@ -4,29 +4,35 @@ ghost use Rattle.vtl_base.specs.declared.limits.TheConstants.{MAX_BODY};
 ghost use Rattle.volume_core.specs.Medium.{frame_size};
 ghost use Rattle.record_index.specs.Records.{spell_all};
 ghost use Rattle.tape_buffer.specs.Limits.{block_bytes, FitsBuffer};
+ghost use Rattle.tape_buffer.specs.Tail.{AppliesBehind, IsTailOf};
 
+use crate::tail::Tail;
 use std::alloc::Global;
 use std::marker::Model;
 use volume_core::Change;
 use vtl_base::limits::{BUFFER_BYTES, BUFFER_RECORDS};
 
-// Changes that are pending, in order: 64 at most, with 4,194,304 bytes of blocks at most.
+// Changes that are pending, in order: 64 at most, with 4,194,304 bytes of blocks at most. What they put behind the
+// objects that are stored stands in a catalog too, the tail.
 #[derive(Drop)]
 pub(crate) struct Pending {
     changes: Vec<Change>,
     bytes: u64,
+    tail: Tail,
 }
 
 impl Model for Pending {
     ghost use Rattle.std.specs.Prelude.{◌≡◌, ◌≤◌, List, length, sum_by};
     ghost use Rattle.volume_core.specs.declared.changes.Change.{Change};
     ghost use Rattle.tape_buffer.specs.Limits.{block_bytes, FitsBuffer};
+    ghost use Rattle.tape_buffer.specs.Tail.{IsTailOf};
 
     ghost Value = { List Change };
 
     ghost view = { λ p. p.changes.items };
 
-    ghost invariant = { λ p. FitsBuffer p.changes.items × (p.bytes ≡ sum_by block_bytes p.changes.items) };
+    ghost invariant = { λ p. FitsBuffer p.changes.items × (p.bytes ≡ sum_by block_bytes p.changes.items)
+        × IsTailOf p.changes.items p.tail };
 }
 
 // The bytes of a change's block.
@@ -46,6 +52,7 @@ impl Pending {
         Pending {
             changes: Vec::new(alloc),
             bytes: 0,
+            tail: Tail::new(alloc),
         }
     }
 
@@ -75,6 +82,13 @@ impl Pending {
         &self.changes
     }
 
+    // The catalog of what they put behind the objects that are stored.
+    pub(crate) fn tail(&self) -> &Tail
+        ensures { IsTailOf self.now result.now }
+    {
+        &self.tail
+    }
+
     // Whether a change more would pass a limit.
     pub(crate) fn is_full_for(&self, change: &Change) -> bool
         ensures { IsTrue result ↔ (FitsBuffer (self.now ++ change.now ∷ []) → ⊥) }
@@ -98,15 +112,24 @@ impl Pending {
         10 * self.changes.len() + self.bytes as usize
     }
 
-    // Takes a change that passes no limit. It is returned where memory runs out.
+    // Takes a change that passes no limit and applies behind the others. All the memory that it needs is taken before
+    // anything is cut; the change is returned where memory runs out.
     pub(crate) fn push(&mut self, change: Change) -> Result<(), Change>
-        requires { FitsBuffer (self.old ++ change ∷ []) }
+        requires few { FitsBuffer (self.old ++ change ∷ []) }
+        requires applies { AppliesBehind self.old change }
         ensures ok { OnOk result (self.new ≡ self.old ++ change ∷ []) }
         ensures err { IfErr result (λ back. (back ≡ change) × (self.new ≡ self.old)) }
     {
         let Ok(()) = self.changes.reserve(1) else {
             return Err(change);
         };
+        let Ok(()) = self.tail.open() else {
+            return Err(change);
+        };
+        let Ok(()) = self.tail.reserve(change.part()) else {
+            return Err(change);
+        };
+        self.tail.put(&change, self.changes.len());
         self.bytes += block_bytes(&change);
         self.changes.push_reserved(change);
         Ok(())
@@ -118,5 +141,6 @@ impl Pending {
     {
         self.changes.clear();
         self.bytes = 0;
+        self.tail.clear();
     }
 }

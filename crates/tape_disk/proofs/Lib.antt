@@ -1,3 +1,4 @@
 pub mod Replays
 pub mod Steps
 pub mod Torn
+mod SparseLemmas

@@ -9,3 +9,5 @@ pub mod MemDisk
 pub mod Moments
 pub mod OnceDisk
 pub mod Sequences
+pub mod SparseBytes
+pub mod SparseDisk

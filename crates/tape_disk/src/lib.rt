@@ -10,9 +10,11 @@ mod log;
 pub mod memory;
 pub mod once;
 mod overwrite;
+pub mod sparse;
 
 pub use disk::Disk;
 pub use failures::Failures;
 pub use fuse::FuseDisk;
 pub use memory::MemDisk;
 pub use once::OnceDisk;
+pub use sparse::SparseDisk;

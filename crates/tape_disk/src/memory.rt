@@ -21,33 +21,38 @@ pub struct MemDisk {
     bytes: Vec<u8>,
     log: Log,
     failures: Failures,
+    // How many bytes a single read asked for, at most.
+    widest: usize,
     ghost replays: { bytes.items ≡ bytes_after (log_of log).base (log_of log).calls },
 }
 
 impl MemDisk {
-    ghost use Rattle.tape_disk.specs.MemDisk.{mem_log, mem_failures};
+    ghost use Rattle.tape_disk.specs.MemDisk.{mem_log, mem_failures, mem_widest};
 
     /// A disk of no bytes.
     pub fn new(alloc: Global) -> MemDisk
-        ensures { (mem_log result ≡ new_log []) × (mem_failures result ≡ 0) }
+        ensures { (mem_log result ≡ new_log []) × (mem_failures result ≡ 0) × (mem_widest result ≡ 0) }
     {
         MemDisk {
             alloc,
             bytes: Vec::new(alloc),
             log: Log::new(alloc, Vec::new(alloc)),
             failures: Failures::none(),
+            widest: 0,
         }
     }
 
     /// A disk that holds these bytes, all of them safe.
     pub fn from_bytes(alloc: Global, bytes: &[u8]) -> Result<MemDisk, NoMemory>
-        ensures { IfOk result (λ disk. (mem_log disk ≡ new_log bytes.now) × (mem_failures disk ≡ 0)) }
+        ensures { IfOk result (λ disk. (mem_log disk ≡ new_log bytes.now) × (mem_failures disk ≡ 0)
+            × (mem_widest disk ≡ 0)) }
     {
         MemDisk::holding(alloc, bytes.to_vec(alloc)?)
     }
 
     fn holding(alloc: Global, bytes: Vec<u8>) -> Result<MemDisk, NoMemory>
-        ensures { IfOk result (λ disk. (mem_log disk ≡ new_log bytes.items) × (mem_failures disk ≡ 0)) }
+        ensures { IfOk result (λ disk. (mem_log disk ≡ new_log bytes.items) × (mem_failures disk ≡ 0)
+            × (mem_widest disk ≡ 0)) }
     {
         let base = bytes.to_vec(alloc)?;
         Ok(MemDisk {
@@ -55,19 +60,22 @@ impl MemDisk {
             bytes,
             log: Log::new(alloc, base),
             failures: Failures::none(),
+            widest: 0,
         })
     }
 
     /// Another disk with the same past.
     pub fn copy(&self) -> Result<MemDisk, NoMemory>
         ensures { IfOk result (λ copy.
-            (mem_log copy ≡ mem_log self.now) × (mem_failures copy ≡ mem_failures self.now)) }
+            (mem_log copy ≡ mem_log self.now) × (mem_failures copy ≡ mem_failures self.now)
+            × (mem_widest copy ≡ mem_widest self.now)) }
     {
         Ok(MemDisk {
             alloc: self.alloc,
             bytes: self.bytes.to_vec(self.alloc)?,
             log: self.log.copy()?,
             failures: self.failures.copy(),
+            widest: self.widest,
         })
     }
 
@@ -85,6 +93,13 @@ impl MemDisk {
         self.log.syncs()
     }
 
+    /// How many bytes the widest read asked for, of all since the disk was made.
+    pub fn widest_read(&self) -> usize
+        ensures { result ≡ mem_widest self.now }
+    {
+        self.widest
+    }
+
     /// The disk that a crash leaves: of the bytes written since the last sync the first `keep`
     /// landed, in the order of the writes, and the others hold the fill. Each cut since then was
     /// carried out.
@@ -92,6 +107,7 @@ impl MemDisk {
         ensures image { IfOk result (λ disk.
             (mem_log disk ≡ new_log (torn (mem_log self).base keep fill (mem_log self).calls))
             × (mem_failures disk ≡ 0)) }
+        ensures widest { IfOk result (λ disk. mem_widest disk ≡ 0) }
 
         // It is one of the images that a crash may leave, and from then on the only one.
         ensures allowed { IsImage (mem_log self).base (mem_log self).calls
@@ -110,6 +126,7 @@ impl MemDisk {
         ensures log { mem_log self.new ≡ idled (mem_log self.old) }
         ensures count { mem_failures self.new ≡ mem_failures self.old + 1 }
         ensures told { result.failures ≡ min (mem_failures self.new) (2 ^ 64 - 1) }
+        ensures widest { mem_widest self.new ≡ mem_widest self.old }
     {
         self.log.rest();
         self.failures.rise()
@@ -149,6 +166,7 @@ impl Disk for MemDisk {
     fn read_at(&mut self, at: u64, buffer: &mut [u8]) -> Result<(), DevFault> {
         let place = at as usize;
         buffer.copy_from_slice(&self.bytes[place..place + buffer.len()]);
+        self.widest = self.widest.max(buffer.len());
         self.log.rest();
         Ok(())
     }

@@ -1,2 +1,3 @@
 pub mod VolumeLemmas
 pub mod StagedLemmas
+pub mod MarkLemmas

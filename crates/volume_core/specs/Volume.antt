@@ -1,5 +1,5 @@
 -- Volumes: partitions of objects, what these take, and what changes make of them.
-use Rattle.std.specs.Prelude.{◌≡◌, ◌<◌, ◌≤◌, ℕ, ◌+◌, ◌-◌, ◌/◌, List, [], ◌∷◌, ◌++◌, length, take, map, replicate, sum_by, All, Option, None, Some, Result, Ok, Err, slice_get, slice_set, nat_lt, nat_le, Bool, true, not, IsTrue, ◌&&◌, if◌then◌else◌}
+use Rattle.std.specs.Prelude.{◌≡◌, ◌<◌, ◌≤◌, ℕ, ◌+◌, ◌-◌, ◌/◌, List, [], ◌∷◌, ◌++◌, length, take, map, replicate, sum_by, count_by, All, Option, None, Some, Result, Ok, Err, slice_get, slice_set, nat_lt, nat_le, Bool, true, false, not, IsTrue, ◌&&◌, if◌then◌else◌}
 use Rattle.std.specs.List.{list_all}
 use Rattle.vtl_base.specs.declared.limits.TheConstants.{MAX_BLOCK, MAX_OBJECTS, MAX_PARTITIONS, OBJECT_COST}
 use Rattle.vtl_base.specs.Limits.{is_capacity}
@@ -104,6 +104,29 @@ kind_in (Some object) = Some (kind_of object)
 -- the kind of the object of a number, None where there is none (SSC-4, logical objects)
 abbrev pub kind_at : List Part → ℕ → ℕ → Option Kind
 kind_at volume number at = kind_in (slice_get (objects_of volume number) at)
+
+-- whether an object is a filemark (SSC-4, logical objects)
+abbrev pub is_mark : Object → Bool
+is_mark Mark = true
+is_mark (Block bytes) = false
+
+-- how many filemarks are among objects (own)
+abbrev pub marks_in : List Object → ℕ
+marks_in objects = count_by is_mark objects
+
+-- how many filemarks a partition has, 0 where there is no such partition (own)
+abbrev pub mark_count : List Part → ℕ → ℕ
+mark_count volume number = marks_in (objects_of volume number)
+
+-- how many are among its first n objects; all of them where there are fewer objects (own)
+abbrev pub marks_upto : List Part → ℕ → ℕ → ℕ
+marks_upto volume number n = marks_in (take n (objects_of volume number))
+
+-- an object's number is that of a partition's filemark of number k, from 0 on: a filemark stands there, and so many
+-- stand before it (own)
+pub record IsMarkOf (volume : List Part) (number k at : ℕ) : Type 0 where
+  pub mark : kind_at volume number at ≡ Some Kinds.Mark
+  pub before : marks_upto volume number at ≡ k
 
 -- the bytes of an object that may be there, if it is a block (own)
 abbrev pub block_in : Option Object → Option (List ℕ)

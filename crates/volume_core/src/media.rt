@@ -6,7 +6,7 @@ ghost use Rattle.volume_core.specs.declared.changes.Change.{Change};
 ghost use Rattle.volume_core.specs.declared.changes.Change.TheVariants.{Put, Marks, Erase};
 ghost use Rattle.volume_core.specs.declared.objects.Kind.TheVariants as Kinds;
 ghost use Rattle.volume_core.specs.declared.media.MediumError.TheVariants as Errors;
-ghost use Rattle.volume_core.specs.Volume.{block_at, capacity_of, count_of, kind_at, used_up_to};
+ghost use Rattle.volume_core.specs.Volume.{IsMarkOf, block_at, capacity_of, count_of, kind_at, mark_count, marks_upto, used_up_to};
 ghost use Rattle.volume_core.specs.Medium.{MediumState, volume_of, Accepts, HasRoomFor, Fetches, Settles, Turns, Parks, Wakes, accept_answer, accepted_by, met_fault, turn_met_fault};
 ghost use Rattle.volume_core.specs.Stores.{Stores};
 
@@ -104,6 +104,19 @@ pub trait Catalog {
         requires { (state self.now).awake ≡ true }
         ensures used { result ≡ used_up_to (volume_of (state self.now)) part n }
         ensures bound { result ≤ capacity_of (volume_of (state self.now)) part };
+
+    /// How many filemarks are among the first n objects of a partition; among all of them where
+    /// there are fewer.
+    fn marks_upto(&self, part: PartNo, n: ObjNo) -> u32
+        requires { (state self.now).awake ≡ true }
+        ensures marks { result ≡ marks_upto (volume_of (state self.now)) part n }
+        ensures bound { result ≤ MAX_OBJECTS };
+
+    /// The object number of a partition's filemark of number k, from 0 on.
+    fn mark_at(&self, part: PartNo, k: u32) -> ObjNo
+        requires awake { (state self.now).awake ≡ true }
+        requires mark { k < mark_count (volume_of (state self.now)) part }
+        ensures { IsMarkOf (volume_of (state self.now)) part k result };
 }
 
 /// A volume that takes changes, and stores them at the latest when it is asked to. It is awake, or

@@ -1,9 +1,11 @@
 //! The objects of a partition, with what they take up to each place.
-ghost use Rattle.std.specs.Prelude.{◌≡◌, ◌+◌, ◌*◌, ◌≤◌, ◌<◌, ◌^◌, ◌++◌, ◌∷◌, [], IfErr, OnOk, OnErr, vec_capacity, length, take, replicate, slice_get};
+ghost use Rattle.std.specs.Prelude.{◌≡◌, ◌+◌, ◌*◌, ◌≤◌, ◌<◌, ◌^◌, ◌++◌, ◌∷◌, [], IfErr, Some, OnOk, OnErr, vec_capacity, length, take, replicate, slice_get};
+ghost use Rattle.std.specs.Bool.{MatchBool};
 ghost use Rattle.std.specs.Option.{option_copied};
 ghost use Rattle.vtl_base.specs.declared.limits.TheConstants.{OBJECT_COST};
 ghost use Rattle.volume_core.specs.declared.objects.Object.TheVariants as Objects;
-ghost use Rattle.volume_core.specs.Volume.{cost_of, used_of, kind_in, block_in};
+ghost use Rattle.volume_core.specs.declared.objects.Kind.TheVariants as Kinds;
+ghost use Rattle.volume_core.specs.Volume.{cost_of, used_of, kind_in, block_in, marks_in};
 
 use crate::objects::{Kind, Object};
 use std::alloc::{AllocError, Global};
@@ -68,6 +70,50 @@ impl ObjectList {
     {
         let n = n.min(self.objects.len());
         if n == 0 { 0 } else { self.costs[n - 1] }
+    }
+
+    // Whether a mark stands at a place, or else a block.
+    fn is_mark_at(&self, at: usize) -> bool
+        requires { at < length self.now }
+        ensures { MatchBool result (kind_in (slice_get self.now at) ≡ Some Kinds.Mark)
+            (kind_in (slice_get self.now at) ≡ Some Kinds.Block) }
+    {
+        matches!(self.kind_at(at), Some(Kind::Mark))
+    }
+
+    // How many marks are among the first n objects; among all of them where there are fewer.
+    #[tactic(auto, using(crate::proofs::MarkLemmas::mark_more, crate::proofs::MarkLemmas::block_more))]
+    pub(crate) fn marks_upto(&self, n: usize) -> usize
+        ensures marks { result ≡ marks_in (take n self.now) }
+        ensures bound { result ≤ length self.now }
+    {
+        let mut marks = 0;
+        for at in 0..n.min(self.objects.len()) {
+            if self.is_mark_at(at) {
+                marks += 1;
+            }
+        }
+        marks
+    }
+
+    // The number of the mark of number k, from 0 on.
+    #[tactic(auto, using(crate::proofs::MarkLemmas::mark_more, crate::proofs::MarkLemmas::block_more))]
+    pub(crate) fn mark_at(&self, k: usize) -> usize
+        requires { k < marks_in self.now }
+        ensures mark { kind_in (slice_get self.now result) ≡ Some Kinds.Mark }
+        ensures before { marks_in (take result self.now) ≡ k }
+        ensures within { result < length self.now }
+    {
+        let mut left = k;
+        for at in 0..self.objects.len() {
+            if self.is_mark_at(at) {
+                if left == 0 {
+                    return at;
+                }
+                left -= 1;
+            }
+        }
+        unreachable!()
     }
 
     // Keeps the first `at` objects, and puts this block behind them. It is returned where memory runs out.

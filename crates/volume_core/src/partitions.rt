@@ -1,9 +1,10 @@
 //! Partitions that are kept in memory.
-ghost use Rattle.std.specs.Prelude.{◌≡◌, ◌≤◌, IsTrue, IfErr, Some, Err, slice_get, take, length};
+ghost use Rattle.std.specs.Prelude.{◌≡◌, ◌≤◌, ◌<◌, IsTrue, IfErr, Some, Err, slice_get, take, length};
 ghost use Rattle.std.specs.Option.{option_copied};
 ghost use Rattle.vtl_base.specs.declared.limits.TheConstants.{MAX_CAPACITY, MAX_OBJECTS};
 ghost use Rattle.vtl_base.specs.Limits.{is_capacity};
-ghost use Rattle.volume_core.specs.Volume.{IsPart, empty_part, used_of, kind_in, block_in, refusal_in, part_after, AddsObjects, AppliesUnless, apply_answer};
+ghost use Rattle.volume_core.specs.Volume.{IsPart, empty_part, used_of, kind_in, block_in, marks_in, refusal_in, part_after, AddsObjects, AppliesUnless, apply_answer};
+ghost use Rattle.volume_core.specs.declared.objects.Kind.TheVariants as Kinds;
 ghost use Rattle.volume_core.specs.declared.volumes.ApplyError.TheVariants as Errors;
 
 use crate::changes::{Change, Refusal};
@@ -73,6 +74,23 @@ impl Partition {
         ensures bound { result ≤ self.now.capacity }
     {
         self.stock.used(n)
+    }
+
+    // How many marks are among the first n objects.
+    pub(crate) fn marks_upto(&self, n: usize) -> u32
+        ensures marks { result ≡ marks_in (take n self.now.objects) }
+        ensures bound { result ≤ MAX_OBJECTS }
+    {
+        self.stock.marks_upto(n) as u32
+    }
+
+    // The number of the mark of number k, from 0 on.
+    pub(crate) fn mark_at(&self, k: usize) -> u32
+        requires { k < marks_in self.now.objects }
+        ensures mark { kind_in (slice_get self.now.objects result) ≡ Some Kinds.Mark }
+        ensures before { marks_in (take result self.now.objects) ≡ k }
+    {
+        self.stock.mark_at(k) as u32
     }
 
     // Why a change that is meant for this partition is refused; None where it is not.

@@ -66,6 +66,14 @@ impl Catalog for PlainMedium {
     fn used(&self, part: PartNo, n: ObjNo) -> u64 {
         self.volume.used(part, n)
     }
+
+    fn marks_upto(&self, part: PartNo, n: ObjNo) -> u32 {
+        self.volume.marks_upto(part, n)
+    }
+
+    fn mark_at(&self, part: PartNo, k: u32) -> ObjNo {
+        self.volume.mark_at(part, k)
+    }
 }
 
 impl Medium for PlainMedium {

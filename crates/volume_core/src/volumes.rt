@@ -1,11 +1,11 @@
 //! Volumes that are kept in memory.
-ghost use Rattle.std.specs.Prelude.{◌≡◌, ◌≤◌, IsTrue, IfOk, IfErr, IfSome, Err, length, slice_get};
+ghost use Rattle.std.specs.Prelude.{◌≡◌, ◌≤◌, ◌<◌, IsTrue, IfOk, IfErr, IfSome, Err, length, slice_get};
 ghost use Rattle.std.specs.List.{list_all};
 ghost use Rattle.std.specs.Option.{option_copied};
 ghost use Rattle.vtl_base.specs.declared.limits.TheConstants.{MAX_BLOCK, MAX_CAPACITY, MAX_OBJECTS, MAX_PARTITIONS};
 ghost use Rattle.vtl_base.specs.Limits.{is_capacity};
 ghost use Rattle.volume_core.specs.declared.volumes.ApplyError.TheVariants as Errors;
-ghost use Rattle.volume_core.specs.Volume.{AddsObjects, Applies, IsPart, apply_answer, are_capacities, block_at, capacity_of, count_of, empty_volume, is_in_early_zone, kind_at, refusal_of, used_up_to};
+ghost use Rattle.volume_core.specs.Volume.{AddsObjects, Applies, IsMarkOf, IsPart, apply_answer, are_capacities, block_at, capacity_of, count_of, empty_volume, is_in_early_zone, kind_at, mark_count, marks_upto, refusal_of, used_up_to};
 
 use crate::changes::{Change, Refusal};
 use crate::objects::Kind;
@@ -164,6 +164,29 @@ impl Volume {
         match self.partition(part) {
             Some(partition) => partition.used(n as usize),
             None => 0,
+        }
+    }
+
+    /// How many marks are among the first n objects of a partition; among all of them where there
+    /// are fewer. It counts them.
+    pub fn marks_upto(&self, part: PartNo, n: ObjNo) -> u32
+        ensures marks { result ≡ marks_upto self.now part n }
+        ensures bound { result ≤ MAX_OBJECTS }
+    {
+        match self.partition(part) {
+            Some(partition) => partition.marks_upto(n as usize),
+            None => 0,
+        }
+    }
+
+    /// The object number of a partition's mark of number k, from 0 on. It counts up to it.
+    pub fn mark_at(&self, part: PartNo, k: u32) -> ObjNo
+        requires { k < mark_count self.now part }
+        ensures { IsMarkOf self.now part k result }
+    {
+        match self.partition(part) {
+            Some(partition) => partition.mark_at(k as usize),
+            None => unreachable!(),
         }
     }
 

@@ -4,6 +4,8 @@
 #[cfg(test)]
 mod asserted;
 #[cfg(test)]
+mod cuttings;
+#[cfg(test)]
 mod lists;
 #[cfg(test)]
 mod media;
@@ -11,6 +13,8 @@ mod media;
 mod records;
 #[cfg(test)]
 mod runs;
+#[cfg(test)]
+mod spaces;
 #[cfg(test)]
 mod staged;
 #[cfg(test)]

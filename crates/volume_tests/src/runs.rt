@@ -1,7 +1,10 @@
-//! An index by its single calls: runs put behind the objects, room made for them, and cuts.
+//! An index by its single calls: runs put behind the objects, room made for them, and cuts; runs of filemarks found.
 use assertions::assert_equal;
-use record_index::{Index, Placed, Run};
+use record_index::{Index, MarkRun, Placed, Record, Run};
+use std::alloc::Global;
+use std::process::Abort;
 use std::test::Fail;
+use vtl_base::Steps;
 
 // The objects of the block and the run of marks.
 static OBJECTS: &'static [(u32, Option<Placed>)] = &[
@@ -46,5 +49,127 @@ fn runs_are_put_behind_and_cut(rt: HostRuntime) -> Result<(), Fail> {
     assert_equal!(rt; index.used(1, 4), 37);
     index.cut_at(1, 0);
     assert_equal!(rt; (index.count(1), index.place(1, 0)), (0, None));
+    Ok(())
+}
+
+// Blocks of one byte and filemarks, by turns: so many of each, so many times.
+fn striped(alloc: Global, blocks: u32, marks: u32, times: u32) -> Result<Index, Fail> {
+    let mut index = Index::new(alloc, &[4_096, 1_099_511_627_776])?;
+    for _ in 0..times {
+        for _ in 0..blocks {
+            index.apply(put(&index, 1), 27)?;
+        }
+        index.apply(marked(&index, marks), 0)?;
+    }
+    Ok(index)
+}
+
+// A block behind the objects of the second partition.
+fn put(index: &Index, length: u32) -> Record {
+    Record::Put {
+        part: 1,
+        at: index.count(1),
+        length,
+    }
+}
+
+// Filemarks behind them.
+fn marked(index: &Index, count: u32) -> Record {
+    Record::Marks {
+        part: 1,
+        at: index.count(1),
+        count,
+    }
+}
+
+// The run that begins before the object of a number, and the run with the filemark of a number.
+static FOUND: &'static [(u32, Option<MarkRun>, Option<MarkRun>)] = &[
+    (
+        0,
+        None,
+        Some(MarkRun {
+            first: 2,
+            count: 3,
+            before: 0,
+        }),
+    ),
+    (
+        2,
+        None,
+        Some(MarkRun {
+            first: 2,
+            count: 3,
+            before: 0,
+        }),
+    ),
+    (
+        3,
+        Some(MarkRun {
+            first: 2,
+            count: 3,
+            before: 0,
+        }),
+        Some(MarkRun {
+            first: 7,
+            count: 3,
+            before: 3,
+        }),
+    ),
+    (
+        7,
+        Some(MarkRun {
+            first: 2,
+            count: 3,
+            before: 0,
+        }),
+        Some(MarkRun {
+            first: 12,
+            count: 3,
+            before: 6,
+        }),
+    ),
+    (
+        8,
+        Some(MarkRun {
+            first: 7,
+            count: 3,
+            before: 3,
+        }),
+        Some(MarkRun {
+            first: 12,
+            count: 3,
+            before: 6,
+        }),
+    ),
+    (
+        9,
+        Some(MarkRun {
+            first: 7,
+            count: 3,
+            before: 3,
+        }),
+        None,
+    ),
+    (
+        4_294_967_295,
+        Some(MarkRun {
+            first: 12,
+            count: 3,
+            before: 6,
+        }),
+        None,
+    ),
+];
+
+#[test]
+fn runs_of_filemarks_are_found(rt: HostRuntime) -> Result<(), Fail> {
+    let index = striped(rt.alloc(), 2, 3, 3)?;
+    for (number, before, with) in FOUND {
+        let mut steps = Steps::new();
+        assert_equal!(rt; index.run_upto(1, *number, &mut steps), *before; number);
+        assert_equal!(rt; steps.count(), 2; number);
+        assert_equal!(rt; index.run_of(1, *number, &mut steps), *with; number);
+        assert_equal!(rt; steps.count(), 4; number);
+    }
     Ok(())
 }

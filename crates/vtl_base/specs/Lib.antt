@@ -1,3 +1,4 @@
 pub mod Barcode
 pub mod Below
 pub mod Limits
+pub mod Steps

@@ -8,9 +8,11 @@ pub mod laws;
 pub mod limits;
 pub mod numbers;
 pub mod space_codes;
+pub mod steps;
 
 pub use barcode::{BadBarcode, Barcode};
 pub use bytes::Bytes;
 pub use faults::{DevFault, NoMemory};
 pub use numbers::{DriveNo, Nexus, ObjNo, PartNo, SlotNo};
 pub use space_codes::SpaceCode;
+pub use steps::Steps;

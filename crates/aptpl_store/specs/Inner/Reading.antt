@@ -22,3 +22,10 @@ pub record HasRead (notes : NotedStates) (last : PrState) (heading : Heading) (e
   pub counted : length extents ≡ length notes.states
   pub last_is : last ≡ latest notes.states
   pub spelled : bodies ≡ state_bodies notes.states
+
+-- since notes and a last state these bytes of a body came, and nothing more was noted (own)
+pub record IsWithin (noted : NotedStates) (before : PrState) (notes : NotedStates) (last : PrState) (body : List ℕ)
+    (bytes : List ℕ) : Type 0 where
+  pub notes_same : notes ≡ noted
+  pub last_same : last ≡ before
+  pub body_is : body ≡ bytes

@@ -1,15 +1,18 @@
 -- What opening a side finds, step by step.
-use Rattle.std.specs.Prelude.{◌≡◌, ◌++◌, ℕ, List, [], ◌∷◌, length, drop, Bool, true, false}
+use Rattle.std.specs.Prelude.{◌≡◌, ◌+◌, ◌<◌, ◌^◌, ◌++◌, ℕ, List, [], ◌∷◌, length, drop, Bool, true, false, None, Some}
 use Rattle.std.specs.List.{All}
 use Rattle.volume_core.specs.declared.changes.Change.{Change}
-use Rattle.volume_core.specs.Volume.{Part, AllApply, after}
+use Rattle.volume_core.specs.declared.changes.Refusal.{Refusal}
+use Rattle.volume_core.specs.Volume.{Part, AllApply, after, refusal_of}
 use Rattle.gate_journal.specs.Side.{Heading}
+use Rattle.record_index.specs.declared.records.Record.{Record}
+use Rattle.record_index.specs.Readers.{IsAfter, ReaderState}
 use Rattle.record_index.specs.Records.{IsRecord, SpellsAll, spell_all}
-use Rattle.record_index.specs.Places.{PlacedPart}
+use Rattle.record_index.specs.Places.{PlacedPart, outline, outlined, placed_after}
 use Rattle.record_index.specs.Indexes.{Indexes}
 use Rattle.cartridge.specs.Contents.{bodies_of}
 use Rattle.cartridge.specs.Inner.Open.{IsOpen}
-use Rattle.cartridge.specs.Lying.{LiesIn}
+use Rattle.cartridge.specs.Lying.{IsPlaceOf, LiesIn}
 use Rattle.cartridge.specs.Notes.{Notes}
 
 -- up to that place the body spells changes that apply to the volume, and the index is that of what they make of it
@@ -39,9 +42,43 @@ BehindEach place body index made =
     → Indexes (LiesIn bodies extents) volume index
     → made volume (LiesIn (bodies ++ body ∷ []) (extents ++ (place, length body) ∷ []))
 
+-- Since an index, these bytes of the body at that place came: the reader stands behind them, and the index is that of
+-- what the whole records in them make, however the body goes on (own).
+pub record IsBodyWalked (start : List PlacedPart) (place : ℕ) (so_far : List ℕ) (index : List PlacedPart)
+    (reader : ReaderState) : Type 0 where
+  pub changes : List Change
+  pub after : IsAfter so_far changes reader
+  pub walked : (more : List ℕ)
+      → BehindEach place (so_far ++ more) start (λ volume P. WalkedTo reader.begin (so_far ++ more) volume P index)
+
+-- the bytes came, or show that the body spells no changes that apply, whatever follows (own)
+abbrev pub Walks : Bool → List PlacedPart → ℕ → List ℕ → List PlacedPart → ReaderState → Type 0
+Walks true start place bytes index reader = IsBodyWalked start place bytes index reader
+Walks false start place bytes index reader =
+    (more : List ℕ) → BehindEach place (bytes ++ more) start (λ volume P. IsBadBody volume (bytes ++ more))
+
+-- some bytes of the body at that place came, and so many more end before the last place there is (own)
+abbrev pub MayWalk : ℕ → ℕ → List PlacedPart → ReaderState → Type 0
+MayWalk place count index reader =
+    (start : List PlacedPart) × (so_far : List ℕ) × IsBodyWalked start place so_far index reader
+    × (place + (length so_far + count) < 2 ^ 64)
+
+-- a record that begins at that place is carried out on the index, or is refused (own)
+abbrev pub EntersAt : Bool → Record → ℕ → List PlacedPart → List PlacedPart → Type 0
+EntersAt true item at old new =
+    (refusal_of (outline old) (outlined item) ≡ None)
+    × ((place : ℕ) × (reserved : ℕ) × (new ≡ placed_after old item place reserved) × IsPlaceOf item at place)
+EntersAt false item at old new = (cause : Refusal) × (refusal_of (outline old) (outlined item) ≡ Some cause)
+
 -- What is noted is what just these bodies spell, which lie in these extents of a side with this heading: a cartridge's
 -- contents, and the index says where their objects lie (own).
 pub record HasRead (index : List PlacedPart) (notes : Notes) (heading : Heading) (extents : List (ℕ × ℕ))
     (bodies : List (List ℕ)) : Type 0 where
   pub is_open : IsOpen heading extents false index notes
   pub spelled : bodies ≡ bodies_of notes.frames
+
+-- Since an index and notes, these bytes of the body at that place came, and nothing more was noted (own).
+pub record IsWithin (start : List PlacedPart) (noted : Notes) (index : List PlacedPart) (notes : Notes)
+    (reader : ReaderState) (place : ℕ) (so_far : List ℕ) : Type 0 where
+  pub notes_same : notes ≡ noted
+  pub walked : IsBodyWalked start place so_far index reader

@@ -1,23 +1,35 @@
--- A table of runs, as rows of numbers.
-use Rattle.std.specs.Prelude.{◌≡◌, ◌<◌, ◌≤◌, ◌+◌, ◌-◌, ◌==◌, ℕ, List, [], ◌∷◌, length, take, replicate, sum_by, slice_get, Option, None, Some, if◌then◌else◌}
-use Rattle.std.specs.List.{flat_map}
+-- The objects of a partition by two tables: of its blocks, and of its runs of filemarks.
+use Rattle.std.specs.Prelude.{◌≡◌, ◌<◌, ◌≤◌, ◌+◌, ◌-◌, ◌^◌, ℕ, List, [], ◌∷◌, ◌++◌, length, take, replicate, sum_by, slice_get, Option, None, Some}
 use Rattle.vtl_base.specs.declared.limits.TheConstants.{OBJECT_COST}
 use Rattle.record_index.specs.declared.places.Placed.{Placed}
 use Rattle.record_index.specs.declared.places.Placed.TheVariants.{Block, Mark}
 use Rattle.record_index.specs.declared.records.Record.{Record}
 use Rattle.record_index.specs.Places.{IsPlace, objects_of_run, placed_by, runs_of}
-use Rattle.record_index.specs.declared.tables.Entry.{Entry}
-use Rattle.record_index.specs.declared.tables.TheConstants.{NOWHERE}
+use Rattle.record_index.specs.MarkRuns.{AreRunsOf}
+use Rattle.record_index.specs.declared.runs.MarkRun.{MarkRun}
+use Rattle.record_index.specs.declared.tables.BlockEntry.{BlockEntry}
 use Rattle.record_index.specs.declared.places.Run.{Run}
 
--- the objects of an entry: a run of marks, or the block that lies at its place (own)
-abbrev pub objects_of_entry : Entry → List Placed
-objects_of_entry entry =
-    if entry.place == NOWHERE then replicate entry.size Mark else Block entry.place entry.size ∷ []
+-- objects, and marks behind them up to that number (own)
+abbrev pub padded : List Placed → ℕ → List Placed
+padded objects count = objects ++ replicate (count - length objects) Mark
 
--- the objects of entries, in order (own)
-abbrev pub objects_of : List Entry → List Placed
-objects_of entries = flat_map objects_of_entry entries
+-- objects, marks behind them, and then the block of the entry at its number (own)
+abbrev pub with_block : List Placed → BlockEntry → List Placed
+with_block objects entry = padded objects entry.number ++ Block entry.place entry.size ∷ []
+
+-- objects, and behind them the blocks of the entries at their numbers, with marks between (own)
+abbrev pub with_blocks : List Placed → List BlockEntry → List Placed
+with_blocks objects [] = objects
+with_blocks objects (entry ∷ entries) = with_blocks (with_block objects entry) entries
+
+-- the objects up to the last block (own)
+abbrev pub blocks_of : List BlockEntry → List Placed
+blocks_of entries = with_blocks [] entries
+
+-- the objects of a partition: its blocks at their numbers, and marks at all others (own)
+abbrev pub objects_of : List BlockEntry → ℕ → List Placed
+objects_of entries count = padded (blocks_of entries) count
 
 -- what an object takes of a capacity: a block its bytes and 16, a mark 16 (own)
 abbrev pub cost_of_placed : Placed → ℕ
@@ -28,34 +40,39 @@ cost_of_placed Mark = OBJECT_COST
 abbrev pub cost_of_objects : List Placed → ℕ
 cost_of_objects objects = sum_by cost_of_placed objects
 
--- the entry tells how many objects there are up to it, and what they take (own)
-pub record IsEntryAfter (entries : List Entry) (entry : Entry) : Type 0 where
-  pub end_is : entry.end ≡ length (objects_of entries)
-  pub cost_is : entry.cost ≡ cost_of_objects (objects_of entries)
+-- The entry's block stands behind these objects, at a number of its width; and the entry tells what the objects up to
+-- the block take, itself included (own).
+pub record IsBlockAfter (objects : List Placed) (entry : BlockEntry) : Type 0 where
+  pub behind : length objects ≤ entry.number
+  pub bound : entry.number + 1 < 2 ^ 32
+  pub cost_is : entry.cost ≡ cost_of_objects (with_block objects entry)
 
--- each entry tells how many objects there are up to its last one, and what they take (own)
-abbrev pub IsTable : List Entry → Type 0
+-- each block stands behind those before it (own)
+abbrev pub IsTable : List BlockEntry → Type 0
 IsTable entries =
-    (k : ℕ) (entry : Entry) → slice_get entries k ≡ Some entry → IsEntryAfter (take (k + 1) entries) entry
+    (k : ℕ) (entry : BlockEntry) → slice_get entries k ≡ Some entry → IsBlockAfter (blocks_of (take k entries)) entry
 
--- the entry stands for an object at least (own)
-unfoldable pub StandsForSome : Entry → Type 0
-StandsForSome entry = 1 ≤ length (objects_of_entry entry)
+-- the two tables are of the same objects, so many in all (own)
+pub record AreTables (entries : List BlockEntry) (runs : List MarkRun) (count : ℕ) : Type 0 where
+  pub table : IsTable entries
+  pub within : length (blocks_of entries) ≤ count
+  pub are_runs : AreRunsOf (objects_of entries count) runs
+  pub cost : cost_of_objects (objects_of entries count) < 2 ^ 64
 
--- no entry, or one that ends at or before the number (own)
-abbrev pub EndsBefore : Option Entry → ℕ → Type 0
-EndsBefore None at = Unit {0}
-EndsBefore (Some entry) at = entry.end ≤ at
+-- no entry, or one of a lower number (own)
+abbrev pub IsBelow : Option BlockEntry → ℕ → Type 0
+IsBelow None at = Unit {0}
+IsBelow (Some entry) at = entry.number < at
 
--- no entry, or one that ends behind the number (own)
-abbrev pub EndsBehind : Option Entry → ℕ → Type 0
-EndsBehind None at = Unit {0}
-EndsBehind (Some entry) at = at < entry.end
+-- no entry, or one of no lower number (own)
+abbrev pub IsNoLower : Option BlockEntry → ℕ → Type 0
+IsNoLower None at = Unit {0}
+IsNoLower (Some entry) at = at ≤ entry.number
 
--- the last of so many entries ends at or before the number, and the next one behind it (own)
-pub record IsSplitAt (entries : List Entry) (at count : ℕ) : Type 0 where
-  pub before : 1 ≤ count → EndsBefore (slice_get entries (count - 1)) at
-  pub behind : EndsBehind (slice_get entries count) at
+-- the last of so many entries has a lower number, and the next one does not (own)
+pub record IsSplitAt (entries : List BlockEntry) (at count : ℕ) : Type 0 where
+  pub before : 1 ≤ count → IsBelow (slice_get entries (count - 1)) at
+  pub behind : IsNoLower (slice_get entries count) at
 
 -- the run that a record adds, its block lying at that place; an erase adds none (own)
 abbrev pub AddsRun : Record → ℕ → Option Run → Type 0

@@ -27,9 +27,11 @@ kind_told kind part at number there =
     else (if kind == 3 then erase_told part at number
     else None))
 
+-- the record whose head bytes begin with, where so many bytes of its block are there (own)
+abbrev pub head_told : List ℕ → ℕ → Option Record
+head_told head there =
+    kind_told (slice_index head 0) (slice_index head 1) (big_number 4 (drop 2 head)) (big_number 4 (drop 6 head)) there
+
 -- the record that bytes begin with, where they begin with one (own)
 abbrev pub told : List ℕ → Option Record
-told bytes =
-    if nat_lt (length bytes) 10 then None
-    else kind_told (slice_index bytes 0) (slice_index bytes 1) (big_number 4 (drop 2 bytes))
-    (big_number 4 (drop 6 bytes)) (length bytes - 10)
+told bytes = if nat_lt (length bytes) 10 then None else head_told bytes (length bytes - 10)

@@ -1,4 +1,4 @@
-//! A catalog that counts the objects that are looked at.
+//! A catalog that counts the objects that are looked at, and the filemarks that are asked for.
 ghost use Rattle.std.specs.Prelude.{◌≡◌};
 
 use std::cell::Cell;
@@ -9,6 +9,7 @@ use vtl_base::{ObjNo, PartNo};
 pub(crate) struct Counting<'a> {
     medium: &'a PlainMedium,
     looks: Cell<u32>,
+    searches: Cell<u32>,
 }
 
 impl<'a> Counting<'a> {
@@ -18,11 +19,20 @@ impl<'a> Counting<'a> {
         Counting {
             medium,
             looks: Cell::new(0),
+            searches: Cell::new(0),
         }
     }
 
     pub(crate) fn looks(&self) -> u32 {
         self.looks.get()
+    }
+
+    pub(crate) fn searches(&self) -> u32 {
+        self.searches.get()
+    }
+
+    fn searched(&self) {
+        self.searches.set(self.searches.get().saturating_add(1));
     }
 }
 
@@ -50,5 +60,15 @@ impl<'a> Catalog for Counting<'a> {
 
     fn used(&self, part: PartNo, n: ObjNo) -> u64 {
         self.medium.used(part, n)
+    }
+
+    fn marks_upto(&self, part: PartNo, n: ObjNo) -> u32 {
+        self.searched();
+        self.medium.marks_upto(part, n)
+    }
+
+    fn mark_at(&self, part: PartNo, k: u32) -> ObjNo {
+        self.searched();
+        self.medium.mark_at(part, k)
     }
 }

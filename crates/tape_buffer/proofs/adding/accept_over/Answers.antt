@@ -1,8 +1,7 @@
 use Rattle.std.proofs.Common.{◌≡◌, List, None, ap, sym, subst, ◌∙◌}
 use Rattle.volume_core.specs.declared.changes.Change.{Change}
-use Rattle.volume_core.specs.Volume.{Part, after, refusal_of}
+use Rattle.volume_core.specs.Volume.{Part, refusal_of}
 use Rattle.volume_core.specs.Medium.{volume_of}
-use Rattle.cartridge.specs.Contents.{volume_made}
 use Rattle.cartridge.specs.State.{OpenCartridge}
 use Rattle.tape_buffer.specs.Frames.{MakesWay}
 use Rattle.tape_buffer.specs.State.{open_buffer, open_state}
@@ -31,8 +30,7 @@ returns-then-not-has_room_over-clause-advances g c =
 unrefused : (g : Over) (c : goal.In-Ok-add_over g)
     → refusal_of (volume_of (open_state c.args.cartridge.now c.args.pending.now)) c.args.change ≡ None
 unrefused g c =
-    ap (λ (l : List Change). refusal_of (after (volume_made c.args.cartridge.now.contents) l) c.args.change)
-    (sym c.as_slice.ensures) ∙ sym c.refusal_seen.ensures ∙ c.in-None.is
+    sym c.refusal_seen.ensures ∙ c.in-None.is
 
 pub returns-in-Ok-add_over-clause-answer : goal.returns-in-Ok-add_over-clause-answer
 returns-in-Ok-add_over-clause-answer g c =

@@ -1,0 +1,96 @@
+//! The bodies of a cartridge are read in pieces while it is opened, and long blocks are passed over.
+use crate::samples::{FAULT, block, has, made, opened, told};
+use assertions::assert_equal;
+use cartridge::{Cartridge, CartridgeError};
+use std::alloc::Global;
+use std::process::Abort;
+use std::test::Fail;
+use tape_disk::{FuseDisk, MemDisk};
+
+// The bytes of a side of one frame, of two blocks of so many bytes.
+fn side_of_two(alloc: Global, first: &[u8], second: &[u8]) -> Result<MemDisk, Fail> {
+    let mut known = made(alloc, &[4_194_304])?;
+    known.store(
+        alloc,
+        &[block(alloc, 0, 0, first)?, block(alloc, 0, 1, second)?],
+    )?;
+    let disk = known.into_disk();
+    Ok(MemDisk::from_bytes(alloc, disk.bytes())?)
+}
+
+// Opened, it read at most 65,536 bytes at a time, and then both blocks are there, which take so many bytes.
+fn holds_two(
+    rt: &impl Abort,
+    alloc: Global,
+    cartridge: &mut Cartridge<MemDisk>,
+    used: u64,
+    blocks: (&[u8], &[u8]),
+) {
+    assert_equal!(rt; told(cartridge), (1, 2, used));
+    assert_equal!(rt; cartridge.disk().widest_read(), 65_536);
+    assert_equal!(rt; has(alloc, cartridge, 0, 0, blocks.0), Ok(true));
+    assert_equal!(rt; has(alloc, cartridge, 0, 1, blocks.1), Ok(true));
+}
+
+// A body of 65,640 bytes. The head of its second record has six bytes in front of the byte 65,536, and four behind.
+#[test]
+fn a_head_in_two_pieces(rt: HostRuntime) -> Result<(), Fail> {
+    let alloc = rt.alloc();
+    let first = vec![in alloc; 0x5a; 65_520]?;
+    let second = vec![in alloc; 0xa5; 100]?;
+    let disk = side_of_two(alloc, &first, &second)?;
+    let mut cartridge = opened(alloc, disk)?;
+    holds_two(&rt, alloc, &mut cartridge, 65_652, (&first, &second));
+    Ok(())
+}
+
+// A piece, 983,050 bytes that are passed over, and the 110 bytes of the second record.
+#[test]
+fn a_block_that_is_passed_over(rt: HostRuntime) -> Result<(), Fail> {
+    let alloc = rt.alloc();
+    let first = vec![in alloc; 0x5a; 1_048_576]?;
+    let second = vec![in alloc; 0xa5; 100]?;
+    let disk = side_of_two(alloc, &first, &second)?;
+    let mut cartridge = opened(alloc, disk)?;
+    holds_two(&rt, alloc, &mut cartridge, 1_048_708, (&first, &second));
+    Ok(())
+}
+
+// Why a side is not opened by so many calls of its disk.
+fn opened_by(
+    alloc: Global,
+    disk: &MemDisk,
+    calls: u64,
+) -> Result<Result<(), CartridgeError>, Fail> {
+    match opened(alloc, FuseDisk::new(disk.copy()?, calls)) {
+        Ok(_) => Ok(Ok(())),
+        Err(error) => Ok(Err(error)),
+    }
+}
+
+// Blocks of so many bytes, and how often an opening asks the disk.
+static ROWS: &'static [(usize, usize, u64)] = &[
+    (131_062, 100, 7),
+    (131_061, 100, 8),
+    (1_048_576, 4_086, 7),
+    (1_048_576, 4_087, 8),
+];
+
+// Five calls come before the body: a sync, two reads of the header, one of the frame's mark, one of the end gate. A
+// first piece has 65,526 bytes of the first block. Where 65,536 of it are left, they are passed over, and the next
+// piece has at most 4,096 bytes. Where 65,535 are left, they are read, with one byte behind them.
+#[test]
+fn how_often_the_disk_is_asked(rt: HostRuntime) -> Result<(), Fail> {
+    let alloc = rt.alloc();
+    let long = vec![in alloc; 0x5a; 1_048_576]?;
+    for (first, second, calls) in ROWS {
+        let blocks = (
+            &long[..long.len().min(*first)],
+            &long[..long.len().min(*second)],
+        );
+        let disk = side_of_two(alloc, blocks.0, blocks.1)?;
+        assert_equal!(rt; opened_by(alloc, &disk, *calls)?, Ok(()); first);
+        assert_equal!(rt; opened_by(alloc, &disk, calls.saturating_sub(1))?, Err(FAULT); first);
+    }
+    Ok(())
+}

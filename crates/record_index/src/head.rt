@@ -1,0 +1,78 @@
+//! What was read of a record's head.
+ghost use Rattle.std.specs.Prelude.{◌≡◌, ◌≤◌, ◌-◌, ◌++◌, [], IfSome, length, min, take};
+ghost use Rattle.record_index.specs.Readers.{IsHeadOf, head_item};
+
+use crate::records::{HEAD_BYTES, Record, head_told};
+use std::marker::Model;
+use vtl_base::limits::MAX_BLOCK;
+
+// The first bytes of a record, ten at most. To a contract it is their list.
+#[derive(Drop)]
+pub(crate) struct Head {
+    bytes: [u8; HEAD_BYTES],
+    filled: usize,
+}
+
+impl Model for Head {
+    ghost use Rattle.std.specs.Prelude.{List, ℕ, ◌≤◌, take};
+
+    ghost Value = { List ℕ };
+
+    ghost view = { λ h. take h.filled h.bytes };
+
+    ghost invariant = { λ h. h.filled ≤ 10 };
+}
+
+impl Head {
+    pub(crate) fn new() -> Self
+        ensures { result ≡ [] }
+    {
+        Head {
+            bytes: [0; HEAD_BYTES],
+            filled: 0,
+        }
+    }
+
+    // Takes of a piece what is missing, and tells how many bytes that is.
+    pub(crate) fn fill(&mut self, piece: &[u8]) -> usize
+        ensures taken { result ≡ min (10 - length self.old) (length piece.now) }
+        ensures bytes { self.new ≡ self.old ++ take result piece.now }
+        ensures bound { length self.old ≤ 10 }
+    {
+        let mut count = HEAD_BYTES - self.filled;
+        if piece.len() < count {
+            count = piece.len();
+        }
+        let filled = self.filled;
+        self.bytes[filled..filled + count].copy_from_slice(&piece[..count]);
+        self.filled = filled + count;
+        count
+    }
+
+    pub(crate) fn len(&self) -> usize
+        ensures len { result ≡ length self.now }
+        ensures bound { result ≤ 10 }
+    {
+        self.filled
+    }
+
+    // The record whose head they are, if they are one's.
+    pub(crate) fn item(&self) -> Option<Record>
+        ensures item { length self.now ≡ 10 → result ≡ head_item self.now }
+        ensures front { IfSome result (λ item. IsHeadOf item self.now) }
+    {
+        if self.filled < HEAD_BYTES {
+            return None;
+        }
+        item_of(&self.bytes)
+    }
+}
+
+// The record whose head these ten bytes are, if they are one's.
+fn item_of(head: &[u8]) -> Option<Record>
+    requires { length head.now ≡ 10 }
+    ensures item { result ≡ head_item head.now }
+    ensures front { IfSome result (λ item. IsHeadOf item head.now) }
+{
+    head_told(head, MAX_BLOCK as usize)
+}

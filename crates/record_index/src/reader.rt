@@ -1,0 +1,222 @@
+//! A body is read in pieces, however it is cut.
+ghost use Rattle.std.specs.Prelude.{◌≡◌, ◌≤◌, ◌<◌, ◌+◌, ◌-◌, ◌^◌, ◌++◌, [], ℕ, List, IfNone, length, take};
+ghost use Rattle.volume_core.specs.declared.changes.Change.{Change};
+ghost use Rattle.record_index.specs.Records.{record_length};
+ghost use Rattle.record_index.specs.Readers.{Ends, Feeds, IsAfter, PassesOver, taken_of};
+
+use crate::head::Head;
+use crate::records::{HEAD_BYTES, Record, RecordError};
+use std::marker::Model;
+
+/// Reads the records of a body that comes in pieces. Between two pieces it holds the head of the
+/// record that is under way, ten bytes at most, and its numbers; no block.
+#[derive(Drop)]
+pub struct RecordReader {
+    // What there is of the head of the record under way,
+    head: Head,
+    // what that tells, and how many bytes of its block are to come.
+    item: Record,
+    left: u32,
+    // Where in the body it begins.
+    begin: usize,
+    // How many bytes of the body came.
+    at: usize,
+}
+
+impl Model for RecordReader {
+    ghost use Rattle.record_index.specs.Readers.{ReaderState};
+
+    ghost Value = { ReaderState };
+
+    ghost view = { λ r. record {
+      head = r.head;
+      item = r.item;
+      left = r.left;
+      begin = r.begin;
+      at = r.at;
+    } };
+}
+
+/// A record that is whole, and where in the body it begins.
+#[derive(Clone, Copy, PartialEq, Eq, Debug)]
+pub struct Found {
+    pub item: Record,
+    pub at: usize,
+}
+
+/// What comes of a piece.
+#[derive(Clone, Copy, PartialEq, Eq, Debug)]
+pub enum Fed {
+    /// A record is whole, which begins at that place of the body. So many bytes of the piece were
+    /// taken: the others are to be fed next.
+    Found {
+        item: Record,
+        at: usize,
+        taken: usize,
+    },
+    /// The piece was taken, and no record is whole.
+    More,
+    /// The piece was taken, and at that place of the body begins no record, however it goes on.
+    Bad {
+        at: usize,
+    },
+}
+
+impl RecordReader {
+    /// A reader of a body of which nothing came.
+    pub fn new() -> Self
+        ensures after { IsAfter [] [] result }
+        ensures at { result.at ≡ 0 }
+    {
+        RecordReader {
+            head: Head::new(),
+            item: Record::Erase { part: 0, at: 0 },
+            left: 0,
+            begin: 0,
+            at: 0,
+        }
+    }
+
+    /// How many bytes of the body came.
+    pub fn at(&self) -> usize
+        ensures { result ≡ self.now.at }
+    {
+        self.at
+    }
+
+    /// How many bytes come next that it need not see: those of a block.
+    pub fn unseen(&self) -> usize
+        ensures { result ≡ self.now.left }
+    {
+        self.left as usize
+    }
+
+    /// PassesOver over bytes that it need not see: whatever they are, it gives what feeding them would
+    /// give.
+    pub fn pass(&mut self, count: usize) -> Option<Found>
+        requires some { 1 ≤ self.old.left }
+        requires unseen { count ≤ self.old.left }
+        requires fits { self.old.at + count < 2 ^ 64 }
+        ensures passes { (before bytes : List ℕ) (changes : List Change) → length bytes ≡ count →
+            IsAfter before changes self.old → PassesOver result (before ++ bytes) changes self.new }
+        ensures at { self.new.at ≡ self.old.at + count }
+        ensures none { IfNone result (count < self.old.left) }
+    {
+        self.at += count;
+        self.left -= count as u32;
+        if self.left > 0 {
+            return None;
+        }
+        let at = self.begin;
+        self.begin = self.at;
+        self.head = Head::new();
+        Some(Found {
+            item: self.item,
+            at,
+        })
+    }
+
+    /// Takes the next piece of the body, up to the end of the first record that ends in it.
+    pub fn feed(&mut self, piece: &[u8]) -> Fed
+        requires fits { self.old.at + length piece.now < 2 ^ 64 }
+        ensures feeds { (before : List ℕ) (changes : List Change) → IsAfter before changes self.old →
+            Feeds result before piece.now changes self.new }
+        ensures at { self.new.at ≡ self.old.at + taken_of result (length piece.now) }
+        ensures within { taken_of result (length piece.now) ≤ length piece.now }
+        ensures some { 1 ≤ length piece.now → 1 ≤ taken_of result (length piece.now) }
+    {
+        if self.left > 0 {
+            self.feed_block(piece, 0)
+        } else {
+            self.feed_head(piece)
+        }
+    }
+
+    // Takes the bytes of a block: those of the piece from that place on.
+    fn feed_block(&mut self, piece: &[u8], from: usize) -> Fed
+        requires some { 1 ≤ self.old.left }
+        requires from { from ≤ length piece.now }
+        requires fits { self.old.at + (length piece.now - from) < 2 ^ 64 }
+        ensures feeds { (before : List ℕ) (changes : List Change) →
+            IsAfter (before ++ take from piece.now) changes self.old →
+            Feeds result before piece.now changes self.new }
+        ensures at { self.new.at + from ≡ self.old.at + taken_of result (length piece.now) }
+        ensures within { taken_of result (length piece.now) ≤ length piece.now }
+        ensures some { 1 ≤ length piece.now → 1 ≤ taken_of result (length piece.now) }
+    {
+        let mut count = self.left as usize;
+        if piece.len() - from < count {
+            count = piece.len() - from;
+        }
+        match self.pass(count) {
+            Some(Found { item, at }) => Fed::Found {
+                item,
+                at,
+                taken: from + count,
+            },
+            None => Fed::More,
+        }
+    }
+
+    // Takes what is missing of a head, and then what follows of its block.
+    fn feed_head(&mut self, piece: &[u8]) -> Fed
+        requires none { self.old.left ≡ 0 }
+        requires fits { self.old.at + length piece.now < 2 ^ 64 }
+        ensures feeds { (before : List ℕ) (changes : List Change) → IsAfter before changes self.old →
+            Feeds result before piece.now changes self.new }
+        ensures at { self.new.at ≡ self.old.at + taken_of result (length piece.now) }
+        ensures within { taken_of result (length piece.now) ≤ length piece.now }
+        ensures some { 1 ≤ length piece.now → 1 ≤ taken_of result (length piece.now) }
+    {
+        if self.head.len() == HEAD_BYTES {
+            // It was bad before.
+            self.at += piece.len();
+            return Fed::Bad { at: self.begin };
+        }
+        let count = self.head.fill(piece);
+        if self.head.len() < HEAD_BYTES {
+            self.at += count;
+            return Fed::More;
+        }
+        let Some(item) = self.head.item() else {
+            self.at += piece.len();
+            return Fed::Bad { at: self.begin };
+        };
+        self.at += count;
+        self.item = item;
+        self.left = length_of(item);
+        if self.left > 0 {
+            return self.feed_block(piece, count);
+        }
+        let at = self.begin;
+        self.begin = self.at;
+        self.head = Head::new();
+        Fed::Found {
+            item,
+            at,
+            taken: count,
+        }
+    }
+
+    /// What the body was: records alone, or at which place the first one is bad or not whole.
+    pub fn end(&self) -> Result<(), RecordError>
+        ensures { (bytes : List ℕ) (changes : List Change) → IsAfter bytes changes self.now →
+            Ends result bytes changes }
+    {
+        if self.head.len() == 0 {
+            Ok(())
+        } else {
+            Err(RecordError::BadRecord { at: self.begin })
+        }
+    }
+}
+
+// How many bytes its block has, none where it has no block.
+fn length_of(item: Record) -> u32
+    ensures { result ≡ record_length item }
+{
+    match item {
+        Record::Put { length, .. } => length,
+        Record::Marks { .. } | Record::Erase { .. } => 0,
+    }
+}

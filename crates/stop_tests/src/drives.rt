@@ -1,0 +1,159 @@
+//! What the tests ask of a drive and of its disks.
+ghost use Rattle.std.specs.Prelude.{◌≡◌};
+ghost use Rattle.aptpl_store.specs.Kept.{store_kept};
+ghost use Rattle.drive_core.specs.State.{left_of};
+
+use aptpl_store::AptplStore;
+use bays::{Bay, NotOn, Parked};
+use cartridge::Shelved;
+use pr_core::Reservations;
+use scsi_sense::Reply;
+use std::alloc::Global;
+use std::test::Fail;
+use tape_disk::{Disk, FuseDisk, MemDisk, OnceDisk};
+use volume_core::Turn;
+use vtl_base::{Nexus, NoMemory};
+
+/// The number of a call that no disk comes to.
+pub const NEVER: u64 = u64::MAX;
+
+/// A disk over one in memory, of whose calls some fail.
+pub trait TestDisk: Disk + Drop {
+    /// Of which the call after this many fails.
+    fn over(disk: MemDisk, calls: u64) -> Self;
+
+    /// The disk in memory.
+    fn memory(&self) -> &MemDisk;
+}
+
+impl TestDisk for FuseDisk<MemDisk> {
+    fn over(disk: MemDisk, calls: u64) -> FuseDisk<MemDisk> {
+        FuseDisk::new(disk, calls)
+    }
+
+    fn memory(&self) -> &MemDisk {
+        self.inner()
+    }
+}
+
+impl TestDisk for OnceDisk<MemDisk> {
+    fn over(disk: MemDisk, calls: u64) -> OnceDisk<MemDisk> {
+        OnceDisk::new(disk, calls)
+    }
+
+    fn memory(&self) -> &MemDisk {
+        self.inner()
+    }
+}
+
+/// A drive over a cartridge on a disk, with a store of its reservations on another. The tests know no more of it.
+pub trait TestDrive<D: Disk>: Drop {
+    /// One that was just switched on, with what its disks hold: the cartridge's and the store's. Where it is not
+    /// switched on they come back.
+    fn switched_on(alloc: Global, tape: D, store: D) -> Result<Self, (Option<D>, D)>;
+
+    /// Answers a command of a host.
+    fn answer(&mut self, host: Nexus, cdb: &[u8], sent: &[u8]) -> Reply;
+
+    /// A flusher's turn.
+    fn take_turn(&mut self) -> Turn;
+
+    /// The disk of its cartridge.
+    fn tape(&self) -> Option<&D>;
+
+    /// The disk of its store.
+    fn store(&self) -> &D;
+}
+
+// The disk of a closed cartridge, where there is one.
+fn tape_of<D: Disk + Drop>(cartridge: Option<Parked<D>>) -> Option<D> {
+    match cartridge {
+        Some(cartridge) => Some(cartridge.into_shelved().into_disk()),
+        None => None,
+    }
+}
+
+// A drive of a library over this store, or its disks.
+fn bay_over<D: Disk + Drop>(
+    alloc: Global,
+    tape: D,
+    store: AptplStore<D>,
+    left: Reservations,
+) -> Result<Bay<D>, (Option<D>, D)>
+    requires { left ≡ left_of (store_kept store).saved }
+{
+    let cartridge = Parked::of(alloc, Shelved::of(tape));
+    match Bay::power_on(alloc, store, left, Some(cartridge)) {
+        Ok(bay) => Ok(bay),
+        Err(NotOn { cartridge, store }) => Err((tape_of(cartridge), store.close())),
+    }
+}
+
+impl<D: Disk + Drop> TestDrive<D> for Bay<D> {
+    fn switched_on(alloc: Global, tape: D, store: D) -> Result<Bay<D>, (Option<D>, D)> {
+        match AptplStore::open(alloc, store) {
+            Ok((store, left)) => bay_over(alloc, tape, store, left),
+            Err(refused) => Err((Some(tape), refused.disk)),
+        }
+    }
+
+    fn answer(&mut self, host: Nexus, cdb: &[u8], sent: &[u8]) -> Reply {
+        self.execute(host, cdb, sent)
+    }
+
+    fn take_turn(&mut self) -> Turn {
+        self.turn()
+    }
+
+    fn tape(&self) -> Option<&D> {
+        match self.drive().medium() {
+            Some(medium) => Some(medium.disk()),
+            None => None,
+        }
+    }
+
+    fn store(&self) -> &D {
+        self.drive().keeper().disk()
+    }
+}
+
+/// Two disks in memory: a cartridge's and a store's.
+#[derive(Drop)]
+pub struct Disks {
+    pub tape: MemDisk,
+    pub store: MemDisk,
+}
+
+impl Disks {
+    /// Others with the same past.
+    pub fn copy(&self) -> Result<Disks, NoMemory> {
+        Ok(Disks {
+            tape: self.tape.copy()?,
+            store: self.store.copy()?,
+        })
+    }
+
+    /// What a crash leaves of both: of what is not safe so many bytes of each, and this in place of the others.
+    pub fn crash(self, keep: u64, fill: u8) -> Result<Disks, NoMemory> {
+        Ok(Disks {
+            tape: self.tape.crash(keep, fill)?,
+            store: self.store.crash(keep, fill)?,
+        })
+    }
+}
+
+/// The disks in memory below two disks.
+pub fn below<D: TestDisk>(tape: Option<&D>, store: &D) -> Result<Disks, Fail> {
+    match tape {
+        Some(tape) => Ok(Disks {
+            tape: tape.memory().copy()?,
+            store: store.memory().copy()?,
+        }),
+        None => Err(Fail::from("no cartridge")),
+    }
+}
+
+/// Those of a drive, as it reached them.
+pub fn reached<D: TestDisk, S: TestDrive<D>>(drive: &S) -> Result<Disks, Fail> {
+    below(drive.tape(), drive.store())
+}

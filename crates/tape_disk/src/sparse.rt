@@ -1,0 +1,181 @@
+//! A disk for sides that are longer than memory: what was written is kept, and 00h stands elsewhere.
+ghost use Rattle.std.specs.Prelude.{◌≡◌, ◌≢◌, ◌+◌, ◌≤◌, ◌<◌, ◌^◌, ℕ, true, false, length, OnOk, OnErr, slice_index_or};
+ghost use Rattle.tape_disk.specs.SparseBytes.{byte_in, IsOutside};
+
+use crate::disk::Disk;
+use crate::failures::Failures;
+use std::alloc::{AllocError, Global};
+use std::collections::BTreeMap;
+use vtl_base::DevFault;
+
+/// A disk of any length, which takes memory for those bytes alone that were written and are not 00h.
+/// It is never honest: no contract says what a crash leaves of it. A read that passes its end is a
+/// counted failure. So is a write that passes 2^64 - 1, and a growth that is refused.
+#[derive(Drop)]
+pub struct SparseDisk {
+    // Each by its place.
+    written: BTreeMap<u64, u8>,
+    len: u64,
+    failures: Failures,
+    // Nothing stands behind the end.
+    ghost ends: { (place : ℕ) → len ≤ place → byte_in written place ≡ 0 },
+}
+
+impl SparseDisk {
+    ghost use Rattle.tape_disk.specs.SparseDisk.{sparse_byte, sparse_failures, sparse_len};
+
+    /// A disk of no bytes.
+    pub fn new(alloc: Global) -> SparseDisk
+        ensures bytes { (place : ℕ) → sparse_byte result place ≡ 0 }
+        ensures len { sparse_len result ≡ 0 }
+        ensures failures { sparse_failures result ≡ 0 }
+    {
+        SparseDisk {
+            written: BTreeMap::new(alloc),
+            len: 0,
+            failures: Failures::none(),
+        }
+    }
+
+    /// What stands at a place: the byte that was written there last, else 00h.
+    pub fn byte_at(&self, place: u64) -> u8
+        ensures { result ≡ sparse_byte self.now place }
+    {
+        byte_in(&self.written, place)
+    }
+
+    // Whether so many bytes from a place on lie inside the disk.
+    fn has(&self, at: u64, count: usize) -> bool
+        ensures inside { result ≡ true →
+            (at + count ≤ sparse_len self.now) × (at + count < 2 ^ 64) }
+        ensures outside { result ≡ false → sparse_len self.now < at + count }
+    {
+        let len = self.len;
+        match at.checked_add(count as u64) {
+            Some(end) => end <= len,
+            None => false,
+        }
+    }
+}
+
+fn byte_in(written: &BTreeMap<u64, u8>, place: u64) -> u8
+    ensures { result ≡ byte_in written.now place }
+{
+    match written.get(&place) {
+        Some(byte) => *byte,
+        None => 0,
+    }
+}
+
+// Fills the buffer with what stands from a place on.
+fn fill(written: &BTreeMap<u64, u8>, at: u64, buffer: &mut [u8])
+    requires { at + length buffer.old < 2 ^ 64 }
+    ensures size { length buffer.new ≡ length buffer.old }
+    ensures bytes { (i other : ℕ) → i < length buffer.old →
+        slice_index_or buffer.new i other ≡ byte_in written.now (at + i) }
+{
+    for i in 0..buffer.len() {
+        buffer[i] = byte_in(written, at + i as u64);
+    }
+}
+
+// Puts a byte at a place. A new one stands where none did.
+fn set(
+    written: &mut BTreeMap<u64, u8>,
+    is_new: bool,
+    place: u64,
+    byte: u8,
+) -> Result<(), AllocError>
+    requires { is_new ≡ true → byte_in written.old place ≡ 0 }
+    ensures there { OnOk result (byte_in written.new place ≡ byte) }
+    ensures elsewhere { (other : ℕ) → other ≢ place →
+        byte_in written.new other ≡ byte_in written.old other }
+{
+    if byte != 0 {
+        written.insert(place, byte)?;
+    } else if !is_new {
+        let _ = written.remove(&place);
+    }
+    Ok(())
+}
+
+// Puts the bytes where they are to stand. New ones stand where none did. Where memory runs out, some
+// of them do.
+fn put(
+    written: &mut BTreeMap<u64, u8>,
+    are_new: bool,
+    at: u64,
+    bytes: &[u8],
+) -> Result<(), AllocError>
+    requires new { are_new ≡ true → (place : ℕ) → at ≤ place → byte_in written.old place ≡ 0 }
+    requires fits { at + length bytes.now < 2 ^ 64 }
+    ensures there { OnOk result ((i other : ℕ) → i < length bytes.now →
+        byte_in written.new (at + i) ≡ slice_index_or bytes.now i other) }
+    ensures elsewhere { (place : ℕ) → IsOutside at (length bytes.now) place →
+        byte_in written.new place ≡ byte_in written.old place }
+{
+    for i in 0..bytes.len() {
+        set(written, are_new, at + i as u64, bytes[i])?;
+    }
+    Ok(())
+}
+
+// Takes away what stands from a place on.
+fn drop_from(written: &mut BTreeMap<u64, u8>, len: u64) -> Result<(), AllocError>
+    ensures gone { OnOk result ((place : ℕ) → len ≤ place → byte_in written.new place ≡ 0) }
+    ensures before { (place : ℕ) → place < len →
+        byte_in written.new place ≡ byte_in written.old place }
+    ensures err { OnErr result ((place : ℕ) →
+        byte_in written.new place ≡ byte_in written.old place) }
+{
+    let _ = written.split_off(&len)?;
+    Ok(())
+}
+
+impl Disk for SparseDisk {
+    ghost use Rattle.tape_disk.specs.SparseDisk.{SparseEffect, sparse_state};
+
+    ghost state = { sparse_state };
+
+    ghost effect = { SparseEffect };
+
+    ghost is_disk = { λ disk honest. absurd honest };
+
+    fn len(&self) -> u64 {
+        self.len
+    }
+
+    fn read_at(&mut self, at: u64, buffer: &mut [u8]) -> Result<(), DevFault> {
+        if !self.has(at, buffer.len()) {
+            return Err(self.failures.rise());
+        }
+        fill(&self.written, at, buffer);
+        Ok(())
+    }
+
+    fn write_at(&mut self, at: u64, bytes: &[u8]) -> Result<(), DevFault> {
+        let Some(end) = at.checked_add(bytes.len() as u64) else {
+            return Err(self.failures.rise());
+        };
+        let are_new = at >= self.len;
+        self.len = self.len.max(end);
+        match put(&mut self.written, are_new, at, bytes) {
+            Ok(()) => Ok(()),
+            Err(_) => Err(self.failures.rise()),
+        }
+    }
+
+    fn cut(&mut self, len: u64) -> Result<(), DevFault> {
+        match drop_from(&mut self.written, len) {
+            Ok(()) => {
+                self.len = self.len.min(len);
+                Ok(())
+            }
+            Err(_) => Err(self.failures.rise()),
+        }
+    }
+
+    fn sync(&mut self) -> Result<(), DevFault> {
+        Ok(())
+    }
+}

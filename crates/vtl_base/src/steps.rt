@@ -1,0 +1,43 @@
+//! Steps of a search, counted.
+ghost use Rattle.std.specs.Prelude.{◌≡◌, ◌≤◌};
+ghost use Rattle.vtl_base.specs.Steps.{ticked};
+
+use std::marker::Model;
+
+/// How many steps were taken. The number is held at its greatest value. To a contract it is the number.
+#[derive(Drop)]
+pub struct Steps {
+    count: u64,
+}
+
+impl Model for Steps {
+    ghost use Rattle.std.specs.Prelude.{ℕ};
+
+    ghost Value = { ℕ };
+
+    ghost view = { λ s. s.count };
+}
+
+impl Steps {
+    /// None yet.
+    pub fn new() -> Self
+        ensures { result ≡ 0 }
+    {
+        Steps { count: 0 }
+    }
+
+    /// One more.
+    pub fn tick(&mut self)
+        ensures count { self.new ≡ ticked self.old }
+        ensures grows { self.old ≤ self.new }
+    {
+        self.count = self.count.saturating_add(1);
+    }
+
+    /// How many there were.
+    pub fn count(&self) -> u64
+        ensures { result ≡ self.now }
+    {
+        self.count
+    }
+}
