@@ -82,15 +82,3 @@ copying_keeps which head bodies counts d0 d1 closed sure keeps stands =
     weakened d0 d1 (IsPrefixOf front) (Stands which head bodies counts)
     (keeps front ten (λ image left. (behind, sure image left ∙ whole)))
     (λ image begins. writing_keeps which head bodies counts d0.seen image stands closed begins)
-
--- one body more was given
-pub gives_more : {S : Type 0} (gives : S → List ℕ → S → Type 0) (old mid new : S) (bodies : List (List ℕ))
-    (body : List ℕ) → GivesAll gives old bodies mid → gives mid body new → GivesAll gives old (bodies ++ body ∷ []) new
-gives_more gives old mid new [] body same gave = (new, subst (λ x. gives x body new) same gave, refl)
-gives_more gives old mid new (b ∷ bs) body (next, first, rest) gave =
-    (next, first, gives_more gives next mid new bs body rest gave)
-
-pub frames_push : (bodies : List (List ℕ)) (body : List ℕ) →
-    flat_map frame (bodies ++ body ∷ []) ≡ flat_map frame bodies ++ frame body
-frames_push bodies body = flat_map-append frame bodies (body ∷ [])
-    ∙ ap (λ (l : List ℕ). flat_map frame bodies ++ l) (append-nil (frame body))

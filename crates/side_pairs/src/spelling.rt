@@ -14,6 +14,7 @@ pub(crate) fn put_head(buffer: &mut Vec<u8>, header: &Header, copied: Copied)
     requires count { length header.now.capacities.items ≤ 4 }
     requires room { 61 ≤ vec_capacity buffer.old }
     ensures items { buffer.new.items ≡ spell_head (said_of header.now copied) }
+    ensures len { vec_len buffer.new ≡ 29 + 8 * length header.now.capacities.items }
     ensures room { vec_capacity buffer.old ≤ vec_capacity buffer.new }
 {
     buffer.clear();
