@@ -8,7 +8,7 @@ use Rattle.byteorder.specs.Endian.{big_number}
 use Rattle.gate_journal.specs.declared.header.SideKind.TheVariants.{Cartridge}
 use Rattle.gate_journal.specs.declared.heads.Copied.{Copied}
 use Rattle.gate_journal.specs.Side.{Heading, IsHeading}
-use Rattle.gate_journal.specs.Heads.{Head, IsHead, IsCopied, BeginsWithHead, TellsHead, count_byte, spell_copied, spell_head}
+use Rattle.gate_journal.specs.Heads.{Head, IsHead, IsCopied, BeginsWithHead, TellsHead, count_byte, spell_copied, spell_side_head}
 use Rattle.gate_journal.specs.Inner.Heads.{is_copy, count_in, copied_in, head_as, heading_in}
 use Rattle.gate_journal.specs.Inner.HeadsRead.{copied_size, head_is, length_head}
 use Rattle.gate_journal.specs.Inner.Headings.{few_capacities}
@@ -59,7 +59,7 @@ module _ (bytes : List ℕ) where
   byte_is w = ap (λ (l : List ℕ). get_or l 0 0) w.4
 
   long : (w : BeginsWithHead bytes) → 17 + 8 * length w.0.heading.capacities + copied_size w.0.copied ≤ length bytes
-  long w = omega (arith, length_head w.0 w.3, ap length w.4, length-append (spell_head w.0) w.1)
+  long w = omega (arith, length_head w.0 w.3, ap length w.4, length-append (spell_side_head w.0) w.1)
 
   pub none_there : length bytes ≡ 0 → BeginsWithHead bytes → ⊥
   none_there empty w = absurd (omega (arith, empty, long w))
@@ -80,7 +80,8 @@ module _ (bytes : List ℕ) where
       ap numbers_of (drop-take 17 (8 * n) bytes) ∙ ap (λ (m : ℕ). numbers_of (take (8 * m) (drop 17 bytes))) is in
       λ i. record { kind = Cartridge; name = name i; capacities = numbers i }
 
-  pub not_plain : byte < 128 → (17 + 8 * byte ≤ length bytes → IsHeading (heading_in (take (17 + 8 * byte) bytes)) → ⊥) →
+  pub not_plain : byte < 128 → (17 + 8 * byte ≤ length bytes → IsHeading (heading_in (take (17 + 8 * byte) bytes)) →
+      ⊥) →
       BeginsWithHead bytes → ⊥
   not_plain few never w =
       let told = told_plain w.0.copied (length w.0.heading.capacities) byte (byte_is w) few in
@@ -118,7 +119,8 @@ module _ (bytes : List ℕ) where
         ∙ sym (take-append-drop (8 * n) (drop 17 bytes))
         ∙ ap (λ (l : List ℕ). l ++ last_at n) (sym (numbers_spelled n (numbers_at n) (many n enough)
         (bytes_in_front (8 * n) (drop 17 bytes) (bytes_behind 17 bytes fits)))))
-        ∙ sym (append_assoc (take 16 (drop 1 bytes)) (flat_map (to_be_bytes w64) (numbers_of (numbers_at n))) (last_at n)))
+        ∙ sym (append_assoc (take 16 (drop 1 bytes)) (flat_map (to_be_bytes w64) (numbers_of (numbers_at n)))
+        (last_at n)))
 
     pub found_plain : byte < 128 → 17 + 8 * byte ≤ length bytes → IsHeading (heading_in (take (17 + 8 * byte) bytes)) →
         TellsHead bytes (Some (record { copied = None; size = 17 + 8 * byte }))
@@ -130,7 +132,7 @@ module _ (bytes : List ℕ) where
           heading = subst (λ (h : Heading). IsHeading h) (front_is false byte refl) ok;
           copied = tt;
         } in
-        let whole : bytes ≡ spell_head head ++ last_at byte = spelled byte enough
+        let whole : bytes ≡ spell_side_head head ++ last_at byte = spelled byte enough
         ∙ ap (λ (n : ℕ). n ∷ take 16 (drop 1 bytes) ++ flat_map (to_be_bytes w64) (numbers_of (numbers_at byte))
         ++ last_at byte) (sym count)
         ∙ ap (λ (l : List ℕ). l ++ last_at byte) (sym (append-nil (length (numbers_of (numbers_at byte)) ∷ take 16
@@ -168,7 +170,7 @@ module _ (bytes : List ℕ) where
         let marked : byte ≡ 128 + length (numbers_of (numbers_at n)) = omega (arith, big, count) in
         let front : List ℕ = (128 + length (numbers_of (numbers_at n))) ∷ take 16 (drop 1 bytes)
         ++ flat_map (to_be_bytes w64) (numbers_of (numbers_at n)) in
-        let whole : bytes ≡ spell_head head ++ drop 12 (last_at n) = spelled n short
+        let whole : bytes ≡ spell_side_head head ++ drop 12 (last_at n) = spelled n short
         ∙ ap (λ (m : ℕ). m ∷ take 16 (drop 1 bytes) ++ flat_map (to_be_bytes w64) (numbers_of (numbers_at n))
         ++ last_at n) marked
         ∙ ap (λ (l : List ℕ). front ++ l) twelve

@@ -43,8 +43,8 @@ spell_copied None = []
 spell_copied (Some copied) = to_be_bytes w64 copied.epoch ++ to_be_bytes w32 copied.base
 
 -- a head in bytes, from place 10 on: the count, the name, the capacities, and of a copy its epoch and its base (own)
-abbrev pub spell_head : Head → List ℕ
-spell_head head =
+abbrev pub spell_side_head : Head → List ℕ
+spell_side_head head =
     count_byte head.copied (length head.heading.capacities) ∷ head.heading.name
     ++ flat_map (to_be_bytes w64) head.heading.capacities ++ spell_copied head.copied
 
@@ -62,15 +62,16 @@ pub record IsHead (head : Head) : Type 0 where
 -- bytes begin with the head of a cartridge's side (own)
 abbrev pub BeginsWithHead : List ℕ → Type 0
 BeginsWithHead bytes =
-    (head : Head) × (rest : List ℕ) × (head.heading.kind ≡ Cartridge) × IsHead head × (bytes ≡ spell_head head ++ rest)
+    (head : Head) × (rest : List ℕ) × (head.heading.kind ≡ Cartridge) × IsHead head
+    × (bytes ≡ spell_side_head head ++ rest)
 
 -- what is told of a head: what it says of a copy, and how many bytes it takes (own)
-abbrev pub IsTold : ToldHead → Head → Type 0
-IsTold told head = (told.size ≡ length (spell_head head)) × (told.copied ≡ head.copied)
+abbrev pub IsToldHead : ToldHead → Head → Type 0
+IsToldHead told head = (told.size ≡ length (spell_side_head head)) × (told.copied ≡ head.copied)
 
 -- what is told of the head of a cartridge's side that bytes begin with, or that they begin with none (own)
 abbrev pub TellsHead : List ℕ → Option ToldHead → Type 0
 TellsHead bytes None = BeginsWithHead bytes → ⊥
 TellsHead bytes (Some told) =
     (head : Head) × (rest : List ℕ) × (head.heading.kind ≡ Cartridge) × IsHead head
-    × (bytes ≡ spell_head head ++ rest) × IsTold told head
+    × (bytes ≡ spell_side_head head ++ rest) × IsToldHead told head

@@ -4,12 +4,12 @@ use Rattle.std.specs.Prelude.{Option, None, Some}
 use Rattle.std.proofs.lemmas.List.{drop-drop, drop_more}
 use Rattle.gate_journal.specs.declared.heads.Copied.{Copied}
 use Rattle.gate_journal.specs.declared.heads.ToldHead.{ToldHead}
-use Rattle.gate_journal.specs.Heads.{Head, epoch_in, epoch_of, spell_head}
+use Rattle.gate_journal.specs.Heads.{Head, epoch_in, epoch_of, spell_side_head}
 use Rattle.gate_journal.specs.Side.{OPEN}
 use Rattle.side_pairs.specs.declared.choosing.Begins.TheVariants.{Closed, Open, Headless}
 use Rattle.side_pairs.specs.declared.choosing.Counted.{Counted}
 use Rattle.side_pairs.specs.declared.which.Which.TheVariants.{First, Second}
-use Rattle.side_pairs.specs.Pairs.{begun, Counts, IsNotOurs, IsOpenSide, IsClosedSide}
+use Rattle.side_pairs.specs.Pairs.{begun, SideCounts, IsNoPair, IsOpenSide, IsClosedSide}
 use Rattle.side_pairs.specs.Choosing.{Chooses}
 use Rattle.side_pairs.specs.Passes.{HasStart}
 use Rattle.side_pairs.specs.Inner.{HasOpenPair, IsGreater, Opens}
@@ -44,28 +44,28 @@ shut_at p image (gate, rest, shut, is) = ap (λ (l : List ℕ). get_or l 9 0) is
 
 -- where the pair gate is closed: what begins with no side, or is closed, or has no head, is no side that counts
 module _ (first second : List ℕ) where
-  pub alone_without : (HasStart first → ⊥) → IsNotOurs first second
+  pub alone_without : (HasStart first → ⊥) → IsNoPair first second
   alone_without never = no_first first second never
 
   module _ (shut : HasOpenPair first → ⊥) where
     nay : (p side : ℕ) (rest : List ℕ) → first ≡ begun side p ++ rest → p ≢ OPEN
     nay p side rest is e = shut (side, rest, is ∙ ap (λ (n : ℕ). begun side n ++ rest) e)
 
-    pub alone_closed : Opens first Closed → IsNotOurs first second
+    pub alone_closed : Opens first Closed → IsNoPair first second
     alone_closed (p, (gate, rest, closed, is)) =
         not_alone first second p (nay p gate rest is) (gate, rest, is)
         (λ h r side none. open_shut p p h r first side (gate, rest, closed, is))
 
-    pub alone_headless : Opens first Headless → IsNotOurs first second
+    pub alone_headless : Opens first Headless → IsNoPair first second
     alone_headless (p, (rest, is, never)) =
         not_alone first second p (nay p OPEN rest is) (OPEN, rest, is)
         (λ h r side none. headless_open p p h r first (rest, is, never) side)
 
     pub alone_copy : (told : ToldHead) (copied : Copied) → told.copied ≡ Some copied → Opens first (Open told) →
-        IsNotOurs first second
+        IsNoPair first second
     alone_copy told copied says (p, h, rest, side, tells) =
-        not_alone first second p (nay p OPEN (spell_head h ++ rest) side.image_is)
-        (OPEN, spell_head h ++ rest, side.image_is)
+        not_alone first second p (nay p OPEN (spell_side_head h ++ rest) side.image_is)
+        (OPEN, spell_side_head h ++ rest, side.image_is)
         (λ k s other none.
         let same : h ≡ k = (one_side p p h k rest s first side other).1.0 in
         let clash : Some copied ≡ None =
@@ -74,27 +74,27 @@ module _ (first second : List ℕ) where
     pub alone_plain : (told : ToldHead) → told.copied ≡ None → Opens first (Open told) →
         Chooses first second (Some (record { which = First; head = told }))
     alone_plain told says (p, h, rest, side, tells) =
-        (h, rest, (p, side, inl (nay p OPEN (spell_head h ++ rest) side.image_is, sym tells.1 ∙ says)), tells)
+        (h, rest, (p, side, inl (nay p OPEN (spell_side_head h ++ rest) side.image_is, sym tells.1 ∙ says)), tells)
 
 -- where it is open
 module _ (first second : List ℕ) (paired : HasOpenPair first) where
   paired_at : get_or first 9 0 ≡ OPEN
   paired_at = ap (λ (l : List ℕ). get_or l 9 0) paired.2
 
-  pub pair_without : (HasStart second → ⊥) → IsNotOurs first second
+  pub pair_without : (HasStart second → ⊥) → IsNoPair first second
   pair_without never = no_second first second paired never
 
-  pub pair_both : HasStart second → get_or second 9 0 ≡ OPEN → IsNotOurs first second
+  pub pair_both : HasStart second → get_or second 9 0 ≡ OPEN → IsNoPair first second
   pair_both (side, p, rest, is) e = both_open first second paired
       (side, rest, is ∙ ap (λ (n : ℕ). begun side n ++ rest) (sym (ap (λ (l : List ℕ). get_or l 9 0) is) ∙ e))
 
-  pub pair_first_headless : Opens first Headless → IsNotOurs first second
+  pub pair_first_headless : Opens first Headless → IsNoPair first second
   pair_first_headless (p, headless) = first_headless first second paired p headless
 
-  pub pair_second_headless : Opens second Headless → IsNotOurs first second
+  pub pair_second_headless : Opens second Headless → IsNoPair first second
   pair_second_headless (q, headless) = second_headless first second paired q headless
 
-  pub pair_closed : Opens first Closed → Opens second Closed → IsNotOurs first second
+  pub pair_closed : Opens first Closed → Opens second Closed → IsNoPair first second
   pair_closed (p, one) (q, two) = both_closed first second paired p q one two
 
   module _ (shut : get_or second 9 0 ≢ OPEN) where

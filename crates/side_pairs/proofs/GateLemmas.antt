@@ -54,7 +54,8 @@ module _ (at : ℕ) (bytes : List ℕ) (d0 d1 : DiskState) (disk : IsDisk d0) (s
       (untouched at (length bytes) image))) time smeared
 
   pub after_sync : (d2 : DiskState) (q : Result Unit DevFault) → Syncs q d1 d2 → Elapses d1 d2 → LeavesOnly d0 d2 Left
-  after_sync d2 q s time2 = one_more_call d0 d1 d2 Left after_write time2 (λ image left. smeared image (s.crash image left))
+  after_sync d2 q s time2 = one_more_call d0 d1 d2 Left after_write time2 (λ image left. smeared image
+      (s.crash image left))
 
 -- ten bytes are longer than the place of either gate
 pub long_start : (image : List ℕ) → HasStart image → 9 < length image

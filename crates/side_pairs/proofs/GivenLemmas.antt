@@ -8,7 +8,7 @@ use Rattle.std.proofs.lemmas.List.Concat.{flat_map-append}
 use Rattle.vtl_base.specs.declared.faults.DevFault.{DevFault}
 use Rattle.tape_disk.specs.Disk.{DiskState, Only}
 use Rattle.gate_journal.specs.Answers.{IsFault, NoneFailed}
-use Rattle.gate_journal.specs.Heads.{Head, base_of, spell_head}
+use Rattle.gate_journal.specs.Heads.{Head, base_of, spell_side_head}
 use Rattle.gate_journal.specs.Side.{CLOSED, IsBody, frame}
 use Rattle.side_pairs.specs.Copying.{GivesAll, HasCopied, HasFrames, NotCopied, WasGiven}
 
@@ -59,7 +59,7 @@ module _ {S : Type 0} (gives : S → List ℕ → S → Type 0) where
   -- the head, the frames and a closed gate are a copy
   pub all_copied : (head : Head) (end : ℕ) (s0 s1 : S) (d0 d1 d2 d3 : DiskState) → (d0.honest → d1.honest) →
       (d1.honest → d2.honest) → NoneFailed d0 d1 →
-      (d0.honest → d1.seen ≡ take 10 d0.seen ++ spell_head head) → (bodies : List (List ℕ)) →
+      (d0.honest → d1.seen ≡ take 10 d0.seen ++ spell_side_head head) → (bodies : List (List ℕ)) →
       HasFrames gives (base_of head) bodies end s0 s1 d1 d2 → (r : Result Unit DevFault) →
       OnOk r (NoneFailed d2 d3) →
       (d2.honest → OnOk r ((d3.seen ≡ d2.seen ++ 0 ∷ []) × Only d3.seen d3.may_leave)) →
@@ -76,8 +76,8 @@ module _ {S : Type 0} (gives : S → List ℕ → S → Type 0) where
           let last = sure (then (on h)) in (
             last.0 ∙ ap (λ (l : List ℕ). l ++ CLOSED ∷ []) ((frames.written (on h)).0
                 ∙ ap (λ (l : List ℕ). l ++ flat_map frame bodies) (begun h))
-                ∙ append_assoc (take 10 d0.seen ++ spell_head head) (flat_map frame bodies) (CLOSED ∷ [])
-                ∙ append_assoc (take 10 d0.seen) (spell_head head) (flat_map frame bodies ++ CLOSED ∷ []),
+                ∙ append_assoc (take 10 d0.seen ++ spell_side_head head) (flat_map frame bodies) (CLOSED ∷ [])
+                ∙ append_assoc (take 10 d0.seen) (spell_side_head head) (flat_map frame bodies ++ CLOSED ∷ []),
             last.1,
           );
     },

@@ -5,12 +5,12 @@ use Rattle.std.specs.List.{flat_map}
 use Rattle.std.proofs.lemmas.List.{append-nil}
 use Rattle.std.proofs.lemmas.Bool.{cases_eq}
 use Rattle.tape_disk.specs.Disk.{IsPrefixOf, Smeared}
-use Rattle.gate_journal.specs.Heads.{Head, IsCopied, epoch_of, spell_head}
+use Rattle.gate_journal.specs.Heads.{Head, IsCopied, epoch_of, spell_side_head}
 use Rattle.gate_journal.specs.Side.{OPEN, CLOSED, frame}
 use Rattle.side_pairs.specs.declared.which.Which.{Which}
 use Rattle.side_pairs.specs.declared.which.Which.TheVariants.{First, Second}
-use Rattle.side_pairs.specs.Pairs.{begun, IsOfCartridge, IsOpenSide, IsClosedSide, YieldsTo, Counts, StandsFor}
-use Rattle.side_pairs.specs.Passes.{IsShutPair, IsPrepared, ReadsOpen, ReadsClosed, HasWritten, IsCopy, Stands, TakesOver, copy_head, spell_copy, other, first_of, second_of}
+use Rattle.side_pairs.specs.Pairs.{begun, IsOfCartridge, IsOpenSide, IsClosedSide, YieldsTo, SideCounts, PairStandsFor}
+use Rattle.side_pairs.specs.Passes.{IsShutPair, IsPrepared, ReadsOpen, ReadsClosed, HasWritten, IsCopy, SidesStandFor, TakesOver, copy_head, spell_copy, other, first_image, second_image}
 use Rattle.side_pairs.proofs.PairLemmas.{same_pair, same_side}
 
 -- ten bytes and what lies behind them, after a write of their first byte that may have ended in any way
@@ -36,10 +36,10 @@ last_smeared side pair rest image s = last_with side pair rest image s.before.0 
 
 -- a head and the rest stay, whatever stands behind
 more_behind : (pair : ℕ) (h : Head) (rest tail image : List ℕ) → IsOfCartridge h →
-    image ≡ begun OPEN pair ++ ((spell_head h ++ rest) ++ tail) → IsOpenSide pair h (rest ++ tail) image
+    image ≡ begun OPEN pair ++ ((spell_side_head h ++ rest) ++ tail) → IsOpenSide pair h (rest ++ tail) image
 more_behind pair h rest tail image ok is = record {
   head_is = ok;
-  image_is = is ∙ ap (λ (l : List ℕ). begun OPEN pair ++ l) (append_assoc (spell_head h) rest tail);
+  image_is = is ∙ ap (λ (l : List ℕ). begun OPEN pair ++ l) (append_assoc (spell_side_head h) rest tail);
 }
 
 -- the gate of an open side of a lesser epoch, while it is closed
@@ -48,36 +48,41 @@ closing : (epoch pair : ℕ) (old image : List ℕ) → ReadsOpen old → Yields
 closing epoch pair old image opened (inl (gate, rest, shut, is)) left =
     absurd (shut (ap (λ (l : List ℕ). get_or l 0 0) (sym is ∙ opened.1)))
 closing epoch pair old image opened (inr (h, rest, side, less)) left =
-    let w = first_smeared OPEN pair (spell_head h ++ rest) image
+    let w = first_smeared OPEN pair (spell_side_head h ++ rest) image
     (subst (λ (l : List ℕ). Smeared 0 1 l image) side.image_is left) in
     elim (cases_eq w.0 OPEN) [
       | inl e ↦ inr (
         h,
         rest ++ w.1,
         more_behind pair h rest w.1 image side.head_is
-            (w.2 ∙ ap (λ (g : ℕ). begun g pair ++ ((spell_head h ++ rest) ++ w.1)) e),
+            (w.2 ∙ ap (λ (g : ℕ). begun g pair ++ ((spell_side_head h ++ rest) ++ w.1)) e),
         less,
       )
-      | inr shut ↦ inl (w.0, (spell_head h ++ rest) ++ w.1, shut, w.2)
+      | inr shut ↦ inl (w.0, (spell_side_head h ++ rest) ++ w.1, shut, w.2)
     ]
 
 -- what yields and is closed still yields where its ten bytes stay
 yields_begun : (epoch p : ℕ) (old image : List ℕ) → YieldsTo epoch p old → ReadsClosed old →
     IsPrefixOf (take 10 old) image → YieldsTo epoch p image
 yields_begun epoch p old image yields (q, (gate, rest, shut, is)) (more, begins) =
-    inl (gate, more, shut, begins ∙ ap (λ (l : List ℕ). take 10 l ++ more) is
-    ∙ ap (λ (x : ℕ). begun gate x ++ more) (pair_is yields))
+    inl (
+      gate,
+      more,
+      shut,
+      begins ∙ ap (λ (l : List ℕ). take 10 l ++ more) is
+          ∙ ap (λ (x : ℕ). begun gate x ++ more) (pair_is yields),
+    )
   where
     pair_is : YieldsTo epoch p old → q ≡ p
     pair_is (inl (side, tail, nay, was)) = same_pair gate side q p rest tail (sym is ∙ was)
     pair_is (inr (h, tail, side, less)) =
-        same_pair gate OPEN q p rest (spell_head h ++ tail) (sym is ∙ side.image_is)
+        same_pair gate OPEN q p rest (spell_side_head h ++ tail) (sym is ∙ side.image_is)
 
 -- another image of the side that does not count
 with_spare : (which : Which) (h : Head) (rest counts spare image : List ℕ) →
     ((epoch pair : ℕ) → YieldsTo epoch pair spare → YieldsTo epoch pair image) →
-    Counts which h rest (first_of which counts spare) (second_of which counts spare) →
-    Counts which h rest (first_of which counts image) (second_of which counts image)
+    SideCounts which h rest (first_image which counts spare) (second_image which counts spare) →
+    SideCounts which h rest (first_image which counts image) (second_image which counts image)
 with_spare First h rest counts spare image yields (pair, side, inl alone) = (pair, side, inl alone)
 with_spare First h rest counts spare image yields (pair, side, inr (is, (o, shut, y))) =
     (pair, side, inr (is, (o, shut, yields (epoch_of h) o y)))
@@ -86,38 +91,42 @@ with_spare Second h rest counts spare image yields (pair, shut, side, y) =
 
 stands_beside : (which : Which) (h : Head) (bodies : List (List ℕ)) (counts spare image : List ℕ) →
     ((epoch pair : ℕ) → YieldsTo epoch pair spare → YieldsTo epoch pair image) →
-    Stands which h bodies counts spare → Stands which h bodies counts image
+    SidesStandFor which h bodies counts spare → SidesStandFor which h bodies counts image
 stands_beside which h bodies counts spare image yields (frames, (gate, more, shut, is)) =
     (frames, (gate, more, shut, with_spare which h (flat_map frame bodies ++ gate ∷ more) counts spare image yields is))
 
 -- while the spare's gate is closed, the pair stands for the same
 pub closing_keeps : (which : Which) (h : Head) (bodies : List (List ℕ)) (counts spare image : List ℕ) →
-    Stands which h bodies counts spare → ReadsOpen spare → Smeared 0 1 spare image → Stands which h bodies counts image
+    SidesStandFor which h bodies counts spare → ReadsOpen spare → Smeared 0 1 spare image →
+    SidesStandFor which h bodies counts image
 closing_keeps which h bodies counts spare image stands opened left =
-    stands_beside which h bodies counts spare image (λ epoch pair y. closing epoch pair spare image opened y left) stands
+    stands_beside which h bodies counts spare image
+    (λ epoch pair y. closing epoch pair spare image opened y left) stands
 
 -- while a copy is written behind the ten bytes of a closed spare, the pair stands for the same
 pub writing_keeps : (which : Which) (h : Head) (bodies : List (List ℕ)) (counts spare image : List ℕ) →
-    Stands which h bodies counts spare → ReadsClosed spare → IsPrefixOf (take 10 spare) image →
-    Stands which h bodies counts image
+    SidesStandFor which h bodies counts spare → ReadsClosed spare → IsPrefixOf (take 10 spare) image →
+    SidesStandFor which h bodies counts image
 writing_keeps which h bodies counts spare image stands closed left =
     stands_beside which h bodies counts spare image (λ epoch pair y. yields_begun epoch pair spare image y closed left)
     stands
 
 -- the first side is read alone, so nothing of the second image counts
 alone_keeps : (which : Which) (h : Head) (rest first second image : List ℕ) → IsShutPair first →
-    Counts which h rest first second → Counts which h rest first image
+    SideCounts which h rest first second → SideCounts which h rest first image
 alone_keeps First h rest first second image shut (pair, side, inl alone) = (pair, side, inl alone)
 alone_keeps First h rest first second image shut (pair, side, inr (is, beside)) =
-    absurd (shut.3 (same_pair shut.0 OPEN shut.1 pair shut.2 (spell_head h ++ rest) (sym shut.4 ∙ side.image_is) ∙ is))
+    absurd (shut.3 (same_pair shut.0 OPEN shut.1 pair shut.2 (spell_side_head h ++ rest)
+    (sym shut.4 ∙ side.image_is) ∙ is))
 alone_keeps Second h rest first second image shut (pair, closed, side, inl (gate, more, nay, is)) =
     absurd (shut.3 (same_pair shut.0 gate shut.1 OPEN shut.2 more (sym shut.4 ∙ is)))
 alone_keeps Second h rest first second image shut (pair, closed, side, inr (k, more, yielding, less)) =
-    absurd (shut.3 (same_pair shut.0 OPEN shut.1 OPEN shut.2 (spell_head k ++ more) (sym shut.4 ∙ yielding.image_is)))
+    absurd (shut.3 (same_pair shut.0 OPEN shut.1 OPEN shut.2 (spell_side_head k ++ more)
+    (sym shut.4 ∙ yielding.image_is)))
 
 -- where the pair gate is closed, the pair stands for the same beside any second image
 pub preparing_keeps : (which : Which) (h : Head) (bodies : List (List ℕ)) (first second image : List ℕ) →
-    StandsFor which h bodies first second → IsShutPair first → StandsFor which h bodies first image
+    PairStandsFor which h bodies first second → IsShutPair first → PairStandsFor which h bodies first image
 preparing_keeps which h bodies first second image (frames, (gate, more, nay, counts)) shut = (
   frames,
   (
@@ -130,10 +139,10 @@ preparing_keeps which h bodies first second image (frames, (gate, more, nay, cou
 
 -- the first side counts whatever its pair gate holds, where the second one is prepared
 pairing : (which : Which) (h : Head) (rest first second image : List ℕ) → IsShutPair first → IsPrepared second →
-    Smeared 9 1 first image → Counts which h rest first second →
-    (tail : List ℕ) × Counts which h (rest ++ tail) image second
+    Smeared 9 1 first image → SideCounts which h rest first second →
+    (tail : List ℕ) × SideCounts which h (rest ++ tail) image second
 pairing First h rest first second image shut prepared left (pair, side, inl (closed, alone)) =
-    let w = last_smeared OPEN pair (spell_head h ++ rest) image
+    let w = last_smeared OPEN pair (spell_side_head h ++ rest) image
     (subst (λ (l : List ℕ). Smeared 9 1 l image) side.image_is left) in (
       w.1,
       (
@@ -146,16 +155,18 @@ pairing First h rest first second image shut prepared left (pair, side, inl (clo
       ),
     )
 pairing First h rest first second image shut prepared left (pair, side, inr (is, beside)) =
-    absurd (shut.3 (same_pair shut.0 OPEN shut.1 pair shut.2 (spell_head h ++ rest) (sym shut.4 ∙ side.image_is) ∙ is))
+    absurd (shut.3 (same_pair shut.0 OPEN shut.1 pair shut.2 (spell_side_head h ++ rest)
+    (sym shut.4 ∙ side.image_is) ∙ is))
 pairing Second h rest first second image shut prepared left (pair, closed, side, inl (gate, more, nay, is)) =
     absurd (shut.3 (same_pair shut.0 gate shut.1 OPEN shut.2 more (sym shut.4 ∙ is)))
 pairing Second h rest first second image shut prepared left (pair, closed, side, inr (k, more, yielding, less)) =
-    absurd (shut.3 (same_pair shut.0 OPEN shut.1 OPEN shut.2 (spell_head k ++ more) (sym shut.4 ∙ yielding.image_is)))
+    absurd (shut.3 (same_pair shut.0 OPEN shut.1 OPEN shut.2 (spell_side_head k ++ more)
+    (sym shut.4 ∙ yielding.image_is)))
 
 -- while the pair gate is opened beside a prepared second side, the pair stands for the same
 pub pairing_keeps : (which : Which) (h : Head) (bodies : List (List ℕ)) (first second image : List ℕ) →
-    StandsFor which h bodies first second → IsShutPair first → IsPrepared second → Smeared 9 1 first image →
-    StandsFor which h bodies image second
+    PairStandsFor which h bodies first second → IsShutPair first → IsPrepared second → Smeared 9 1 first image →
+    PairStandsFor which h bodies image second
 pairing_keeps which h bodies first second image (frames, (gate, more, nay, counts)) shut prepared left =
     let w = pairing which h (flat_map frame bodies ++ gate ∷ more) first second image shut prepared left counts in (
       frames,
@@ -163,7 +174,8 @@ pairing_keeps which h bodies first second image (frames, (gate, more, nay, count
         gate,
         more ++ w.0,
         nay,
-        subst (λ (l : List ℕ). Counts which h l image second) (append_assoc (flat_map frame bodies) (gate ∷ more) w.0)
+        subst (λ (l : List ℕ). SideCounts which h l image second) (append_assoc (flat_map frame bodies)
+            (gate ∷ more) w.0)
             w.1,
       ),
     )
@@ -186,27 +198,27 @@ module _ (h : Head) (copies : List (List ℕ)) (ok : IsOfCartridge h) (copy : Is
   abbrev copied : List ℕ → List ℕ
   copied more = flat_map frame copies ++ CLOSED ∷ more
 
-  regrouped : (more : List ℕ) → spell_copy h copies ++ more ≡ spell_head k ++ copied more
+  regrouped : (more : List ℕ) → spell_copy h copies ++ more ≡ spell_side_head k ++ copied more
   regrouped more =
-      append_assoc (spell_head k) (flat_map frame copies ++ CLOSED ∷ []) more
-      ∙ ap (λ (l : List ℕ). spell_head k ++ l) (append_assoc (flat_map frame copies) (CLOSED ∷ []) more)
+      append_assoc (spell_side_head k) (flat_map frame copies ++ CLOSED ∷ []) more
+      ∙ ap (λ (l : List ℕ). spell_side_head k ++ l) (append_assoc (flat_map frame copies) (CLOSED ∷ []) more)
 
   -- an image of the copy, with any side gate
   image_with : (gate pair : ℕ) (more tail image : List ℕ) →
       image ≡ begun gate pair ++ ((spell_copy h copies ++ more) ++ tail) →
-      image ≡ begun gate pair ++ (spell_head k ++ copied (more ++ tail))
+      image ≡ begun gate pair ++ (spell_side_head k ++ copied (more ++ tail))
   image_with gate pair more tail image is =
       is ∙ ap (λ (l : List ℕ). begun gate pair ++ l)
       (append_assoc (spell_copy h copies) more tail ∙ regrouped (more ++ tail))
 
   -- the copy counts once its gate is open
   copy_counts : (which : Which) (rest counts spare image : List ℕ) (p : ℕ) (tail : List ℕ) →
-      Counts which h rest (first_of which counts spare) (second_of which counts spare) →
-      (IsShutPair (first_of which counts spare) → ⊥) → ((epoch q : ℕ) → YieldsTo epoch q spare → q ≡ p) →
-      image ≡ begun OPEN p ++ (spell_head k ++ copied tail) →
-      Counts (other which) k (copied tail) (first_of which counts image) (second_of which counts image)
+      SideCounts which h rest (first_image which counts spare) (second_image which counts spare) →
+      (IsShutPair (first_image which counts spare) → ⊥) → ((epoch q : ℕ) → YieldsTo epoch q spare → q ≡ p) →
+      image ≡ begun OPEN p ++ (spell_side_head k ++ copied tail) →
+      SideCounts (other which) k (copied tail) (first_image which counts image) (second_image which counts image)
   copy_counts First rest counts spare image p tail (pair, side, inl (closed, alone)) paired told is =
-      absurd (paired (OPEN, pair, spell_head h ++ rest, closed, side.image_is))
+      absurd (paired (OPEN, pair, spell_side_head h ++ rest, closed, side.image_is))
   copy_counts First rest counts spare image p tail (pair, side, inr (e, (o, shut, y))) paired told is =
       let q : o ≡ p = told (epoch_of h) o y in (
         p,
@@ -225,20 +237,22 @@ module _ (h : Head) (copies : List (List ℕ)) (ok : IsOfCartridge h) (copy : Is
 pair_told : (epoch q g p : ℕ) (xs spare : List ℕ) → spare ≡ begun g p ++ xs → YieldsTo epoch q spare → q ≡ p
 pair_told epoch q g p xs spare is (inl (gate, rest, shut, was)) = same_pair gate g q p rest xs (sym was ∙ is)
 pair_told epoch q g p xs spare is (inr (k, rest, side, less)) =
-    same_pair OPEN g q p (spell_head k ++ rest) xs (sym side.image_is ∙ is)
+    same_pair OPEN g q p (spell_side_head k ++ rest) xs (sym side.image_is ∙ is)
 
-head_of_side : (which : Which) (h : Head) (rest first second : List ℕ) → Counts which h rest first second → IsOfCartridge h
+head_of_side : (which : Which) (h : Head) (rest first second : List ℕ) → SideCounts which h rest first second →
+    IsOfCartridge h
 head_of_side First h rest first second (pair, side, beside) = side.head_is
 head_of_side Second h rest first second (pair, shut, side, y) = side.head_is
 
 module _ (which : Which) (h : Head) (bodies copies : List (List ℕ)) (counts spare : List ℕ)
-    (stands : Stands which h bodies counts spare) (paired : IsShutPair (first_of which counts spare) → ⊥)
+    (stands : SidesStandFor which h bodies counts spare) (paired : IsShutPair (first_image which counts spare) → ⊥)
     (copy : IsCopy h copies) (written : HasWritten (spell_copy h copies) spare) where
   counts_open : (image tail : List ℕ) → image ≡ begun OPEN written.1 ++ ((spell_copy h copies ++ written.2) ++ tail) →
       TakesOver which h copies counts image
   counts_open image tail is =
       let rest = flat_map frame bodies ++ stands.1.0 ∷ stands.1.1 in
-      let ok = head_of_side which h rest (first_of which counts spare) (second_of which counts spare) stands.1.3 in (
+      let ok = head_of_side which h rest (first_image which counts spare)
+      (second_image which counts spare) stands.1.3 in (
         record { each = copy.each; base = omega arith },
         (
           CLOSED,
@@ -258,7 +272,7 @@ module _ (which : Which) (h : Head) (bodies copies : List (List ℕ)) (counts sp
 
   -- wherever it is stopped
   pub opening_keeps : (image : List ℕ) → Smeared 0 1 spare image →
-      Stands which h bodies counts image ⊎ TakesOver which h copies counts image
+      SidesStandFor which h bodies counts image ⊎ TakesOver which h copies counts image
   opening_keeps image left =
       let w = first_smeared written.0 written.1 (spell_copy h copies ++ written.2) image
       (subst (λ (l : List ℕ). Smeared 0 1 l image) written.4 left) in

@@ -12,7 +12,7 @@ use Rattle.side_pairs.specs.declared.choosing.Counted.{Counted}
 use Rattle.side_pairs.specs.declared.which.Which.{Which}
 use Rattle.side_pairs.specs.Choosing.{Chooses, FaultsOfOne, FindsCounted, IsFaultOfOne}
 use Rattle.side_pairs.specs.Inner.{FindsRead}
-use Rattle.side_pairs.specs.Pairs.{StandsFor, begun}
+use Rattle.side_pairs.specs.Pairs.{PairStandsFor, begun}
 use Rattle.side_pairs.specs.Passes.{IsPreparedBeside, IsShutPair}
 use Rattle.side_pairs.proofs.GateLemmas.{none_read}
 use Rattle.side_pairs.proofs.PassLemmas.{preparing_keeps}
@@ -51,7 +51,7 @@ module _ (f0 f1 f2 s0 s1 s2 : DiskState) (first : NoneFailed f0 f1) (second : No
     (λ h image left. (first_sure h).1 image ((first_read (first_on h)).images image left)),
     (λ h image left. (second_sure h).1 image ((second_read (second_on h)).images image left)),
     (λ h k. let e = (first_sure h).0 in let f = (second_sure k).0 in
-    subst (λ (l : List ℕ × List ℕ). Chooses l.0 l.1 found) (λ i. (e i, f i)) (chooses (first_on h) (second_on k))),
+        subst (λ (l : List ℕ × List ℕ). Chooses l.0 l.1 found) (λ i. (e i, f i)) (chooses (first_on h) (second_on k))),
   )
   counted_since (Err fault) is = fault_since fault f0 f1 f2 s0 s1 s2 first second is
 
@@ -61,9 +61,9 @@ module _ (first : List ℕ) (s0 s1 : DiskState) (disk : IsDisk s0) (shut : IsShu
   prepared_now written = record { shut = λ s. written; opened = λ never. absurd (never shut) }
 
   pub prepared_on : LeavesOnly s0 s1 (λ image. Unit {0}) → (which : Which) (head : Head) (bodies : List (List ℕ)) →
-      Each s0 (StandsFor which head bodies first) → LeavesOnly s0 s1 (StandsFor which head bodies first)
+      Each s0 (PairStandsFor which head bodies first) → LeavesOnly s0 s1 (PairStandsFor which head bodies first)
   prepared_on time which head bodies each =
-      weakened s0 s1 (λ image. Unit {0}) (StandsFor which head bodies first) time
+      weakened s0 s1 (λ image. Unit {0}) (PairStandsFor which head bodies first) time
       (λ image any. preparing_keeps which head bodies first s0.seen image (each s0.seen disk.reads) shut)
 
 pub prepared_before : (first : List ℕ) (s : DiskState) → IsDisk s → (IsShutPair first → ⊥) → IsPreparedBeside first s s

@@ -1,6 +1,6 @@
 -- A cartridge's side begins in one way.
 use Rattle.std.proofs.Common.{◌≡◌, List, ℕ, ◌++◌}
-use Rattle.gate_journal.specs.Heads.{Head, BeginsWithHead, spell_head}
+use Rattle.gate_journal.specs.Heads.{Head, BeginsWithHead, spell_side_head}
 use Rattle.gate_journal.specs.Inner.Deciding.{Decidable, decided_as}
 use Rattle.gate_journal.specs.Inner.HeadsRead as heads
 use Rattle.side_pairs.specs.Pairs.{IsOfCartridge}
@@ -8,7 +8,7 @@ use Rattle.side_pairs.specs.Inner.{HasHead}
 
 -- bytes begin with one head
 pub same_head : (h k : Head) (r s : List ℕ) → IsOfCartridge h → IsOfCartridge k →
-    spell_head h ++ r ≡ spell_head k ++ s → (h ≡ k) × (r ≡ s)
+    spell_side_head h ++ r ≡ spell_side_head k ++ s → (h ≡ k) × (r ≡ s)
 same_head h k r s okh okk e = heads.same_head h k r s okh.kind okk.kind okh.spelled okk.spelled e
 
 pub to_plain : (bytes : List ℕ) → HasHead bytes → BeginsWithHead bytes

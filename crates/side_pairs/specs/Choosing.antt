@@ -3,15 +3,15 @@ use Rattle.std.specs.Prelude.{◌≡◌, ◌⊎◌, ℕ, List, Option, None, Som
 use Rattle.vtl_base.specs.declared.faults.DevFault.{DevFault}
 use Rattle.tape_disk.specs.Disk.{DiskState, Only}
 use Rattle.gate_journal.specs.Answers.{IsFault, NoneFailed}
-use Rattle.gate_journal.specs.Heads.{Head, IsTold}
+use Rattle.gate_journal.specs.Heads.{Head, IsToldHead}
 use Rattle.side_pairs.specs.declared.choosing.Counted.{Counted}
-use Rattle.side_pairs.specs.Pairs.{Counts, IsNotOurs}
+use Rattle.side_pairs.specs.Pairs.{SideCounts, IsNoPair}
 
 -- the side that counts, and what its head tells; or that none does (own)
 abbrev pub Chooses : List ℕ → List ℕ → Option Counted → Type 0
 Chooses first second (Some counted) =
-    (head : Head) × (rest : List ℕ) × Counts counted.which head rest first second × IsTold counted.head head
-Chooses first second None = IsNotOurs first second
+    (head : Head) × (rest : List ℕ) × SideCounts counted.which head rest first second × IsToldHead counted.head head
+Chooses first second None = IsNoPair first second
 
 -- a fault of the one disk, before which no call of the other failed, or the other way round (own)
 abbrev pub IsFaultOfOne : DevFault → DiskState → DiskState → DiskState → DiskState → Type 0

@@ -7,7 +7,7 @@ use Rattle.tape_disk.specs.Moments.{LeavesOnly}
 use Rattle.gate_journal.specs.declared.header.Header.{Header}
 use Rattle.gate_journal.specs.declared.heads.Copied.{Copied}
 use Rattle.gate_journal.specs.Answers.{IsFault, NoneFailed}
-use Rattle.gate_journal.specs.Heads.{Head, base_of, spell_head}
+use Rattle.gate_journal.specs.Heads.{Head, base_of, spell_side_head}
 use Rattle.gate_journal.specs.Side.{CLOSED, IsBody, frame, heading_of}
 use Rattle.side_pairs.specs.declared.copying.TheConstants.{COPY_BODY}
 
@@ -30,7 +30,7 @@ pub record IsWritten (head : Head) (bodies : List (List ℕ)) (old new : DiskSta
   pub each : All IsBody bodies
   pub none_failed : NoneFailed old new
   pub written : old.honest
-      → (new.seen ≡ take 10 old.seen ++ (spell_head head ++ (flat_map frame bodies ++ CLOSED ∷ [])))
+      → (new.seen ≡ take 10 old.seen ++ (spell_side_head head ++ (flat_map frame bodies ++ CLOSED ∷ [])))
       × Only new.seen new.may_leave
 
 -- by what a source of bodies gives

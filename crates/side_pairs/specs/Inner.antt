@@ -4,7 +4,7 @@ use Rattle.vtl_base.specs.declared.faults.DevFault.{DevFault}
 use Rattle.tape_disk.specs.Disk.{DiskState}
 use Rattle.gate_journal.specs.Answers.{NoneFailed}
 use Rattle.gate_journal.specs.declared.heads.ToldHead.{ToldHead}
-use Rattle.gate_journal.specs.Heads.{Head, IsTold, epoch_in, spell_head}
+use Rattle.gate_journal.specs.Heads.{Head, IsToldHead, epoch_in, spell_side_head}
 use Rattle.gate_journal.specs.Side.{OPEN}
 use Rattle.side_pairs.specs.declared.choosing.Begins.{Begins}
 use Rattle.side_pairs.specs.declared.choosing.Begins.TheVariants.{Closed, Open, Headless}
@@ -15,7 +15,7 @@ use Rattle.side_pairs.specs.Choosing.{Chooses, IsFaultOfOne}
 
 -- the bytes begin with a head of a cartridge's side (own)
 abbrev pub HasHead : List ℕ → Type 0
-HasHead bytes = (h : Head) × (rest : List ℕ) × IsOfCartridge h × (bytes ≡ spell_head h ++ rest)
+HasHead bytes = (h : Head) × (rest : List ℕ) × IsOfCartridge h × (bytes ≡ spell_side_head h ++ rest)
 
 -- the image begins with the ten bytes of a cartridge's side, and its pair gate is open (own)
 abbrev pub HasOpenPair : List ℕ → Type 0
@@ -32,7 +32,7 @@ IsHeadless pair image = (rest : List ℕ) × (image ≡ begun OPEN pair ++ rest)
 -- an image with the ten bytes of a side is closed, open with a head, or open without one (own)
 abbrev pub Opens : List ℕ → Begins → Type 0
 Opens image Closed = (pair : ℕ) × IsClosedSide pair image
-Opens image (Open told) = (pair : ℕ) × (h : Head) × (rest : List ℕ) × IsOpenSide pair h rest image × IsTold told h
+Opens image (Open told) = (pair : ℕ) × (h : Head) × (rest : List ℕ) × IsOpenSide pair h rest image × IsToldHead told h
 Opens image Headless = (pair : ℕ) × IsHeadless pair image
 
 -- the side of the greater epoch, or none (own)

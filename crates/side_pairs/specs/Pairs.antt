@@ -2,7 +2,7 @@
 use Rattle.std.specs.Prelude.{◌≡◌, ◌≢◌, ◌⊎◌, ◌<◌, ◌≤◌, ◌+◌, ℕ, List, [], ◌∷◌, ◌++◌, length, None}
 use Rattle.std.specs.List.{All, flat_map}
 use Rattle.gate_journal.specs.declared.header.SideKind.TheVariants.{Cartridge}
-use Rattle.gate_journal.specs.Heads.{Head, IsHead, base_of, epoch_of, spell_head}
+use Rattle.gate_journal.specs.Heads.{Head, IsHead, base_of, epoch_of, spell_side_head}
 use Rattle.gate_journal.specs.Side.{OPEN, IsBody, IsBroken, frame, start}
 use Rattle.side_pairs.specs.declared.which.Which.{Which}
 use Rattle.side_pairs.specs.declared.which.Which.TheVariants.{First, Second}
@@ -19,7 +19,7 @@ pub record IsOfCartridge (head : Head) : Type 0 where
 -- The image is an open side with that byte for its pair gate, and this head, behind which lies the rest (own).
 pub record IsOpenSide (pair : ℕ) (head : Head) (rest image : List ℕ) : Type 0 where
   pub head_is : IsOfCartridge head
-  pub image_is : image ≡ begun OPEN pair ++ (spell_head head ++ rest)
+  pub image_is : image ≡ begun OPEN pair ++ (spell_side_head head ++ rest)
 
 -- the image begins as a closed side with that byte for its pair gate; it needs no head (own)
 abbrev pub IsClosedSide : ℕ → List ℕ → Type 0
@@ -41,16 +41,16 @@ StandsBeside pair head second =
 
 -- That side of the pair counts, with this head; the rest is what lies behind the head. The second image counts only
 -- where the first one's pair gate is open, its own is closed, and the first one yields to it (own).
-abbrev pub Counts : Which → Head → List ℕ → List ℕ → List ℕ → Type 0
-Counts First head rest first second =
+abbrev pub SideCounts : Which → Head → List ℕ → List ℕ → List ℕ → Type 0
+SideCounts First head rest first second =
     (pair : ℕ) × IsOpenSide pair head rest first × StandsBeside pair head second
-Counts Second head rest first second =
+SideCounts Second head rest first second =
     (pair : ℕ) × (pair ≢ OPEN) × IsOpenSide pair head rest second × YieldsTo (epoch_of head) OPEN first
 
 -- no side of the pair counts (own)
-abbrev pub IsNotOurs : List ℕ → List ℕ → Type 0
-IsNotOurs first second =
-    (which : Which) (head : Head) (rest : List ℕ) → Counts which head rest first second → ⊥
+abbrev pub IsNoPair : List ℕ → List ℕ → Type 0
+IsNoPair first second =
+    (which : Which) (head : Head) (rest : List ℕ) → SideCounts which head rest first second → ⊥
 
 -- these frames can be spelled, and are no fewer than the base (own)
 pub record AreFrames (head : Head) (bodies : List (List ℕ)) : Type 0 where
@@ -58,15 +58,15 @@ pub record AreFrames (head : Head) (bodies : List (List ℕ)) : Type 0 where
   pub base : base_of head ≤ length bodies
 
 -- The pair stands for a head and frames: those of the side that counts, up to a closed gate (own).
-abbrev pub StandsFor : Which → Head → List (List ℕ) → List ℕ → List ℕ → Type 0
-StandsFor which head bodies first second =
+abbrev pub PairStandsFor : Which → Head → List (List ℕ) → List ℕ → List ℕ → Type 0
+PairStandsFor which head bodies first second =
     AreFrames head bodies
     × ((gate : ℕ) × (more : List ℕ) × (gate ≢ OPEN)
-    × Counts which head (flat_map frame bodies ++ gate ∷ more) first second)
+    × SideCounts which head (flat_map frame bodies ++ gate ∷ more) first second)
 
 -- the place of the gate behind these frames (own)
 abbrev pub gate_behind : Head → List (List ℕ) → ℕ
-gate_behind head bodies = 10 + length (spell_head head ++ flat_map frame bodies)
+gate_behind head bodies = 10 + length (spell_side_head head ++ flat_map frame bodies)
 
 -- fewer frames than the base stand before a closed gate (own)
 abbrev pub LacksFrames : Head → List (List ℕ) → List ℕ → Type 0
@@ -75,14 +75,14 @@ LacksFrames head bodies behind =
 
 -- The side that counts has these whole frames, and what lies behind them, from that gate on, is broken, or is a closed
 -- gate that comes too early. The place is one of the side that counts (own).
-abbrev pub IsDamagedAt : List ℕ → List ℕ → ℕ → Type 0
-IsDamagedAt first second at =
+abbrev pub IsPairDamagedAt : List ℕ → List ℕ → ℕ → Type 0
+IsPairDamagedAt first second at =
     (which : Which) × (head : Head) × (bodies : List (List ℕ)) × (behind : List ℕ) × All IsBody bodies
-    × Counts which head (flat_map frame bodies ++ behind) first second × (at ≡ gate_behind head bodies)
+    × SideCounts which head (flat_map frame bodies ++ behind) first second × (at ≡ gate_behind head bodies)
     × (IsBroken bodies behind ⊎ LacksFrames head bodies behind)
 
 -- the pair stands for something, is not ours, or is damaged (own)
-abbrev pub IsDecided : List ℕ → List ℕ → Type 0
-IsDecided first second =
-    ((which : Which) × (head : Head) × (bodies : List (List ℕ)) × StandsFor which head bodies first second)
-    ⊎ (IsNotOurs first second ⊎ ((at : ℕ) × IsDamagedAt first second at))
+abbrev pub IsDecidedPair : List ℕ → List ℕ → Type 0
+IsDecidedPair first second =
+    ((which : Which) × (head : Head) × (bodies : List (List ℕ)) × PairStandsFor which head bodies first second)
+    ⊎ (IsNoPair first second ⊎ ((at : ℕ) × IsPairDamagedAt first second at))

@@ -3,11 +3,11 @@ use Rattle.std.specs.Prelude.{◌≡◌, ◌≢◌, ◌+◌, ◌<◌, ◌^◌, �
 use Rattle.std.specs.List.{All, flat_map}
 use Rattle.tape_disk.specs.Disk.{DiskState, Only}
 use Rattle.gate_journal.specs.Crash.{Unwritten}
-use Rattle.gate_journal.specs.Heads.{Head, epoch_of, spell_head}
+use Rattle.gate_journal.specs.Heads.{Head, epoch_of, spell_side_head}
 use Rattle.gate_journal.specs.Side.{OPEN, CLOSED, IsBody, frame}
 use Rattle.side_pairs.specs.declared.which.Which.{Which}
 use Rattle.side_pairs.specs.declared.which.Which.TheVariants.{First, Second}
-use Rattle.side_pairs.specs.Pairs.{IsClosedSide, StandsFor, begun}
+use Rattle.side_pairs.specs.Pairs.{IsClosedSide, PairStandsFor, begun}
 
 -- the head of a copy: that of the side that counts, its epoch raised by one, its base the count of the copy's frames
 -- (own)
@@ -18,7 +18,7 @@ copy_head head bodies = record head {
 
 -- a copy in bytes, from place 10 on: its head, its frames, a closed gate (own)
 abbrev pub spell_copy : Head → List (List ℕ) → List ℕ
-spell_copy head bodies = spell_head (copy_head head bodies) ++ (flat_map frame bodies ++ CLOSED ∷ [])
+spell_copy head bodies = spell_side_head (copy_head head bodies) ++ (flat_map frame bodies ++ CLOSED ∷ [])
 
 -- a copy that can be spelled: the epoch can be raised, and its frames are frames, and can be counted (own)
 pub record IsCopy (head : Head) (copies : List (List ℕ)) : Type 0 where
@@ -29,6 +29,11 @@ pub record IsCopy (head : Head) (copies : List (List ℕ)) : Type 0 where
 -- the image begins with the ten bytes of a cartridge's side (own)
 abbrev pub HasStart : List ℕ → Type 0
 HasStart image = (side : ℕ) × (pair : ℕ) × (rest : List ℕ) × (image ≡ begun side pair ++ rest)
+
+-- what the disk reads begins with the ten bytes of a cartridge's side, and that is sure (own)
+pub record IsSureStart (disk : DiskState) : Type 0 where
+  pub start : HasStart disk.seen
+  pub sure : Only disk.seen disk.may_leave
 
 -- the first image's pair gate is closed (own)
 abbrev pub IsShutPair : List ℕ → Type 0
@@ -58,23 +63,25 @@ other First = Second
 other Second = First
 
 -- the first image of a pair, by the image of the side that counts and that of the spare (own)
-abbrev pub first_of : Which → List ℕ → List ℕ → List ℕ
-first_of First counts spare = counts
-first_of Second counts spare = spare
+abbrev pub first_image : Which → List ℕ → List ℕ → List ℕ
+first_image First counts spare = counts
+first_image Second counts spare = spare
 
 -- the second image of a pair, by the image of the side that counts and that of the spare (own)
-abbrev pub second_of : Which → List ℕ → List ℕ → List ℕ
-second_of First counts spare = spare
-second_of Second counts spare = counts
+abbrev pub second_image : Which → List ℕ → List ℕ → List ℕ
+second_image First counts spare = spare
+second_image Second counts spare = counts
 
 -- the side that counts and the spare stand for a head and frames (own)
-abbrev pub Stands : Which → Head → List (List ℕ) → List ℕ → List ℕ → Type 0
-Stands which head bodies counts spare = StandsFor which head bodies (first_of which counts spare) (second_of which counts spare)
+abbrev pub SidesStandFor : Which → Head → List (List ℕ) → List ℕ → List ℕ → Type 0
+SidesStandFor which head bodies counts spare = PairStandsFor which head bodies (first_image which counts spare)
+    (second_image which counts spare)
 
 -- the spare holds a copy, and counts now: its epoch is one more, and it has as many frames as its base (own)
 abbrev pub TakesOver : Which → Head → List (List ℕ) → List ℕ → List ℕ → Type 0
 TakesOver which head copies counts spare =
-    StandsFor (other which) (copy_head head copies) copies (first_of which counts spare) (second_of which counts spare)
+    PairStandsFor (other which) (copy_head head copies) copies (first_image which counts spare)
+    (second_image which counts spare)
 
 -- Where the first image's pair gate is closed, the second disk now has the ten bytes of a prepared side and no more,
 -- and that is sure. Where it is open, the second disk is as it was (own).

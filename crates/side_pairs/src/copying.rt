@@ -8,8 +8,8 @@ ghost use Rattle.gate_journal.specs.Heads.{Head, IsCopied};
 ghost use Rattle.gate_journal.specs.Side.{IsHeading, frame, heading_of};
 ghost use Rattle.side_pairs.specs.declared.which.Which.{Which};
 ghost use Rattle.side_pairs.specs.Copying.{HasCopied, HasFrames, IsCopyBody, KeepsFront, NotCopied, WasGiven, said_of};
-ghost use Rattle.side_pairs.specs.Passes.{ReadsClosed, Stands};
-ghost use Rattle.gate_journal.specs.Heads.{spell_head};
+ghost use Rattle.side_pairs.specs.Passes.{ReadsClosed, SidesStandFor};
+ghost use Rattle.gate_journal.specs.Heads.{spell_side_head};
 
 use crate::choosing::START_BYTES;
 use crate::gates::{CLOSED, OPEN};
@@ -41,9 +41,10 @@ pub trait GivesBodies {
         ensures err { IfErr result (λ fault. fails self.old fault self.new) };
 }
 
-/// Writes a copy on the closed side that does not count: its head, as many frames as its base says,
-/// and a closed gate. The bodies come one at a time through the buffer. At Ok the copy is sure. At
-/// every moment, and after a fault of either device, the pair stands for what it stood for.
+/// Writes a copy behind the ten bytes of the side that does not count: its head, as many frames as
+/// its base says, and a closed gate. The bodies come one at a time through the buffer. At Ok the copy
+/// is sure. Where the side's own gate is closed, and that is sure, the pair stands for what it stood
+/// for at every moment, and after a fault of either device.
 pub fn write_copy<D: Disk, S: GivesBodies>(
     spare: &mut D,
     header: &Header,
@@ -53,17 +54,16 @@ pub fn write_copy<D: Disk, S: GivesBodies>(
 ) -> Result<(), DevFault>
     requires header { IsHeading (heading_of header.now) }
     requires room { COPY_BODY + 5 ≤ vec_capacity buffer.old }
-    requires spare { (D.state spare.old).honest → ReadsClosed (D.state spare.old).seen
-        × Only (D.state spare.old).seen (D.state spare.old).may_leave }
     ensures disk { Keeps (D.state spare.old) (D.state spare.new) }
     ensures ok { OnOk result (HasCopied S.gives (said_of header.now copied)
         source.old source.new (D.state spare.old) (D.state spare.new)) }
     ensures err { IfErr result (λ fault. NotCopied S.gives S.fails fault
         source.old source.new (D.state spare.old) (D.state spare.new)) }
-    ensures any_moment { (D.state spare.old).honest →
+    ensures any_moment { (D.state spare.old).honest → ReadsClosed (D.state spare.old).seen →
+        Only (D.state spare.old).seen (D.state spare.old).may_leave →
         (which : Which) (head : Head) (bodies : List (List ℕ)) (counts : List ℕ) →
-        Stands which head bodies counts (D.state spare.old).seen →
-        LeavesOnly (D.state spare.old) (D.state spare.new) (Stands which head bodies counts) }
+        SidesStandFor which head bodies counts (D.state spare.old).seen →
+        LeavesOnly (D.state spare.old) (D.state spare.new) (SidesStandFor which head bodies counts) }
 {
     let at = write_head(spare, header, copied, buffer)?;
     let end = write_frames(spare, at, copied.base, source, buffer)?;
@@ -79,22 +79,21 @@ fn write_head<D: Disk>(
 ) -> Result<u64, DevFault>
     requires header { IsHeading (heading_of header.now) }
     requires room { 61 ≤ vec_capacity buffer.old }
-    requires spare { (D.state spare.old).honest → ReadsClosed (D.state spare.old).seen
-        × Only (D.state spare.old).seen (D.state spare.old).may_leave }
     ensures passes { Passes (D.state spare.old) (D.state spare.new) result }
     ensures room { vec_capacity buffer.old ≤ vec_capacity buffer.new }
     ensures front { (D.state spare.old).honest →
         KeepsFront (D.state spare.old) (D.state spare.new) }
-    ensures end { IfOk result (λ at. (10 ≤ at) × (at ≤ 71)) }
+    ensures end { IfOk result (λ at. at ≤ 71) }
     ensures written { (D.state spare.old).honest → IfOk result (λ at.
         ((D.state spare.new).seen
-        ≡ take 10 (D.state spare.old).seen ++ spell_head (said_of header.now copied))
+        ≡ take 10 (D.state spare.old).seen ++ spell_side_head (said_of header.now copied))
         × (at ≡ length (D.state spare.new).seen)) }
 {
     put_head(buffer, header, copied);
-    spare.cut(START_BYTES as u64)?;
-    put_behind(spare, START_BYTES as u64, buffer)?;
-    Ok(START_BYTES as u64 + buffer.len() as u64)
+    let at = spare.len().min(START_BYTES as u64);
+    spare.cut(at)?;
+    put_behind(spare, at, buffer)?;
+    Ok(at + buffer.len() as u64)
 }
 
 // Writes that many frames at the end of the disk. The place behind them is returned.
@@ -105,12 +104,12 @@ fn write_frames<D: Disk, S: GivesBodies>(
     source: &mut S,
     buffer: &mut Vec<u8>,
 ) -> Result<u64, DevFault>
-    requires place { (10 ≤ at) × (at ≤ 71) }
+    requires place { at ≤ 71 }
     requires room { COPY_BODY + 5 ≤ vec_capacity buffer.old }
     requires end { (D.state spare.old).honest → at ≡ length (D.state spare.old).seen }
     ensures disk { Keeps (D.state spare.old) (D.state spare.new) }
-    ensures ok { IfOk result (λ end. (10 ≤ end) × ((bodies : List (List ℕ)) × HasFrames S.gives count bodies end
-        source.old source.new (D.state spare.old) (D.state spare.new))) }
+    ensures ok { IfOk result (λ end. (bodies : List (List ℕ)) × HasFrames S.gives count bodies end
+        source.old source.new (D.state spare.old) (D.state spare.new)) }
     ensures err { IfErr result (λ fault. NotCopied S.gives S.fails fault
         source.old source.new (D.state spare.old) (D.state spare.new)) }
     ensures front { (D.state spare.old).honest →
@@ -130,7 +129,7 @@ fn write_frame<D: Disk, S: GivesBodies>(
     source: &mut S,
     buffer: &mut Vec<u8>,
 ) -> Result<u64, DevFault>
-    requires place { (10 ≤ at) × (at < 36028797018963968) }
+    requires place { at < 36028797018963968 }
     requires room { COPY_BODY + 5 ≤ vec_capacity buffer.old }
     requires end { (D.state spare.old).honest → at ≡ length (D.state spare.old).seen }
     ensures disk { Keeps (D.state spare.old) (D.state spare.new) }
@@ -167,7 +166,6 @@ fn put_before_body(buffer: &mut Vec<u8>)
 
 // Writes a closed gate at the end of the disk, and makes all of it sure.
 fn write_end<D: Disk>(spare: &mut D, end: u64) -> Result<(), DevFault>
-    requires place { 10 ≤ end }
     requires end { (D.state spare.old).honest → end ≡ length (D.state spare.old).seen }
     ensures passes { Passes (D.state spare.old) (D.state spare.new) result }
     ensures front { (D.state spare.old).honest →
@@ -182,7 +180,6 @@ fn write_end<D: Disk>(spare: &mut D, end: u64) -> Result<(), DevFault>
 
 // Writes the bytes at the end of the disk. Nothing is made sure.
 fn put_behind<D: Disk>(spare: &mut D, at: u64, bytes: &[u8]) -> Result<(), DevFault>
-    requires place { 10 ≤ at }
     requires end { (D.state spare.old).honest → at ≡ length (D.state spare.old).seen }
     ensures passes { Passes (D.state spare.old) (D.state spare.new) result }
     ensures front { (D.state spare.old).honest →

@@ -19,30 +19,34 @@ pub(crate) const SIDE_GATE: u64 = 0;
 /// The place of its pair gate.
 pub(crate) const PAIR_GATE: u64 = 9;
 
-// The byte at that place.
+// The byte at that place. Where the disk ends before it, that is a closed gate.
 pub(crate) fn read_gate<D: Disk>(disk: &mut D, at: u64) -> Result<u8, DevFault>
-    requires { (D.state disk.old).honest → at < length (D.state disk.old).seen }
     ensures passes { Passes (D.state disk.old) (D.state disk.new) result }
     ensures unwritten { (D.state disk.old).honest → Unwritten (D.state disk.old) (D.state disk.new) }
     ensures gate { (D.state disk.old).honest → IfOk result (λ gate. gate ≡ slice_index (D.state disk.old).seen at) }
 {
+    if disk.len() <= at {
+        return Ok(CLOSED);
+    }
     let mut gate = [0];
     disk.read_at(at, &mut gate)?;
     Ok(gate[0])
 }
 
-// Writes a gate over what stands there. At Ok it is sure.
+// Writes a gate over what stands there. At Ok it is sure. Where the disk ends before it, nothing is
+// written.
 pub(crate) fn write_gate<D: Disk>(disk: &mut D, at: u64, gate: u8) -> Result<(), DevFault>
-    requires inside { (D.state disk.old).honest → at < length (D.state disk.old).seen }
-    requires sure { (D.state disk.old).honest →
-        Only (D.state disk.old).seen (D.state disk.old).may_leave }
     ensures passes { Passes (D.state disk.old) (D.state disk.new) result }
-    ensures any_moment { (D.state disk.old).honest →
+    ensures any_moment { (D.state disk.old).honest → at < length (D.state disk.old).seen →
+        Only (D.state disk.old).seen (D.state disk.old).may_leave →
         LeavesOnly (D.state disk.old) (D.state disk.new) (Smeared at 1 (D.state disk.old).seen) }
-    ensures written { (D.state disk.old).honest → OnOk result
+    ensures written { (D.state disk.old).honest → at < length (D.state disk.old).seen → OnOk result
         (((D.state disk.new).seen ≡ overwritten at (gate ∷ []) (D.state disk.old).seen)
         × Only (D.state disk.new).seen (D.state disk.new).may_leave) }
 {
+    if disk.len() <= at {
+        return Ok(());
+    }
     disk.write_at(at, &[gate])?;
     disk.sync()
 }

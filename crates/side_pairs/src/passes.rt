@@ -4,6 +4,9 @@
 //!
 //! A gate is written only to change it. Written over itself it may hold any byte until the sync, and
 //! a stop then gives back what was older. So what a gate reads has to be sure before.
+//!
+//! A pass may be called over any disks. What it promises of bytes has the premises that it names, and
+//! over disks that don't meet them it writes inside of them all the same.
 ghost use Rattle.std.specs.Prelude.{◌≡◌, ◌⊎◌, ◌∷◌, ℕ, List, drop, OnOk, Result};
 ghost use Rattle.tape_disk.specs.Disk.{Each, Keeps, Only, Passes};
 ghost use Rattle.tape_disk.specs.Moments.{LeavesOnly};
@@ -12,8 +15,8 @@ ghost use Rattle.gate_journal.specs.Heads.{Head};
 ghost use Rattle.gate_journal.specs.Side.{OPEN};
 ghost use Rattle.side_pairs.specs.declared.which.Which.{Which};
 ghost use Rattle.side_pairs.specs.Choosing.{FaultsOfOne};
-ghost use Rattle.side_pairs.specs.Pairs.{StandsFor};
-ghost use Rattle.side_pairs.specs.Passes.{HasStart, HasWritten, IsClosedNow, IsCopy, IsPrepared, IsPreparedBeside, IsShutPair, ReadsClosed, Stands, TakesOver, first_of, spell_copy};
+ghost use Rattle.side_pairs.specs.Pairs.{PairStandsFor};
+ghost use Rattle.side_pairs.specs.Passes.{HasStart, HasWritten, IsClosedNow, IsCopy, IsPrepared, IsPreparedBeside, IsShutPair, IsSureStart, SidesStandFor, TakesOver, first_image, spell_copy};
 ghost use Rattle.side_pairs.specs.Inner.{HasOpenPair};
 
 use crate::gates::{CLOSED, OPEN, PAIR_GATE, SIDE_GATE, read_gate, write_gate};
@@ -22,23 +25,22 @@ use tape_disk::Disk;
 use vtl_base::DevFault;
 
 /// Prepares the second disk, where the first one's pair gate is closed: it then has ten bytes, with
-/// closed gates, and no more. Where the pair gate is open nothing is written. What the first disk
-/// reads has to be sure.
+/// closed gates, and no more. Where the pair gate is open nothing is written.
 pub fn prepare_pair<D: Disk>(first: &mut D, second: &mut D) -> Result<(), DevFault>
-    requires first { (D.state first.old).honest → HasStart (D.state first.old).seen
-        × Only (D.state first.old).seen (D.state first.old).may_leave }
     ensures disks { Keeps (D.state first.old) (D.state first.new)
         × Keeps (D.state second.old) (D.state second.new) }
     ensures faults { FaultsOfOne result (D.state first.old) (D.state first.new)
         (D.state second.old) (D.state second.new) }
     ensures first { (D.state first.old).honest → Unwritten (D.state first.old) (D.state first.new) }
-    ensures ok { (D.state first.old).honest → (D.state second.old).honest → OnOk result
+    ensures ok { (D.state first.old).honest → (D.state second.old).honest →
+        HasStart (D.state first.old).seen → OnOk result
         (IsPreparedBeside (D.state first.old).seen (D.state second.old) (D.state second.new)) }
     ensures any_moment { (D.state first.old).honest → (D.state second.old).honest →
         (which : Which) (head : Head) (bodies : List (List ℕ)) →
-        Each (D.state second.old) (StandsFor which head bodies (D.state first.old).seen) →
+        IsSureStart (D.state first.old) →
+        Each (D.state second.old) (PairStandsFor which head bodies (D.state first.old).seen) →
         LeavesOnly (D.state second.old) (D.state second.new)
-        (StandsFor which head bodies (D.state first.old).seen) }
+        (PairStandsFor which head bodies (D.state first.old).seen) }
 {
     let before = read_gate(first, PAIR_GATE)?;
     if before != OPEN {
@@ -48,21 +50,21 @@ pub fn prepare_pair<D: Disk>(first: &mut D, second: &mut D) -> Result<(), DevFau
     }
 }
 
-/// Opens the first disk's pair gate, where it is closed. The second disk has to be prepared then.
+/// Opens the first disk's pair gate, where it is closed. What is promised holds where the second
+/// disk is prepared then.
 pub fn open_pair<D: Disk>(first: &mut D, second: &D) -> Result<(), DevFault>
-    requires first { (D.state first.old).honest → HasStart (D.state first.old).seen
-        × Only (D.state first.old).seen (D.state first.old).may_leave }
-    requires prepared { (D.state first.old).honest → (D.state second.now).honest →
-        IsShutPair (D.state first.old).seen → Each (D.state second.now) IsPrepared }
     ensures passes { Passes (D.state first.old) (D.state first.new) result }
-    ensures ok { (D.state first.old).honest → OnOk result (HasOpenPair (D.state first.new).seen
+    ensures ok { (D.state first.old).honest → IsSureStart (D.state first.old) → OnOk result
+        (HasOpenPair (D.state first.new).seen
         × Only (D.state first.new).seen (D.state first.new).may_leave) }
     ensures any_moment { (D.state first.old).honest → (D.state second.now).honest →
+        IsSureStart (D.state first.old) →
+        (IsShutPair (D.state first.old).seen → Each (D.state second.now) IsPrepared) →
         (which : Which) (head : Head) (bodies : List (List ℕ)) (beside : List ℕ) →
         (D.state second.now).may_leave beside →
-        StandsFor which head bodies (D.state first.old).seen beside →
+        PairStandsFor which head bodies (D.state first.old).seen beside →
         LeavesOnly (D.state first.old) (D.state first.new)
-        (λ image. StandsFor which head bodies image beside) }
+        (λ image. PairStandsFor which head bodies image beside) }
 {
     // Looked at for the proof's sake: it is known to be prepared.
     let _ = second;
@@ -75,15 +77,13 @@ pub fn open_pair<D: Disk>(first: &mut D, second: &D) -> Result<(), DevFault>
 
 /// Closes the side that does not count, where it reads open.
 pub fn close_spare<D: Disk>(spare: &mut D) -> Result<(), DevFault>
-    requires spare { (D.state spare.old).honest → HasStart (D.state spare.old).seen
-        × Only (D.state spare.old).seen (D.state spare.old).may_leave }
     ensures passes { Passes (D.state spare.old) (D.state spare.new) result }
-    ensures ok { (D.state spare.old).honest → OnOk result
+    ensures ok { (D.state spare.old).honest → IsSureStart (D.state spare.old) → OnOk result
         (IsClosedNow (D.state spare.old) (D.state spare.new)) }
-    ensures any_moment { (D.state spare.old).honest →
+    ensures any_moment { (D.state spare.old).honest → IsSureStart (D.state spare.old) →
         (which : Which) (head : Head) (bodies : List (List ℕ)) (counts : List ℕ) →
-        Stands which head bodies counts (D.state spare.old).seen →
-        LeavesOnly (D.state spare.old) (D.state spare.new) (Stands which head bodies counts) }
+        SidesStandFor which head bodies counts (D.state spare.old).seen →
+        LeavesOnly (D.state spare.old) (D.state spare.new) (SidesStandFor which head bodies counts) }
 {
     let side = read_gate(spare, SIDE_GATE)?;
     if side != OPEN {
@@ -95,27 +95,24 @@ pub fn close_spare<D: Disk>(spare: &mut D) -> Result<(), DevFault>
 /// Opens a copy that is written and sure. From then on it counts: its epoch is one more than that of
 /// the other side, and it has as many frames as its base.
 pub fn open_copy<D: Disk>(spare: &mut D) -> Result<(), DevFault>
-    requires written { (D.state spare.old).honest → (head : Head) × (copies : List (List ℕ))
-        × HasWritten (spell_copy head copies) (D.state spare.old).seen }
-    requires sure { (D.state spare.old).honest →
-        Only (D.state spare.old).seen (D.state spare.old).may_leave }
     ensures passes { Passes (D.state spare.old) (D.state spare.new) result }
-    ensures ok { (D.state spare.old).honest → OnOk result
+    ensures ok { (D.state spare.old).honest → HasStart (D.state spare.old).seen → OnOk result
         (((D.state spare.new).seen ≡ OPEN ∷ drop 1 (D.state spare.old).seen)
         × Only (D.state spare.new).seen (D.state spare.new).may_leave) }
-    ensures takes_over { (D.state spare.old).honest → OnOk result
-        ((which : Which) (head : Head) (bodies copies : List (List ℕ)) (counts : List ℕ) →
-        Stands which head bodies counts (D.state spare.old).seen →
-        (IsShutPair (first_of which counts (D.state spare.old).seen) → ⊥) → IsCopy head copies →
-        HasWritten (spell_copy head copies) (D.state spare.old).seen →
-        Each (D.state spare.new) (TakesOver which head copies counts)) }
-    ensures any_moment { (D.state spare.old).honest →
+    ensures takes_over { (D.state spare.old).honest →
         (which : Which) (head : Head) (bodies copies : List (List ℕ)) (counts : List ℕ) →
-        Stands which head bodies counts (D.state spare.old).seen →
-        (IsShutPair (first_of which counts (D.state spare.old).seen) → ⊥) → IsCopy head copies →
+        SidesStandFor which head bodies counts (D.state spare.old).seen →
+        (IsShutPair (first_image which counts (D.state spare.old).seen) → ⊥) → IsCopy head copies →
+        HasWritten (spell_copy head copies) (D.state spare.old).seen →
+        OnOk result (Each (D.state spare.new) (TakesOver which head copies counts)) }
+    ensures any_moment { (D.state spare.old).honest →
+        Only (D.state spare.old).seen (D.state spare.old).may_leave →
+        (which : Which) (head : Head) (bodies copies : List (List ℕ)) (counts : List ℕ) →
+        SidesStandFor which head bodies counts (D.state spare.old).seen →
+        (IsShutPair (first_image which counts (D.state spare.old).seen) → ⊥) → IsCopy head copies →
         HasWritten (spell_copy head copies) (D.state spare.old).seen →
         LeavesOnly (D.state spare.old) (D.state spare.new)
-        (λ image. Stands which head bodies counts image ⊎ TakesOver which head copies counts image) }
+        (λ image. SidesStandFor which head bodies counts image ⊎ TakesOver which head copies counts image) }
 {
     write_gate(spare, SIDE_GATE, OPEN)
 }

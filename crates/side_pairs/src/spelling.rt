@@ -2,7 +2,7 @@
 ghost use Rattle.std.specs.Prelude.{◌≡◌, ◌+◌, ◌*◌, ◌≤◌, [], ◌∷◌, ◌++◌, length, take, drop, vec_capacity, vec_len};
 ghost use Rattle.std.specs.List.{flat_map};
 ghost use Rattle.std.specs.Int.{to_be_bytes, w32, w64};
-ghost use Rattle.gate_journal.specs.Heads.{spell_head};
+ghost use Rattle.gate_journal.specs.Heads.{spell_side_head};
 ghost use Rattle.gate_journal.specs.Side.{IsBody, frame};
 ghost use Rattle.side_pairs.specs.Copying.{said_of};
 
@@ -13,7 +13,7 @@ use gate_journal::{Copied, Header};
 pub(crate) fn put_head(buffer: &mut Vec<u8>, header: &Header, copied: Copied)
     requires count { length header.now.capacities.items ≤ 4 }
     requires room { 61 ≤ vec_capacity buffer.old }
-    ensures items { buffer.new.items ≡ spell_head (said_of header.now copied) }
+    ensures items { buffer.new.items ≡ spell_side_head (said_of header.now copied) }
     ensures len { vec_len buffer.new ≡ 29 + 8 * length header.now.capacities.items }
     ensures room { vec_capacity buffer.old ≤ vec_capacity buffer.new }
 {

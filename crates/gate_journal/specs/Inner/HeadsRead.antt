@@ -11,7 +11,7 @@ use Rattle.gate_journal.specs.declared.header.SideKind.{SideKind}
 use Rattle.gate_journal.specs.declared.header.SideKind.TheVariants.{Cartridge}
 use Rattle.gate_journal.specs.declared.heads.Copied.{Copied}
 use Rattle.gate_journal.specs.Side.{IsHeading}
-use Rattle.gate_journal.specs.Heads.{Head, IsHead, IsCopied, BeginsWithHead, count_byte, spell_copied, spell_head}
+use Rattle.gate_journal.specs.Heads.{Head, IsHead, IsCopied, BeginsWithHead, count_byte, spell_copied, spell_side_head}
 use Rattle.gate_journal.specs.Inner.Reading.{numbers_of}
 use Rattle.gate_journal.specs.Inner.Deciding.{Decidable, both, decided_as, below, same}
 use Rattle.gate_journal.specs.Inner.Headings.{length_name, length_capacities, numbers_again, decided_heading, few_capacities}
@@ -84,7 +84,7 @@ module _ (name capacities : List ℕ) (copied : Option Copied) (rest : List ℕ)
   }
 
 pub head_is : (h : Head) (rest : List ℕ) → h.heading.kind ≡ Cartridge → IsHead h →
-    head_as (is_copy h.copied) (spell_head h ++ rest) ≡ h
+    head_as (is_copy h.copied) (spell_side_head h ++ rest) ≡ h
 head_is h rest is ok =
     again h.heading.name h.heading.capacities h.copied rest (length_name h.heading.kind h.heading.name ok.heading.name)
     ok.heading.capacities (subst (λ (k : SideKind). IsCopied k h.copied) is ok.copied)
@@ -102,14 +102,14 @@ told_copy (Some a) None m n few less e = absurd (omega (arith, few, less, e))
 
 -- bytes begin with one head
 pub same_head : (h k : Head) (r s : List ℕ) → h.heading.kind ≡ Cartridge → k.heading.kind ≡ Cartridge → IsHead h →
-    IsHead k → spell_head h ++ r ≡ spell_head k ++ s → (h ≡ k) × (r ≡ s)
+    IsHead k → spell_side_head h ++ r ≡ spell_side_head k ++ s → (h ≡ k) × (r ≡ s)
 same_head h k r s hc kc okh okk e =
     let copies = told_copy h.copied k.copied (length h.heading.capacities) (length k.heading.capacities)
     (few_capacities h.heading okh.heading) (few_capacities k.heading okk.heading)
     (ap (λ (l : List ℕ). get_or l 0 0) e) in
     let one : h ≡ k = sym (head_is h r hc okh) ∙ (λ i. head_as (copies i) (e i)) ∙ head_is k s kc okk in (
       one,
-      append_cancel_left (spell_head k) r s (ap (λ (g : Head). spell_head g ++ r) (sym one) ∙ e),
+      append_cancel_left (spell_side_head k) r s (ap (λ (g : Head). spell_side_head g ++ r) (sym one) ∙ e),
     )
 
 decided_copied : (copied : Option Copied) → Decidable (IsCopied Cartridge copied)
@@ -121,7 +121,7 @@ decided_copied (Some copied) = decided_as
 
 abbrev OfKind : Bool → List ℕ → Type 0
 OfKind copy bytes =
-    (h : Head) × (rest : List ℕ) × (h.heading.kind ≡ Cartridge) × IsHead h × (bytes ≡ spell_head h ++ rest)
+    (h : Head) × (rest : List ℕ) × (h.heading.kind ≡ Cartridge) × IsHead h × (bytes ≡ spell_side_head h ++ rest)
     × (is_copy h.copied ≡ copy)
 
 kind_again : (copy : Bool) (bytes : List ℕ) → is_copy (copied_in copy bytes) ≡ copy
@@ -133,23 +133,25 @@ module _ (copy : Bool) (bytes : List ℕ) where
   guess = head_as copy bytes
 
   abbrev behind : List ℕ
-  behind = drop (length (spell_head guess)) bytes
+  behind = drop (length (spell_side_head guess)) bytes
 
   guessed : (w : OfKind copy bytes) → guess ≡ w.0
   guessed w = (let back : copy ≡ is_copy w.0.copied = sym w.5 in λ i. head_as (back i) (w.4 i))
       ∙ head_is w.0 w.1 w.2 w.3
 
-  spelled : (w : OfKind copy bytes) → spell_head guess ++ behind ≡ bytes
+  spelled : (w : OfKind copy bytes) → spell_side_head guess ++ behind ≡ bytes
   spelled w =
-      (λ i. spell_head (guessed w i) ++ drop (length (spell_head (guessed w i))) bytes)
-      ∙ ap (λ (l : List ℕ). spell_head w.0 ++ drop (length (spell_head w.0)) l) w.4
-      ∙ ap (λ (l : List ℕ). spell_head w.0 ++ l) (drop_at (spell_head w.0) w.1 (length (spell_head w.0)) refl)
+      (λ i. spell_side_head (guessed w i) ++ drop (length (spell_side_head (guessed w i))) bytes)
+      ∙ ap (λ (l : List ℕ). spell_side_head w.0 ++ drop (length (spell_side_head w.0)) l) w.4
+      ∙ ap (λ (l : List ℕ). spell_side_head w.0 ++ l) (drop_at (spell_side_head w.0) w.1 (length
+      (spell_side_head w.0)) refl)
       ∙ sym w.4
 
   decided_of_kind : Decidable (OfKind copy bytes)
   decided_of_kind =
       decided_as
-      (λ (w : (IsHeading guess.heading × IsCopied Cartridge guess.copied) × (spell_head guess ++ behind ≡ bytes)). (
+      (λ (w : (IsHeading guess.heading × IsCopied Cartridge guess.copied)
+      × (spell_side_head guess ++ behind ≡ bytes)). (
         guess,
         behind,
         refl,
@@ -160,7 +162,7 @@ module _ (copy : Bool) (bytes : List ℕ) where
       (λ (w : OfKind copy bytes). let ok : IsHead guess = subst IsHead (sym (guessed w)) w.3 in
       ((ok.heading, ok.copied), spelled w))
       (both (both (decided_heading guess.heading) (decided_copied guess.copied))
-      (same (spell_head guess ++ behind) bytes))
+      (same (spell_side_head guess ++ behind) bytes))
 
 one_of_two : (bytes : List ℕ) → BeginsWithHead bytes → OfKind false bytes ⊎ OfKind true bytes
 one_of_two bytes (h, rest, kind, ok, is) = go (is_copy h.copied) refl
@@ -189,7 +191,7 @@ length_copied None = refl
 length_copied (Some copied) = refl
 
 pub length_head : (h : Head) → IsHead h →
-    length (spell_head h) ≡ 17 + 8 * length h.heading.capacities + copied_size h.copied
+    length (spell_side_head h) ≡ 17 + 8 * length h.heading.capacities + copied_size h.copied
 length_head h ok =
     let numbers = flat_map (to_be_bytes w64) h.heading.capacities in
     let byte = count_byte h.copied (length h.heading.capacities) in
@@ -207,5 +209,5 @@ copied_short None = omega arith
 copied_short (Some copied) = omega arith
 
 -- no head is longer than that of a copy with four capacities
-pub short_head : (h : Head) → IsHead h → length (spell_head h) ≤ 61
+pub short_head : (h : Head) → IsHead h → length (spell_side_head h) ≤ 61
 short_head h ok = omega (arith, length_head h ok, few_capacities h.heading ok.heading, copied_short h.copied)

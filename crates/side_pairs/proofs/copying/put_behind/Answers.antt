@@ -6,7 +6,7 @@ pub returns-clause-front : goal.returns-clause-front
 returns-clause-front g c = λ h.
     write_keeps (g.D.Disk.state c.args.spare.now) (g.D.Disk.state c.write_at.new.self)
     (g.met.D.Disk.is_disk c.args.spare.now h) (c.write_at.ensures.time h) c.args.at c.args.bytes.now
-    _ (c.write_at.ensures.writes h) c.requires.place
+    _ (c.write_at.ensures.writes h) (c.requires.end h)
 
 pub returns-clause-written : goal.returns-clause-written
 returns-clause-written g c = λ h.

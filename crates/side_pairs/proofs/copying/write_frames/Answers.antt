@@ -31,7 +31,6 @@ loop-i-preserved g c =
     let so_far = inv.frames in
     let next = c.in_ok-end.ensures.ok in
     record {
-      behind = omega (arith, inv.behind, next.1.end_is);
       near = omega (arith, inv.near, next.1.end_is, next.1.short.1);
       room = omega (arith, inv.room, c.write_frame.ensures.room);
       keeps = keeps_in_sequence old mid new inv.keeps c.write_frame.ensures.disk;
@@ -42,6 +41,7 @@ loop-i-preserved g c =
       frames = (
         _,
         frames_more g.S.GivesBodies.gives c.loop-i._i so_far.0 next.0 c.loop-i.end c.in_ok-end.end
-            c.args.source.now c.loop-i.source c.write_frame.new.source old mid new inv.keeps.stays_honest so_far.1 next.1,
+            c.args.source.now c.loop-i.source c.write_frame.new.source old mid new inv.keeps.stays_honest so_far.1
+            next.1,
       );
     }

@@ -9,7 +9,6 @@ invariant-loop-i g l =
     let old = g.D.Disk.state l.fn.spare in
     let new = g.D.Disk.state l.spare in
     record {
-      behind : 10 ≤ l.end;
       near : l.end ≤ 71 + 4194309 * l._i;
       room : 4194309 ≤ vec_capacity l.buffer;
       keeps : Keeps old new;
