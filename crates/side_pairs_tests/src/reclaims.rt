@@ -1,7 +1,4 @@
 //! The passes of a reclaim, one after the other.
-ghost use Rattle.std.specs.Prelude.{ℕ, List, ◌+◌, ◌≤◌, vec_capacity, vec_len};
-ghost use Rattle.vtl_base.specs.declared.faults.DevFault.{DevFault};
-
 use crate::rows::BODY;
 use gate_journal::{Copied, Header, SideKind};
 use side_pairs::copying::COPY_BODY;
@@ -26,9 +23,9 @@ pub struct Bodies {
 }
 
 impl GivesBodies for Bodies {
-    ghost gives = { λ (old : Bodies) (body : List ℕ) (new : Bodies). Unit {0} };
+    ghost gives = { λ old body new. Unit {0} };
 
-    ghost fails = { λ (old : Bodies) (fault : DevFault) (new : Bodies). Unit {0} };
+    ghost fails = { λ old fault new. Unit {0} };
 
     fn give(&mut self, buffer: &mut Vec<u8>) -> Result<(), DevFault> {
         if self.left == 0 {
