@@ -3,6 +3,7 @@ pub mod Bodies
 pub mod DecodingLemmas
 pub mod Extents
 pub mod GateLemmas
+pub mod HeadLemmas
 pub mod Marks
 pub mod Names
 pub mod Numbers

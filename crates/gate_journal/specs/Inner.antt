@@ -5,6 +5,8 @@ pub mod Found
 pub mod Frames
 pub mod Gates
 pub mod Headings
+pub mod Heads
+pub mod HeadsRead
 pub mod Padding
 pub mod Pieces
 pub mod Reading

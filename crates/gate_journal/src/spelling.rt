@@ -129,7 +129,7 @@ pub(crate) fn name_in(bytes: &[u8]) -> [u8; NAME_BYTES]
 }
 
 // Whether eight bytes at a time are capacities.
-fn hold_capacities(bytes: &[u8]) -> bool
+pub(crate) fn hold_capacities(bytes: &[u8]) -> bool
     ensures { IsTrue result ↔ All (λ bytes. IsTrue (is_capacity bytes)) (numbers_of bytes.now) }
 {
     let mut rest = bytes;

@@ -1,0 +1,38 @@
+-- What a reader takes for the head of a cartridge's side, before it is known to be one.
+use Rattle.std.specs.Prelude.{ℕ, ◌-◌, ◌*◌, List, take, drop, slice_index, Bool, true, false, Option, None, Some}
+use Rattle.byteorder.specs.Endian.{big_number}
+use Rattle.gate_journal.specs.declared.header.SideKind.TheVariants.{Cartridge}
+use Rattle.gate_journal.specs.declared.heads.Copied.{Copied}
+use Rattle.gate_journal.specs.Side.{Heading}
+use Rattle.gate_journal.specs.Heads.{Head}
+use Rattle.gate_journal.specs.Inner.Reading.{numbers_of}
+
+-- name and capacities, of the bytes of a head up to these (own)
+abbrev pub heading_in : List ℕ → Heading
+heading_in bytes = record { kind = Cartridge; name = take 16 (drop 1 bytes); capacities = numbers_of (drop 17 bytes) }
+
+-- whether a head is that of a copy (own)
+abbrev pub is_copy : Option Copied → Bool
+is_copy None = false
+is_copy (Some copied) = true
+
+-- how many capacities that byte tells (own)
+abbrev pub count_in : Bool → ℕ → ℕ
+count_in false byte = byte
+count_in true byte = byte - 128
+
+-- epoch and base at the front of bytes (own)
+abbrev pub copied_in : Bool → List ℕ → Option Copied
+copied_in false bytes = None
+copied_in true bytes = Some (record { epoch = big_number 8 bytes; base = big_number 4 (drop 8 bytes) })
+
+-- the head, of a copy or not, that the bytes may begin with (own)
+abbrev pub head_as : Bool → List ℕ → Head
+head_as copy bytes = record {
+  heading = record {
+    kind = Cartridge;
+    name = take 16 (drop 1 bytes);
+    capacities = numbers_of (take (8 * count_in copy (slice_index bytes 0)) (drop 17 bytes));
+  };
+  copied = copied_in copy (drop (8 * count_in copy (slice_index bytes 0)) (drop 17 bytes));
+}

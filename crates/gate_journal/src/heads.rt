@@ -1,0 +1,148 @@
+//! What a cartridge's side says of itself behind its ten bytes: its heading, and of a copy its
+//! epoch and its base.
+//!
+//! | Place | Content |
+//! |---|---|
+//! | 10 | N, the count of capacities; of a copy 80h + N |
+//! | 11 to 26 | the name |
+//! | 27 on | N capacities, as of any side |
+//! | 27 + 8N | of a copy: its epoch, a number of 8 bytes; how often the cartridge was reclaimed |
+//! | 35 + 8N | of a copy: its base, a number of 4 bytes; how many frames are the copy |
+//!
+//! So the first gate of a copy stands at 39 + 8N. A side that is no copy has epoch 0 and base 0. A
+//! store is never a copy.
+ghost use Rattle.std.specs.Prelude.{◌≡◌, ◌↔◌, ◌+◌, ◌*◌, ◌≤◌, ◌<◌, IsTrue, Some, true, length, take, drop, slice_index};
+ghost use Rattle.gate_journal.specs.Side.{IsHeading};
+ghost use Rattle.gate_journal.specs.Heads.{IsCopied, TellsHead, base_in, epoch_in};
+ghost use Rattle.gate_journal.specs.Inner.Heads.{copied_in, heading_in};
+
+use crate::header::{NAME_BYTES, SideKind, is_count, is_name};
+use crate::spelling::hold_capacities;
+use byteorder::{BigEndian, ByteOrder};
+
+/// What a side that is a copy says of that.
+#[derive(Clone, Copy, Debug, PartialEq, Eq)]
+pub struct Copied {
+    /// How often the cartridge was reclaimed.
+    pub epoch: u64,
+    /// How many of the side's frames are the copy.
+    pub base: u32,
+}
+
+/// What of a head tells where the frames begin, and which of two sides counts.
+#[derive(Clone, Copy, Debug, PartialEq, Eq)]
+pub struct ToldHead {
+    /// What it says of a copy.
+    pub copied: Option<Copied>,
+    /// How many bytes it takes.
+    pub size: usize,
+}
+
+impl ToldHead {
+    /// How often the cartridge was reclaimed.
+    pub fn epoch(&self) -> u64
+        ensures { result ≡ epoch_in self.now.copied }
+    {
+        match self.copied {
+            Some(copied) => copied.epoch,
+            None => 0,
+        }
+    }
+
+    /// How many of the side's frames are the copy.
+    pub fn base(&self) -> u32
+        ensures { result ≡ base_in self.now.copied }
+    {
+        match self.copied {
+            Some(copied) => copied.base,
+            None => 0,
+        }
+    }
+}
+
+/// The bytes of a head before the capacities: the count and the name.
+const FRONT_BYTES: usize = 17;
+
+/// The bytes of epoch and base.
+const COPIED_BYTES: usize = 12;
+
+/// The byte that is added to the count of a copy.
+const COPY_BIT: u8 = 0x80;
+
+/// The head of a cartridge's side that these bytes begin with, where they begin with one. It takes
+/// no memory.
+pub fn told_head(bytes: &[u8]) -> Option<ToldHead>
+    ensures { TellsHead bytes.now result }
+{
+    if bytes.is_empty() {
+        return None;
+    }
+    let byte = bytes[0];
+    if byte < COPY_BIT {
+        told_plain(bytes)
+    } else {
+        told_copy(bytes)
+    }
+}
+
+// A head that is no copy's.
+fn told_plain(bytes: &[u8]) -> Option<ToldHead>
+    requires some { 1 ≤ length bytes.now }
+    requires plain { slice_index bytes.now 0 < 128 }
+    ensures { TellsHead bytes.now result }
+{
+    let size = FRONT_BYTES + 8 * bytes[0] as usize;
+    if bytes.len() < size || !are_fields(&bytes[..size], bytes[0]) {
+        return None;
+    }
+    Some(ToldHead { copied: None, size })
+}
+
+// The head of a copy.
+fn told_copy(bytes: &[u8]) -> Option<ToldHead>
+    requires some { 1 ≤ length bytes.now }
+    requires copy { 128 ≤ slice_index bytes.now 0 }
+    ensures { TellsHead bytes.now result }
+{
+    let count = bytes[0] - COPY_BIT;
+    let size = FRONT_BYTES + 8 * count as usize;
+    if bytes.len() < size + COPIED_BYTES || !are_fields(&bytes[..size], count) {
+        return None;
+    }
+    Some(ToldHead {
+        copied: Some(copied_at(&bytes[size..])),
+        size: size + COPIED_BYTES,
+    })
+}
+
+// Whether name and capacities are those of a cartridge.
+fn are_fields(bytes: &[u8], count: u8) -> bool
+    requires { length bytes.now ≡ 17 + 8 * count }
+    ensures { IsTrue result ↔ IsHeading (heading_in bytes.now) }
+{
+    is_count(SideKind::Cartridge, count as usize)
+        && is_name(SideKind::Cartridge, &name_at(bytes))
+        && hold_capacities(&bytes[FRONT_BYTES..])
+}
+
+// The name that stands behind the count.
+fn name_at(bytes: &[u8]) -> [u8; NAME_BYTES]
+    requires { 17 ≤ length bytes.now }
+    ensures { result ≡ take 16 (drop 1 bytes.now) }
+{
+    let mut name = [0; NAME_BYTES];
+    name.copy_from_slice(&bytes[1..FRONT_BYTES]);
+    name
+}
+
+// Epoch and base at the front of these bytes.
+fn copied_at(bytes: &[u8]) -> Copied
+    requires { 12 ≤ length bytes.now }
+    ensures is { Some result ≡ copied_in true bytes.now }
+    ensures fits { IsCopied SideKind.Cartridge (Some result) }
+{
+    Copied {
+        epoch: BigEndian::read_u64(bytes),
+        base: BigEndian::read_u32(&bytes[8..]),
+    }
+}

@@ -1,0 +1,11 @@
+pub mod ChooseLemmas
+pub mod CopyLemmas
+pub mod CutLemmas
+pub mod GateLemmas
+pub mod GivenLemmas
+pub mod HoleLemmas
+pub mod PairLemmas
+pub mod PassLemmas
+pub mod RunLemmas
+pub mod SpellLemmas
+pub mod StartLemmas

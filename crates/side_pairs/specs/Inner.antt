@@ -1,0 +1,51 @@
+-- What private contracts use.
+use Rattle.std.specs.Prelude.{◌≡◌, ◌≢◌, ◌⊎◌, ◌<◌, ◌≤◌, ℕ, List, ◌++◌, length, take, Option, None, Some, Result, Ok, Err}
+use Rattle.vtl_base.specs.declared.faults.DevFault.{DevFault}
+use Rattle.tape_disk.specs.Disk.{DiskState}
+use Rattle.gate_journal.specs.Answers.{NoneFailed}
+use Rattle.gate_journal.specs.declared.heads.ToldHead.{ToldHead}
+use Rattle.gate_journal.specs.Heads.{Head, IsToldHead, epoch_in, spell_side_head}
+use Rattle.gate_journal.specs.Side.{OPEN}
+use Rattle.side_pairs.specs.declared.choosing.Begins.{Begins}
+use Rattle.side_pairs.specs.declared.choosing.Begins.TheVariants.{Closed, Open, Headless}
+use Rattle.side_pairs.specs.declared.choosing.Counted.{Counted}
+use Rattle.side_pairs.specs.declared.which.Which.TheVariants.{First, Second}
+use Rattle.side_pairs.specs.Pairs.{IsClosedSide, IsOfCartridge, IsOpenSide, begun}
+use Rattle.side_pairs.specs.Choosing.{Chooses, IsFaultOfOne}
+
+-- the bytes begin with a head of a cartridge's side (own)
+abbrev pub HasHead : List ℕ → Type 0
+HasHead bytes = (h : Head) × (rest : List ℕ) × IsOfCartridge h × (bytes ≡ spell_side_head h ++ rest)
+
+-- the image begins with the ten bytes of a cartridge's side, and its pair gate is open (own)
+abbrev pub HasOpenPair : List ℕ → Type 0
+HasOpenPair image = (side : ℕ) × (rest : List ℕ) × (image ≡ begun side OPEN ++ rest)
+
+-- it is an open side with a head (own)
+abbrev pub IsOpenWith : ℕ → List ℕ → Type 0
+IsOpenWith pair image = (h : Head) × (rest : List ℕ) × IsOpenSide pair h rest image
+
+-- it is open, and has no head (own)
+abbrev pub IsHeadless : ℕ → List ℕ → Type 0
+IsHeadless pair image = (rest : List ℕ) × (image ≡ begun OPEN pair ++ rest) × (HasHead rest → ⊥)
+
+-- an image with the ten bytes of a side is closed, open with a head, or open without one (own)
+abbrev pub Opens : List ℕ → Begins → Type 0
+Opens image Closed = (pair : ℕ) × IsClosedSide pair image
+Opens image (Open told) = (pair : ℕ) × (h : Head) × (rest : List ℕ) × IsOpenSide pair h rest image × IsToldHead told h
+Opens image Headless = (pair : ℕ) × IsHeadless pair image
+
+-- the side of the greater epoch, or none (own)
+abbrev pub IsGreater : ToldHead → ToldHead → Option Counted → Type 0
+IsGreater one two (Some chosen) =
+    ((chosen ≡ record { which = First; head = one }) × (epoch_in two.copied < epoch_in one.copied))
+    ⊎ ((chosen ≡ record { which = Second; head = two }) × (epoch_in one.copied < epoch_in two.copied))
+IsGreater one two None = epoch_in one.copied ≡ epoch_in two.copied
+
+-- the side that counts, of what two disks read, or that none does; or a fault (own)
+abbrev pub FindsRead : Result (Option Counted) DevFault → DiskState → DiskState → DiskState → DiskState → Type 0
+FindsRead (Ok found) first_old first_new second_old second_new =
+    NoneFailed first_old first_new × NoneFailed second_old second_new
+    × (first_old.honest → second_old.honest → Chooses first_old.seen second_old.seen found)
+FindsRead (Err fault) first_old first_new second_old second_new =
+    IsFaultOfOne fault first_old first_new second_old second_new

@@ -1,0 +1,5 @@
+pub mod Choosing
+pub mod Copying
+pub mod Inner
+pub mod Pairs
+pub mod Passes

@@ -1,0 +1,36 @@
+//! The first bytes of a disk, by which it is known whether its side counts.
+ghost use Rattle.std.specs.Prelude.{◌≡◌, ◌<◌, ◌≤◌, length, take, IfOk};
+ghost use Rattle.tape_disk.specs.Disk.{Passes};
+ghost use Rattle.gate_journal.specs.Crash.{Unwritten};
+
+use tape_disk::Disk;
+use vtl_base::DevFault;
+
+/// The bytes of a side up to its first frame, where they are the most.
+pub(crate) const FRONT_BYTES: usize = 71;
+
+// Fills the buffer with the first bytes of the disk, as many as there are, and says how many.
+pub(crate) fn read_front<D: Disk>(disk: &mut D, bytes: &mut [u8]) -> Result<usize, DevFault>
+    requires { length bytes.old ≡ 71 }
+    ensures passes { Passes (D.state disk.old) (D.state disk.new) result }
+    ensures unwritten { (D.state disk.old).honest → Unwritten (D.state disk.old) (D.state disk.new) }
+    ensures inside { IfOk result (λ len. len ≤ 71) }
+    ensures front { (D.state disk.old).honest →
+        IfOk result (λ len. take len bytes.new ≡ take 71 (D.state disk.old).seen) }
+{
+    let len = front_len(disk.len());
+    disk.read_at(0, &mut bytes[..len])?;
+    Ok(len)
+}
+
+// How many bytes are looked at, of a disk with so many.
+fn front_len(size: u64) -> usize
+    ensures all { size < 71 → result ≡ size }
+    ensures front { 71 ≤ size → result ≡ 71 }
+{
+    if size < FRONT_BYTES as u64 {
+        size as usize
+    } else {
+        FRONT_BYTES
+    }
+}

@@ -1,0 +1,57 @@
+//! Laws of pairs of images. Each is a function that does nothing, and its contract is the law.
+ghost use Rattle.std.specs.Prelude.{◌≡◌, ◌⊎◌, ◌∷◌, ℕ, List, None, drop};
+ghost use Rattle.tape_disk.specs.Disk.{Smeared};
+ghost use Rattle.gate_journal.specs.Heads.{Head};
+ghost use Rattle.gate_journal.specs.Side.{OPEN};
+ghost use Rattle.side_pairs.specs.declared.which.Which.{Which};
+ghost use Rattle.side_pairs.specs.Pairs.{SideCounts, IsPairDamagedAt, IsDecidedPair, IsNoPair, IsOpenSide, PairStandsFor};
+ghost use Rattle.side_pairs.specs.Passes.{HasWritten, IsCopy, IsShutPair, SidesStandFor, TakesOver, first_image, spell_copy};
+
+/// Each pair stands for something, is not ours, or is damaged at some place.
+pub fn each_pair_is_decided()
+    ensures { (first second : List ℕ) → IsDecidedPair first second }
+{}
+
+/// No pair is two of the three, stands for two things, or is damaged at two places.
+pub fn no_pair_is_decided_twice()
+    ensures one_thing { (first second : List ℕ) (w v : Which) (h k : Head) (bs cs : List (List ℕ)) →
+        PairStandsFor w h bs first second → PairStandsFor v k cs first second → (w ≡ v) × ((h ≡ k) × (bs ≡ cs)) }
+    ensures one_place { (first second : List ℕ) (a b : ℕ) →
+        IsPairDamagedAt first second a → IsPairDamagedAt first second b → a ≡ b }
+    ensures sound { (first second : List ℕ) (w : Which) (h : Head) (bs : List (List ℕ)) (at : ℕ) →
+        PairStandsFor w h bs first second → IsPairDamagedAt first second at → ⊥ }
+    ensures ours { (first second : List ℕ) (w : Which) (h : Head) (bs : List (List ℕ)) →
+        PairStandsFor w h bs first second → IsNoPair first second → ⊥ }
+    ensures ours_damaged { (first second : List ℕ) (at : ℕ) →
+        IsPairDamagedAt first second at → IsNoPair first second → ⊥ }
+{}
+
+/// Once the gate of a copy is open, the pair stands for the copy: the other side counts, its epoch
+/// is one more, and its frames are as many as its base.
+pub fn an_opened_copy()
+    ensures { (which : Which) (h : Head) (bodies copies : List (List ℕ)) (counts spare : List ℕ) →
+        SidesStandFor which h bodies counts spare → (IsShutPair (first_image which counts spare) → ⊥) →
+        IsCopy h copies → HasWritten (spell_copy h copies) spare →
+        TakesOver which h copies counts (OPEN ∷ drop 1 spare) }
+{}
+
+/// Why the pair gate is opened only where it is closed: where it is open already and is written
+/// again, a stop may leave it closed. Then the first side counts in the place of the second, or
+/// nothing does.
+pub fn an_open_pair_gate_written_again()
+    ensures older { (k : Head) (s first second : List ℕ) → IsOpenSide OPEN k s first → k.copied ≡ None →
+        (one : List ℕ) × Smeared 9 1 first one × SideCounts Which.First k s one second }
+    ensures nothing { (k : Head) (s first second : List ℕ) →
+        IsOpenSide OPEN k s first → (k.copied ≡ None → ⊥) →
+        (one : List ℕ) × Smeared 9 1 first one × IsNoPair one second }
+{}
+
+/// Why the side that does not count is closed only where it reads open: where it is closed and holds
+/// a copy that was never opened, writing its gate again may leave that copy open. It then counts,
+/// without the frames since.
+pub fn a_closed_side_closed_again()
+    ensures { (which : Which) (h : Head) (bodies copies : List (List ℕ)) (counts spare : List ℕ) →
+        SidesStandFor which h bodies counts spare → (IsShutPair (first_image which counts spare) → ⊥) →
+        IsCopy h copies → HasWritten (spell_copy h copies) spare →
+        (image : List ℕ) × Smeared 0 1 spare image × TakesOver which h copies counts image }
+{}

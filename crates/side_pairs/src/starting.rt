@@ -1,0 +1,34 @@
+//! The ten bytes of a side that is prepared.
+ghost use Rattle.std.specs.Prelude.{◌≡◌, OnOk};
+ghost use Rattle.tape_disk.specs.Disk.{Only, Passes};
+ghost use Rattle.tape_disk.specs.Moments.{LeavesOnly};
+ghost use Rattle.gate_journal.specs.Side.{CLOSED};
+ghost use Rattle.side_pairs.specs.Pairs.{begun};
+
+use crate::choosing::{MARK, START_BYTES};
+use crate::gates::CLOSED;
+use tape_disk::Disk;
+use vtl_base::DevFault;
+
+// The ten bytes, with closed gates.
+fn closed_start() -> [u8; START_BYTES]
+    ensures { result ≡ begun CLOSED CLOSED }
+{
+    let mut bytes = [CLOSED; START_BYTES];
+    bytes[1..9].copy_from_slice(MARK);
+    bytes
+}
+
+// Makes the disk hold the ten bytes with closed gates, and no more. At Ok that is sure.
+pub(crate) fn write_start<D: Disk>(disk: &mut D) -> Result<(), DevFault>
+    ensures passes { Passes (D.state disk.old) (D.state disk.new) result }
+    ensures time { (D.state disk.old).honest →
+        LeavesOnly (D.state disk.old) (D.state disk.new) (λ image. Unit {0}) }
+    ensures written { (D.state disk.old).honest → OnOk result
+        (((D.state disk.new).seen ≡ begun CLOSED CLOSED)
+        × Only (D.state disk.new).seen (D.state disk.new).may_leave) }
+{
+    disk.cut(0)?;
+    disk.write_at(0, &closed_start())?;
+    disk.sync()
+}

@@ -1,0 +1,13 @@
+//! The tests of side_pairs.
+#![tactic(auto)]
+
+#[cfg(test)]
+mod asserted;
+#[cfg(test)]
+mod choice_tests;
+#[cfg(test)]
+mod reclaims;
+#[cfg(test)]
+mod rows;
+#[cfg(test)]
+mod stop_tests;
