@@ -9,7 +9,7 @@ use Rattle.gate_journal.specs.Side.{OPEN}
 use Rattle.side_pairs.specs.declared.choosing.Begins.TheVariants.{Closed, Open, Headless}
 use Rattle.side_pairs.specs.declared.choosing.Counted.{Counted}
 use Rattle.side_pairs.specs.declared.which.Which.TheVariants.{First, Second}
-use Rattle.side_pairs.specs.Pairs.{begun, SideCounts, IsNoPair, IsOpenSide, IsClosedSide}
+use Rattle.side_pairs.specs.Pairs.{begun, IsNoPair, IsOpenSide, IsClosedSide}
 use Rattle.side_pairs.specs.Choosing.{Chooses}
 use Rattle.side_pairs.specs.Passes.{HasStart}
 use Rattle.side_pairs.specs.Inner.{HasOpenPair, IsGreater, Opens}

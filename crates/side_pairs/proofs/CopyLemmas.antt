@@ -1,17 +1,14 @@
 -- A copy is written behind ten bytes, and all that was there before them stays.
-use Rattle.std.proofs.Common.{◌≡◌, ℕ, ◌+◌, ◌-◌, ◌≤◌, List, [], ◌∷◌, ◌++◌, length, take, drop, refl, sym, ◌∙◌, ap, subst, arith, append_assoc, take-append-drop}
+use Rattle.std.proofs.Common.{◌≡◌, ℕ, ◌+◌, ◌-◌, ◌≤◌, List, ◌++◌, length, take, drop, sym, ◌∙◌, ap, subst, arith, append_assoc, take-append-drop}
 use Rattle.std.specs.Prelude.{Result}
-use Rattle.std.specs.List.{flat_map}
 use Rattle.std.proofs.Math.Seq.{take-append-add}
 use Rattle.std.proofs.lemmas.List.{append-nil, drop_all, length-append, take_all, take_at}
-use Rattle.std.proofs.lemmas.List.Concat.{flat_map-append}
 use Rattle.vtl_base.specs.declared.faults.DevFault.{DevFault}
 use Rattle.tape_disk.specs.Disk.{Cut, Cuts, DiskState, Each, Elapses, IsDisk, IsPrefixOf, Only, Smeared, Syncs, Writes, overwritten}
 use Rattle.tape_disk.specs.Moments.{LeavesOnly, holds_now, in_sequence, no_call, one_more_call, weakened}
 use Rattle.gate_journal.specs.Heads.{Head}
-use Rattle.gate_journal.specs.Side.{frame}
 use Rattle.side_pairs.specs.declared.which.Which.{Which}
-use Rattle.side_pairs.specs.Copying.{GivesAll, KeepsFront}
+use Rattle.side_pairs.specs.Copying.{KeepsFront}
 use Rattle.side_pairs.specs.Passes.{ReadsClosed, SidesStandFor}
 use Rattle.side_pairs.proofs.PassLemmas.{writing_keeps}
 

@@ -1,12 +1,12 @@
 -- Which side counts is told by the first 71 bytes of each image.
-use Rattle.std.proofs.Common.{◌≡◌, inl, inr, ℕ, ◌+◌, ◌-◌, ◌≤◌, List, ◌++◌, length, take, drop, sym, ◌∙◌, ap, arith, append_assoc, take-append-drop}
+use Rattle.std.proofs.Common.{◌≡◌, inl, inr, ℕ, ◌+◌, ◌-◌, List, ◌++◌, length, take, drop, sym, ◌∙◌, ap, arith, append_assoc, take-append-drop}
 use Rattle.std.proofs.Math.Seq.{take-append-add}
 use Rattle.gate_journal.specs.Heads.{Head, epoch_of, spell_side_head}
 use Rattle.gate_journal.specs.Side.{OPEN}
 use Rattle.gate_journal.specs.Inner.HeadsRead.{short_head}
 use Rattle.side_pairs.specs.declared.which.Which.{Which}
 use Rattle.side_pairs.specs.declared.which.Which.TheVariants.{First, Second}
-use Rattle.side_pairs.specs.Pairs.{begun, SideCounts, IsClosedSide, IsNoPair, IsOfCartridge, IsOpenSide, YieldsTo}
+use Rattle.side_pairs.specs.Pairs.{begun, SideCounts, IsClosedSide, IsOpenSide, YieldsTo}
 
 -- the bytes that are looked at
 abbrev pub front : List ℕ → List ℕ

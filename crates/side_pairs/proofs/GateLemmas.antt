@@ -1,15 +1,14 @@
 -- A gate is read, and written over.
-use Rattle.std.proofs.Common.{◌≡◌, ◌≢◌, inl, inr, ℕ, ◌<◌, List, [], ◌∷◌, ◌++◌, length, get_or, take, drop, refl, sym, ◌∙◌, ap, subst, arith, take-append-drop, ◌+◌}
+use Rattle.std.proofs.Common.{◌≡◌, ◌≢◌, ℕ, ◌<◌, List, [], ◌∷◌, ◌++◌, length, get_or, take, drop, refl, sym, ◌∙◌, ap, subst, arith, take-append-drop, ◌+◌}
 use Rattle.std.specs.Prelude.{Result}
 use Rattle.std.proofs.lemmas.List.{append-nil}
-use Rattle.std.proofs.lemmas.Bool.{cases_eq}
 use Rattle.vtl_base.specs.declared.faults.DevFault.{DevFault}
 use Rattle.tape_disk.specs.Disk.{DiskState, IsDisk, Elapses, Only, Same, Smeared, Syncs, Writes, overwritten}
 use Rattle.tape_disk.specs.Moments.{LeavesOnly, in_sequence, no_call, one_more_call, weakened}
 use Rattle.gate_journal.specs.Crash.{Unwritten}
 use Rattle.gate_journal.specs.Side.{OPEN, CLOSED}
 use Rattle.side_pairs.specs.Pairs.{begun}
-use Rattle.side_pairs.specs.Passes.{HasStart, IsClosedNow, IsShutPair, ReadsClosed, ReadsOpen}
+use Rattle.side_pairs.specs.Passes.{HasStart, IsClosedNow, IsPairedNow, IsShutPair, ReadsClosed, ReadsOpen}
 use Rattle.side_pairs.specs.Inner.{HasOpenPair}
 
 -- what a write that was not begun leaves
@@ -153,13 +152,24 @@ module _ (d0 d1 : DiskState) (sure : Only d0.seen d0.may_leave) (unwritten : Unw
           sure = only;
         }
 
-    pub paired_still : get_or d0.seen 9 0 ≡ OPEN → HasOpenPair d1.seen × Only d1.seen d1.may_leave
-    paired_still e = (subst HasOpenPair (sym unwritten.seen) (reads_paired d0.seen s e), still_sure)
+    pub paired_still : get_or d0.seen 9 0 ≡ OPEN → IsPairedNow d0 d1
+    paired_still e = record {
+      opened = subst HasOpenPair (sym unwritten.seen) (reads_paired d0.seen s e);
+      before = ap (λ (l : List ℕ). take 9 l) unwritten.seen;
+      behind = ap (λ (l : List ℕ). drop 10 l) unwritten.seen;
+      sure = still_sure;
+    }
 
     pub paired_now : (d2 : DiskState) → (d2.seen ≡ overwritten 9 (OPEN ∷ []) d1.seen) × Only d2.seen d2.may_leave →
-        HasOpenPair d2.seen × Only d2.seen d2.may_leave
-    paired_now d2 (holds, only) = (
-      opened_pair d0.seen d2.seen s
-          (holds ∙ ap (λ (l : List ℕ). overwritten 9 (OPEN ∷ []) l) unwritten.seen),
-      only,
-    )
+        IsPairedNow d0 d2
+    paired_now d2 (holds, only) =
+        let now : d2.seen ≡ overwritten 9 (OPEN ∷ []) d0.seen =
+        holds ∙ ap (λ (l : List ℕ). overwritten 9 (OPEN ∷ []) l) unwritten.seen in
+        let then_ : d2.seen ≡ begun s.0 OPEN ++ s.2 =
+        now ∙ ap (λ (l : List ℕ). overwritten 9 (OPEN ∷ []) l) s.3 in
+        record {
+          opened = opened_pair d0.seen d2.seen s now;
+          before = ap (λ (l : List ℕ). take 9 l) then_ ∙ sym (ap (λ (l : List ℕ). take 9 l) s.3);
+          behind = ap (λ (l : List ℕ). drop 10 l) then_ ∙ sym (ap (λ (l : List ℕ). drop 10 l) s.3);
+          sure = only;
+        }

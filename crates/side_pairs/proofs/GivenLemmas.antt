@@ -7,7 +7,7 @@ use Rattle.std.proofs.lemmas.List.Elements.{All-append, All-cons, All-nil}
 use Rattle.std.proofs.lemmas.List.Concat.{flat_map-append}
 use Rattle.vtl_base.specs.declared.faults.DevFault.{DevFault}
 use Rattle.tape_disk.specs.Disk.{DiskState, Only}
-use Rattle.gate_journal.specs.Answers.{IsFault, NoneFailed}
+use Rattle.gate_journal.specs.Answers.{NoneFailed}
 use Rattle.gate_journal.specs.Heads.{Head, base_of, spell_side_head}
 use Rattle.gate_journal.specs.Side.{CLOSED, IsBody, frame}
 use Rattle.side_pairs.specs.Copying.{GivesAll, HasCopied, HasFrames, NotCopied, WasGiven}

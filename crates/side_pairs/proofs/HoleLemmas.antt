@@ -1,5 +1,5 @@
 -- What a stop may leave where a gate is written again that is so already.
-use Rattle.std.proofs.Common.{◌≡◌, ◌≢◌, inl, inr, ℕ, List, [], ◌∷◌, ◌++◌, drop, ◌∙◌, ap, arith}
+use Rattle.std.proofs.Common.{◌≡◌, ◌≢◌, inl, ℕ, List, [], ◌∷◌, ◌++◌, drop, ◌∙◌, ap, arith}
 use Rattle.std.specs.Prelude.{None}
 use Rattle.tape_disk.specs.Disk.{Smeared, overwritten}
 use Rattle.tape_disk.specs.CallLog.{smears}

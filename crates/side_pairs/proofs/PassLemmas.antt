@@ -1,6 +1,6 @@
 -- Whatever a stop in a pass leaves, the same side counts, or at the last pass the copy.
 use Rattle.std.proofs.Common.{◌≡◌, ◌⊎◌, inl, inr, ℕ, List, [], ◌∷◌, ◌++◌, length, take, drop, get_or, sym, ◌∙◌, ap, subst, arith, append_assoc}
-use Rattle.std.specs.Prelude.{◌≢◌, None}
+use Rattle.std.specs.Prelude.{◌≢◌}
 use Rattle.std.specs.List.{flat_map}
 use Rattle.std.proofs.lemmas.List.{append-nil}
 use Rattle.std.proofs.lemmas.Bool.{cases_eq}
@@ -11,7 +11,7 @@ use Rattle.side_pairs.specs.declared.which.Which.{Which}
 use Rattle.side_pairs.specs.declared.which.Which.TheVariants.{First, Second}
 use Rattle.side_pairs.specs.Pairs.{begun, IsOfCartridge, IsOpenSide, IsClosedSide, YieldsTo, SideCounts, PairStandsFor}
 use Rattle.side_pairs.specs.Passes.{IsShutPair, IsPrepared, ReadsOpen, ReadsClosed, HasWritten, IsCopy, SidesStandFor, TakesOver, copy_head, spell_copy, other, first_image, second_image}
-use Rattle.side_pairs.proofs.PairLemmas.{same_pair, same_side}
+use Rattle.side_pairs.proofs.PairLemmas.{same_pair}
 
 -- ten bytes and what lies behind them, after a write of their first byte that may have ended in any way
 pub first_smeared : (side pair : ℕ) (rest image : List ℕ) → Smeared 0 1 (begun side pair ++ rest) image →

@@ -1,13 +1,13 @@
 -- Calls of two disks in a row.
-use Rattle.std.proofs.Common.{◌≡◌, ◌≢◌, inl, inr, ℕ, List, sym, ◌∙◌, ap, subst, arith}
+use Rattle.std.proofs.Common.{◌≡◌, inl, inr, ℕ, List, ◌∙◌, subst, arith}
 use Rattle.std.specs.Prelude.{Option, Result, Ok, Err}
 use Rattle.vtl_base.specs.declared.faults.DevFault.{DevFault}
 use Rattle.tape_disk.specs.Disk.{DiskState, Each, IsDisk, Only, Passes}
 use Rattle.tape_disk.specs.Moments.{LeavesOnly, holds_now, in_sequence, no_call, weakened}
-use Rattle.gate_journal.specs.Answers.{IsFault, NoneFailed}
+use Rattle.gate_journal.specs.Answers.{NoneFailed}
 use Rattle.gate_journal.specs.Crash.{Unwritten}
 use Rattle.gate_journal.specs.Heads.{Head}
-use Rattle.gate_journal.specs.Side.{CLOSED, OPEN}
+use Rattle.gate_journal.specs.Side.{CLOSED}
 use Rattle.side_pairs.specs.declared.choosing.Counted.{Counted}
 use Rattle.side_pairs.specs.declared.which.Which.{Which}
 use Rattle.side_pairs.specs.Choosing.{Chooses, FaultsOfOne, FindsCounted, IsFaultOfOne}

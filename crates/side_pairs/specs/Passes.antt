@@ -1,5 +1,5 @@
 -- What the passes of a reclaim ask of a pair of images, and what they make of it.
-use Rattle.std.specs.Prelude.{◌≡◌, ◌≢◌, ◌+◌, ◌<◌, ◌^◌, ℕ, List, [], ◌∷◌, ◌++◌, length, drop, Some}
+use Rattle.std.specs.Prelude.{◌≡◌, ◌≢◌, ◌+◌, ◌<◌, ◌^◌, ℕ, List, [], ◌∷◌, ◌++◌, length, take, drop, Some}
 use Rattle.std.specs.List.{All, flat_map}
 use Rattle.tape_disk.specs.Disk.{DiskState, Only}
 use Rattle.gate_journal.specs.Crash.{Unwritten}
@@ -88,6 +88,13 @@ TakesOver which head copies counts spare =
 pub record IsPreparedBeside (first : List ℕ) (old new : DiskState) : Type 0 where
   pub shut : IsShutPair first → (new.seen ≡ begun CLOSED CLOSED) × Only new.seen new.may_leave
   pub opened : (IsShutPair first → ⊥) → Unwritten old new
+
+-- the pair gate is open, all before and behind it is as it was, and that is sure (own)
+pub record IsPairedNow (old new : DiskState) : Type 0 where
+  pub opened : (side : ℕ) × (rest : List ℕ) × (new.seen ≡ begun side OPEN ++ rest)
+  pub before : take 9 new.seen ≡ take 9 old.seen
+  pub behind : drop 10 new.seen ≡ drop 10 old.seen
+  pub sure : Only new.seen new.may_leave
 
 -- the side gate is closed, all behind it is as it was, and that is sure (own)
 pub record IsClosedNow (old new : DiskState) : Type 0 where

@@ -16,8 +16,7 @@ ghost use Rattle.gate_journal.specs.Side.{OPEN};
 ghost use Rattle.side_pairs.specs.declared.which.Which.{Which};
 ghost use Rattle.side_pairs.specs.Choosing.{FaultsOfOne};
 ghost use Rattle.side_pairs.specs.Pairs.{PairStandsFor};
-ghost use Rattle.side_pairs.specs.Passes.{HasStart, HasWritten, IsClosedNow, IsCopy, IsPrepared, IsPreparedBeside, IsShutPair, IsSureStart, SidesStandFor, TakesOver, first_image, spell_copy};
-ghost use Rattle.side_pairs.specs.Inner.{HasOpenPair};
+ghost use Rattle.side_pairs.specs.Passes.{HasStart, HasWritten, IsClosedNow, IsCopy, IsPairedNow, IsPrepared, IsPreparedBeside, IsShutPair, IsSureStart, SidesStandFor, TakesOver, first_image, spell_copy};
 
 use crate::gates::{CLOSED, OPEN, PAIR_GATE, SIDE_GATE, read_gate, write_gate};
 use crate::starting::write_start;
@@ -55,8 +54,7 @@ pub fn prepare_pair<D: Disk>(first: &mut D, second: &mut D) -> Result<(), DevFau
 pub fn open_pair<D: Disk>(first: &mut D, second: &D) -> Result<(), DevFault>
     ensures passes { Passes (D.state first.old) (D.state first.new) result }
     ensures ok { (D.state first.old).honest → IsSureStart (D.state first.old) → OnOk result
-        (HasOpenPair (D.state first.new).seen
-        × Only (D.state first.new).seen (D.state first.new).may_leave) }
+        (IsPairedNow (D.state first.old) (D.state first.new)) }
     ensures any_moment { (D.state first.old).honest → (D.state second.now).honest →
         IsSureStart (D.state first.old) →
         (IsShutPair (D.state first.old).seen → Each (D.state second.now) IsPrepared) →

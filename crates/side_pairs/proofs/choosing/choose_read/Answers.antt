@@ -1,4 +1,4 @@
-use Rattle.std.proofs.Common.{List, ℕ, refl, sym, ◌∙◌, subst, take}
+use Rattle.std.proofs.Common.{List, ℕ, refl, sym, ◌∙◌, subst}
 use Rattle.std.proofs.lemmas.Bool.{false≢true}
 use Rattle.side_pairs.specs.Choosing.{Chooses}
 use Rattle.side_pairs.proofs.ChooseLemmas.{chooses_whole}

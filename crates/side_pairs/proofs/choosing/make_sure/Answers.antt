@@ -1,4 +1,3 @@
-use Rattle.std.specs.Prelude.{List, ℕ}
 use Rattle.tape_disk.specs.Moments.{no_call, one_more_call}
 use Rattle.side_pairs.proofs.choosing.make_sure.Goals as goal
 

@@ -1,4 +1,4 @@
-use Rattle.std.proofs.Common.{ℕ, List, ◌≡◌, ◌+◌, ◌*◌, ◌≤◌}
+use Rattle.std.proofs.Common.{ℕ, List, ◌+◌, ◌*◌, ◌≤◌}
 use Rattle.std.specs.Prelude.{vec_capacity}
 use Rattle.tape_disk.specs.Disk.{Keeps}
 use Rattle.side_pairs.specs.Copying.{HasFrames, KeepsFront}

@@ -1,7 +1,7 @@
 use Rattle.std.proofs.Common.{sym, ◌∙◌, arith}
 use Rattle.std.proofs.lemmas.Result.{on_ok_weaker}
 use Rattle.side_pairs.specs.Passes.{SidesStandFor}
-use Rattle.side_pairs.proofs.GateLemmas.{closed_now, closed_still, long_start, read_rests, reads_open, still_long, still_sure, write_after_read}
+use Rattle.side_pairs.proofs.GateLemmas.{closed_now, closed_still, read_rests, reads_open, still_long, still_sure, write_after_read}
 use Rattle.side_pairs.proofs.PassLemmas.{closing_keeps}
 use Rattle.side_pairs.proofs.passes.close_spare.Goals as goal
 

@@ -1,7 +1,7 @@
-use Rattle.std.proofs.Common.{List, ℕ, sym, ◌∙◌, arith}
+use Rattle.std.proofs.Common.{List, ℕ, sym, ◌∙◌}
 use Rattle.std.proofs.lemmas.Result.{on_ok_weaker}
 use Rattle.side_pairs.specs.Pairs.{PairStandsFor}
-use Rattle.side_pairs.proofs.GateLemmas.{long_start, paired_now, paired_still, read_rests, reads_shut, still_long, still_sure, write_after_read}
+use Rattle.side_pairs.proofs.GateLemmas.{paired_now, paired_still, read_rests, reads_shut, still_long, still_sure, write_after_read}
 use Rattle.side_pairs.proofs.PassLemmas.{pairing_keeps}
 use Rattle.side_pairs.proofs.passes.open_pair.Goals as goal
 
