@@ -3,10 +3,10 @@ use Rattle.std.specs.Prelude.{◌≡◌, ◌⊎◌, ◌≤◌, ◌<◌, ◌++◌
 use Rattle.std.proofs.Common.{inl, inr, sym, ◌∙◌, ap, subst, arith, append_assoc, append-nil, length-append, true≢false}
 use Rattle.std.proofs.lemmas.List.{take_all}
 use Rattle.accepting.specs.Device.{Device}
-use Rattle.accepting.specs.Core.{Rules, Core, CoreStep, Accept, Store, Safe, Ack, Fault, Stop, Rebase, AllMayCome, AllStepTo, NeverRebases, accepted_in}
+use Rattle.accepting.specs.Core.{Rules, Core, CoreStep, Accept, Store, Safe, Ack, Fault, Stop, Rebase, AllMayCome, AllStepTo, accepted_in}
 use Rattle.accepting.specs.Laws.{CallsDropNothing}
 
-module _ (rules : Rules) (never : NeverRebases rules) (failed : Type 0) (unfailed : failed → ⊥) where
+module _ (rules : Rules) (failed : Type 0) (unfailed : failed → ⊥) where
   -- no fault is known, and nothing was stopped, or all that was accepted is safe
   record Works (core : Core rules.Base rules.Item) : Type 0 where
     pub fine : core.fault ≡ false
@@ -89,13 +89,12 @@ module _ (rules : Rules) (never : NeverRebases rules) (failed : Type 0) (unfaile
       safe_all (inr (inr all)) whole = all
       safe_all (inr (inl stop)) (inl ready) = absurd (true≢false (sym stop ∙ ready))
       safe_all (inr (inl stop)) (inr all) = all
-  drops_nothing old new (Rebase ∷ steps) leads may works =
-      absurd (never old.base leads.1.1.0 old.accepted leads.1.1.1)
+  drops_nothing old new (Rebase ∷ steps) leads may works = absurd may.0
 
 module _ (rules : Rules) (device : Device rules.Image) where
   pub calls_drop_nothing : CallsDropNothing rules device
-  calls_drop_nothing never disk disk' old new made same core fine ready event =
-      drops_nothing rules never (device.failures disk < device.failures disk') (λ rose. omega (arith, rose, same)) old
+  calls_drop_nothing disk disk' old new made same core fine ready event =
+      drops_nothing rules (device.failures disk < device.failures disk') (λ rose. omega (arith, rose, same)) old
       new event.steps event.leads event.may_come
       (record { fine = fine; safe = core.safe; stored = core.stored; whole = inl ready })
       ∙ ap (λ (l : List rules.Item). old.accepted ++ l) event.accepts

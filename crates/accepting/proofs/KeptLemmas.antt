@@ -2,9 +2,7 @@
 use Rattle.std.specs.Prelude.{suc, ◌⊎◌, false, true}
 use Rattle.std.proofs.Common.{◌≡◌, ℕ, ◌+◌, inl, inr, ◌≤◌, List, [], ◌∷◌, ◌++◌, length, take, drop, refl, sym, ◌∙◌, ap, subst, arith, ⊎_elim, length-append}
 use Rattle.std.proofs.lemmas.List.{take-append-drop, take-append-le, take-take, length-take-le, take_all}
-use Rattle.accepting.specs.Device.{Device, IsDevice}
-use Rattle.accepting.specs.Core.{Rules, Core, CoreStep, Accept, Store, Safe, Ack, Fault, Stop, Rebase, IsCore, IsPrefix, IsKept, KeptThrough, CanAcknowledge, NeverRebases, StepsTo, AllStepTo, kept_begins, stopped}
-use Rattle.accepting.specs.Events.{CoreMoves, GivesAcknowledged, IsEvent, ShowsCore, ShowsBetween}
+use Rattle.accepting.specs.Core.{Rules, Core, CoreStep, Accept, Store, Safe, Ack, Fault, Stop, Rebase, IsCore, IsPrefix, IsKept, KeptThrough, NeverRebases, StepsTo, AllStepTo, kept_begins, stopped}
 
 module _ (rules : Rules) where
   -- these were accepted first, and are safe; all is carried out from there
@@ -116,7 +114,7 @@ module _ (rules : Rules) where
   held_core old new steps core run =
       (steps_hold old.base [] old new steps run (holds_nothing old core)).core
 
-  holds_all : (s : Core rules.Base rules.Item) → IsCore s → length s.accepted ≤ s.safe
+  pub holds_all : (s : Core rules.Base rules.Item) → IsCore s → length s.accepted ≤ s.safe
       → Holds s.base s.accepted s
   holds_all s core all =
       record {
@@ -129,7 +127,7 @@ module _ (rules : Rules) where
       }
 
   -- what is held is kept in each first part that has what is safe
-  begins : (base : rules.Base) (xs : List rules.Item) (s : Core rules.Base rules.Item) (n : ℕ) → Holds base xs s
+  pub begins : (base : rules.Base) (xs : List rules.Item) (s : Core rules.Base rules.Item) (n : ℕ) → Holds base xs s
       → s.safe ≤ n → IsKept rules base xs s.base (take n s.accepted)
   begins base xs s n h le =
       ⊎_elim
@@ -193,42 +191,3 @@ module _ (rules : Rules) where
       } in
       begins_all old.base (take old.safe old.accepted) new
       (steps_hold old.base (take old.safe old.accepted) old new steps run held)
-
-  -- an image of a core between gives what was acknowledged
-  gives_acknowledged : (old : Core rules.Base rules.Item) (steps : List (CoreStep rules.Item)) (image : rules.Image)
-      → IsCore old → CanAcknowledge old → ShowsBetween rules old steps image → GivesAcknowledged rules old steps image
-  gives_acknowledged old steps image core can shows =
-      let held =
-      steps_hold old.base old.accepted old shows.1 (take shows.0 steps) shows.2
-      (holds_all old core (omega (arith, can.1))) in
-      ⊎_elim
-      (λ g. record {
-        count = shows.0;
-        between = shows.1;
-        leads = shows.2;
-        kept = shows.1.safe;
-        acknowledged = begins old.base old.accepted shows.1 shows.1.safe held (omega arith);
-        gives = g;
-      })
-      (λ g. record {
-        count = shows.0;
-        between = shows.1;
-        leads = shows.2;
-        kept = shows.1.stored;
-        acknowledged = begins old.base old.accepted shows.1 shows.1.stored held held.core.safe;
-        gives = g;
-      })
-      shows.3
-
-module _ (rules : Rules) (device : Device rules.Image) (laws : IsDevice device) where
-  pub crash_keeps : (disk disk' : device.State) (old new : Core rules.Base rules.Item) (made : List rules.Item)
-      → device.honest disk → IsCore old → CanAcknowledge old → device.each disk (ShowsCore rules old)
-      → CoreMoves rules device disk disk' old new made
-      → (event : IsEvent rules device disk disk' old new made)
-      × device.leaves disk disk' (GivesAcknowledged rules old event.steps)
-  crash_keeps disk disk' old new made honest core can shows moves =
-      let event = (moves.goes honest shows).0 in (
-        event,
-        laws.weakened disk disk' (ShowsBetween rules old event.steps) (GivesAcknowledged rules old event.steps)
-            event.moments (λ image s. gives_acknowledged rules old event.steps image core can s),
-      )

@@ -3,7 +3,7 @@ use Rattle.std.specs.Prelude.{◌≡◌, ◌⊎◌, ℕ, zero, suc, ◌+◌, ◌
 
 -- What is accepted, and what an image gives: changes of a cartridge, say, or states of a reservation store (own).
 pub record Rules : Type 1 where
-  -- what all is carried out from: the side as it was made, with its heading
+  -- what all is carried out from: an empty side with its heading, say
   pub Base : Type 0
   pub Item : Type 0
   -- what a crash leaves of the device
@@ -64,6 +64,17 @@ accepted_in (Ack ∷ steps) = accepted_in steps
 accepted_in (Fault ∷ steps) = accepted_in steps
 accepted_in (Stop kept ∷ steps) = accepted_in steps
 accepted_in (Rebase ∷ steps) = accepted_in steps
+
+-- none of these steps changes what all is carried out from (own)
+abbrev pub NoneRebases : {C : Type 0} → List (CoreStep C) → Type 0
+NoneRebases [] = Unit {0}
+NoneRebases (Accept item ∷ steps) = NoneRebases steps
+NoneRebases (Store count ∷ steps) = NoneRebases steps
+NoneRebases (Safe ∷ steps) = NoneRebases steps
+NoneRebases (Ack ∷ steps) = NoneRebases steps
+NoneRebases (Fault ∷ steps) = NoneRebases steps
+NoneRebases (Stop kept ∷ steps) = NoneRebases steps
+NoneRebases (Rebase ∷ steps) = ⊥
 
 module _ {S C : Type 0} where
   -- what is safe is stored, and what is stored was accepted (own)
@@ -190,12 +201,13 @@ module _ (rules : Rules) where
   kept_begins never base base' items items' (suc n, kept) = absurd (never kept.0 base' kept.1 kept.3)
 
   -- What may come in a call, in which the device failed or did not: it fails only where it did, and a stop comes only
-  -- after a fault, or while what an earlier stop left is not yet made safe, or where all that was accepted is safe
-  -- (own).
+  -- after a fault, or while what an earlier stop left is not yet made safe, or where all that was accepted is safe.
+  -- What all is carried out from never changes in a call (own).
   abbrev pub MayCome : Type 0 → Core rules.Base rules.Item → CoreStep rules.Item → Type 0
   MayCome failed core Fault = failed
   MayCome failed core (Stop kept) =
       (core.fault ≡ true) ⊎ (core.recovering ≡ true) ⊎ (core.safe ≡ length core.accepted)
+  MayCome failed core Rebase = ⊥
   MayCome failed core _ = Unit {0}
 
   -- each of these steps may come in a call (own)

@@ -1,9 +1,11 @@
--- What is seen of a device, of whatever disks it is made; and of one disk.
+-- What is seen of a device, of whatever disks it is made; of one disk, and of two.
 use Rattle.std.specs.Prelude.{◌≤◌, ℕ, List}
 use Rattle.tape_disk.specs.Disk.{DiskState, IsDisk, Keeps}
 use Rattle.tape_disk.specs.Disk as Disks
 use Rattle.tape_disk.specs.Moments as Moments
 use Rattle.tape_disk.specs.Moments.{LeavesOnly}
+use Rattle.tape_disk.specs.TwoDisks as Twos
+use Rattle.tape_disk.specs.TwoDisks.{AreDisks, AreHonest, EachOfTwo, Images, KeepsDisks, MayLeave, TwoDisks, TwoLeave, failures_of}
 
 -- A device with images of this kind: whether it is honest and keeps to the laws of its kind, how often it failed, and
 -- what a crash leaves, now or at a moment since (own).
@@ -68,3 +70,38 @@ module _ {D : Type 0} (state : D → DiskState) where
       → LeavesOnly (state old) (state new) (state old).may_leave → Disks.Each (state old) P
       → LeavesOnly (state old) (state new) P
   one_rests old new P quiet shows = Moments.weakened (state old) (state new) (state old).may_leave P quiet shows
+
+  -- two disks, whose images are an image of each (own)
+  abbrev pub two_disks : Device Images
+  two_disks = record {
+    State = TwoDisks D;
+    honest = AreHonest state;
+    sound = AreDisks state;
+    failures = failures_of state;
+    each = EachOfTwo state;
+    leaves = TwoLeave state;
+  }
+
+  -- two disks are a device (own)
+  pub two_is_device : IsDevice two_disks
+  two_is_device = record {
+    no_call = λ now P are_disks here. Twos.two_rest_still state now P here;
+    in_sequence = Twos.two_in_sequence state;
+    weakened = Twos.two_weakened state;
+    holds_now = Twos.two_hold_now state;
+    each_weakened = Twos.each_weakened state;
+  }
+
+  -- what each of two disks keeps to, the device of them keeps to
+  pub two_keep : (old new : TwoDisks D) → KeepsDisks state old new → KeepsDevice two_disks old new
+  two_keep old new keeps =
+      record {
+        stays_honest = λ honest. (keeps.0.stays_honest honest.0, keeps.1.stays_honest honest.1);
+        was_honest = λ honest. (keeps.0.was_honest honest.0, keeps.1.was_honest honest.1);
+        counted = Twos.counted_of_two state old new keeps;
+      }
+
+  -- what held of each pair of images before holds of each moment of calls that write nothing
+  pub two_rest : (old new : TwoDisks D) (P : Images → Type 0) → TwoLeave state old new (MayLeave state old)
+      → EachOfTwo state old P → TwoLeave state old new P
+  two_rest old new P quiet shows = Twos.still_leave state old new P quiet shows

@@ -3,7 +3,7 @@ use Rattle.std.specs.Prelude.{◌≡◌, ◌⊎◌, ◌≤◌, ◌<◌, ℕ, zer
 use Rattle.std.proofs.Common.{◌∙◌, ap, subst, sym, arith}
 use mathlib.Core.Path.{path_j, subst_refl}
 use Rattle.accepting.specs.Device.{Device, IsDevice, KeepsDevice}
-use Rattle.accepting.specs.Core.{Rules, Core, CoreStep, Accept, Store, Safe, Ack, Fault, Stop, Rebase, AllMayCome, AllStepTo, IsKept, MayCome, accepted_in}
+use Rattle.accepting.specs.Core.{Rules, Core, CoreStep, Accept, Store, Safe, Ack, Fault, Stop, Rebase, AllMayCome, AllStepTo, IsPrefix, MayCome, accepted_in}
 
 module _ (rules : Rules) where
   -- the image gives what is safe, or what is stored (own)
@@ -46,7 +46,7 @@ module _ (rules : Rules) where
   step_comes_so failed more so core Ack may = tt
   step_comes_so failed more so core Fault may = so may
   step_comes_so failed more so core (Stop kept) may = may
-  step_comes_so failed more so core Rebase may = tt
+  step_comes_so failed more so core Rebase may = may
 
   may_come_so : (failed more : Type 0) → (failed → more) → (a b : Core rules.Base rules.Item)
       (steps : List (CoreStep rules.Item)) (leads : AllStepTo rules a steps b)
@@ -184,12 +184,13 @@ module _ (rules : Rules) (device : Device rules.Image) (laws : IsDevice device) 
 
 module _ (rules : Rules) where
   -- An image gives all that was acknowledged in the old core: the first so many that were accepted in a core between,
-  -- which some of the steps lead to, and what was acknowledged was kept in these (own).
+  -- which some of the steps lead to, and what was acknowledged begins these. All is carried out from what it was
+  -- carried out from then (own).
   pub record GivesAcknowledged (old : Core rules.Base rules.Item) (steps : List (CoreStep rules.Item))
       (image : rules.Image) : Type 0 where
     pub count : ℕ
     pub between : Core rules.Base rules.Item
     pub leads : AllStepTo rules old (take count steps) between
     pub kept : ℕ
-    pub acknowledged : IsKept rules old.base old.accepted between.base (take kept between.accepted)
-    pub gives : rules.gives between.base (take kept between.accepted) image
+    pub acknowledged : IsPrefix old.accepted (take kept between.accepted)
+    pub gives : rules.gives old.base (take kept between.accepted) image

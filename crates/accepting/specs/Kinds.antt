@@ -3,7 +3,7 @@ use Rattle.std.specs.Prelude.{◌≡◌, ◌⊎◌, ℕ, ◌+◌, ◌≤◌, ◌
 use Rattle.std.proofs.Common.{inl, inr, sym, ap, subst, arith, ⊎_elim}
 use Rattle.std.proofs.lemmas.List.{take-append-le, take-take}
 use Rattle.accepting.specs.Device.{Device, IsDevice, KeepsDevice}
-use Rattle.accepting.specs.Core.{Rules, Core, Accept, Store, Safe, Fault, Stop, Rebase, IsCore, IsWorking, CanAcknowledge, broken_in, rebased, recovered, settled, stopped, with_item, with_stored}
+use Rattle.accepting.specs.Core.{Rules, Core, Accept, Store, Safe, Fault, Stop, IsCore, IsWorking, broken_in, recovered, settled, stopped, with_item, with_stored}
 use Rattle.accepting.specs.Events.{CoreMoves, ShowsCore, ShowsBetween, keeps_nowhere}
 
 module _ (rules : Rules) where
@@ -233,33 +233,5 @@ module _ (rules : Rules) (device : Device rules.Image) (laws : IsDevice device) 
               (λ image g. subst (λ (core : Core rules.Base rules.Item). ShowsCore rules core image) (sym found.2)
               (inl (gives_as rules old.base (take found.0 old.accepted) (take found.0 (take found.0 old.accepted)) image
               (take-take found.0 found.0 old.accepted (omega arith)) g))),
-        );
-      }
-
-  -- All that was accepted goes into what all is carried out from, by calls at each moment of which either is given.
-  pub moves_rebasing : (disk disk' : device.State) (old : Core rules.Base rules.Item) (base : rules.Base)
-      → KeepsDevice device disk disk'
-      → CanAcknowledge old → rules.rebases old.base old.accepted base
-      → (device.honest disk → device.each disk (ShowsCore rules old)
-      → device.leaves disk disk' (λ image. ShowsCore rules old image ⊎ rules.gives base [] image))
-      → (device.honest disk → device.each disk' (rules.gives base []))
-      → CoreMoves rules device disk disk' old (rebased base old) []
-  moves_rebasing disk disk' old base keeps can is leaves sure =
-      let Either : rules.Image → Type 0 = λ image. ShowsCore rules old image ⊎ rules.gives base [] image in
-      record {
-        keeps = keeps;
-        goes = λ honest shows. (
-          record {
-            steps = Rebase ∷ [];
-            leads = (rebased base old, (can, (base, is, refl)), refl);
-            may_come = (tt, tt);
-            accepts = refl;
-            moments =
-                laws.weakened disk disk' Either (ShowsBetween rules old (Rebase ∷ [])) (leaves honest shows)
-                (λ image either. ⊎_elim (λ s. (0, old, refl, s))
-                (λ g. (1, rebased base old, (rebased base old, (can, (base, is, refl)), refl), inl g)) either);
-          },
-          laws.each_weakened disk' (rules.gives base []) (ShowsCore rules (rebased base old)) (sure honest)
-              (λ image g. inl g),
         );
       }

@@ -1,8 +1,9 @@
 -- What holds of all that accepts, whatever its rules are.
 use Rattle.std.specs.Prelude.{◌≡◌, ◌++◌, List, [], ◌∷◌, false, take}
 use Rattle.accepting.specs.Device.{Device}
-use Rattle.accepting.specs.Core.{Rules, Core, CoreStep, Ack, IsCore, IsKept, IsPrefix, AllStepTo, CanAcknowledge, NeverRebases}
+use Rattle.accepting.specs.Core.{Rules, Core, CoreStep, Ack, Rebase, IsCore, IsKept, IsPrefix, AllStepTo, CanAcknowledge, NeverRebases, NoneRebases}
 use Rattle.accepting.specs.Events.{CoreMoves, GivesAcknowledged, IsEvent, ShowsCore}
+use Rattle.accepting.specs.Rebasing.{FailsToRebase, GivesKept, Rebases, ShowsRebase}
 
 module _ (rules : Rules) where
   -- what was accepted when it was acknowledged is kept in what is accepted after any further steps, stops among them
@@ -25,6 +26,14 @@ module _ (rules : Rules) where
   StepsKeepCores =
       (old new : Core rules.Base rules.Item) (steps : List (CoreStep rules.Item))
       → IsCore old → AllStepTo rules old steps new → IsCore new × (NeverRebases rules → new.base ≡ old.base)
+
+  -- What was accepted when it was acknowledged begins what is accepted after further steps, stops among them, none of
+  -- which changes what all is carried out from; and that stays (own).
+  abbrev pub AcknowledgedBegins : Type 0
+  AcknowledgedBegins =
+      (first acked last : Core rules.Base rules.Item) (before after : List (CoreStep rules.Item))
+      → IsCore first → AllStepTo rules first before acked → AllStepTo rules acked (Ack ∷ after) last
+      → NoneRebases after → (last.base ≡ acked.base) × IsPrefix acked.accepted last.accepted
 
   -- where what all is carried out from never changes, what is kept begins what is accepted (own)
   abbrev pub KeptBegins : Type 0
@@ -57,9 +66,48 @@ module _ (rules : Rules) (device : Device rules.Image) where
       × device.leaves disk disk' (GivesAcknowledged rules old event.steps)
 
   -- A call in which the device does not fail, from where it works, drops nothing: what was accepted before it, and in
-  -- it, is what is accepted behind it, where what all is carried out from never changes (own).
+  -- it, is what is accepted behind it (own).
   abbrev pub CallsDropNothing : Type 0
   CallsDropNothing =
-      NeverRebases rules → (disk disk' : device.State) (old new : Core rules.Base rules.Item) (made : List rules.Item)
+      (disk disk' : device.State) (old new : Core rules.Base rules.Item) (made : List rules.Item)
       → device.failures disk' ≡ device.failures disk → IsCore old → old.fault ≡ false → old.recovering ≡ false
       → IsEvent rules device disk disk' old new made → new.accepted ≡ old.accepted ++ made
+
+  -- what an event leaves: a core that is well-formed, and what all is carried out from; and what was safe begins what
+  -- is accepted behind it (own)
+  pub record KeptInEvent (old new : Core rules.Base rules.Item) : Type 0 where
+    pub core : IsCore new
+    pub base : new.base ≡ old.base
+    pub safe : IsPrefix (take old.safe old.accepted) new.accepted
+
+  -- each event leaves that, and none of its steps changes what all is carried out from (own)
+  abbrev pub EventsKeepBase : Type 0
+  EventsKeepBase =
+      (disk disk' : device.State) (old new : Core rules.Base rules.Item) (made : List rules.Item) → IsCore old
+      → (event : IsEvent rules device disk disk' old new made) → NoneRebases event.steps × KeptInEvent old new
+
+  -- A change of base is one step, and shows what that leaves. What was accepted before is kept behind it, and at each
+  -- moment of it in what an image gives (own).
+  pub record KeptInRebase (disk disk' : device.State) (old new : Core rules.Base rules.Item) : Type 0 where
+    pub steps : AllStepTo rules old (Rebase ∷ []) new
+    pub core : IsCore new
+    pub kept : IsKept rules old.base old.accepted new.base new.accepted
+    pub shows :
+        device.honest disk → device.each disk (ShowsCore rules old) → ShowsRebase rules device disk disk' old new
+    pub moments :
+        device.honest disk → device.each disk (ShowsCore rules old)
+        → device.leaves disk disk' (GivesKept rules old.base old.accepted)
+
+  -- each change of base leaves that (own)
+  abbrev pub RebasesKeepAccepted : Type 0
+  RebasesKeepAccepted =
+      (disk disk' : device.State) (old new : Core rules.Base rules.Item) → IsCore old
+      → Rebases rules device disk disk' old new → KeptInRebase disk disk' old new
+
+  -- where the device fails in a change of base, what was accepted before is kept in what an image gives, at each moment
+  -- of it (own)
+  abbrev pub FailuresKeepAccepted : Type 0
+  FailuresKeepAccepted =
+      (disk disk' : device.State) (old : Core rules.Base rules.Item) (base : rules.Base) → IsCore old
+      → FailsToRebase rules device disk disk' old base → device.honest disk → device.each disk (ShowsCore rules old)
+      → device.leaves disk disk' (GivesKept rules old.base old.accepted)

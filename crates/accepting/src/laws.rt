@@ -1,11 +1,17 @@
 //! Laws of what accepts. Each is a function that does nothing, and its contract is the law.
-ghost use Rattle.accepting.specs.Laws.{AcknowledgedIsKept, CallsDropNothing, CrashesKeepAcknowledged, KeptBegins, MovesAppend, NothingMoves, SafeIsKept, StepsKeepCores};
+ghost use Rattle.accepting.specs.Laws.{AcknowledgedBegins, AcknowledgedIsKept, CallsDropNothing, CrashesKeepAcknowledged, EventsKeepBase, FailuresKeepAccepted, KeptBegins, MovesAppend, NothingMoves, RebasesKeepAccepted, SafeIsKept, StepsKeepCores};
 
 use crate::accepting::Accepting;
 
 /// What was acknowledged is kept in whatever is accepted later, over any number of stops and faults.
 pub fn what_was_acknowledged_is_kept<A: Accepting>()
     ensures { AcknowledgedIsKept A.rules }
+{}
+
+/// Where no step changes what all is carried out from, what was acknowledged begins what is accepted later, over any
+/// number of stops and faults.
+pub fn what_was_acknowledged_begins<A: Accepting>()
+    ensures { AcknowledgedBegins A.rules }
 {}
 
 /// What is safe is kept in whatever is accepted later, over any number of stops and faults.
@@ -27,6 +33,21 @@ pub fn steps_keep_cores<A: Accepting>()
 pub fn moves_append<A: Accepting>()
     ensures nothing { NothingMoves A.rules A.device }
     ensures in_a_row { MovesAppend A.rules A.device }
+{}
+
+/// No call changes what all is carried out from, and what was safe begins what is accepted behind it.
+pub fn events_keep_their_base<A: Accepting>()
+    ensures { EventsKeepBase A.rules A.device }
+{}
+
+/// A change of what all is carried out from keeps what was accepted, at each moment of it too.
+pub fn changes_of_base_keep_what_was_accepted<A: Accepting>()
+    ensures { RebasesKeepAccepted A.rules A.device }
+{}
+
+/// A change of what all is carried out from in which the device fails keeps it too.
+pub fn failed_changes_of_base_keep_what_was_accepted<A: Accepting>()
+    ensures { FailuresKeepAccepted A.rules A.device }
 {}
 
 /// After an acknowledgement a crash, at any moment of whatever is done then, leaves all that was

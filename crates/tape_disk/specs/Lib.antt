@@ -11,3 +11,4 @@ pub mod OnceDisk
 pub mod Sequences
 pub mod SparseBytes
 pub mod SparseDisk
+pub mod TwoDisks

@@ -1,4 +1,4 @@
-use Rattle.accepting.proofs.KeptLemmas.{crash_keeps}
+use Rattle.accepting.proofs.BaseLemmas.{crash_keeps}
 use Rattle.accepting.proofs.laws.a_crash_leaves_what_was_acknowledged.Goals as goal
 
 pub returns : goal.returns

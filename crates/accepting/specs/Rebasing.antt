@@ -1,0 +1,78 @@
+-- A change of what all is carried out from: a reclaim of a cartridge, say. It is no call of what accepts: no event has
+-- one among its steps.
+use Rattle.std.specs.Prelude.{◌≡◌, ◌⊎◌, ◌<◌, List, [], ◌∷◌, refl}
+use Rattle.std.proofs.Common.{inl, ⊎_elim, subst, sym}
+use Rattle.accepting.specs.Device.{Device, IsDevice, KeepsDevice}
+use Rattle.accepting.specs.Core.{Rules, Core, Rebase, AllStepTo, CanAcknowledge, IsKept, rebased}
+use Rattle.accepting.specs.Events.{ShowsBetween, ShowsCore}
+
+module _ (rules : Rules) where
+  -- the image gives things in which these are kept, carried out from wherever they then are (own)
+  pub record GivesKept (base : rules.Base) (items : List rules.Item) (image : rules.Image) : Type 0 where
+    pub base_then : rules.Base
+    pub items_then : List rules.Item
+    pub kept : IsKept rules base items base_then items_then
+    pub gives : rules.gives base_then items_then image
+
+  -- the image gives what is safe or what is stored, or nothing yet, carried out from this (own)
+  abbrev pub ShowsEither : Core rules.Base rules.Item → rules.Base → rules.Image → Type 0
+  ShowsEither old base image = ShowsCore rules old image ⊎ rules.gives base [] image
+
+module _ (rules : Rules) (device : Device rules.Image) where
+  -- All that was accepted goes into what the next ones are carried out from. It could be acknowledged before. Where the
+  -- device is honest and its images were those of the old core, each moment has an image of that, or of the new base
+  -- with nothing behind it; and in the end the latter (own).
+  pub record Rebases (disk disk' : device.State) (old new : Core rules.Base rules.Item) : Type 0 where
+    pub keeps : KeepsDevice device disk disk'
+    pub could : CanAcknowledge old
+    pub goes_into : rules.rebases old.base old.accepted new.base
+    pub is : new ≡ rebased new.base old
+    pub moments :
+        device.honest disk → device.each disk (ShowsCore rules old)
+        → device.leaves disk disk' (ShowsEither rules old new.base)
+    pub sure : device.honest disk → device.each disk (ShowsCore rules old) → device.each disk' (rules.gives new.base [])
+
+  -- The device failed while all that was accepted was to go into this base: each moment has an image of the old core,
+  -- or of the new base with nothing behind it, and which of the two is found when it is read again (own).
+  pub record FailsToRebase (disk disk' : device.State) (old : Core rules.Base rules.Item) (base : rules.Base)
+      : Type 0 where
+    pub keeps : KeepsDevice device disk disk'
+    pub failed : device.failures disk < device.failures disk'
+    pub could : CanAcknowledge old
+    pub goes_into : rules.rebases old.base old.accepted base
+    pub moments :
+        device.honest disk → device.each disk (ShowsCore rules old)
+        → device.leaves disk disk' (ShowsEither rules old base)
+
+  -- What a change of base shows, over an honest device whose images were those of the old core: each moment has those
+  -- of a core that the step leads to, and in the end those of the new one (own).
+  pub record ShowsRebase (disk disk' : device.State) (old new : Core rules.Base rules.Item) : Type 0 where
+    pub moments : device.leaves disk disk' (ShowsBetween rules old (Rebase ∷ []))
+    pub now : device.each disk' (ShowsCore rules new)
+
+  -- it is one step
+  pub rebasing_steps : (disk disk' : device.State) (old new : Core rules.Base rules.Item)
+      → Rebases disk disk' old new → AllStepTo rules old (Rebase ∷ []) new
+  rebasing_steps disk disk' old new r = (new, (r.could, (new.base, r.goes_into, r.is)), refl)
+
+  -- and shows what it leads to
+  pub rebasing_shows : IsDevice device → (disk disk' : device.State) (old new : Core rules.Base rules.Item)
+      → Rebases disk disk' old new → device.honest disk → device.each disk (ShowsCore rules old)
+      → ShowsRebase disk disk' old new
+  rebasing_shows laws disk disk' old new r honest shows =
+      record {
+        moments =
+            laws.weakened disk disk' (ShowsEither rules old new.base) (ShowsBetween rules old (Rebase ∷ []))
+            (r.moments honest shows) between;
+        now = laws.each_weakened disk' (rules.gives new.base []) (ShowsCore rules new) (r.sure honest shows) after;
+      }
+    where
+      after : (image : rules.Image) → rules.gives new.base [] image → ShowsCore rules new image
+      after image g =
+          subst (λ (core : Core rules.Base rules.Item). ShowsCore rules core image) (sym r.is) (inl g)
+
+      between : (image : rules.Image) → ShowsEither rules old new.base image
+          → ShowsBetween rules old (Rebase ∷ []) image
+      between image either =
+          ⊎_elim (λ s. (0, old, refl, s))
+          (λ g. (1, new, rebasing_steps disk disk' old new r, after image g)) either
