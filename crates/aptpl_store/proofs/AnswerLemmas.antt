@@ -6,7 +6,8 @@ use Rattle.std.proofs.lemmas.List.{append-nil, length-map, take_at}
 use Rattle.std.proofs.lemmas.List.Elements.{All-nil, All-push}
 use Rattle.gate_journal.specs.declared.header.SideKind.{SideKind}
 use Rattle.gate_journal.specs.declared.header.SideKind.TheVariants.{Cartridge, Store}
-use Rattle.gate_journal.specs.Side.{BeginsAs, Heading, IsDamagedAt, StandsFor, spell}
+use Rattle.gate_journal.specs.Side.{BeginsAs, Front, Heading, IsDamagedAt, StandsFor, plain, spell}
+use Rattle.gate_journal.specs.Inner.Fronts.{store_is_plain}
 use Rattle.gate_journal.specs.Inner.Sides.{decided}
 use Rattle.pr_core.specs.declared.states.PrState.{PrState}
 use Rattle.aptpl_store.specs.Contents.{IsStoreAnswered, IsBadState, state_bodies}
@@ -31,7 +32,7 @@ bad_here h kind bodies good body rest all split never =
     (λ i. get_or (split i) (sym counted i) []) ∙ get_or-append_seam (state_bodies good) body rest [] in
     inr (
       good,
-      length (spell h (state_bodies good)),
+      length (spell (plain h) (state_bodies good)),
       record {
         kind = kind;
         inside = omega (
@@ -60,18 +61,22 @@ walked h kind bodies good (body ∷ rest) all split = elim (spelled_or_not body)
       ∙ ap (λ (b : List (List ℕ)). b ++ rest) (sym (bodies_more good spells.0)))
 ]
 
-side_answered : (image : List ℕ) (h : Heading) (bodies : List (List ℕ)) → StandsFor h bodies image
-    → (kind : SideKind) → h.kind ≡ kind → IsStoreAnswered image
-side_answered image h bodies s Cartridge is =
-    inr (inl (inr (subst (λ (k : SideKind). BeginsAs k image) is (begins_so image h bodies s))))
-side_answered image h bodies s Store is = elim (walked h is bodies [] bodies (All-nil IsSavable) refl) [
-  | inl found ↦ inl (
-    h,
-    found.0,
-    (is, found.1, subst (λ (b : List (List ℕ)). StandsFor h b image) (sym found.2) s),
-  )
-  | inr bad ↦ inr (inr (inr (bad.1, (h, bodies, bad.0, s, bad.2))))
-]
+side_answered : (image : List ℕ) (f : Front) (bodies : List (List ℕ)) → StandsFor f bodies image
+    → (kind : SideKind) → f.head.heading.kind ≡ kind → IsStoreAnswered image
+side_answered image f bodies s Cartridge is =
+    inr (inl (inr (subst (λ (k : SideKind). BeginsAs k image) is (begins_so image f bodies s))))
+side_answered image f bodies s Store is =
+    let h = f.head.heading in
+    let front = store_is_plain f s.0.begins is in
+    let there : StandsFor (plain h) bodies image = subst (λ (g : Front). StandsFor g bodies image) front s in
+    elim (walked h is bodies [] bodies (All-nil IsSavable) refl) [
+      | inl found ↦ inl (
+        h,
+        found.0,
+        (is, found.1, subst (λ (b : List (List ℕ)). StandsFor (plain h) b image) (sym found.2) there),
+      )
+      | inr bad ↦ inr (inr (inr (bad.1, (h, bodies, bad.0, there, bad.2))))
+    ]
 
 damaged_answered : (image : List ℕ) (at : ℕ) (damage : IsDamagedAt image at) (kind : SideKind)
     → BeginsAs kind image → IsStoreAnswered image
@@ -80,8 +85,8 @@ damaged_answered image at damage Store begins = inr (inr (inl (at, (begins, dama
 
 pub answered : (image : List ℕ) → IsStoreAnswered image
 answered image = elim (decided image) [
-  | inl side ↦ side_answered image side.0 side.1 side.2 side.0.kind refl
+  | inl side ↦ side_answered image side.0 side.1 side.2 side.0.head.heading.kind refl
   | inr (inl never) ↦ inr (inl (inl never))
   | inr (inr damage) ↦
-      damaged_answered image damage.0 damage.1 damage.1.0.kind (damaged_begins image damage.0 damage.1)
+      damaged_answered image damage.0 damage.1 damage.1.0.head.heading.kind (damaged_begins image damage.0 damage.1)
 ]

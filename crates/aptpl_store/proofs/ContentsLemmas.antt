@@ -6,7 +6,7 @@ use Rattle.std.proofs.lemmas.List.{append-nil, map-append}
 use Rattle.std.proofs.lemmas.List.Elements.{All-push}
 use Rattle.gate_journal.specs.declared.header.SideKind.TheVariants.{Store}
 use Rattle.gate_journal.specs.Crash.{WithOrWithout}
-use Rattle.gate_journal.specs.Side.{Heading, StandsFor}
+use Rattle.gate_journal.specs.Side.{Heading, StandsFor, plain}
 use Rattle.pr_core.specs.declared.states.PrState.{PrState}
 use Rattle.pr_core.specs.Staged.{last_saved}
 use Rattle.pr_core.specs.States.{empty_state, power_loss}
@@ -56,17 +56,17 @@ module _ (heading : Heading) (kind : heading.kind ≡ Store) (states : List PrSt
   with_body = (λ i. bodies_are i ++ body_is i ∷ []) ∙ sym (bodies_more states state)
 
   -- an image with the body gives the states with one more
-  pub gives_more : (image : List ℕ) → StandsFor heading (bodies ++ body ∷ []) image
+  pub gives_more : (image : List ℕ) → StandsFor (plain heading) (bodies ++ body ∷ []) image
       → GivesStates heading (states ++ state ∷ []) image
   gives_more image stands = (
     kind,
     All-push IsSavable states state all savable,
-    subst (λ (b : List (List ℕ)). StandsFor heading b image) with_body stands,
+    subst (λ (b : List (List ℕ)). StandsFor (plain heading) b image) with_body stands,
   )
 
   -- with or without it shows these, or those
-  pub shows_more : (image : List ℕ) → WithOrWithout heading bodies body image
+  pub shows_more : (image : List ℕ) → WithOrWithout (plain heading) bodies body image
       → ShowsStates heading states (Some state) image
   shows_more image (inl stands) =
-      inl (kind, all, subst (λ (b : List (List ℕ)). StandsFor heading b image) bodies_are stands)
+      inl (kind, all, subst (λ (b : List (List ℕ)). StandsFor (plain heading) b image) bodies_are stands)
   shows_more image (inr stands) = inr (gives_more image stands)

@@ -8,7 +8,8 @@ use Rattle.gate_journal.specs.declared.error.OpenError.{OpenError}
 use Rattle.gate_journal.specs.declared.error.OpenError.TheVariants.{NotOurs, Damaged, BadRecord, Device, NoMemory}
 use Rattle.gate_journal.specs.declared.header.SideKind.TheVariants as SideKinds
 use Rattle.gate_journal.specs.Decoding.{IsNotDecoded, TakesPiece}
-use Rattle.gate_journal.specs.Side.{Heading, IsNotOf, spell}
+use Rattle.gate_journal.specs.Side.{Front, Heading, IsNotOf, StandsFor, plain, spell}
+use Rattle.gate_journal.specs.Inner.Fronts.{store_is_plain}
 use Rattle.pr_core.specs.declared.states.PrState.{PrState}
 use Rattle.aptpl_store.specs.Answers.{IsStoreNotOpened}
 use Rattle.aptpl_store.specs.Contents.{IsBadState, IsNoStore}
@@ -56,14 +57,14 @@ module _ (notes : NotedStates) (last : PrState) (heading : Heading) (extents : L
 
   -- the body behind those that were read is the first bad one of a side that has it
   pub bad_frame : (all : List (List ℕ)) (good at : ℕ) → bodies ≡ take good all → good < length all
-      → at ≡ length (spell heading (take good all)) → IsNoState (slice_index_or all good [])
+      → at ≡ length (spell (plain heading) (take good all)) → IsNoState (slice_index_or all good [])
       → IsBadState heading all notes.states at
   bad_frame all good at read inside at_is never = record {
     kind = so_far.kind;
     inside = omega (arith, inside, counted);
     before = so_far.states;
     spelled = sym so_far.spelled ∙ read ∙ ap (λ (n : ℕ). take n all) (sym counted);
-    gate = at_is ∙ ap (λ (b : List (List ℕ)). length (spell heading b)) (sym read ∙ so_far.spelled);
+    gate = at_is ∙ ap (λ (b : List (List ℕ)). length (spell (plain heading) b)) (sym read ∙ so_far.spelled);
     bad = λ state spells.
         never state (subst (λ (n : ℕ). SpellsState state (slice_index_or all n [])) counted spells);
   }
@@ -122,14 +123,16 @@ module _ {T : Type 0} (notes : T → NotedStates) (last : T → PrState) where
     λ h.
         let side = (why.1 h).0 in
         let found = side.4 in
-        let bad = found.3 in (
+        let bad = found.3 in
+        let heading = side.0.head.heading in
+        let front = store_is_plain side.0 side.3.0.begins side.2 in (
           (
-            side.0,
+            heading,
             side.1,
             (notes found.0).states,
-            side.3,
-            bad_frame (notes found.0) (last found.0) side.0 found.2 _ bad.before side.1 found.1 at refl bad.inside
-                bad.gate bad.bad,
+            subst (λ (f : Front). StandsFor f side.1 old.seen) front side.3,
+            bad_frame (notes found.0) (last found.0) heading found.2 _ bad.before side.1 found.1 at refl bad.inside
+                (bad.gate ∙ ap (λ (f : Front). length (spell f (take found.1 side.1))) front) bad.bad,
           ),
           (why.1 h).1,
         ),

@@ -7,7 +7,7 @@ use Rattle.tape_disk.specs.Disk.{DiskState, Each, IsDisk, Keeps}
 use Rattle.tape_disk.specs.Moments.{LeavesOnly, holds_now, weakened}
 use Rattle.gate_journal.specs.Answers.{Appended, Broke, NoneFailed}
 use Rattle.gate_journal.specs.Crash.{WithOrWithout}
-use Rattle.gate_journal.specs.Side.{Heading, StandsFor}
+use Rattle.gate_journal.specs.Side.{Front, Heading, StandsFor, plain}
 use Rattle.gate_journal.specs.State.{OpenSide, room_behind}
 use Rattle.accepting.specs.Core.{Core, IsCore, settled, with_item}
 use Rattle.accepting.specs.Device.{IsDevice, one_disk, one_is_device, one_keeps}
@@ -32,7 +32,7 @@ abbrev pub store_on : {D : Type 0} → OpenSide D → NotedStates → OpenStore 
 store_on side notes =
     record {
       disk = side.disk;
-      heading = side.heading;
+      heading = side.front.head.heading;
       states = notes.states;
       torn = notes.torn;
       failed = side.failed;
@@ -141,11 +141,14 @@ module _ {D : Type 0} (state : D → DiskState) (is_disk : (d : D) → (state d)
       (store_on old notes))
 
   module _ (old new : OpenSide D) (capacity capacity' : ℕ) (notes : NotedStates)
-      (is : IsOpen old.heading old.extents old.failed capacity notes)
-      (stores : (state old.disk).honest → StoresStates (state old.disk) old.heading old.bodies notes)
+      (is : IsOpen old.front.head.heading old.extents old.failed capacity notes)
+      (stores : (state old.disk).honest → StoresStates (state old.disk) old.front old.bodies notes)
       (room : STATE_BYTES ≤ capacity') (saved : PrState) (savable : IsSavable saved) (body : List ℕ)
       (body_is : body ≡ spell_state saved) (keeps : Keeps (state old.disk) (state new.disk))
-      (heading_is : new.heading ≡ old.heading) (fine : old.failed ≡ false) where
+      (front_is : new.front ≡ old.front) (fine : old.failed ≡ false) where
+    heading_is : new.front.head.heading ≡ old.front.head.heading
+    heading_is = ap (λ (f : Front). f.head.heading) front_is
+
     pub at_rest : notes.torn ≡ None
     at_rest = none_torn notes.torn (sym is.at_rest ∙ fine)
 
@@ -154,28 +157,31 @@ module _ {D : Type 0} (state : D → DiskState) (is_disk : (d : D) → (state d)
 
     -- each moment shows the states, or these with the new one
     module _ (leaves : (state old.disk).honest
-        → LeavesOnly (state old.disk) (state new.disk) (WithOrWithout old.heading old.bodies body)) where
+        → LeavesOnly (state old.disk) (state new.disk) (WithOrWithout old.front old.bodies body)) where
       pub shown : (state old.disk).honest
-          → LeavesOnly (state old.disk) (state new.disk) (ShowsStates old.heading notes.states (Some saved))
+          → LeavesOnly (state old.disk) (state new.disk) (ShowsStates old.front.head.heading notes.states (Some saved))
       shown h =
-          weakened (state old.disk) (state new.disk) (WithOrWithout old.heading old.bodies body)
-          (ShowsStates old.heading notes.states (Some saved)) (leaves h)
-          (shows_more old.heading is.kind notes.states is.states saved savable old.bodies (stores h).bodies_are body
-          body_is)
+          weakened (state old.disk) (state new.disk) (WithOrWithout old.front old.bodies body)
+          (ShowsStates old.front.head.heading notes.states (Some saved)) (leaves h)
+          (λ image either.
+          shows_more old.front.head.heading is.kind notes.states is.states saved savable old.bodies
+          (stores h).bodies_are body body_is image
+          (subst (λ (f : Front). WithOrWithout f old.bodies body image) (stores h).front_is either))
 
       pub opened : (state old.disk).honest
-          → LeavesOnly (state old.disk) (state new.disk) (OpensAsEither old.heading (latest notes.states) saved)
+          → LeavesOnly (state old.disk) (state new.disk)
+          (OpensAsEither old.front.head.heading (latest notes.states) saved)
       opened h =
-          weakened (state old.disk) (state new.disk) (ShowsStates old.heading notes.states (Some saved))
-          (OpensAsEither old.heading (latest notes.states) saved) (shown h)
-          (opens_either old.heading notes.states (Some saved))
+          weakened (state old.disk) (state new.disk) (ShowsStates old.front.head.heading notes.states (Some saved))
+          (OpensAsEither old.front.head.heading (latest notes.states) saved) (shown h)
+          (opens_either old.front.head.heading notes.states (Some saved))
 
       -- the disk failed
       module _ (broke : Broke old new (length body))
           (bodies_are : (state old.disk).honest → new.bodies ≡ old.bodies)
           (notes' : NotedStates) (notes_are : notes' ≡ with_torn_state notes saved) where
-        pub broken_open : IsOpen new.heading new.extents new.failed capacity' notes'
-        broken_open = subst (IsOpen new.heading new.extents new.failed capacity') (sym notes_are) (record {
+        pub broken_open : IsOpen new.front.head.heading new.extents new.failed capacity' notes'
+        broken_open = subst (IsOpen new.front.head.heading new.extents new.failed capacity') (sym notes_are) (record {
           kind = ap (λ (h : Heading). h.kind) heading_is ∙ is.kind;
           states = is.states;
           at_rest = broke.failed;
@@ -184,14 +190,16 @@ module _ {D : Type 0} (state : D → DiskState) (is_disk : (d : D) → (state d)
         })
 
         pub broken_stores : (state new.disk).honest
-            → StoresStates (state new.disk) new.heading new.bodies notes'
+            → StoresStates (state new.disk) new.front new.bodies notes'
         broken_stores h' =
             let h = keeps.was_honest h' in
-            subst (λ (x : Heading × NotedStates). StoresStates (state new.disk) x.0 new.bodies x.1)
-            (λ i. (sym heading_is i, sym notes_are i)) (record {
+            subst (λ (x : Front × NotedStates). StoresStates (state new.disk) x.0 new.bodies x.1)
+            (λ i. (sym front_is i, sym notes_are i)) (record {
+              front_is = (stores h).front_is;
               bodies_are = bodies_are h ∙ (stores h).bodies_are;
               shows =
-                  holds_now (state old.disk) (state new.disk) (ShowsStates old.heading notes.states (Some saved))
+                  holds_now (state old.disk) (state new.disk)
+                  (ShowsStates old.front.head.heading notes.states (Some saved))
                   (is_disk new.disk h') (shown h);
             })
 
@@ -200,10 +208,12 @@ module _ {D : Type 0} (state : D → DiskState) (is_disk : (d : D) → (state d)
         broken_advances cause = record {
           moved =
               subst (λ (x : (Heading × NotedStates) × Option PrState).
-              CoreMoves store_rules (one_disk state) old.disk new.disk (core_with old.heading notes.states x.1)
+              CoreMoves store_rules (one_disk state) old.disk new.disk
+              (core_with old.front.head.heading notes.states x.1)
               (core_with x.0.0 x.0.1.states x.0.1.torn) (saved ∷ []))
               (λ i. ((sym heading_is i, sym notes_are i), sym at_rest i))
-              (moves_broken state is_disk old.disk new.disk keeps old.heading notes.states saved shown cause);
+              (moves_broken state is_disk old.disk new.disk keeps old.front.head.heading notes.states saved shown
+              cause);
           counted = cause;
           honesty = (keeps.stays_honest, keeps.was_honest);
           hand = (λ h. h, λ h. h);
@@ -221,10 +231,10 @@ module _ {D : Type 0} (state : D → DiskState) (is_disk : (d : D) → (state d)
       -- the state was saved
       module _ (appended : Appended old new (length body))
           (bodies_are : (state old.disk).honest → new.bodies ≡ old.bodies ++ body ∷ [])
-          (sure : (state old.disk).honest → Each (state new.disk) (StandsFor new.heading new.bodies))
+          (sure : (state old.disk).honest → Each (state new.disk) (StandsFor new.front new.bodies))
           (notes' : NotedStates) (notes_are : notes' ≡ with_state notes saved) where
-        pub saved_open : IsOpen new.heading new.extents new.failed capacity' notes'
-        saved_open = subst (IsOpen new.heading new.extents new.failed capacity') (sym notes_are) (record {
+        pub saved_open : IsOpen new.front.head.heading new.extents new.failed capacity' notes'
+        saved_open = subst (IsOpen new.front.head.heading new.extents new.failed capacity') (sym notes_are) (record {
           kind = ap (λ (h : Heading). h.kind) heading_is ∙ is.kind;
           states = All-push IsSavable notes.states saved is.states savable;
           at_rest = appended.is_fine ∙ sym (ap (λ (t : Option PrState). is_some t) at_rest);
@@ -240,21 +250,22 @@ module _ {D : Type 0} (state : D → DiskState) (is_disk : (d : D) → (state d)
         })
 
         pub given : (state old.disk).honest
-            → Each (state new.disk) (GivesStates old.heading (notes.states ++ saved ∷ []))
+            → Each (state new.disk) (GivesStates old.front.head.heading (notes.states ++ saved ∷ []))
         given h image left =
-            gives_more old.heading is.kind notes.states is.states saved savable old.bodies (stores h).bodies_are body
-            body_is image
-            (subst (λ (x : Heading × List (List ℕ)). StandsFor x.0 x.1 image) (λ i. (heading_is i, bodies_are h i))
-            (sure h image left))
+            gives_more old.front.head.heading is.kind notes.states is.states saved savable old.bodies
+            (stores h).bodies_are body body_is image
+            (subst (λ (x : Front × List (List ℕ)). StandsFor x.0 x.1 image)
+            (λ i. ((front_is ∙ (stores h).front_is) i, bodies_are h i)) (sure h image left))
 
-        pub saved_stores : (state new.disk).honest → StoresStates (state new.disk) new.heading new.bodies notes'
+        pub saved_stores : (state new.disk).honest → StoresStates (state new.disk) new.front new.bodies notes'
         saved_stores h' =
             let h = keeps.was_honest h' in
-            subst (λ (x : Heading × NotedStates). StoresStates (state new.disk) x.0 new.bodies x.1)
-            (λ i. (sym heading_is i, sym notes_are i)) (record {
+            subst (λ (x : Front × NotedStates). StoresStates (state new.disk) x.0 new.bodies x.1)
+            (λ i. (sym front_is i, sym notes_are i)) (record {
+              front_is = (stores h).front_is;
               bodies_are =
                   bodies_are h
-                  ∙ with_body old.heading is.kind notes.states is.states saved savable old.bodies
+                  ∙ with_body old.front.head.heading is.kind notes.states is.states saved savable old.bodies
                   (stores h).bodies_are body body_is;
               shows = λ image left. inl (given h image left);
             })
@@ -264,7 +275,8 @@ module _ {D : Type 0} (state : D → DiskState) (is_disk : (d : D) → (state d)
         saved_advances none = record {
           moved =
               subst (λ (x : (Heading × NotedStates) × Option PrState).
-              CoreMoves store_rules (one_disk state) old.disk new.disk (core_with old.heading notes.states x.1)
+              CoreMoves store_rules (one_disk state) old.disk new.disk
+              (core_with old.front.head.heading notes.states x.1)
               (core_with x.0.0 x.0.1.states x.0.1.torn) (saved ∷ []))
               (λ i. (
                 (
@@ -276,7 +288,7 @@ module _ {D : Type 0} (state : D → DiskState) (is_disk : (d : D) → (state d)
                 ),
                 sym at_rest i,
               ))
-              (moves_saved state is_disk old.disk new.disk keeps old.heading notes.states saved shown given);
+              (moves_saved state is_disk old.disk new.disk keeps old.front.head.heading notes.states saved shown given);
           counted = none;
           honesty = (keeps.stays_honest, keeps.was_honest);
           hand = (λ h. h, λ h. h);
@@ -307,7 +319,7 @@ module _ {D : Type 0} (state : D → DiskState) (is_disk : (d : D) → (state d)
         )
 
         pub opens_saved : (state old.disk).honest
-            → Each (state new.disk) (OpensAs new.heading (power_loss saved))
+            → Each (state new.disk) (OpensAs new.front.head.heading (power_loss saved))
         opens_saved h image left = (
           notes.states ++ saved ∷ [],
           subst (λ (heading : Heading). GivesStates heading (notes.states ++ saved ∷ []) image) (sym heading_is)

@@ -8,8 +8,8 @@ use Rattle.std.proofs.lemmas.List.Elements.{All-get_or, All-head, All-tail}
 use Rattle.tape_disk.specs.Disk.{DiskState}
 use Rattle.gate_journal.specs.declared.header.SideKind.{SideKind}
 use Rattle.gate_journal.specs.declared.header.SideKind.TheVariants.{Cartridge, Store}
-use Rattle.gate_journal.specs.Side.{BeginsAs, Heading, IsDamagedAt, IsDamagedOf, StandsFor, frame, spell, spell_heading}
-use Rattle.gate_journal.specs.Inner.Headings.{same_heading}
+use Rattle.gate_journal.specs.Side.{BeginsAs, Front, Heading, IsDamagedAt, IsDamagedOf, StandsFor, frame, plain, spell, spell_front}
+use Rattle.gate_journal.specs.Inner.Fronts.{same_front}
 use Rattle.gate_journal.specs.Inner.Sides.{one_place, one_side, sound}
 use Rattle.pr_core.specs.declared.states.PrState.{PrState}
 use Rattle.pr_core.specs.Saves.{AreSavedAlike}
@@ -41,8 +41,8 @@ same_states (s ∷ ss) (o ∷ os) a b e =
 pub gives_one : (image : List ℕ) (h k : Heading) (states others : List PrState) → GivesStates h states image
     → GivesStates k others image → (h ≡ k) × AreAllSavedAlike states others
 gives_one image h k states others one two =
-    let side = one_side image h k (state_bodies states) (state_bodies others) one.2 two.2 in
-    (side.0, same_states states others one.1 two.1 side.1)
+    let side = one_side image (plain h) (plain k) (state_bodies states) (state_bodies others) one.2 two.2 in
+    (ap (λ (f : Front). f.head.heading) side.0, same_states states others one.1 two.1 side.1)
 
 -- what is saved alike is lost alike
 lost_alike : (one other : PrState) → AreSavedAlike one other → power_loss one ≡ power_loss other
@@ -74,30 +74,31 @@ opens_one image h k one other (states, gives, is) (others, also, too) =
       }) same.1 ∙ sym too,
     )
 
--- an image begins with a header of one kind
+-- an image begins with a front of one kind
 begins_once : (image : List ℕ) (k l : SideKind) → BeginsAs k image → BeginsAs l image → k ≡ l
-begins_once image k l (h, r, okh, kh, ish) (j, s, okj, kj, isj) =
-    let whole : spell_heading h ++ r ≡ spell_heading j ++ s =
-    ap (λ (x : List ℕ). x ++ r) (sym (append-nil (spell_heading h))) ∙ sym ish ∙ isj
-    ∙ ap (λ (x : List ℕ). x ++ s) (append-nil (spell_heading j)) in
-    sym kh ∙ ap (λ (x : Heading). x.kind) (same_heading h j r s okh okj whole) ∙ kj
+begins_once image k l (f, r, okf, kf, isf) (g, s, okg, kg, isg) =
+    let whole : spell_front f ++ r ≡ spell_front g ++ s =
+    ap (λ (x : List ℕ). x ++ r) (sym (append-nil (spell_front f))) ∙ sym isf ∙ isg
+    ∙ ap (λ (x : List ℕ). x ++ s) (append-nil (spell_front g)) in
+    sym kf ∙ ap (λ (x : Front). x.head.heading.kind) (same_front f g r s okf okg whole).0 ∙ kg
 
-in_front : (h : Heading) (bodies : List (List ℕ)) (rest image : List ℕ) → image ≡ spell h bodies ++ rest
-    → image ≡ spell h [] ++ (flat_map frame bodies ++ rest)
-in_front h bodies rest image is =
-    is ∙ append_assoc (spell_heading h) (flat_map frame bodies) rest
-    ∙ ap (λ (x : List ℕ). x ++ (flat_map frame bodies ++ rest)) (sym (append-nil (spell_heading h)))
+in_front : (f : Front) (bodies : List (List ℕ)) (rest image : List ℕ) → image ≡ spell f bodies ++ rest
+    → image ≡ spell f [] ++ (flat_map frame bodies ++ rest)
+in_front f bodies rest image is =
+    is ∙ append_assoc (spell_front f) (flat_map frame bodies) rest
+    ∙ ap (λ (x : List ℕ). x ++ (flat_map frame bodies ++ rest)) (sym (append-nil (spell_front f)))
 
--- a side begins with its header
-pub begins_so : (image : List ℕ) (h : Heading) (bodies : List (List ℕ)) → StandsFor h bodies image
-    → BeginsAs h.kind image
-begins_so image h bodies s =
-    (h, flat_map frame bodies ++ s.1.0 ∷ s.1.1, s.0.begins, refl, in_front h bodies (s.1.0 ∷ s.1.1) image s.1.3)
+-- a side begins with its front
+pub begins_so : (image : List ℕ) (f : Front) (bodies : List (List ℕ)) → StandsFor f bodies image
+    → BeginsAs f.head.heading.kind image
+begins_so image f bodies s =
+    (f, flat_map frame bodies ++ s.1.0 ∷ s.1.1, s.0.begins, refl, in_front f bodies (s.1.0 ∷ s.1.1) image s.1.3)
 
 -- a damaged side too
-pub damaged_begins : (image : List ℕ) (at : ℕ) (damage : IsDamagedAt image at) → BeginsAs damage.0.kind image
-damaged_begins image at (h, bodies, rest, side, is, far, broken) =
-    (h, flat_map frame bodies ++ rest, side.begins, refl, in_front h bodies rest image is)
+pub damaged_begins : (image : List ℕ) (at : ℕ) (damage : IsDamagedAt image at)
+    → BeginsAs damage.0.head.heading.kind image
+damaged_begins image at (f, bodies, rest, ok, each, is, far, bad) =
+    (f, flat_map frame bodies ++ rest, ok, refl, in_front f bodies rest image is)
 
 -- what begins with a store's header is a store's
 no_store_begins : (image : List ℕ) → IsNoStore image → BeginsAs Store image → ⊥
@@ -110,12 +111,12 @@ pub gives_ours : (image : List ℕ) (h : Heading) (states : List PrState) → Gi
     → IsNoStore image → ⊥
 gives_ours image h states gives none =
     no_store_begins image none
-    (subst (λ (k : SideKind). BeginsAs k image) gives.0 (begins_so image h (state_bodies states) gives.2))
+    (subst (λ (k : SideKind). BeginsAs k image) gives.0 (begins_so image (plain h) (state_bodies states) gives.2))
 
 -- and whole
 pub gives_whole : (image : List ℕ) (h : Heading) (states : List PrState) (at : ℕ) → GivesStates h states image
     → IsDamagedOf Store image at → ⊥
-gives_whole image h states at gives damage = sound image h (state_bodies states) at gives.2 damage.1
+gives_whole image h states at gives damage = sound image (plain h) (state_bodies states) at gives.2 damage.1
 
 -- states that a side begins with reach no further than its first bad frame
 no_further : (h : Heading) (bodies : List (List ℕ)) (good : List PrState) (at : ℕ) → IsBadState h bodies good at
@@ -135,7 +136,7 @@ no_further h bodies good at bad states all spelled further =
 pub gives_good : (image : List ℕ) (k : Heading) (states : List PrState) (at : ℕ) → GivesStates k states image
     → IsBadStateAt image at → ⊥
 gives_good image k states at gives (h, bodies, good, s, bad) =
-    let side = one_side image k h (state_bodies states) bodies gives.2 s in
+    let side = one_side image (plain k) (plain h) (state_bodies states) bodies gives.2 s in
     let long : length bodies ≡ length states =
     ap (λ (b : List (List ℕ)). length b) (sym side.1) ∙ length-map states spell_state in
     no_further h bodies good at bad states gives.1
@@ -155,25 +156,26 @@ one_bad h bodies good others a b one two = by (cases_lt (length good) (length ot
         more (inr most) =
             let same : length good ≡ length others = omega (arith, least, most) in
             one.gate
-            ∙ ap (λ (x : List (List ℕ)). length (spell h x))
+            ∙ ap (λ (x : List (List ℕ)). length (spell (plain h) x))
             (one.spelled ∙ ap (λ (k : ℕ). take k bodies) same ∙ sym two.spelled)
             ∙ sym two.gate
 
 pub bad_once : (image : List ℕ) (a b : ℕ) → IsBadStateAt image a → IsBadStateAt image b → a ≡ b
 bad_once image a b (h, bodies, good, s, one) (k, others, found, t, two) =
-    let side = one_side image k h others bodies t s in
+    let side = one_side image (plain k) (plain h) others bodies t s in
     one_bad h bodies good found a b one
-    (subst (λ (x : Heading × List (List ℕ)). IsBadState x.0 x.1 found b) (λ i. (side.0 i, side.1 i)) two)
+    (subst (λ (x : Heading × List (List ℕ)). IsBadState x.0 x.1 found b)
+    (λ i. (ap (λ (f : Front). f.head.heading) side.0 i, side.1 i)) two)
 
 -- a side with a bad frame is a store's
 pub bad_ours : (image : List ℕ) (at : ℕ) → IsNoStore image → IsBadStateAt image at → ⊥
 bad_ours image at none (h, bodies, good, s, bad) =
     no_store_begins image none
-    (subst (λ (k : SideKind). BeginsAs k image) bad.kind (begins_so image h bodies s))
+    (subst (λ (k : SideKind). BeginsAs k image) bad.kind (begins_so image (plain h) bodies s))
 
 -- and whole
 pub bad_whole : (image : List ℕ) (a b : ℕ) → IsDamagedOf Store image a → IsBadStateAt image b → ⊥
-bad_whole image a b damage (h, bodies, good, s, bad) = sound image h bodies a s damage.1
+bad_whole image a b damage (h, bodies, good, s, bad) = sound image (plain h) bodies a s damage.1
 
 -- a damaged store is a store, and damaged at one place
 pub damaged_ours : (image : List ℕ) (at : ℕ) → IsNoStore image → IsDamagedOf Store image at → ⊥

@@ -2,7 +2,7 @@
 use Rattle.std.specs.Prelude.{◌≡◌, ◌⊎◌, ◌<◌, ℕ, List, [], ◌∷◌, ◌++◌, length, map, take, slice_index_or, Option, option_to_list}
 use Rattle.std.specs.List.{All}
 use Rattle.gate_journal.specs.declared.header.SideKind.TheVariants.{Cartridge, Store}
-use Rattle.gate_journal.specs.Side.{BeginsAs, Heading, IsDamagedOf, IsNotOurs, StandsFor, drive_name, spell}
+use Rattle.gate_journal.specs.Side.{BeginsAs, Heading, IsDamagedOf, IsNotOurs, StandsFor, drive_name, plain, spell}
 use Rattle.pr_core.specs.declared.states.PrState.{PrState}
 use Rattle.pr_core.specs.Saves.{AreSavedAlike}
 use Rattle.pr_core.specs.Staged.{last_saved}
@@ -17,10 +17,11 @@ heading_for drive = record { kind = Store; name = drive_name drive; capacities =
 abbrev pub state_bodies : List PrState → List (List ℕ)
 state_bodies states = map spell_state states
 
--- what is found on the image is a store's side with this heading, and a frame for each of just these states (own)
+-- What is found on the image is a store's side with this heading, and a frame for each of just these states. A store is
+-- no copy, and its pair gate is closed (own).
 abbrev pub GivesStates : Heading → List PrState → List ℕ → Type 0
 GivesStates heading states image =
-    (heading.kind ≡ Store) × All IsSavable states × StandsFor heading (state_bodies states) image
+    (heading.kind ≡ Store) × All IsSavable states × StandsFor (plain heading) (state_bodies states) image
 
 -- the image gives the states, or these with the one whose save was under way (own)
 abbrev pub ShowsStates : Heading → List PrState → Option PrState → List ℕ → Type 0
@@ -60,14 +61,14 @@ pub record IsBadState (heading : Heading) (bodies : List (List ℕ)) (good : Lis
   pub inside : length good < length bodies
   pub before : All IsSavable good
   pub spelled : state_bodies good ≡ take (length good) bodies
-  pub gate : at ≡ length (spell heading (state_bodies good))
+  pub gate : at ≡ length (spell (plain heading) (state_bodies good))
   pub bad : (state : PrState) → SpellsState state (slice_index_or bodies (length good) []) → ⊥
 
 -- the image stands for a side whose first bad frame has its gate at that place (own)
 abbrev pub IsBadStateAt : List ℕ → ℕ → Type 0
 IsBadStateAt image at =
     (heading : Heading) × (bodies : List (List ℕ)) × (good : List PrState)
-    × StandsFor heading bodies image × IsBadState heading bodies good at
+    × StandsFor (plain heading) bodies image × IsBadState heading bodies good at
 
 -- the image gives states, is no store's, is a damaged store's, or has a first bad frame (own)
 abbrev pub IsStoreAnswered : List ℕ → Type 0

@@ -2,7 +2,7 @@
 ghost use Rattle.std.specs.Prelude.{◌≡◌, ◌⊎◌, ◌≤◌, ◌<◌, ◌++◌, [], ◌∷◌, None, false, IfOk, IfErr, OnOk, OnErr};
 ghost use Rattle.tape_disk.specs.Disk.{Each, Keeps};
 ghost use Rattle.gate_journal.specs.Answers.{IsFault, NoneFailed};
-ghost use Rattle.gate_journal.specs.Side.{CLOSED, drive_name, spell};
+ghost use Rattle.gate_journal.specs.Side.{CLOSED, drive_name, plain, spell};
 ghost use Rattle.aptpl_store.specs.Answers.{IsStoreNotMade, disk_of_new};
 ghost use Rattle.aptpl_store.specs.Contents.{GivesStates, heading_for};
 
@@ -28,7 +28,7 @@ impl<D: Disk> AptplStore<D> {
             × (store.torn ≡ None) × (store.failed ≡ false) × (RESERVED_SAVES ≤ store.reserved)
             × NoneFailed (D.state disk) (D.state store.disk)) }
         ensures bytes { IfOk result (λ store. (D.state disk).honest →
-            (D.state store.disk).seen ≡ spell store.heading [] ++ CLOSED ∷ []) }
+            (D.state store.disk).seen ≡ spell (plain store.heading) [] ++ CLOSED ∷ []) }
         ensures sure { IfOk result (λ store. (D.state disk).honest →
             Each (D.state store.disk) (GivesStates store.heading [])) }
         ensures refused { IfErr result (λ refused. IsStoreNotMade refused.error

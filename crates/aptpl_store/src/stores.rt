@@ -3,7 +3,7 @@ ghost use Rattle.std.specs.Prelude.{◌≡◌, length, false, is_some, unwrap_or
 ghost use Rattle.tape_disk.specs.Disk.{Each};
 ghost use Rattle.gate_journal.specs.declared.header.SideKind.TheVariants as Kinds;
 ghost use Rattle.gate_journal.specs.State.{room_behind};
-ghost use Rattle.gate_journal.specs.Side.{spell};
+ghost use Rattle.gate_journal.specs.Side.{plain, spell};
 ghost use Rattle.aptpl_store.specs.Contents.{GivesStates, OpensAs, OpensAsEither, ShowsStates, state_bodies, latest};
 ghost use Rattle.pr_core.specs.States.{power_loss};
 
@@ -34,7 +34,7 @@ impl<D: Disk> Model for AptplStore<D> {
 
     ghost view = { λ a. record {
       disk = a.journal.disk;
-      heading = a.journal.heading;
+      heading = a.journal.front.head.heading;
       states = a.noted.notes.states;
       torn = a.noted.notes.torn;
       failed = a.journal.failed;
@@ -43,9 +43,9 @@ impl<D: Disk> Model for AptplStore<D> {
     } };
 
     ghost invariant = { λ a.
-        IsOpen a.journal.heading a.journal.extents a.journal.failed a.frame.room a.noted.notes
+        IsOpen a.journal.front.head.heading a.journal.extents a.journal.failed a.frame.room a.noted.notes
         × ((D.state a.journal.disk).honest →
-        StoresStates (D.state a.journal.disk) a.journal.heading a.journal.bodies a.noted.notes) };
+        StoresStates (D.state a.journal.disk) a.journal.front a.journal.bodies a.noted.notes) };
 }
 
 impl<D: Disk> AptplStore<D> {
@@ -65,7 +65,7 @@ impl<D: Disk> AptplStore<D> {
         ensures sure { (D.state self.now.disk).honest → self.now.failed ≡ false →
             Each (D.state self.now.disk) (GivesStates self.now.heading self.now.states) }
         ensures room { (D.state self.now.disk).honest → self.now.room
-            ≡ room_behind (length (spell self.now.heading (state_bodies self.now.states))) }
+            ≡ room_behind (length (spell (plain self.now.heading) (state_bodies self.now.states))) }
     {
         // Looked at for the proof's sake: the facts are the type's.
         self.journal.known();

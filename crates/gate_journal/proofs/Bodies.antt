@@ -9,22 +9,23 @@ use Rattle.std.proofs.lemmas.List.Elements.{All-nil, All-push}
 use Rattle.std.proofs.lemmas.Bool.{cases_eq}
 use Rattle.tape_disk.specs.Disk.{DiskState, IsDisk, Only, Each}
 use Rattle.tape_disk.specs.Moments.{LeavesOnly, no_call, weakened, holds_now}
-use Rattle.gate_journal.specs.Side.{OPEN, Heading, IsHeading, IsBody, IsSide, frame, spell_heading, spell, StandsFor}
+use Rattle.gate_journal.specs.Side.{OPEN, Front, Heading, IsFront, IsHeading, IsBody, IsSide, base_of, frame, plain, spell_front, spell, StandsFor}
 use Rattle.gate_journal.specs.Crash.{WithOrWithout}
 use Rattle.gate_journal.specs.State.{StoresSide, bodies_at, extents_from}
 use Rattle.gate_journal.specs.Inner.Writing.{BehindOrGated, Opened, tail_of}
 use Rattle.gate_journal.specs.Inner.Frames.{length-frame}
+use Rattle.gate_journal.specs.Inner.Fronts.{plain_front}
 
 pub frames_push : (bodies : List (List ℕ)) (body : List ℕ) →
     flat_map frame (bodies ++ body ∷ []) ≡ flat_map frame bodies ++ frame body
 frames_push bodies body = flat_map-append frame bodies (body ∷ [])
     ∙ ap (λ (l : List ℕ). flat_map frame bodies ++ l) (append-nil (frame body))
 
-pub spell_push : (heading : Heading) (bodies : List (List ℕ)) (body : List ℕ) →
-    spell heading (bodies ++ body ∷ []) ≡ spell heading bodies ++ frame body
-spell_push heading bodies body =
-    ap (λ (l : List ℕ). spell_heading heading ++ l) (frames_push bodies body)
-    ∙ sym (append_assoc (spell_heading heading) (flat_map frame bodies) (frame body))
+pub spell_push : (front : Front) (bodies : List (List ℕ)) (body : List ℕ) →
+    spell front (bodies ++ body ∷ []) ≡ spell front bodies ++ frame body
+spell_push front bodies body =
+    ap (λ (l : List ℕ). spell_front front ++ l) (frames_push bodies body)
+    ∙ sym (append_assoc (spell_front front) (flat_map frame bodies) (frame body))
 
 pub extents_push : (at : ℕ) (bodies : List (List ℕ)) (body : List ℕ) →
     extents_from at (bodies ++ body ∷ []) ≡ extents_from at bodies ++ (
@@ -68,36 +69,40 @@ bodies_from front (b ∷ bs) rest at here =
     λ i. first i ∷ others i
 
 -- what the view of a journal has for bodies is what its disk begins with
-pub bodies_are : (d : DiskState) (heading : Heading) (bodies : List (List ℕ)) (extents : List (ℕ × ℕ)) (end : ℕ)
-    (failed : Bool) → StoresSide d heading bodies extents end failed → bodies_at d.seen extents ≡ bodies
-bodies_are d heading bodies extents end failed on =
+pub bodies_are : (d : DiskState) (front : Front) (bodies : List (List ℕ)) (extents : List (ℕ × ℕ)) (end : ℕ)
+    (failed : Bool) → StoresSide d front bodies extents end failed → bodies_at d.seen extents ≡ bodies
+bodies_are d front bodies extents end failed on =
     (λ i. bodies_at (on.begins.1 i) (on.extents_are i))
-    ∙ bodies_from (spell_heading heading) bodies on.begins.0 (length (spell_heading heading)) refl
+    ∙ bodies_from (spell_front front) bodies on.begins.0 (length (spell_front front)) refl
 
-pub as_view : (d : DiskState) (heading : Heading) (bodies : List (List ℕ)) (extents : List (ℕ × ℕ)) (end : ℕ)
-    (failed : Bool) → StoresSide d heading bodies extents end failed →
-    StoresSide d heading (bodies_at d.seen extents) extents end failed
-as_view d heading bodies extents end failed on =
-    subst (λ (l : List (List ℕ)). StoresSide d heading l extents end failed)
-    (sym (bodies_are d heading bodies extents end failed on)) on
+pub as_view : (d : DiskState) (front : Front) (bodies : List (List ℕ)) (extents : List (ℕ × ℕ)) (end : ℕ)
+    (failed : Bool) → StoresSide d front bodies extents end failed →
+    StoresSide d front (bodies_at d.seen extents) extents end failed
+as_view d front bodies extents end failed on =
+    subst (λ (l : List (List ℕ)). StoresSide d front l extents end failed)
+    (sym (bodies_are d front bodies extents end failed on)) on
 
 regrouped : (front size body rest : List ℕ) →
     (front ++ (OPEN ∷ size ++ body)) ++ 0 ∷ rest ≡ front ++ OPEN ∷ (size ++ body ++ 0 ∷ []) ++ rest
 regrouped front size body rest = simp append_assoc
 
-module _ (heading : Heading) (bodies : List (List ℕ)) (body : List ℕ) (side : IsSide heading bodies)
+module _ (front : Front) (bodies : List (List ℕ)) (body : List ℕ) (side : IsSide front bodies)
     (ok : IsBody body) where
-  pub side_push : IsSide heading (bodies ++ body ∷ [])
-  side_push = record { begins = side.begins; holds = All-push IsBody bodies body side.holds ok }
+  pub side_push : IsSide front (bodies ++ body ∷ [])
+  side_push = record {
+    begins = side.begins;
+    holds = All-push IsBody bodies body side.holds ok;
+    base = omega (arith, side.base, length-append bodies (body ∷ []));
+  }
 
   pub counted : (rest : List ℕ) →
-      spell heading bodies ++ OPEN ∷ tail_of body ++ rest ≡ spell heading (bodies ++ body ∷ []) ++ 0 ∷ rest
-  counted rest = sym (ap (λ (l : List ℕ). l ++ 0 ∷ rest) (spell_push heading bodies body)
-      ∙ regrouped (spell heading bodies) (to_be_bytes w32 (length body)) body rest)
+      spell front bodies ++ OPEN ∷ tail_of body ++ rest ≡ spell front (bodies ++ body ∷ []) ++ 0 ∷ rest
+  counted rest = sym (ap (λ (l : List ℕ). l ++ 0 ∷ rest) (spell_push front bodies body)
+      ∙ regrouped (spell front bodies) (to_be_bytes w32 (length body)) body rest)
 
   -- the gate behind the spelling decides whether the new body counts
   pub either : (gate : ℕ) (image : List ℕ) → gate ≢ OPEN →
-      BehindOrGated (spell heading bodies) gate (tail_of body) image → WithOrWithout heading bodies body image
+      BehindOrGated (spell front bodies) gate (tail_of body) image → WithOrWithout front bodies body image
   either gate image shut (inl (rest, is)) = inl (side, (gate, rest, shut, is))
   either gate image shut (inr (other, rest, is)) = elim (cases_eq other OPEN) [
     | inl open_gate ↦ inr (
@@ -106,7 +111,7 @@ module _ (heading : Heading) (bodies : List (List ℕ)) (body : List ℕ) (side 
         0,
         rest,
         (λ e. omega arith),
-        is ∙ ap (λ (n : ℕ). spell heading bodies ++ n ∷ tail_of body ++ rest) open_gate
+        is ∙ ap (λ (n : ℕ). spell front bodies ++ n ∷ tail_of body ++ rest) open_gate
             ∙ counted rest,
       ),
     )
@@ -117,73 +122,73 @@ module _ (heading : Heading) (bodies : List (List ℕ)) (body : List ℕ) (side 
         tail_of body ++ rest,
         closed,
         is
-            ∙ append_assoc (spell heading bodies) (other ∷ tail_of body) rest,
+            ∙ append_assoc (spell front bodies) (other ∷ tail_of body) rest,
       ),
     )
   ]
 
-module _ (d : DiskState) (heading : Heading) (bodies : List (List ℕ)) (extents : List (ℕ × ℕ)) (end : ℕ)
-    (on : StoresSide d heading bodies extents end false) where
-  abbrev stands : StandsFor heading bodies d.seen
+module _ (d : DiskState) (front : Front) (bodies : List (List ℕ)) (extents : List (ℕ × ℕ)) (end : ℕ)
+    (on : StoresSide d front bodies extents end false) where
+  abbrev stands : StandsFor front bodies d.seen
   stands = (on.at_rest refl).0
 
-  pub front_is : take end d.seen ≡ spell heading bodies
+  pub front_is : take end d.seen ≡ spell front bodies
   front_is = ap (λ (l : List ℕ). take end l) on.begins.1
-      ∙ take_at (spell heading bodies) on.begins.0 end (sym on.end_is)
+      ∙ take_at (spell front bodies) on.begins.0 end (sym on.end_is)
 
   pub gate_is : get_or d.seen end 0 ≡ stands.1.0
   gate_is = ap (λ (l : List ℕ). get_or l end 0) stands.1.3
-      ∙ get_or_at (spell heading bodies) stands.1.0 stands.1.1 0 end (sym on.end_is)
+      ∙ get_or_at (spell front bodies) stands.1.0 stands.1.1 0 end (sym on.end_is)
 
   pub gate_stands : end < length d.seen
   gate_stands = omega (
     arith,
     on.end_is,
     ap length stands.1.3,
-    length-append (spell heading bodies) (stands.1.0 ∷ stands.1.1),
+    length-append (spell front bodies) (stands.1.0 ∷ stands.1.1),
   )
 
   module _ (body : List ℕ) (ok : IsBody body) where
     pub in_bodies : (image : List ℕ) → BehindOrGated (take end d.seen) (get_or d.seen end 0) (tail_of body) image →
-        WithOrWithout heading bodies body image
-    in_bodies image b = either heading bodies body on.side ok (get_or d.seen end 0) image
+        WithOrWithout front bodies body image
+    in_bodies image b = either front bodies body on.side ok (get_or d.seen end 0) image
         (λ e. stands.1.2 (sym gate_is ∙ e))
         (subst (λ (l : List ℕ). BehindOrGated l (get_or d.seen end 0) (tail_of body) image) front_is b)
 
     pub added : (d' : DiskState) (size : ℕ) → size ≡ length body → Opened (take end d.seen) (tail_of body) d'.seen →
-        Only d'.seen d'.may_leave → StoresSide d' heading (bodies ++ body ∷ []) (extents ++ (end + 5, size) ∷ [])
+        Only d'.seen d'.may_leave → StoresSide d' front (bodies ++ body ∷ []) (extents ++ (end + 5, size) ∷ [])
         (end + 5 + size) false
     added d' size is opened kept =
-        let whole : d'.seen ≡ spell heading (bodies ++ body ∷ []) ++ 0 ∷ opened.0 =
+        let whole : d'.seen ≡ spell front (bodies ++ body ∷ []) ++ 0 ∷ opened.0 =
         opened.1 ∙ ap (λ (l : List ℕ). l ++ OPEN ∷ tail_of body ++ opened.0) front_is
-        ∙ counted heading bodies body on.side ok opened.0 in
-        let far : end + 5 ≡ length (spell_heading heading) + length (flat_map frame bodies) + 5 =
-        omega (arith, on.end_is, length-append (spell_heading heading) (flat_map frame bodies)) in
+        ∙ counted front bodies body on.side ok opened.0 in
+        let far : end + 5 ≡ length (spell_front front) + length (flat_map frame bodies) + 5 =
+        omega (arith, on.end_is, length-append (spell_front front) (flat_map frame bodies)) in
         record {
-          side = side_push heading bodies body on.side ok;
+          side = side_push front bodies body on.side ok;
           begins = (0 ∷ opened.0, whole);
           extents_are = (λ i. on.extents_are i ++ (far i, is i) ∷ [])
-              ∙ sym (extents_push (length (spell_heading heading)) bodies body);
+              ∙ sym (extents_push (length (spell_front front)) bodies body);
           end_is = omega (
             arith,
             on.end_is,
             is,
-            ap length (spell_push heading bodies body),
-            length-append (spell heading bodies) (frame body),
+            ap length (spell_push front bodies body),
+            length-append (spell front bodies) (frame body),
             length-frame body,
           );
-          at_rest = λ e. ((side_push heading bodies body on.side ok, (0, opened.0, (λ z. omega arith), whole)), kept);
+          at_rest = λ e. ((side_push front bodies body on.side ok, (0, opened.0, (λ z. omega arith), whole)), kept);
         }
 
     pub torn : (d' : DiskState) → IsDisk d' →
         LeavesOnly d d' (BehindOrGated (take end d.seen) (get_or d.seen end 0) (tail_of body)) →
-        StoresSide d' heading bodies extents end true
+        StoresSide d' front bodies extents end true
     torn d' disk run = elim (holds_now d d' _ disk run d'.seen disk.reads) [
       | inl b ↦ keeps (get_or d.seen end 0 ∷ b.0) b.1
       | inr f ↦ keeps (f.0 ∷ tail_of body ++ f.1) (f.2 ∙ append_assoc (take end d.seen) (f.0 ∷ tail_of body) f.1)
     ]
       where
-        keeps : (rest : List ℕ) → d'.seen ≡ take end d.seen ++ rest → StoresSide d' heading bodies extents end true
+        keeps : (rest : List ℕ) → d'.seen ≡ take end d.seen ++ rest → StoresSide d' front bodies extents end true
         keeps rest is = record {
           side = on.side;
           begins = (rest, is ∙ ap (λ (l : List ℕ). l ++ rest) front_is);
@@ -193,24 +198,24 @@ module _ (d : DiskState) (heading : Heading) (bodies : List (List ℕ)) (extents
         }
 
 -- the same, as `append` needs it
-module _ (d : DiskState) (heading : Heading) (extents : List (ℕ × ℕ)) (end : ℕ) (failed : Bool)
-    (on : StoresSide d heading (bodies_at d.seen extents) extents end failed) (fine : failed ≡ false) where
+module _ (d : DiskState) (front : Front) (extents : List (ℕ × ℕ)) (end : ℕ) (failed : Bool)
+    (on : StoresSide d front (bodies_at d.seen extents) extents end failed) (fine : failed ≡ false) where
   abbrev bodies : List (List ℕ)
   bodies = bodies_at d.seen extents
 
-  open_on : StoresSide d heading bodies extents end false
-  open_on = subst (λ (f : Bool). StoresSide d heading bodies extents end f) fine on
+  open_on : StoresSide d front bodies extents end false
+  open_on = subst (λ (f : Bool). StoresSide d front bodies extents end f) fine on
 
-  pub sure_now : Each d (StandsFor heading bodies)
+  pub sure_now : Each d (StandsFor front bodies)
   sure_now image left =
       let at_rest = open_on.at_rest refl in
       (on.side, (at_rest.0.1.0, at_rest.0.1.1, at_rest.0.1.2, at_rest.1 image left ∙ at_rest.0.1.3))
 
-  pub still : (body : List ℕ) → IsDisk d → LeavesOnly d d (WithOrWithout heading bodies body)
-  still body disk = no_call d (WithOrWithout heading bodies body) disk (λ image left. inl (sure_now image left))
+  pub still : (body : List ℕ) → IsDisk d → LeavesOnly d d (WithOrWithout front bodies body)
+  still body disk = no_call d (WithOrWithout front bodies body) disk (λ image left. inl (sure_now image left))
 
   pub inside : end < length d.seen
-  inside = gate_stands d heading bodies extents end open_on
+  inside = gate_stands d front bodies extents end open_on
 
   pub only : Only d.seen d.may_leave
   only = (open_on.at_rest refl).1
@@ -219,62 +224,64 @@ module _ (d : DiskState) (heading : Heading) (extents : List (ℕ × ℕ)) (end 
     abbrev Run : Type 0
     Run = LeavesOnly d d' (BehindOrGated (take end d.seen) (get_or d.seen end 0) bytes)
 
-    plain : Run → LeavesOnly d d' (BehindOrGated (take end d.seen) (get_or d.seen end 0) (tail_of body))
-    plain run = subst (λ (l : List ℕ). LeavesOnly d d' (BehindOrGated (take end d.seen) (get_or d.seen end 0) l))
+    spelled_run : Run → LeavesOnly d d' (BehindOrGated (take end d.seen) (get_or d.seen end 0) (tail_of body))
+    spelled_run run = subst (λ (l : List ℕ). LeavesOnly d d' (BehindOrGated (take end d.seen) (get_or d.seen end 0) l))
         bytes_are run
 
-    pub moments : Run → LeavesOnly d d' (WithOrWithout heading bodies body)
-    moments run = weakened d d' _ _ (plain run) (in_bodies d heading bodies extents end open_on body ok)
+    pub moments : Run → LeavesOnly d d' (WithOrWithout front bodies body)
+    moments run = weakened d d' _ _ (spelled_run run) (in_bodies d front bodies extents end open_on body ok)
 
     module _ (run : Run) (disk' : IsDisk d') where
-      failed_on_old : StoresSide d' heading bodies extents end true
-      failed_on_old = torn d heading bodies extents end open_on body ok d' disk' (plain run)
+      failed_on_old : StoresSide d' front bodies extents end true
+      failed_on_old = torn d front bodies extents end open_on body ok d' disk' (spelled_run run)
 
       pub failed_bodies : bodies_at d'.seen extents ≡ bodies
-      failed_bodies = bodies_are d' heading bodies extents end true failed_on_old
+      failed_bodies = bodies_are d' front bodies extents end true failed_on_old
 
-      pub failed_on : StoresSide d' heading (bodies_at d'.seen extents) extents end true
-      failed_on = as_view d' heading bodies extents end true failed_on_old
+      pub failed_on : StoresSide d' front (bodies_at d'.seen extents) extents end true
+      failed_on = as_view d' front bodies extents end true failed_on_old
 
     module _ (extents' : List (ℕ × ℕ)) (extents_are : extents' ≡ extents ++ (end + 5, length body) ∷ [])
         (opened : Opened (take end d.seen) bytes d'.seen × Only d'.seen d'.may_leave) where
-      opened_on : StoresSide d' heading (bodies ++ body ∷ []) extents' (end + 5 + length body) false
+      opened_on : StoresSide d' front (bodies ++ body ∷ []) extents' (end + 5 + length body) false
       opened_on =
-          subst (λ (l : List (ℕ × ℕ)). StoresSide d' heading (bodies ++ body ∷ []) l (end + 5 + length body) false)
+          subst (λ (l : List (ℕ × ℕ)). StoresSide d' front (bodies ++ body ∷ []) l (end + 5 + length body) false)
           (sym extents_are)
-          (added d heading bodies extents end open_on body ok d' (length body) refl
+          (added d front bodies extents end open_on body ok d' (length body) refl
           (subst (λ (l : List ℕ). Opened (take end d.seen) l d'.seen) bytes_are opened.0) opened.1)
 
       pub added_bodies : bodies_at d'.seen extents' ≡ bodies ++ body ∷ []
-      added_bodies = bodies_are d' heading (bodies ++ body ∷ []) extents' (end + 5 + length body) false opened_on
+      added_bodies = bodies_are d' front (bodies ++ body ∷ []) extents' (end + 5 + length body) false opened_on
 
       pub added_on : (end' : ℕ) (failed' : Bool) → end' ≡ end + 5 + length body → failed' ≡ false →
-          StoresSide d' heading (bodies_at d'.seen extents') extents' end' failed'
+          StoresSide d' front (bodies_at d'.seen extents') extents' end' failed'
       added_on end' failed' e f =
-          subst (λ (x : Bool). StoresSide d' heading (bodies_at d'.seen extents') extents' end' x) (sym f)
-          (subst (λ (n : ℕ). StoresSide d' heading (bodies_at d'.seen extents') extents' n false) (sym e)
-          (as_view d' heading (bodies ++ body ∷ []) extents' (end + 5 + length body) false opened_on))
+          subst (λ (x : Bool). StoresSide d' front (bodies_at d'.seen extents') extents' end' x) (sym f)
+          (subst (λ (n : ℕ). StoresSide d' front (bodies_at d'.seen extents') extents' n false) (sym e)
+          (as_view d' front (bodies ++ body ∷ []) extents' (end + 5 + length body) false opened_on))
 
-      pub added_each : (image : List ℕ) → d'.may_leave image → StandsFor heading (bodies_at d'.seen extents') image
+      pub added_each : (image : List ℕ) → d'.may_leave image → StandsFor front (bodies_at d'.seen extents') image
       added_each image left =
           let at_rest = opened_on.at_rest refl in
-          let side = side_push heading bodies body on.side ok in
-          subst (λ (l : List (List ℕ)). StandsFor heading l image) (sym added_bodies)
+          let side = side_push front bodies body on.side ok in
+          subst (λ (l : List (List ℕ)). StandsFor front l image) (sym added_bodies)
           (side, (at_rest.0.1.0, at_rest.0.1.1, at_rest.0.1.2, at_rest.1 image left ∙ at_rest.0.1.3))
 
--- a side with no frames
+-- a side with no frames, which is no copy and whose pair gate is closed
 pub fresh : (d : DiskState) (heading : Heading) (extents : List (ℕ × ℕ)) (end : ℕ) → IsHeading heading →
-    d.seen ≡ spell_heading heading ++ 0 ∷ [] → Only d.seen d.may_leave → extents ≡ [] →
-    end ≡ length (spell_heading heading)
-    → StoresSide d heading (bodies_at d.seen extents) extents end false
+    d.seen ≡ spell_front (plain heading) ++ 0 ∷ [] → Only d.seen d.may_leave → extents ≡ [] →
+    end ≡ length (spell_front (plain heading))
+    → StoresSide d (plain heading) (bodies_at d.seen extents) extents end false
 fresh d heading extents end ok seen only none size =
-    let side : IsSide heading [] = record { begins = ok; holds = All-nil IsBody } in
-    let whole : d.seen ≡ spell heading [] ++ 0 ∷ [] =
-    seen ∙ ap (λ (l : List ℕ). l ++ 0 ∷ []) (sym (append-nil (spell_heading heading))) in
-    subst (λ (l : List (ℕ × ℕ)). StoresSide d heading (bodies_at d.seen l) l end false) (sym none) (record {
+    let front : Front = plain heading in
+    let side : IsSide front [] =
+    record { begins = plain_front heading ok; holds = All-nil IsBody; base = omega arith } in
+    let whole : d.seen ≡ spell front [] ++ 0 ∷ [] =
+    seen ∙ ap (λ (l : List ℕ). l ++ 0 ∷ []) (sym (append-nil (spell_front front))) in
+    subst (λ (l : List (ℕ × ℕ)). StoresSide d front (bodies_at d.seen l) l end false) (sym none) (record {
       side = side;
       begins = (0 ∷ [], whole);
       extents_are = refl;
-      end_is = size ∙ ap length (sym (append-nil (spell_heading heading)));
+      end_is = size ∙ ap length (sym (append-nil (spell_front front)));
       at_rest = λ e. ((side, (0, [], (λ z. omega arith), whole)), only);
     })

@@ -1,9 +1,9 @@
--- Places of bodies that lie before the end.
-use Rattle.std.proofs.Common.{◌≡◌, ℕ, ◌+◌, ◌<◌, ◌≤◌, List, [], ◌∷◌, ◌++◌, length, get_or, ap, sym, ◌∙◌, arith}
+-- Places of bodies, which lie before the end.
+use Rattle.std.proofs.Common.{◌≡◌, ℕ, suc, ◌+◌, ◌<◌, ◌≤◌, List, [], ◌∷◌, ◌++◌, length, get_or, refl, ap, sym, ◌∙◌, arith}
 use Rattle.std.specs.List.{All}
 use Rattle.std.proofs.lemmas.List.{get_or_default}
 use Rattle.std.proofs.lemmas.List.Elements.{All-push, All-weaker, All-same, All-nil}
-use Rattle.gate_journal.specs.State.{IsExtent, LiesInBody}
+use Rattle.gate_journal.specs.State.{IsExtent, LiesInBody, extents_from}
 
 pub further : (end end' : ℕ) → end ≤ end' → (extents : List (ℕ × ℕ)) → All (IsExtent end) extents →
     All (IsExtent end') extents
@@ -30,3 +30,8 @@ whole_body extents i place inside is =
     let at : (get_or extents i (0, 0)).0 ≡ place.0 = ap (λ (p : ℕ × ℕ). p.0) same in
     let size : (get_or extents i (0, 0)).1 ≡ place.1 = ap (λ (p : ℕ × ℕ). p.1) same in
     (i, inside, omega (arith, at), omega (arith, at, size))
+
+-- there is an extent for each body
+pub extents_count : (at : ℕ) (bodies : List (List ℕ)) → length (extents_from at bodies) ≡ length bodies
+extents_count at [] = refl
+extents_count at (body ∷ bodies) = ap suc (extents_count (at + 5 + length body) bodies)

@@ -64,12 +64,12 @@ module _ (bytes : List ℕ) where
   pub none_there : length bytes ≡ 0 → BeginsWithHead bytes → ⊥
   none_there empty w = absurd (omega (arith, empty, long w))
 
-  guess_is : (copy : Bool) (w : BeginsWithHead bytes) → is_copy w.0.copied ≡ copy → head_as copy bytes ≡ w.0
-  guess_is copy w kind = (let e = sym kind in λ i. head_as (e i) (w.4 i)) ∙ head_is w.0 w.1 w.2 w.3
+  guess_is : (copy : Bool) (w : BeginsWithHead bytes) → is_copy w.0.copied ≡ copy → head_as Cartridge copy bytes ≡ w.0
+  guess_is copy w kind = (let e = sym kind in λ i. head_as Cartridge (e i) (w.4 i)) ∙ head_is w.0 w.1 w.2 w.3
 
   -- what is read of the front
   front_is : (copy : Bool) (n : ℕ) → n ≡ count_in copy byte →
-      heading_in (take (17 + 8 * n) bytes) ≡ (head_as copy bytes).heading
+      heading_in (take (17 + 8 * n) bytes) ≡ (head_as Cartridge copy bytes).heading
   front_is copy n is =
       let name : take 16 (drop 1 (take (17 + 8 * n) bytes)) ≡ take 16 (drop 1 bytes) =
       (let e : 17 + 8 * n ≡ 1 + (16 + 8 * n) = omega arith in ap (λ (m : ℕ). take 16 (drop 1 (take m bytes))) e)
@@ -127,7 +127,7 @@ module _ (bytes : List ℕ) where
     found_plain few enough ok =
         let count : length (numbers_of (numbers_at byte)) ≡ byte =
         numbers_count byte (numbers_at byte) (many byte enough) in
-        let head : Head = head_as false bytes in
+        let head : Head = head_as Cartridge false bytes in
         let well : IsHead head = record {
           heading = subst (λ (h : Heading). IsHeading h) (front_is false byte refl) ok;
           copied = tt;
@@ -156,7 +156,7 @@ module _ (bytes : List ℕ) where
         let there : drop (17 + 8 * n) bytes ≡ last_at n =
         sym (drop-drop (8 * n) 17 bytes) in
         let told : Some copied ≡ copied_in true (last_at n) = is ∙ ap (λ (l : List ℕ). copied_in true l) there in
-        let head : Head = record { heading = (head_as true bytes).heading; copied = Some copied } in
+        let head : Head = record { heading = (head_as Cartridge true bytes).heading; copied = Some copied } in
         let right : IsHead head = record {
           heading = subst (λ (h : Heading). IsHeading h) (front_is true n refl) ok;
           copied = well;

@@ -5,7 +5,7 @@ use Rattle.std.specs.List.{All, flat_map}
 use Rattle.std.proofs.lemmas.List.{get_or-map, length-map, drop-take, drop-drop, take-take}
 use Rattle.std.proofs.lemmas.List.Elements.{All-get_or}
 use Rattle.tape_disk.specs.Disk.{DiskState, Same}
-use Rattle.gate_journal.specs.Side.{Heading, frame, spell, spell_heading, StandsFor}
+use Rattle.gate_journal.specs.Side.{Front, frame, spell, spell_front, StandsFor}
 use Rattle.gate_journal.specs.State.{StoresSide, IsExtent, IsBodyAt, LiesInBody, IsBodyPart, bodies_at, extents_from}
 use Rattle.gate_journal.specs.Inner.Frames.{length-frame}
 
@@ -20,21 +20,21 @@ place_of at (b ∷ bs) (suc i) d inside =
     omega (arith, length-append (frame b) (flat_map frame (take i bs)), length-frame b) in
     place_of (at + 5 + length b) bs i d (omega (arith, inside)) ∙ ap (λ (n : ℕ). (n, length (get_or bs i []))) far
 
-module _ (disk : DiskState) (heading : Heading) (extents : List (ℕ × ℕ)) (end : ℕ) (failed : Bool)
-    (on : StoresSide disk heading (bodies_at disk.seen extents) extents end failed) where
+module _ (disk : DiskState) (front : Front) (extents : List (ℕ × ℕ)) (end : ℕ) (failed : Bool)
+    (on : StoresSide disk front (bodies_at disk.seen extents) extents end failed) where
   abbrev bodies : List (List ℕ)
   bodies = bodies_at disk.seen extents
 
   pub body_there : (i : ℕ) (place : ℕ × ℕ) → i < length extents → place ≡ get_or extents i place →
-      IsBodyAt disk.seen heading bodies i place
+      IsBodyAt disk.seen front bodies i place
   body_there i place inside is =
       let sized : length bodies ≡ length extents =
       length-map extents (λ (p : ℕ × ℕ). slice_range disk.seen p.0 (p.0 + p.1)) in
       let known = is ∙ ap (λ (l : List (ℕ × ℕ)). get_or l i place) on.extents_are
-      ∙ place_of (length (spell_heading heading)) bodies i place (omega (arith, inside, sized)) in
+      ∙ place_of (length (spell_front front)) bodies i place (omega (arith, inside, sized)) in
       record {
         gate = ap (λ (p : ℕ × ℕ). p.0) known
-            ∙ ap (λ (n : ℕ). n + 5) (sym (length-append (spell_heading heading) (flat_map frame (take i bodies))));
+            ∙ ap (λ (n : ℕ). n + 5) (sym (length-append (spell_front front) (flat_map frame (take i bodies))));
         sized = ap (λ (p : ℕ × ℕ). p.1) known;
         there = get_or-map (λ (p : ℕ × ℕ). slice_range disk.seen p.0 (p.0 + p.1)) extents i place [] inside
             ∙ ap (λ (p : ℕ × ℕ). slice_range disk.seen p.0 (p.0 + p.1)) (sym is);
@@ -50,7 +50,7 @@ module _ (disk : DiskState) (heading : Heading) (extents : List (ℕ × ℕ)) (e
         place.within,
         on.end_is,
         ap length on.begins.1,
-        length-append (spell heading bodies) on.begins.0,
+        length-append (spell front bodies) on.begins.0,
       )
 
   module _ (later : DiskState) (same : Same disk later) where
@@ -60,21 +60,21 @@ module _ (disk : DiskState) (heading : Heading) (extents : List (ℕ × ℕ)) (e
     pub bodies_stay : bodies_at later.seen extents ≡ bodies
     bodies_stay = same_bodies
 
-    pub stays_on : StoresSide later heading (bodies_at later.seen extents) extents end failed
-    stays_on = subst (λ (l : List (List ℕ)). StoresSide later heading l extents end failed) (sym same_bodies) (record {
+    pub stays_on : StoresSide later front (bodies_at later.seen extents) extents end failed
+    stays_on = subst (λ (l : List (List ℕ)). StoresSide later front l extents end failed) (sym same_bodies) (record {
       side = on.side;
       begins = (on.begins.0, same.seen ∙ on.begins.1);
       extents_are = on.extents_are;
       end_is = on.end_is;
       at_rest = λ fine.
           let rest = on.at_rest fine in (
-            subst (λ (l : List ℕ). StandsFor heading bodies l) (sym same.seen) rest.0,
+            subst (λ (l : List ℕ). StandsFor front bodies l) (sym same.seen) rest.0,
             λ image left. rest.1 image (same.crash image left) ∙ sym same.seen,
           );
     })
 
-    pub fails_on : StoresSide later heading (bodies_at later.seen extents) extents end true
-    fails_on = subst (λ (l : List (List ℕ)). StoresSide later heading l extents end true) (sym same_bodies) (record {
+    pub fails_on : StoresSide later front (bodies_at later.seen extents) extents end true
+    fails_on = subst (λ (l : List (List ℕ)). StoresSide later front l extents end true) (sym same_bodies) (record {
       side = on.side;
       begins = (on.begins.0, same.seen ∙ on.begins.1);
       extents_are = on.extents_are;

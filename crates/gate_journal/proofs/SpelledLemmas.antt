@@ -1,97 +1,247 @@
--- Bytes that spell a heading, part by part.
-use Rattle.std.proofs.Common.{◌≡◌, ℕ, ◌+◌, ◌*◌, ◌≤◌, List, [], ◌∷◌, ◌++◌, length, get_or, take, drop, refl, sym, ◌∙◌, ap, subst, arith, length-drop, take-append-drop}
-use Rattle.std.specs.Prelude.{IsTrue}
-use Rattle.std.specs.List.{All}
-use Rattle.std.proofs.lemmas.List.{append-nil, drop-drop, drop_more, get_or-take, get_or_append_left, length-take-le, take_at}
+-- Bytes that begin with a front, part by part.
+use Rattle.std.proofs.Common.{◌≡◌, ℕ, ◌+◌, ◌-◌, ◌*◌, ◌≤◌, ◌<◌, List, [], ◌∷◌, ◌++◌, length, get_or, take, drop, refl, sym, ◌∙◌, ap, subst, arith, append_assoc, length-append, length-drop, take-append-drop}
+use Rattle.std.specs.Prelude.{IsTrue, Option, None, Some, slice_range}
+use Rattle.std.proofs.lemmas.List.{append-nil, drop-drop, drop_more, get_or-drop, get_or-take, get_or_append_left, length-take-le, take_at}
+use Rattle.std.proofs.lemmas.List.Elements.{All-nil}
 use Rattle.vtl_base.specs.Limits.{is_capacity}
+use Rattle.gate_journal.specs.declared.fronts.ToldFront.{ToldFront}
 use Rattle.gate_journal.specs.declared.header.SideKind.{SideKind}
+use Rattle.gate_journal.specs.declared.reading.ReadFront.{ReadFront}
 use Rattle.gate_journal.specs.declared.header.SideKind.TheVariants.{Cartridge, Store}
-use Rattle.gate_journal.specs.Side.{CLOSED, OPEN, Heading, IsCount, IsHeading, IsName, IsNotOurs, spell_fields, spell_heading, start}
-use Rattle.gate_journal.specs.Inner.Headings.{count_there, heading_there, within_is}
-use Rattle.gate_journal.specs.Inner.Reading.{IsSpelled, heading_within, kind_by_letter, numbers_of}
-use Rattle.gate_journal.proofs.Numbers.{AreBytes, bytes_behind, numbers_count, numbers_spelled}
+use Rattle.gate_journal.specs.declared.heads.Copied.{Copied}
+use Rattle.gate_journal.specs.declared.heads.ToldHead.{ToldHead}
+use Rattle.gate_journal.specs.Heads.{Head, TellsHead, count_byte, spell_side_head}
+use Rattle.gate_journal.specs.Side.{OPEN, Front, Heading, IsCount, IsFront, IsName, IsNotOurs, IsPairGate, heading_of, mark, plain, spell_front, start}
+use Rattle.gate_journal.specs.Inner.Found.{front_read}
+use Rattle.gate_journal.specs.Inner.Fronts.{behind_start, count_there, front_as, front_is, front_there, length_front, length_start, letter_is, pair_there, plain_front, sized_by, store_is_plain}
+use Rattle.gate_journal.specs.Inner.Heads.{count_in, is_copy}
+use Rattle.gate_journal.specs.Inner.HeadsRead.{count_again}
+use Rattle.gate_journal.specs.Inner.Reading.{BeginsWithFront, TellsFront, copied_size, heading_told, kind_by_letter, numbers_of, size_behind}
 
--- what a reader looks at, of bytes that tell this kind
-pub record HasParts (kind : SideKind) (bytes : List ℕ) : Type 0 where
-  pub begins : take 10 bytes ≡ start OPEN kind CLOSED
-  pub name : IsName kind (take 16 (drop 11 bytes))
-  pub count : IsCount kind (get_or bytes 10 0)
-  pub capacities : All (λ bytes. IsTrue (is_capacity bytes)) (numbers_of (drop 27 bytes))
+-- the letter tells the kind
+letter_tells : (kind : SideKind) → kind_by_letter (get_or (mark kind) 3 0) ≡ kind
+letter_tells Cartridge = refl
+letter_tells Store = refl
 
-start_of : (kind : SideKind) (name capacities : List ℕ) →
-    take 10 (spell_heading (record { kind = kind; name = name; capacities = capacities })) ≡ start OPEN kind CLOSED
-start_of Cartridge name capacities = refl
-start_of Store name capacities = refl
+start_of : (kind : SideKind) (pair : ℕ) (head rest : List ℕ) →
+    take 10 (start OPEN kind pair ++ head ++ rest) ≡ start OPEN kind pair
+start_of Cartridge pair head rest = refl
+start_of Store pair head rest = refl
 
-module _ (bytes : List ℕ) (sized : length bytes ≡ 27 + 8 * get_or bytes 10 0) (kind : SideKind)
-    (tells : kind ≡ kind_by_letter (get_or bytes 4 0)) where
-  module _ (fits : AreBytes bytes) where
-    behind : length (drop 27 bytes) ≡ 8 * get_or bytes 10 0
-    behind = omega (arith, sized, length-drop 27 bytes)
+letter_in : (kind : SideKind) (pair : ℕ) (rest : List ℕ) →
+    get_or (start OPEN kind pair ++ rest) 4 0 ≡ get_or (mark kind) 3 0
+letter_in Cartridge pair rest = refl
+letter_in Store pair rest = refl
 
-    counted : length (numbers_of (drop 27 bytes)) ≡ get_or bytes 10 0
-    counted = numbers_count (get_or bytes 10 0) (drop 27 bytes) behind
+module _ (bytes : List ℕ) where
+  -- fewer bytes than each front has
+  pub none_short : length bytes < 27 → BeginsWithFront bytes → ⊥
+  none_short few w = absurd (omega (
+    arith,
+    few,
+    length_front w.0 w.2,
+    ap length w.3,
+    length-append (spell_front w.0) w.1,
+  ))
 
-    fields : drop 10 bytes ≡ spell_fields (heading_within bytes)
-    fields =
-        drop_more bytes 10 0 (omega (arith, sized))
-        ∙ (λ i. sym counted i ∷ sym (take-append-drop 16 (drop 11 bytes)) i)
-        ∙ ap (λ (l : List ℕ). length (numbers_of (drop 27 bytes)) ∷ (take 16 (drop 11 bytes) ++ l))
-        (drop-drop 16 11 bytes
-        ∙ sym (numbers_spelled (get_or bytes 10 0) (drop 27 bytes) behind (bytes_behind 27 bytes fits)))
+  kind_told : (w : BeginsWithFront bytes) → kind_by_letter (get_or bytes 4 0) ≡ w.0.head.heading.kind
+  kind_told w = ap kind_by_letter (letter_is w.0 w.1 bytes w.3) ∙ letter_tells w.0.head.heading.kind
 
-    pub spelled_by : HasParts kind bytes → IsSpelled bytes
-    spelled_by has =
-        let parts = subst (λ (k : SideKind). HasParts k bytes) tells has in (
-          heading_within bytes,
+  -- what stands in a front
+  reads : (w : BeginsWithFront bytes) → front_as w.0.head.heading.kind (is_copy w.0.head.copied) bytes ≡ w.0
+  reads w =
+      ap (λ (l : List ℕ). front_as w.0.head.heading.kind (is_copy w.0.head.copied) l) w.3 ∙ front_is w.0 w.1 w.2
+
+  pub name_told : (w : BeginsWithFront bytes) → take 16 (drop 11 bytes) ≡ w.0.head.heading.name
+  name_told w = ap (λ (l : List ℕ). take 16 l) (sym (drop-drop 1 10 bytes))
+      ∙ ap (λ (f : Front). f.head.heading.name) (reads w)
+
+  count_told : (w : BeginsWithFront bytes) →
+      count_in (is_copy w.0.head.copied) (get_or (drop 10 bytes) 0 0) ≡ length w.0.head.heading.capacities
+  count_told w =
+      ap (λ (n : ℕ). count_in (is_copy w.0.head.copied) n) (get_or-drop 10 bytes 0 0 ∙ count_there w.0 w.1 bytes w.3)
+      ∙ count_again w.0.head.copied (length w.0.head.heading.capacities)
+
+  capacities_told : (w : BeginsWithFront bytes) (end : ℕ) → end ≡ 27 + 8 * length w.0.head.heading.capacities →
+      numbers_of (slice_range bytes 27 end) ≡ w.0.head.heading.capacities
+  capacities_told w end there =
+      let width : end - 27 ≡ 8 * count_in (is_copy w.0.head.copied) (get_or (drop 10 bytes) 0 0) =
+      omega (arith, there, count_told w) in
+      ap (λ (n : ℕ). numbers_of (take n (drop 27 bytes))) width
+      ∙ ap (λ (l : List ℕ). numbers_of (take (8 * count_in (is_copy w.0.head.copied) (get_or (drop 10 bytes) 0 0)) l))
+      (sym (drop-drop 17 10 bytes))
+      ∙ ap (λ (f : Front). f.head.heading.capacities) (reads w)
+
+  -- the ten bytes of a front
+  pub begun_of : (kind : SideKind) → kind ≡ kind_by_letter (get_or bytes 4 0) → BeginsWithFront bytes →
+      take 10 bytes ≡ start OPEN kind (get_or bytes 9 0)
+  begun_of kind tells w =
+      let f = w.0 in
+      let head = spell_side_head f.head in
+      let pair : get_or bytes 9 0 ≡ f.pair =
+      ap (λ (l : List ℕ). get_or l 9 0) w.3 ∙ pair_there f.head.heading.kind f.pair head w.1 in
+      let same : kind ≡ f.head.heading.kind = tells ∙ kind_told w in
+      ap (λ (l : List ℕ). take 10 l) w.3 ∙ start_of f.head.heading.kind f.pair head w.1
+      ∙ (λ i. start OPEN (sym same i) (sym pair i))
+
+  -- bytes that begin with the ten of a side
+  module _ (kind : SideKind) (begins : take 10 bytes ≡ start OPEN kind (get_or bytes 9 0)) where
+    whole : bytes ≡ start OPEN kind (get_or bytes 9 0) ++ drop 10 bytes
+    whole = sym (take-append-drop 10 bytes) ∙ ap (λ (l : List ℕ). l ++ drop 10 bytes) begins
+
+    kind_is : (w : BeginsWithFront bytes) → w.0.head.heading.kind ≡ kind
+    kind_is w =
+        sym (kind_told w)
+        ∙ ap kind_by_letter (ap (λ (l : List ℕ). get_or l 4 0) whole
+        ∙ letter_in kind (get_or bytes 9 0) (drop 10 bytes)) ∙ letter_tells kind
+
+    behind : (w : BeginsWithFront bytes) → drop 10 bytes ≡ spell_side_head w.0.head ++ w.1
+    behind w = ap (λ (l : List ℕ). drop 10 l) w.3
+        ∙ behind_start w.0.head.heading.kind w.0.pair (spell_side_head w.0.head) w.1
+
+  -- a cartridge's front, by what is told of its head
+  module _ (begins : take 10 bytes ≡ start OPEN Cartridge (get_or bytes 9 0)) where
+    pub front_told : (head : ToldHead) → TellsHead (drop 10 bytes) (Some head) →
+        TellsFront bytes (Some (record {
+          kind = Cartridge;
+          pair = get_or bytes 9 0;
+          copied = head.copied;
+          size = 10 + head.size;
+        }))
+    front_told told (h, rest, kind, ok, is, same) =
+        let pair = get_or bytes 9 0 in
+        let f : Front = record { head = h; pair = pair } in
+        let any : (k : SideKind) → k ≡ Cartridge → IsPairGate k pair =
+        λ k e. subst (λ (k : SideKind). IsPairGate k pair) (sym e) tt in (
+          f,
+          rest,
+          record { head = ok; pair = any h.heading.kind kind },
+          whole Cartridge begins ∙ (λ i. start OPEN (sym kind i) pair ++ is i)
+              ∙ sym (append_assoc (start OPEN h.heading.kind pair) (spell_side_head h) rest),
           record {
-            name = parts.name;
-            count = subst (λ (n : ℕ). IsCount (kind_by_letter (get_or bytes 4 0)) n) (sym counted) parts.count;
-            capacities = parts.capacities;
+            kind = sym kind;
+            pair = refl;
+            copied = same.1;
+            size = omega (
+              arith,
+              same.0,
+              length_start h.heading.kind pair,
+              length-append (start OPEN h.heading.kind pair) (spell_side_head h),
+            );
           },
-          sym (take-append-drop 10 bytes) ∙ (λ i. parts.begins i ++ fields i),
         )
 
-  pub parts_of : IsSpelled bytes → HasParts kind bytes
-  parts_of (h, ok, is) =
-      let same : heading_within bytes ≡ h = ap heading_within is ∙ within_is h ok in
-      let told : get_or bytes 10 0 ≡ length h.capacities =
-      count_there h [] bytes ok (is ∙ sym (append-nil (spell_heading h))) in
-      subst (λ (k : SideKind). HasParts k bytes) (sym tells) (record {
-        begins = ap (λ (l : List ℕ). take 10 l) is ∙ start_of h.kind h.name h.capacities
-            ∙ ap (λ (g : Heading). start OPEN g.kind CLOSED) (sym same);
-        name = subst (λ (g : Heading). IsName g.kind g.name) (sym same) ok.name;
-        count = subst (λ (n : ℕ). IsCount (kind_by_letter (get_or bytes 4 0)) n) (sym told)
-            (subst (λ (g : Heading). IsCount g.kind (length h.capacities)) (sym same) ok.count);
-        capacities = subst (λ (g : Heading). All (λ bytes. IsTrue (is_capacity bytes)) g.capacities) (sym same)
-            ok.capacities;
-      })
+    pub headless : TellsHead (drop 10 bytes) None → BeginsWithFront bytes → ⊥
+    headless never w = never (w.0.head, w.1, kind_is Cartridge begins w, w.2.head, behind Cartridge begins w)
 
--- what bytes may be taken for is what they spell
-pub within_spelled : (bytes : List ℕ) (h : Heading) → h ≡ heading_within bytes → IsSpelled bytes →
-    IsHeading h × (bytes ≡ spell_heading h)
-within_spelled bytes h within (g, ok, is) =
-    let same : h ≡ g = within ∙ ap heading_within is ∙ within_is g ok in
-    (subst (λ (k : Heading). IsHeading k) (sym same) ok, is ∙ ap spell_heading (sym same))
+  -- a store's front
+  module _ (begins : take 10 bytes ≡ start OPEN Store (get_or bytes 9 0)) (some : 27 ≤ length bytes) where
+    abbrev name : List ℕ
+    name = take 16 (drop 11 bytes)
 
--- the front of a buffer has as many bytes as its count of capacities says
-pub front_sized : (buffer : List ℕ) (len : ℕ) → len ≡ 27 + 8 * get_or buffer 10 0 → len ≤ length buffer →
-    length (take len buffer) ≡ 27 + 8 * get_or (take len buffer) 10 0
+    plain_is : (w : BeginsWithFront bytes) → w.0 ≡ plain w.0.head.heading
+    plain_is w = store_is_plain w.0 w.2 (kind_is Store begins w)
+
+    pub pair_shut : BeginsWithFront bytes → get_or bytes 9 0 ≡ 0
+    pair_shut w =
+        ap (λ (l : List ℕ). get_or l 9 0) w.3
+        ∙ pair_there w.0.head.heading.kind w.0.pair (spell_side_head w.0.head) w.1
+        ∙ ap (λ (f : Front). f.pair) (plain_is w)
+
+    pub none_counted : BeginsWithFront bytes → get_or bytes 10 0 ≡ 0
+    none_counted w =
+        count_there w.0 w.1 bytes w.3
+        ∙ ap (λ (c : Option Copied). count_byte c (length w.0.head.heading.capacities))
+        (ap (λ (f : Front). f.head.copied) (plain_is w))
+        ∙ subst (λ (k : SideKind). IsCount k (length w.0.head.heading.capacities)) (kind_is Store begins w)
+        w.2.head.heading.count
+
+    pub named : (w : BeginsWithFront bytes) → IsName Store name
+    named w =
+        subst (λ (l : List ℕ). IsName Store l) (sym (name_told w))
+        (subst (λ (k : SideKind). IsName k w.0.head.heading.name) (kind_is Store begins w) w.2.head.heading.name)
+
+    pub store_told : get_or bytes 9 0 ≡ 0 → get_or bytes 10 0 ≡ 0 → IsName Store name →
+        TellsFront bytes (Some (record { kind = Store; pair = get_or bytes 9 0; copied = None; size = 27 }))
+    store_told shut none ok =
+        let heading : Heading = record { kind = Store; name = name; capacities = [] } in
+        let f : Front = plain heading in
+        let well : IsFront f =
+        plain_front heading (record { name = ok; count = refl; capacities = All-nil (λ n. IsTrue (is_capacity n)) }) in
+        let two : 0 ∷ name ≡ (0 ∷ name ++ []) ++ [] = sym (append-nil (0 ∷ name)) ∙ sym (append-nil (0 ∷ name ++ [])) in
+        let head : drop 10 bytes ≡ spell_side_head f.head ++ drop 27 bytes =
+        drop_more bytes 10 0 (omega (arith, some))
+        ∙ (λ i. none i ∷ sym (take-append-drop 16 (drop 11 bytes)) i)
+        ∙ ap (λ (l : List ℕ). 0 ∷ name ++ l) (drop-drop 16 11 bytes)
+        ∙ ap (λ (l : List ℕ). l ++ drop 27 bytes) two in (
+          f,
+          drop 27 bytes,
+          well,
+          whole Store begins ∙ (λ i. start OPEN Store (shut i) ++ head i)
+              ∙ sym (append_assoc (start OPEN Store 0) (spell_side_head f.head) (drop 27 bytes)),
+          record { kind = refl; pair = shut; copied = refl; size = omega (arith, length_front f well) },
+        )
+
+-- the heading in bytes is the one that is told
+pub heading_is_told : (bytes : List ℕ) (told : ToldFront) (w : TellsFront bytes (Some told)) →
+    heading_told told bytes ≡ w.0.head.heading
+heading_is_told bytes told (f, rest, ok, is, same) =
+    let w : BeginsWithFront bytes = (f, rest, ok, is) in
+    let cut : copied_size told.copied ≡ copied_size f.head.copied = ap copied_size same.copied in
+    let end : told.size - copied_size told.copied ≡ 27 + 8 * length f.head.heading.capacities =
+    omega (arith, cut, same.size, length_front f ok) in
+    λ i. record {
+      kind = same.kind i;
+      name = name_told bytes w i;
+      capacities = capacities_told bytes w (told.size - copied_size told.copied) end i;
+    }
+
+-- a front in memory is the one that is told
+module _ (bytes : List ℕ) (told : ToldFront) (read : ReadFront) (w : TellsFront bytes (Some told))
+    (heading : heading_of read.header ≡ heading_told told bytes) (copied : read.copied ≡ told.copied)
+    (pair : read.pair ≡ told.pair) where
+  same_read : front_read read ≡ w.0
+  same_read = λ i. record {
+    head = record { heading = (heading ∙ heading_is_told bytes told w) i; copied = (copied ∙ w.4.copied) i };
+    pair = (pair ∙ w.4.pair) i;
+  }
+
+  pub read_well : IsFront (front_read read)
+  read_well = subst IsFront (sym same_read) w.2
+
+  pub read_start : read.start ≡ told.size → read.start ≡ length (spell_front (front_read read))
+  read_start start = start ∙ w.4.size ∙ ap (λ (f : Front). length (spell_front f)) (sym same_read)
+
+  pub read_begins : (seen rest : List ℕ) → seen ≡ bytes ++ rest →
+      (more : List ℕ) × (seen ≡ spell_front (front_read read) ++ more)
+  read_begins seen rest is = (
+    w.1 ++ rest,
+    is ∙ ap (λ (l : List ℕ). l ++ rest) w.3 ∙ append_assoc (spell_front w.0) w.1 rest
+        ∙ ap (λ (f : Front). spell_front f ++ (w.1 ++ rest)) (sym same_read),
+  )
+
+-- an image that begins with such bytes is ours only if they begin with a front
+module _ (image bytes rest : List ℕ) (sized : length bytes ≡ 27 + size_behind (get_or bytes 10 0))
+    (begins : image ≡ bytes ++ rest) where
+  pub no_front : (BeginsWithFront bytes → ⊥) → IsNotOurs image
+  no_front never f more ok is =
+      let ours = is ∙ ap (λ (l : List ℕ). l ++ more) (append-nil (spell_front f)) in
+      let byte : get_or image 10 0 ≡ get_or bytes 10 0 =
+      ap (λ (l : List ℕ). get_or l 10 0) begins ∙ get_or_append_left bytes rest 0 10 (omega (arith, sized)) in
+      let long : length bytes ≡ length (spell_front f) =
+      sized ∙ ap (λ (n : ℕ). 27 + size_behind n) (sym byte) ∙ sym (sized_by f more image ok ours) in
+      never (
+        f,
+        [],
+        ok,
+        sym (take_at bytes rest (length (spell_front f)) long)
+            ∙ ap (λ (l : List ℕ). take (length (spell_front f)) l) (sym begins)
+            ∙ front_there f more image ok ours ∙ sym (append-nil (spell_front f)),
+      )
+
+-- the front of a buffer has as many bytes as its byte for the count says
+pub front_sized : (buffer : List ℕ) (len : ℕ) → len ≡ 27 + size_behind (get_or buffer 10 0) → len ≤ length buffer →
+    length (take len buffer) ≡ 27 + size_behind (get_or (take len buffer) 10 0)
 front_sized buffer len told fits =
     length-take-le len buffer fits ∙ told
-    ∙ ap (λ (n : ℕ). 27 + 8 * n) (sym (get_or-take len buffer 10 0 (omega (arith, told))))
-
--- an image that begins with such bytes is ours only if they spell a heading
-module _ (image bytes rest : List ℕ) (sized : length bytes ≡ 27 + 8 * get_or bytes 10 0)
-    (begins : image ≡ bytes ++ rest) where
-  pub no_header : ((h : Heading) → IsHeading h → bytes ≡ spell_heading h → ⊥) → IsNotOurs image
-  no_header never h more ok is =
-      let ours = is ∙ ap (λ (l : List ℕ). l ++ more) (append-nil (spell_heading h)) in
-      let count : get_or bytes 10 0 ≡ length h.capacities =
-      sym (get_or_append_left bytes rest 0 10 (omega (arith, sized)))
-      ∙ ap (λ (l : List ℕ). get_or l 10 0) (sym begins)
-      ∙ count_there h more image ok ours in
-      let long : length bytes ≡ 27 + 8 * length h.capacities = omega (arith, sized, count) in
-      never h ok (sym (take_at bytes rest (27 + 8 * length h.capacities) long)
-      ∙ ap (λ (l : List ℕ). take (27 + 8 * length h.capacities) l) (sym begins)
-      ∙ heading_there h more image ok ours)
+    ∙ ap (λ (n : ℕ). 27 + size_behind n) (sym (get_or-take len buffer 10 0 (omega (arith, told))))

@@ -1,5 +1,5 @@
 -- A side is walked through frame by frame, and nothing is written.
-use Rattle.std.proofs.Common.{◌≡◌, ◌≢◌, inl, inr, ℕ, ◌+◌, ◌-◌, ◌*◌, ◌<◌, ◌≤◌, List, [], ◌∷◌, ◌++◌, length, get_or, take, drop, refl, sym, ◌∙◌, ap, subst, arith, append_assoc, length-append, take-append-drop, false}
+use Rattle.std.proofs.Common.{◌≡◌, ◌≢◌, ◌⊎◌, inl, inr, ⊎_elim, ℕ, ◌+◌, ◌-◌, ◌*◌, ◌<◌, ◌≤◌, List, [], ◌∷◌, ◌++◌, length, get_or, take, drop, refl, sym, ◌∙◌, ap, subst, arith, append_assoc, length-append, take-append-drop, false}
 use Rattle.std.specs.Prelude.{slice_range}
 use Rattle.std.specs.List.{flat_map}
 use Rattle.std.proofs.lemmas.List.{append-nil, drop_at, drop_all, drop-take, take-take}
@@ -11,12 +11,14 @@ use Rattle.gate_journal.specs.declared.error.JournalError.{JournalError}
 use Rattle.gate_journal.specs.declared.error.JournalError.TheVariants.{NotOurs, Damaged, SideFull, Device, Failed, NoMemory}
 use Rattle.gate_journal.specs.Answers.{IsFault, NoneFailed, NotOpenedBy}
 use Rattle.gate_journal.specs.Crash.{Unwritten}
-use Rattle.gate_journal.specs.Inner.Found.{NotRead, Walked}
-use Rattle.gate_journal.specs.Side.{OPEN, Heading, IsHeading, IsBody, IsSide, IsBroken, BeginsWithFrame, IsNotOurs, IsDamagedAt, StandsFor, frame, spell_heading, spell}
+use Rattle.gate_journal.specs.Inner.Found.{BreaksOff, NotRead, Walked}
+use Rattle.gate_journal.specs.Side.{OPEN, AreTooFew, Front, IsFront, IsBody, IsSide, IsBroken, BeginsWithFrame, IsNotOurs, IsDamagedAt, StandsFor, base_of, frame, spell_front, spell}
 use Rattle.gate_journal.specs.State.{StoresSide, bodies_at, extents_from}
-use Rattle.gate_journal.specs.Inner.Headings.{count_there, long_enough}
+use Rattle.gate_journal.specs.Inner.Fronts.{long_enough, short_front, sized_by}
 use Rattle.gate_journal.specs.Inner.Frames.{length-frame}
+use Rattle.gate_journal.specs.Inner.Reading.{size_behind}
 use Rattle.gate_journal.proofs.Bodies.{frames_push, extents_push, as_view}
+use Rattle.gate_journal.proofs.Extents.{extents_count}
 
 module _ (d0 d1 d2 : DiskState) where
   pub unwritten_then : Unwritten d0 d1 → Unwritten d1 d2 → Unwritten d0 d2
@@ -65,14 +67,12 @@ one_call d0 d1 disk same time = record {
 
 module _ (seen : List ℕ) (start : ℕ) where
   -- nothing was walked yet, and nothing is there
-  pub nothing_there : length seen ≤ start →
-      (bodies : List (List ℕ)) × (extents : List (ℕ × ℕ)) × Walked seen start bodies extents start
-      × IsBroken bodies (drop start seen)
-  nothing_there short = (
+  pub nothing_there : (base : ℕ) → length seen ≤ start → BreaksOff seen start base start
+  nothing_there base short = (
     [],
     [],
     record { holds = All-nil IsBody; split = refl; extents_are = refl; at_is = omega arith },
-    inl (refl, drop_all start seen short),
+    inl (inl (refl, drop_all start seen short)),
   )
 
   pub started : (extents : List (ℕ × ℕ)) → extents ≡ [] →
@@ -106,44 +106,65 @@ module _ (seen : List ℕ) (start : ℕ) where
       );
     }
 
-    module _ (h : Heading) (ok : IsHeading h) (rest : List ℕ) (is : seen ≡ spell_heading h ++ rest)
-        (here : start ≡ length (spell_heading h)) where
-      pub side_is : IsSide h bodies
-      side_is = record { begins = ok; holds = walked.holds }
+    -- there are as many bodies as extents
+    pub as_many : length extents ≡ length bodies
+    as_many = ap length walked.extents_are ∙ extents_count start bodies
 
-      pub begins : seen ≡ spell h bodies ++ drop at seen
+    -- a gate is closed before there are as many frames as the base
+    pub too_few : (base : ℕ) → length extents < base →
+        (gate : ℕ) × (rest : List ℕ) × (gate ≢ OPEN) × (drop at seen ≡ gate ∷ rest) → BreaksOff seen start base at
+    too_few base few closed = (bodies, extents, walked, inr (omega (arith, few, as_many), closed))
+
+    module _ (f : Front) (ok : IsFront f) (rest : List ℕ) (is : seen ≡ spell_front f ++ rest)
+        (here : start ≡ length (spell_front f)) where
+      pub begins : seen ≡ spell f bodies ++ drop at seen
       begins =
           is
-          ∙ ap (λ (l : List ℕ). spell_heading h ++ l)
-          (sym (ap (λ (l : List ℕ). drop start l) is ∙ drop_at (spell_heading h) rest start (sym here)) ∙ walked.split)
-          ∙ sym (append_assoc (spell_heading h) (flat_map frame bodies) (drop at seen))
+          ∙ ap (λ (l : List ℕ). spell_front f ++ l)
+          (sym (ap (λ (l : List ℕ). drop start l) is ∙ drop_at (spell_front f) rest start (sym here)) ∙ walked.split)
+          ∙ sym (append_assoc (spell_front f) (flat_map frame bodies) (drop at seen))
 
-      pub far_is : length (spell h bodies) ≡ at
-      far_is = omega (arith, here, walked.at_is, length-append (spell_heading h) (flat_map frame bodies))
+      pub far_is : length (spell f bodies) ≡ at
+      far_is = omega (arith, here, walked.at_is, length-append (spell_front f) (flat_map frame bodies))
 
-      pub damaged_there : IsBroken bodies (drop at seen) → IsDamagedAt seen at
-      damaged_there broken = (h, bodies, drop at seen, side_is, begins, far_is, broken)
+      pub damaged_there : (base : ℕ) → base ≡ base_of f.head →
+          IsBroken bodies (drop at seen) ⊎ AreTooFew base bodies (drop at seen) → IsDamagedAt seen at
+      damaged_there base same bad = (
+        f,
+        bodies,
+        drop at seen,
+        ok,
+        walked.holds,
+        begins,
+        far_is,
+        subst (λ (n : ℕ). IsBroken bodies (drop at seen) ⊎ AreTooFew n bodies (drop at seen)) same bad,
+      )
 
-      pub stands_for : (gate : ℕ) (more : List ℕ) → gate ≢ OPEN → drop at seen ≡ gate ∷ more → StandsFor h bodies seen
-      stands_for gate more shut there =
-          (side_is, (gate, more, shut, begins ∙ ap (λ (l : List ℕ). spell h bodies ++ l) there))
+      module _ (enough : base_of f.head ≤ length bodies) where
+        pub side_is : IsSide f bodies
+        side_is = record { begins = ok; holds = walked.holds; base = enough }
 
-      -- the disk that was read, where all of it is sure
-      pub on_disk : (d : DiskState) → d.seen ≡ seen → Only seen d.may_leave → StandsFor h bodies seen →
-          StoresSide d h (bodies_at d.seen extents) extents at false × StandsFor h (bodies_at d.seen extents) seen
-      on_disk d same only stands =
-          let on : StoresSide d h bodies extents at false = record {
-            side = side_is;
-            begins = (drop at seen, same ∙ begins);
-            extents_are = walked.extents_are ∙ ap (λ (n : ℕ). extents_from n bodies) here;
-            end_is = sym far_is;
-            at_rest = λ e. (
-              subst (λ (l : List ℕ). StandsFor h bodies l) (sym same) stands,
-              λ image left. only image left ∙ sym same,
-            );
-          } in
-          let viewed = as_view d h bodies extents at false on in
-          (viewed, subst (λ (l : List ℕ). StandsFor h (bodies_at d.seen extents) l) same (viewed.at_rest refl).0)
+        pub stands_for : (gate : ℕ) (more : List ℕ) → gate ≢ OPEN → drop at seen ≡ gate ∷ more →
+            StandsFor f bodies seen
+        stands_for gate more shut there =
+            (side_is, (gate, more, shut, begins ∙ ap (λ (l : List ℕ). spell f bodies ++ l) there))
+
+        -- the disk that was read, where all of it is sure
+        pub on_disk : (d : DiskState) → d.seen ≡ seen → Only seen d.may_leave → StandsFor f bodies seen →
+            StoresSide d f (bodies_at d.seen extents) extents at false × StandsFor f (bodies_at d.seen extents) seen
+        on_disk d same only stands =
+            let on : StoresSide d f bodies extents at false = record {
+              side = side_is;
+              begins = (drop at seen, same ∙ begins);
+              extents_are = walked.extents_are ∙ ap (λ (n : ℕ). extents_from n bodies) here;
+              end_is = sym far_is;
+              at_rest = λ e. (
+                subst (λ (l : List ℕ). StandsFor f bodies l) (sym same) stands,
+                λ image left. only image left ∙ sym same,
+              );
+            } in
+            let viewed = as_view d f bodies extents at false on in
+            (viewed, subst (λ (l : List ℕ). StandsFor f (bodies_at d.seen extents) l) same (viewed.at_rest refl).0)
 
 -- a disk was made sure, and then read
 module _ (d0 d1 d2 d3 : DiskState) (sure : Only d0.seen d1.may_leave) (disk1 : IsDisk d1) (first : Unwritten d1 d2)
@@ -162,17 +183,16 @@ module _ (d0 d1 d2 d3 : DiskState) (sure : Only d0.seen d1.may_leave) (disk1 : I
 
 -- an open gate without a whole frame stands where the walk has come
 pub broken_there : (seen seen1 : List ℕ) → seen1 ≡ seen →
-    (start : ℕ) (bodies : List (List ℕ)) (extents : List (ℕ × ℕ)) (at place : ℕ) →
+    (start base : ℕ) (bodies : List (List ℕ)) (extents : List (ℕ × ℕ)) (at place : ℕ) →
     Walked seen start bodies extents at → place ≡ at
     → ((tail : List ℕ) × (drop at seen1 ≡ OPEN ∷ tail)) × (BeginsWithFrame (drop at seen1) → ⊥)
-    → (bodies : List (List ℕ)) × (extents : List (ℕ × ℕ)) × Walked seen start bodies extents place
-    × IsBroken bodies (drop place seen)
-broken_there seen seen1 same start bodies extents at place walked here broken = (
+    → BreaksOff seen start base place
+broken_there seen seen1 same start base bodies extents at place walked here broken = (
   bodies,
   extents,
   subst (λ (n : ℕ). Walked seen start bodies extents n) (sym here) walked,
-  subst (λ (n : ℕ). IsBroken bodies (drop n seen)) (sym here)
-      (subst (λ (l : List ℕ). IsBroken bodies (drop at l)) same (inr broken)),
+  inl (subst (λ (n : ℕ). IsBroken bodies (drop n seen)) (sym here)
+      (subst (λ (l : List ℕ). IsBroken bodies (drop at l)) same (inr broken))),
 )
 
 -- two reads in a row have the front of what is there
@@ -184,20 +204,25 @@ front_two image start capacities n first second =
     ∙ (λ i. sym (take-take 27 (27 + n) image (omega arith)) i ++ sym (drop-take 27 n image) i)
     ∙ take-append-drop 27 (take (27 + n) image)
 
--- a header that takes its place is none
-pub too_short : (image : List ℕ) (count : ℕ) → count ≡ get_or image 10 0 → length image - 27 < 8 * count →
-    IsNotOurs image
-too_short image count told short h rest ok is =
-    let begins = is ∙ ap (λ (l : List ℕ). l ++ rest) (append-nil (spell_heading h)) in
-    omega (arith, told, short, count_there h rest image ok begins, long_enough h rest image ok begins)
+-- an image that is too short for its count begins with no front, nor does one whose count takes too many bytes
+pub too_short : (image : List ℕ) (count : ℕ) → count ≡ get_or image 10 0 →
+    (length image - 27 < size_behind count) ⊎ (44 < size_behind count) → IsNotOurs image
+too_short image count told short f rest ok is =
+    let begins = is ∙ ap (λ (l : List ℕ). l ++ rest) (append-nil (spell_front f)) in
+    let same : size_behind count ≡ size_behind (get_or image 10 0) = ap size_behind told in
+    ⊎_elim
+    (λ (less : length image - 27 < size_behind count).
+    omega (arith, same, less, sized_by f rest image ok begins, long_enough f rest image ok begins))
+    (λ (more : 44 < size_behind count). omega (arith, same, more, sized_by f rest image ok begins, short_front f ok))
+    short
 
 -- two reads in a row filled the front of a buffer: with what the image begins
 module _ (image first second : List ℕ) (count : ℕ) (first_is : first ≡ slice_range image 0 27)
-    (second_is : second ≡ slice_range image 27 (27 + 8 * count)) where
+    (second_is : second ≡ slice_range image 27 (27 + count)) where
   pub begins_with : (front : List ℕ) → front ≡ first ++ second → (rest : List ℕ) × (image ≡ front ++ rest)
   begins_with front is = (
-    drop (27 + 8 * count) image,
-    sym (take-append-drop (27 + 8 * count) image)
-        ∙ ap (λ (l : List ℕ). l ++ drop (27 + 8 * count) image)
-        (sym (is ∙ front_two image first second (8 * count) first_is second_is)),
+    drop (27 + count) image,
+    sym (take-append-drop (27 + count) image)
+        ∙ ap (λ (l : List ℕ). l ++ drop (27 + count) image)
+        (sym (is ∙ front_two image first second count first_is second_is)),
   )

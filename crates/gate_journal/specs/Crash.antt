@@ -2,11 +2,11 @@
 use Rattle.std.specs.Prelude.{◌≡◌, ◌⊎◌, ℕ, List, [], ◌∷◌, ◌++◌}
 use Rattle.tape_disk.specs.Disk.{DiskState}
 use Rattle.tape_disk.specs.Moments.{LeavesOnly}
-use Rattle.gate_journal.specs.Side.{Heading, StandsFor}
+use Rattle.gate_journal.specs.Side.{Front, StandsFor}
 
 -- the image stands for the bodies, with the new one or without it (own)
-abbrev pub WithOrWithout : Heading → List (List ℕ) → List ℕ → List ℕ → Type 0
-WithOrWithout heading bodies body image = StandsFor heading bodies image ⊎ StandsFor heading (bodies ++ body ∷ []) image
+abbrev pub WithOrWithout : Front → List (List ℕ) → List ℕ → List ℕ → Type 0
+WithOrWithout front bodies body image = StandsFor front bodies image ⊎ StandsFor front (bodies ++ body ∷ []) image
 
 -- From old to new nothing was written: a read gives the same, and a crash since leaves what it might
 -- have left before (own).

@@ -5,7 +5,7 @@ use Rattle.gate_journal.specs.declared.header.SideKind.{SideKind}
 use Rattle.gate_journal.specs.declared.error.OpenError.{OpenError}
 use Rattle.gate_journal.specs.declared.error.OpenError.TheVariants.{NotOurs, Damaged, BadRecord, Device, NoMemory}
 use Rattle.gate_journal.specs.declared.error.NotDecoded.{NotDecoded}
-use Rattle.gate_journal.specs.Side.{Heading, IsDamagedOf, IsNotOf, StandsFor, spell}
+use Rattle.gate_journal.specs.Side.{Front, Heading, IsDamagedOf, IsNotOf, StandsFor, spell}
 use Rattle.gate_journal.specs.State.{OpenSide}
 use Rattle.gate_journal.specs.Answers.{IsFault, NoneFailed}
 
@@ -33,23 +33,23 @@ module _ {T : Type 0} (has_read : T → Heading → List (ℕ × ℕ) → List (
       → (more : List ℕ) → refuses start (bytes ++ more)
 
   -- a decoder has read the first so many bodies and refuses the next, whose frame has its gate at that place (own)
-  pub record IsRefused (decoder : T) (good : ℕ) (extents : List (ℕ × ℕ)) (heading : Heading)
+  pub record IsRefused (decoder : T) (good : ℕ) (extents : List (ℕ × ℕ)) (front : Front)
       (bodies : List (List ℕ)) (at : ℕ) : Type 0 where
     pub inside : good < length bodies
-    pub before : has_read decoder heading extents (take good bodies)
+    pub before : has_read decoder front.head.heading extents (take good bodies)
     pub bad : refuses decoder (slice_index_or bodies good [])
-    pub gate : at ≡ length (spell heading (take good bodies))
+    pub gate : at ≡ length (spell front (take good bodies))
 
   -- some decoder refuses the first body that is bad, and the gate of its frame has that place (own)
-  abbrev pub HasBadBody : Heading → List (List ℕ) → ℕ → Type 0
-  HasBadBody heading bodies at =
-      (decoder : T) × (good : ℕ) × (extents : List (ℕ × ℕ)) × IsRefused decoder good extents heading bodies at
+  abbrev pub HasBadBody : Front → List (List ℕ) → ℕ → Type 0
+  HasBadBody front bodies at =
+      (decoder : T) × (good : ℕ) × (extents : List (ℕ × ℕ)) × IsRefused decoder good extents front bodies at
 
   -- the image stands for a side of this kind whose first bad body has its frame's gate at that place (own)
   abbrev pub HasBadBodyAt : SideKind → List ℕ → ℕ → Type 0
   HasBadBodyAt kind image at =
-      (heading : Heading) × (bodies : List (List ℕ)) × (heading.kind ≡ kind) × StandsFor heading bodies image
-      × HasBadBody heading bodies at
+      (front : Front) × (bodies : List (List ℕ)) × (front.head.heading.kind ≡ kind) × StandsFor front bodies image
+      × HasBadBody front bodies at
 
   -- Why a side of this kind is not opened and decoded: what the old bytes are; a fault; or memory ran out, where there
   -- are the 27 bytes of a heading. But for a fault no call failed, and what stands is sure (own).

@@ -6,7 +6,7 @@ use Rattle.gate_journal.specs.declared.header.SideKind.{SideKind}
 use Rattle.gate_journal.specs.declared.header.SideKind.TheVariants.{Cartridge, Store}
 use Rattle.gate_journal.specs.declared.heads.Copied.{Copied}
 use Rattle.gate_journal.specs.declared.heads.ToldHead.{ToldHead}
-use Rattle.gate_journal.specs.Side.{Heading, IsHeading}
+use Rattle.gate_journal.specs.Headings.{Heading, IsHeading}
 
 -- A side's heading, and of a copy its epoch and its base. It is the same whatever stands in the gates of the ten bytes
 -- before it (own).

@@ -3,6 +3,7 @@ pub mod Deciding
 pub mod Decoding
 pub mod Found
 pub mod Frames
+pub mod Fronts
 pub mod Gates
 pub mod Headings
 pub mod Heads

@@ -2,6 +2,7 @@ pub mod Answers
 pub mod Crash
 pub mod Decoding
 pub mod Gates
+pub mod Headings
 pub mod Heads
 pub mod Inner
 pub mod Reads

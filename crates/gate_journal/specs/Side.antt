@@ -1,78 +1,41 @@
--- What the bytes of a side stand for: a heading, and frames behind gates.
-use Rattle.std.specs.Prelude.{◌≡◌, ◌≢◌, ◌⊎◌, ◌≤◌, ℕ, ◌+◌, ◌-◌, List, [], ◌∷◌, ◌++◌, length, replicate, codes, if◌then◌else◌, nat_lt, IsTrue}
+-- What the bytes of a side stand for: a front, and frames behind gates.
+use Rattle.std.specs.Prelude.{◌≡◌, ◌≢◌, ◌⊎◌, ◌≤◌, ◌<◌, ℕ, List, [], ◌∷◌, ◌++◌, length, Option, None}
 use Rattle.std.specs.List.{All, flat_map}
-use Rattle.std.specs.Int.{to_be_bytes, w32, w64}
-use Rattle.vtl_base.specs.Barcode.{IsBarcode}
-use Rattle.vtl_base.specs.Limits.{is_capacity}
-use Rattle.vtl_base.specs.declared.limits.TheConstants.{MAX_BODY, MAX_PARTITIONS, DRIVES}
+use Rattle.std.specs.Int.{to_be_bytes, w32}
+use Rattle.vtl_base.specs.declared.limits.TheConstants.{MAX_BODY}
 use Rattle.gate_journal.specs.declared.header.Header.{Header}
 use Rattle.gate_journal.specs.declared.header.SideKind.{SideKind}
 use Rattle.gate_journal.specs.declared.header.SideKind.TheVariants.{Cartridge, Store}
-use Rattle.gate_journal.specs.declared.header.TheConstants.{NAME_BYTES}
+use Rattle.gate_journal.specs.declared.heads.Copied.{Copied}
+pub use Rattle.gate_journal.specs.Headings.{OPEN, CLOSED, Heading, IsCount, IsHeading, IsName, digits, drive_name, heading_of, mark, padded, start}
+pub use Rattle.gate_journal.specs.Heads.{Head, IsHead, base_of, spell_side_head}
 
--- an open gate; every other byte is a closed one (own)
-abbrev pub OPEN : ℕ
-OPEN = 165
+-- What stands before a side's frames: its head, and the byte of its pair gate (own).
+pub record Front : Type 0 where
+  pub head : Head
+  pub pair : ℕ
 
--- a closed gate, as it is written (own)
-abbrev pub CLOSED : ℕ
-CLOSED = 0
+-- the front of a side that is no copy and whose pair gate is closed (own)
+abbrev pub plain : Heading → Front
+plain heading = record { head = record { heading = heading; copied = None }; pair = CLOSED }
 
--- What a side says of itself: its kind, its name, and of a cartridge the capacity of each partition. It is what a
--- contract sees of a `Header`, with no word of how that is kept in memory (own).
-pub record Heading : Type 0 where
-  pub kind : SideKind
-  pub name : List ℕ
-  pub capacities : List ℕ
+-- the front of a header in memory, of what is told of a copy, and of the pair gate's byte (own)
+abbrev pub front_of : Header → Option Copied → ℕ → Front
+front_of header copied pair = record { head = record { heading = heading_of header; copied = copied }; pair = pair }
 
--- the heading of a header in memory (own)
-abbrev pub heading_of : Header → Heading
-heading_of header = record { kind = header.kind; name = header.name; capacities = header.capacities.items }
+-- a front in bytes: the ten bytes with an open side gate, and the head (own)
+abbrev pub spell_front : Front → List ℕ
+spell_front front = start OPEN front.head.heading.kind front.pair ++ spell_side_head front.head
 
--- a text, and spaces behind it up to the length of a name (own)
-abbrev pub padded : List ℕ → List ℕ
-padded text = text ++ replicate (NAME_BYTES - length text) 32
+-- what the pair gate may be: of a cartridge every byte, and of a store a closed gate as it is written (own)
+abbrev pub IsPairGate : SideKind → ℕ → Type 0
+IsPairGate Cartridge pair = Unit {0}
+IsPairGate Store pair = pair ≡ CLOSED
 
--- a number below 20 in decimal digits (own)
-abbrev pub digits : ℕ → List ℕ
-digits n = if nat_lt n 10 then (48 + n) ∷ [] else 49 ∷ (38 + n) ∷ []
-
--- the name of a reservation store: `DRIVE` and the drive's number (own)
-abbrev pub drive_name : ℕ → List ℕ
-drive_name n = padded (codes "DRIVE" ++ digits n)
-
--- the names that a side of this kind may have: a barcode, or that of a drive (own)
-abbrev pub IsName : SideKind → List ℕ → Type 0
-IsName Cartridge name = (text : List ℕ) × IsBarcode text × (name ≡ padded text)
-IsName Store name = (n : ℕ) × (1 ≤ n) × (n ≤ DRIVES) × (name ≡ drive_name n)
-
--- how many capacities a side of this kind may have: one for each partition, or none (own)
-abbrev pub IsCount : SideKind → ℕ → Type 0
-IsCount Cartridge n = (1 ≤ n) × (n ≤ MAX_PARTITIONS)
-IsCount Store n = n ≡ 0
-
--- a heading that can be spelled (own)
-pub record IsHeading (heading : Heading) : Type 0 where
-  pub name : IsName heading.kind heading.name
-  pub count : IsCount heading.kind (length heading.capacities)
-  pub capacities : All (λ bytes. IsTrue (is_capacity bytes)) heading.capacities
-
--- the bytes by which the kind is recognized (own)
-abbrev pub mark : SideKind → List ℕ
-mark Cartridge = codes "VTLCART1"
-mark Store = codes "VTLRESV1"
-
--- the ten bytes that a side of this kind begins with: the side gate, the mark of the kind, the pair gate (own)
-abbrev pub start : ℕ → SideKind → ℕ → List ℕ
-start side kind pair = side ∷ mark kind ++ pair ∷ []
-
--- a heading in bytes, from place 10 on: the count, the name, the capacities. It holds no gate (own)
-abbrev pub spell_fields : Heading → List ℕ
-spell_fields h = length h.capacities ∷ h.name ++ flat_map (to_be_bytes w64) h.capacities
-
--- what a side begins with, in bytes: its ten bytes with an open side gate and a closed pair gate, and its heading (own)
-abbrev pub spell_heading : Heading → List ℕ
-spell_heading h = start OPEN h.kind CLOSED ++ spell_fields h
+-- a front that can be spelled (own)
+pub record IsFront (front : Front) : Type 0 where
+  pub head : IsHead front.head
+  pub pair : IsPairGate front.head.heading.kind front.pair
 
 -- what a frame may hold (own)
 abbrev pub IsBody : List ℕ → Type 0
@@ -82,32 +45,33 @@ IsBody body = (1 ≤ length body) × (length body ≤ MAX_BODY)
 abbrev pub frame : List ℕ → List ℕ
 frame body = OPEN ∷ to_be_bytes w32 (length body) ++ body
 
--- a side in bytes: its heading, and one frame after the other (own)
-abbrev pub spell : Heading → List (List ℕ) → List ℕ
-spell heading bodies = spell_heading heading ++ flat_map frame bodies
+-- a side in bytes: its front, and one frame after the other (own)
+abbrev pub spell : Front → List (List ℕ) → List ℕ
+spell front bodies = spell_front front ++ flat_map frame bodies
 
--- a heading and bodies that can be spelled (own)
-pub record IsSide (heading : Heading) (bodies : List (List ℕ)) : Type 0 where
-  pub begins : IsHeading heading
+-- A front and bodies that can be spelled; of a copy there are no fewer bodies than its base (own).
+pub record IsSide (front : Front) (bodies : List (List ℕ)) : Type 0 where
+  pub begins : IsFront front
   pub holds : All IsBody bodies
+  pub base : base_of front.head ≤ length bodies
 
 -- the image begins with the spelling, and a closed gate follows (own)
-abbrev pub StandsFor : Heading → List (List ℕ) → List ℕ → Type 0
-StandsFor heading bodies image =
-    IsSide heading bodies
-    × ((gate : ℕ) × (rest : List ℕ) × (gate ≢ OPEN) × (image ≡ spell heading bodies ++ gate ∷ rest))
+abbrev pub StandsFor : Front → List (List ℕ) → List ℕ → Type 0
+StandsFor front bodies image =
+    IsSide front bodies
+    × ((gate : ℕ) × (rest : List ℕ) × (gate ≢ OPEN) × (image ≡ spell front bodies ++ gate ∷ rest))
 
--- the image begins with no heading's spelling (own)
+-- the image begins with no front's spelling (own)
 abbrev pub IsNotOurs : List ℕ → Type 0
-IsNotOurs image = (heading : Heading) (rest : List ℕ) → IsHeading heading → image ≡ spell heading [] ++ rest → ⊥
+IsNotOurs image = (front : Front) (rest : List ℕ) → IsFront front → image ≡ spell front [] ++ rest → ⊥
 
--- the image begins with the spelling of a heading of this kind (own)
+-- the image begins with the spelling of a front of this kind (own)
 abbrev pub BeginsAs : SideKind → List ℕ → Type 0
 BeginsAs kind image =
-    (heading : Heading) × (rest : List ℕ) × IsHeading heading × (heading.kind ≡ kind)
-    × (image ≡ spell heading [] ++ rest)
+    (front : Front) × (rest : List ℕ) × IsFront front × (front.head.heading.kind ≡ kind)
+    × (image ≡ spell front [] ++ rest)
 
--- the image is no side of this kind: it begins with no heading's spelling, or with that of another kind (own)
+-- the image is no side of this kind: it begins with no front's spelling, or with that of another kind (own)
 abbrev pub IsNotOf : SideKind → List ℕ → Type 0
 IsNotOf kind image = IsNotOurs image ⊎ ((other : SideKind) × (other ≢ kind) × BeginsAs other image)
 
@@ -122,18 +86,29 @@ abbrev pub IsBroken : List (List ℕ) → List ℕ → Type 0
 IsBroken bodies rest =
     ((bodies ≡ []) × (rest ≡ [])) ⊎ (((tail : List ℕ) × (rest ≡ OPEN ∷ tail)) × (BeginsWithFrame rest → ⊥))
 
--- the image begins with a spelling of that length, and what follows is broken (own)
+-- fewer frames than that stand before a closed gate (own)
+abbrev pub AreTooFew : ℕ → List (List ℕ) → List ℕ → Type 0
+AreTooFew base bodies behind =
+    (length bodies < base) × ((gate : ℕ) × (more : List ℕ) × (gate ≢ OPEN) × (behind ≡ gate ∷ more))
+
+-- fewer frames than the base stand before a closed gate (own)
+abbrev pub LacksFrames : Head → List (List ℕ) → List ℕ → Type 0
+LacksFrames head = AreTooFew (base_of head)
+
+-- The image begins with a spelling of that length, and what follows is broken, or is a closed gate that comes too early
+-- (own).
 abbrev pub IsDamagedAt : List ℕ → ℕ → Type 0
 IsDamagedAt image at =
-    (heading : Heading) × (bodies : List (List ℕ)) × (rest : List ℕ) × IsSide heading bodies
-    × (image ≡ spell heading bodies ++ rest) × (length (spell heading bodies) ≡ at) × IsBroken bodies rest
+    (front : Front) × (bodies : List (List ℕ)) × (rest : List ℕ) × IsFront front × All IsBody bodies
+    × (image ≡ spell front bodies ++ rest) × (length (spell front bodies) ≡ at)
+    × (IsBroken bodies rest ⊎ LacksFrames front.head bodies rest)
 
--- the image begins with a heading of this kind, and is damaged at that place (own)
+-- the image begins with a front of this kind, and is damaged at that place (own)
 abbrev pub IsDamagedOf : SideKind → List ℕ → ℕ → Type 0
 IsDamagedOf kind image at = BeginsAs kind image × IsDamagedAt image at
 
 -- the image stands for a side, is not ours, or is damaged at a place (own)
 abbrev pub IsDecided : List ℕ → Type 0
 IsDecided image =
-    ((heading : Heading) × (bodies : List (List ℕ)) × StandsFor heading bodies image)
+    ((front : Front) × (bodies : List (List ℕ)) × StandsFor front bodies image)
     ⊎ (IsNotOurs image ⊎ ((at : ℕ) × IsDamagedAt image at))

@@ -1,16 +1,17 @@
 -- What contracts see of an open side.
-use Rattle.std.specs.Prelude.{◌≡◌, ◌<◌, ◌≤◌, ℕ, take, slice_index_or, ◌+◌, ◌-◌, List, [], ◌∷◌, ◌++◌, length, map, slice_range, Bool, true, false, refl}
-use Rattle.std.specs.Coded.{Coded, code_by, coded×, coded_ℕ, coded_bool, coded_list}
+use Rattle.std.specs.Prelude.{◌≡◌, ◌<◌, ◌≤◌, ℕ, take, slice_index_or, ◌+◌, ◌-◌, List, [], ◌∷◌, ◌++◌, length, map, slice_range, Bool, true, false, Option, refl}
+use Rattle.std.specs.Coded.{Coded, code_by, coded×, coded_ℕ, coded_bool, coded_list, coded_option}
 use Rattle.vtl_base.specs.declared.limits.TheConstants.{MAX_BODY, MAX_SIDE}
 use Rattle.tape_disk.specs.Disk.{DiskState, Only}
 use Rattle.gate_journal.specs.declared.header.SideKind.{SideKind}
 use Rattle.gate_journal.specs.declared.header.SideKind.TheVariants.{Cartridge, Store}
-use Rattle.gate_journal.specs.Side.{Heading, IsSide, StandsFor, spell, spell_heading}
+use Rattle.gate_journal.specs.declared.heads.Copied.{Copied}
+use Rattle.gate_journal.specs.Side.{Front, Heading, IsSide, StandsFor, spell, spell_front}
 
 -- an open side: its disk, what stands on it, and how far appends may go (own)
 pub record OpenSide (D : Type 0) : Type 0 where
   pub disk : D
-  pub heading : Heading
+  pub front : Front
   -- the bodies of its frames, in order; over a dishonest disk these are nobody's promise
   pub bodies : List (List ℕ)
   -- where each body lies: its place and its length
@@ -46,18 +47,18 @@ pub record IsExtent (end : ℕ) (extent : ℕ × ℕ) : Type 0 where
 
 -- The disk of an open side begins with its spelling, which ends at the end gate, and each body lies in its extent;
 -- where nothing has failed it stands for the side, and that is sure (own).
-pub record StoresSide (disk : DiskState) (heading : Heading) (bodies : List (List ℕ)) (extents : List (ℕ × ℕ))
+pub record StoresSide (disk : DiskState) (front : Front) (bodies : List (List ℕ)) (extents : List (ℕ × ℕ))
     (end : ℕ) (failed : Bool) : Type 0 where
-  pub side : IsSide heading bodies
-  pub begins : (rest : List ℕ) × (disk.seen ≡ spell heading bodies ++ rest)
-  pub extents_are : extents ≡ extents_from (length (spell_heading heading)) bodies
-  pub end_is : end ≡ length (spell heading bodies)
-  pub at_rest : failed ≡ false → StandsFor heading bodies disk.seen × Only disk.seen disk.may_leave
+  pub side : IsSide front bodies
+  pub begins : (rest : List ℕ) × (disk.seen ≡ spell front bodies ++ rest)
+  pub extents_are : extents ≡ extents_from (length (spell_front front)) bodies
+  pub end_is : end ≡ length (spell front bodies)
+  pub at_rest : failed ≡ false → StandsFor front bodies disk.seen × Only disk.seen disk.may_leave
 
 -- the body of that frame lies there: behind its gate, where a read gives it (own)
-pub record IsBodyAt (seen : List ℕ) (heading : Heading) (bodies : List (List ℕ)) (frame : ℕ) (extent : ℕ × ℕ)
+pub record IsBodyAt (seen : List ℕ) (front : Front) (bodies : List (List ℕ)) (frame : ℕ) (extent : ℕ × ℕ)
     : Type 0 where
-  pub gate : extent.0 ≡ length (spell heading (take frame bodies)) + 5
+  pub gate : extent.0 ≡ length (spell front (take frame bodies)) + 5
   pub sized : extent.1 ≡ length (slice_index_or bodies frame [])
   pub there : slice_index_or bodies frame [] ≡ slice_range seen extent.0 (extent.0 + extent.1)
 
@@ -94,17 +95,30 @@ heading_code =
     (λ h. (h.kind, (h.name, h.capacities)))
     (λ p. record { kind = p.0; name = p.1.0; capacities = p.1.1 }) (λ _. refl)
 
+-- what a side says of a copy as plain data (own)
+abbrev copied_code : Coded Copied
+copied_code =
+    code_by (ℕ × ℕ) (coded× coded_ℕ coded_ℕ) (λ c. (c.epoch, c.base))
+    (λ p. record { epoch = p.0; base = p.1 }) (λ _. refl)
+
+-- a front as plain data, for the view of a type that has one (own)
+abbrev pub front_code : Coded Front
+front_code =
+    code_by (Heading × (Option Copied × ℕ)) (coded× heading_code (coded× (coded_option copied_code) coded_ℕ))
+    (λ f. (f.head.heading, (f.head.copied, f.pair)))
+    (λ p. record { head = record { heading = p.0; copied = p.1.0 }; pair = p.1.1 }) (λ _. refl)
+
 module _ {D : Type 0} where
   -- an open side as plain data (own)
   abbrev pub side_code : Coded D → Coded (OpenSide D)
   side_code disk =
-      code_by (D × (Heading × (List (List ℕ) × (List (ℕ × ℕ) × (ℕ × (Bool × (ℕ × ℕ)))))))
-      (coded× disk (coded× heading_code (coded× (coded_list (coded_list coded_ℕ))
+      code_by (D × (Front × (List (List ℕ) × (List (ℕ × ℕ) × (ℕ × (Bool × (ℕ × ℕ)))))))
+      (coded× disk (coded× front_code (coded× (coded_list (coded_list coded_ℕ))
       (coded× (coded_list (coded× coded_ℕ coded_ℕ)) (coded× coded_ℕ (coded× coded_bool (coded× coded_ℕ coded_ℕ)))))))
-      (λ s. (s.disk, (s.heading, (s.bodies, (s.extents, (s.end, (s.failed, (s.reserved, s.reserved_extents))))))))
+      (λ s. (s.disk, (s.front, (s.bodies, (s.extents, (s.end, (s.failed, (s.reserved, s.reserved_extents))))))))
       (λ p. record {
         disk = p.0;
-        heading = p.1.0;
+        front = p.1.0;
         bodies = p.1.1.0;
         extents = p.1.1.1.0;
         end = p.1.1.1.1.0;

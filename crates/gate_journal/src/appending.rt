@@ -35,7 +35,7 @@ impl<D: Disk> Journal<D> {
     pub fn append(&mut self, body: &[u8]) -> Result<(), JournalError>
         requires { IsBody body.now }
         ensures disk { Keeps (D.state self.old.disk) (D.state self.new.disk) }
-        ensures heading { self.new.heading ≡ self.old.heading }
+        ensures front { self.new.front ≡ self.old.front }
         ensures answer { MatchWrite result
             (Appended self.old self.new (length body.now)
             × NoneFailed (D.state self.old.disk) (D.state self.new.disk))
@@ -49,10 +49,10 @@ impl<D: Disk> Journal<D> {
         ensures bodies { (D.state self.old.disk).honest → self.new.bodies
             ≡ (if is_ok result then self.old.bodies ++ body.now ∷ [] else self.old.bodies) }
         ensures sure { (D.state self.old.disk).honest → OnOk result
-            (Each (D.state self.new.disk) (StandsFor self.new.heading self.new.bodies)) }
+            (Each (D.state self.new.disk) (StandsFor self.new.front self.new.bodies)) }
         ensures any_moment { (D.state self.old.disk).honest → self.old.failed ≡ false →
             LeavesOnly (D.state self.old.disk) (D.state self.new.disk)
-            (WithOrWithout self.old.heading self.old.bodies body.now) }
+            (WithOrWithout self.old.front self.old.bodies body.now) }
     {
         if self.failed {
             return Err(JournalError::Failed);

@@ -28,13 +28,13 @@ impl<D: Disk> Journal<D> {
         frames: usize,
     ) -> Result<(Journal<D>, T), NotDecoded<D>>
         ensures disk { Keeps (D.state disk) (D.state (disk_decoded result)) }
-        ensures ok { IfOk result (λ opened. (opened.0.heading.kind ≡ T.KIND)
+        ensures ok { IfOk result (λ opened. (opened.0.front.head.heading.kind ≡ T.KIND)
             × (opened.0.failed ≡ false) × (frames ≤ opened.0.reserved_extents)
             × NoneFailed (D.state disk) (D.state opened.0.disk)) }
-        ensures read { IfOk result (λ opened. HasDecoded T.has_read opened.1 opened.0.heading
+        ensures read { IfOk result (λ opened. HasDecoded T.has_read opened.1 opened.0.front.head.heading
             opened.0.extents opened.0.bodies (D.state disk).honest) }
         ensures stands { IfOk result (λ opened. (D.state disk).honest →
-            StandsFor opened.0.heading opened.0.bodies (D.state disk).seen
+            StandsFor opened.0.front opened.0.bodies (D.state disk).seen
             × Only (D.state disk).seen (D.state opened.0.disk).may_leave) }
         ensures refused { IfErr result (λ refused. IsNotDecoded T.has_read T.refuses T.KIND
             refused.error (D.state disk) (D.state refused.disk)) }
@@ -83,20 +83,20 @@ fn decode_frames<D: Disk, T: Decodes>(
     frames: usize,
 ) -> Result<T, OpenError>
     requires fine { journal.old.failed ≡ false }
-    requires kind { journal.old.heading.kind ≡ T.KIND }
+    requires kind { journal.old.front.head.heading.kind ≡ T.KIND }
     ensures disk { Keeps (D.state journal.old.disk) (D.state journal.new.disk) }
     ensures unwritten { (D.state journal.old.disk).honest →
         Unwritten (D.state journal.old.disk) (D.state journal.new.disk) }
-    ensures same { (journal.new.heading ≡ journal.old.heading)
+    ensures same { (journal.new.front ≡ journal.old.front)
         × (journal.new.extents ≡ journal.old.extents)
         × ((D.state journal.old.disk).honest → journal.new.bodies ≡ journal.old.bodies) }
     ensures ok { IfOk result (λ decoder. (journal.new.failed ≡ false)
         × (frames ≤ journal.new.reserved_extents)
         × NoneFailed (D.state journal.old.disk) (D.state journal.new.disk)
-        × HasDecoded T.has_read decoder journal.old.heading journal.old.extents
+        × HasDecoded T.has_read decoder journal.old.front.head.heading journal.old.extents
         journal.old.bodies (D.state journal.old.disk).honest) }
     ensures refused { IfErr result (λ error. NotFinished T.has_read T.refuses error
-        journal.old.heading journal.old.bodies
+        journal.old.front journal.old.bodies
         (D.state journal.old.disk) (D.state journal.new.disk)) }
 {
     let Ok(()) = journal.reserve_extents(frames) else {
@@ -127,21 +127,21 @@ fn decode_each<D: Disk, T: Decodes>(
     buffer: &mut [u8],
 ) -> Result<(), OpenError>
     requires fine { journal.old.failed ≡ false }
-    requires begun { T.has_read decoder.old journal.old.heading [] [] }
+    requires begun { T.has_read decoder.old journal.old.front.head.heading [] [] }
     requires room { 1 ≤ length buffer.old }
     ensures disk { Keeps (D.state journal.old.disk) (D.state journal.new.disk) }
     ensures unwritten { (D.state journal.old.disk).honest →
         Unwritten (D.state journal.old.disk) (D.state journal.new.disk) }
-    ensures same { (journal.new.heading ≡ journal.old.heading)
+    ensures same { (journal.new.front ≡ journal.old.front)
         × (journal.new.extents ≡ journal.old.extents)
         × (journal.new.reserved_extents ≡ journal.old.reserved_extents)
         × ((D.state journal.old.disk).honest → journal.new.bodies ≡ journal.old.bodies) }
     ensures ok { OnOk result ((journal.new.failed ≡ false)
         × NoneFailed (D.state journal.old.disk) (D.state journal.new.disk)
-        × HasDecoded T.has_read decoder.new journal.old.heading journal.old.extents
+        × HasDecoded T.has_read decoder.new journal.old.front.head.heading journal.old.extents
         journal.old.bodies (D.state journal.old.disk).honest) }
     ensures refused { IfErr result (λ error. NotFinished T.has_read T.refuses error
-        journal.old.heading journal.old.bodies
+        journal.old.front journal.old.bodies
         (D.state journal.old.disk) (D.state journal.new.disk)) }
 {
     for frame in 0..journal.frames() {

@@ -13,7 +13,8 @@ pub enum JournalError {
     /// The bytes begin with no header of a side.
     #[error("not a side")]
     NotOurs,
-    /// The first frame that is not whole has its gate at this place, counted in bytes.
+    /// The first frame that is not whole has its gate at this place, counted in bytes; or the closed gate
+    /// stands there before which there are fewer frames than the side's copy has.
     #[error("damaged at {at}")]
     Damaged {
         /// The place of the gate.
@@ -66,7 +67,8 @@ pub enum OpenError {
     /// The bytes begin with no header of a side of the kind.
     #[error("not a side of the kind")]
     NotOurs,
-    /// The first frame that is not whole has its gate at this place, counted in bytes.
+    /// The first frame that is not whole has its gate at this place, counted in bytes; or the closed gate
+    /// stands there before which there are fewer frames than the side's copy has.
     #[error("damaged at {at}")]
     Damaged {
         /// The place of the gate.

@@ -6,6 +6,7 @@ ghost use Rattle.gate_journal.specs.Reads.{OnlyReads};
 ghost use Rattle.gate_journal.specs.Inner.Gates.{FindsLast, FindsWhole};
 
 use crate::error::JournalError;
+use crate::fronts::base_in;
 use crate::reading::{find_start, read_mark};
 use tape_disk::Disk;
 use vtl_base::DevFault;
@@ -44,26 +45,31 @@ fn find_gates<D: Disk>(disk: &mut D) -> Result<Gates, JournalError>
     ensures reads { OnlyReads D.effect disk.old disk.new }
     ensures answer { FindsWhole result (D.state disk.old) (D.state disk.new) }
 {
-    let start = find_start(disk)?;
-    walk_frames(disk, start)
+    let front = find_start(disk)?;
+    walk_frames(disk, front.size as u64, base_in(front.copied))
 }
 
-// The last gates of a side whose first frame has its gate at that place.
-fn walk_frames<D: Disk>(disk: &mut D, start: u64) -> Result<Gates, JournalError>
+// The last gates of a side whose first frame has its gate at that place, and that has no fewer frames than the base.
+fn walk_frames<D: Disk>(disk: &mut D, start: u64, base: u32) -> Result<Gates, JournalError>
     requires { (D.state disk.old).honest → start ≤ length (D.state disk.old).seen }
     ensures disk { Keeps (D.state disk.old) (D.state disk.new) }
     ensures reads { OnlyReads D.effect disk.old disk.new }
-    ensures answer { FindsLast result start (D.state disk.old) (D.state disk.new) }
+    ensures answer { FindsLast result start base (D.state disk.old) (D.state disk.new) }
 {
     let len = disk.len();
     if start >= len {
         return Err(JournalError::Damaged { at: start });
     }
     let mut last = 0;
+    let mut frames = 0;
     let mut at = start;
     while let Some(size) = read_mark(disk, at, len)? {
         last = at;
+        frames += 1;
         at += 5 + u64::from(size);
+    }
+    if frames < u64::from(base) {
+        return Err(JournalError::Damaged { at });
     }
     Ok(Gates { last, end: at })
 }

@@ -64,10 +64,10 @@ impl ToldHead {
 const FRONT_BYTES: usize = 17;
 
 /// The bytes of epoch and base.
-const COPIED_BYTES: usize = 12;
+pub(crate) const COPIED_BYTES: usize = 12;
 
 /// The byte that is added to the count of a copy.
-const COPY_BIT: u8 = 0x80;
+pub(crate) const COPY_BIT: u8 = 0x80;
 
 /// The head of a cartridge's side that these bytes begin with, where they begin with one. It takes
 /// no memory.

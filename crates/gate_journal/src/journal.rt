@@ -2,15 +2,15 @@
 ghost use Rattle.std.specs.Prelude.{◌≡◌, ◌⊎◌, ◌+◌, ◌*◌, ◌^◌, ◌<◌, ◌≤◌, ◌++◌, [], ◌∷◌, ℕ, List, length, true, false, OnOk, OnErr, IfOk, IfErr, slice_range, slice_index_or, if◌then◌else◌, is_ok};
 ghost use Rattle.tape_disk.specs.Disk.{Each, Keeps, Only};
 ghost use Rattle.tape_disk.specs.Moments.{LeavesOnly};
-ghost use Rattle.gate_journal.specs.Side.{CLOSED, IsBody, IsHeading, StandsFor, heading_of, spell};
+ghost use Rattle.gate_journal.specs.Side.{CLOSED, IsBody, IsFront, IsHeading, StandsFor, base_of, heading_of, plain, spell};
 ghost use Rattle.gate_journal.specs.Answers.{Appended, Broke, IsFault, MatchWrite, NoneFailed, NotMade, disk_after};
 ghost use Rattle.gate_journal.specs.Crash.{Unwritten, WithOrWithout};
 ghost use Rattle.gate_journal.specs.State.{room_behind, IsBodyAt, IsBodyPart, IsExtent, LiesInBody};
 
 use crate::device::write_new;
 use crate::frame::Frame;
-use crate::spelling::{START_BYTES, spell_closed};
-use crate::{Header, JournalError, Refused};
+use crate::spelling::{CLOSED, START_BYTES, spell_closed};
+use crate::{Copied, Header, JournalError, Refused};
 use std::alloc::Global;
 use std::marker::Model;
 use tape_disk::Disk;
@@ -21,6 +21,9 @@ use vtl_base::limits::MAX_SIDE;
 pub struct Journal<D: Disk> {
     pub(crate) disk: D,
     pub(crate) header: Header,
+    pub(crate) copied: Option<Copied>,
+    // The byte of the pair gate.
+    pub(crate) pair: u8,
     pub(crate) extents: Vec<(u64, u32)>,
     // The frames of `append` are spelled here.
     pub(crate) buffer: Frame,
@@ -31,10 +34,10 @@ pub struct Journal<D: Disk> {
 }
 
 impl<D: Disk> Model for Journal<D> {
-    ghost use Rattle.std.specs.Prelude.{◌≡◌, ◌+◌, ◌^◌, ◌<◌, ◌≤◌};
+    ghost use Rattle.std.specs.Prelude.{◌≡◌, ◌+◌, ◌^◌, ◌<◌, ◌≤◌, length};
     ghost use Rattle.std.specs.List.{All};
     ghost use Rattle.gate_journal.specs.State.{OpenSide, side_code, bodies_at, IsExtent, StoresSide};
-    ghost use Rattle.gate_journal.specs.Side.{IsHeading, heading_of};
+    ghost use Rattle.gate_journal.specs.Side.{IsFront, base_of, front_of};
     ghost use Rattle.gate_journal.specs.Inner.Spare.{free, spare};
 
     ghost Value = { OpenSide D };
@@ -43,7 +46,7 @@ impl<D: Disk> Model for Journal<D> {
 
     ghost view = { λ a. record {
       disk = a.disk;
-      heading = heading_of a.header;
+      front = front_of a.header a.copied a.pair;
       bodies = bodies_at (D.state a.disk).seen a.extents.items;
       extents = a.extents.items;
       end = a.end;
@@ -52,28 +55,30 @@ impl<D: Disk> Model for Journal<D> {
       reserved_extents = a.reserved_extents;
     } };
 
-    ghost invariant = { λ a. IsHeading (heading_of a.header) × (a.end + 1 < 2 ^ 64)
+    ghost invariant = { λ a. IsFront (front_of a.header a.copied a.pair) × (a.end + 1 < 2 ^ 64)
         × All (IsExtent a.end) a.extents.items
-        × ((D.state a.disk).honest → StoresSide (D.state a.disk) (heading_of a.header)
+        × ((D.state a.disk).honest → StoresSide (D.state a.disk) (front_of a.header a.copied a.pair)
         (bodies_at (D.state a.disk).seen a.extents.items) a.extents.items a.end a.failed)
-        × (a.reserved_extents ≤ free a.extents) };
+        × (a.reserved_extents ≤ free a.extents)
+        × (base_of (front_of a.header a.copied a.pair).head ≤ length a.extents.items) };
 }
 
 impl<D: Disk> Journal<D> {
-    /// Makes a side with no frames, whatever the disk held, of a header that can be spelled. At Ok
+    /// Makes a side with no frames, whatever the disk held, of a header that can be spelled. It is no
+    /// copy, and its pair gate is closed. At Ok
     /// the disk holds its spelling, one closed gate and nothing behind; after a device fault
     /// anything may stand there; after `NoMemory` the disk was not touched.
     pub fn create(alloc: Global, disk: D, header: Header) -> Result<Journal<D>, Refused<D>>
         requires { IsHeading (heading_of header) }
         ensures disk { Keeps (D.state disk) (D.state (disk_after result)) }
-        ensures ok { IfOk result (λ journal. (journal.heading ≡ heading_of header)
+        ensures ok { IfOk result (λ journal. (journal.front ≡ plain (heading_of header))
             × (journal.bodies ≡ []) × (journal.extents ≡ []) × (journal.failed ≡ false)
-            × (journal.end ≡ 27 + 8 * length journal.heading.capacities)
+            × (journal.end ≡ 27 + 8 * length journal.front.head.heading.capacities)
             × NoneFailed (D.state disk) (D.state journal.disk)) }
         ensures bytes { IfOk result (λ journal. (D.state disk).honest →
-            (D.state journal.disk).seen ≡ spell journal.heading [] ++ CLOSED ∷ []) }
+            (D.state journal.disk).seen ≡ spell journal.front [] ++ CLOSED ∷ []) }
         ensures sure { IfOk result (λ journal. (D.state disk).honest →
-            Each (D.state journal.disk) (StandsFor journal.heading [])) }
+            Each (D.state journal.disk) (StandsFor journal.front [])) }
         ensures refused { IfErr result (λ refused. NotMade refused.error
             (refused.disk ≡ disk) (λ fault. IsFault fault (D.state disk) (D.state refused.disk))) }
     {
@@ -88,6 +93,8 @@ impl<D: Disk> Journal<D> {
                 Ok(Journal {
                     disk,
                     header,
+                    copied: None,
+                    pair: CLOSED,
                     extents: Vec::new(alloc),
                     buffer: Frame::new(alloc),
                     reserved_extents: 0,
@@ -103,12 +110,15 @@ impl<D: Disk> Journal<D> {
     }
 
     /// The end is where the spelling ends, of a side that has failed too. Where nothing has failed,
-    /// each image that a crash may leave stands for the side.
+    /// each image that a crash may leave stands for the side. Over any disk it has a front that can be
+    /// spelled, and no fewer frames than its base.
     pub fn known(&self)
+        ensures front { IsFront self.now.front }
+        ensures base { base_of self.now.front.head ≤ length self.now.extents }
         ensures end { (D.state self.now.disk).honest →
-            self.now.end ≡ length (spell self.now.heading self.now.bodies) }
+            self.now.end ≡ length (spell self.now.front self.now.bodies) }
         ensures sure { (D.state self.now.disk).honest → self.now.failed ≡ false →
-            Each (D.state self.now.disk) (StandsFor self.now.heading self.now.bodies) }
+            Each (D.state self.now.disk) (StandsFor self.now.front self.now.bodies) }
     {
         // Looked at for the proof's sake: the facts are the type's.
         let _ = &self.end;
@@ -116,10 +126,18 @@ impl<D: Disk> Journal<D> {
 
     /// What the side says of itself.
     pub fn header(&self) -> &Header
-        ensures value { heading_of result.now ≡ self.now.heading }
-        ensures valid { IsHeading self.now.heading }
+        ensures value { heading_of result.now ≡ self.now.front.head.heading }
+        ensures valid { IsHeading self.now.front.head.heading }
     {
         &self.header
+    }
+
+    /// What the side says of a copy, if it is one.
+    pub fn copied(&self) -> Option<Copied>
+        ensures value { result ≡ self.now.front.head.copied }
+        ensures valid { IsFront self.now.front }
+    {
+        self.copied
     }
 
     /// How many frames there are.
@@ -139,7 +157,7 @@ impl<D: Disk> Journal<D> {
         ensures fits { result.0 + result.1 + 1 < 2 ^ 64 }
         ensures whole { LiesInBody self.now.extents result.0 result.1 }
         ensures body { (D.state self.now.disk).honest →
-            IsBodyAt (D.state self.now.disk).seen self.now.heading self.now.bodies frame result }
+            IsBodyAt (D.state self.now.disk).seen self.now.front self.now.bodies frame result }
     {
         self.extents[frame]
     }

@@ -1,6 +1,6 @@
 //! Laws of a side's definitions. Each is a function that does nothing, and its contract is the law.
 ghost use Rattle.std.specs.Prelude.{◌≡◌, ◌↔◌, ℕ, List, Some};
-ghost use Rattle.gate_journal.specs.Side.{Heading, StandsFor, IsNotOurs, IsDamagedAt, IsDecided};
+ghost use Rattle.gate_journal.specs.Side.{Front, StandsFor, IsNotOurs, IsDamagedAt, IsDecided};
 ghost use Rattle.gate_journal.specs.SideOn.{side_on};
 ghost use Rattle.gate_journal.specs.declared.header.TheConstants.{NAME_BYTES};
 ghost use Rattle.gate_journal.specs.declared.frame.TheConstants.{AROUND, LENGTH_BYTES};
@@ -13,21 +13,21 @@ pub fn each_image_is_decided()
 
 /// No image is two of the three, stands for two sides, or is damaged at two places.
 pub fn no_image_is_decided_twice()
-    ensures one_side { (image : List ℕ) (h k : Heading) (bs cs : List (List ℕ)) →
-        StandsFor h bs image → StandsFor k cs image → (h ≡ k) × (bs ≡ cs) }
+    ensures one_side { (image : List ℕ) (f g : Front) (bs cs : List (List ℕ)) →
+        StandsFor f bs image → StandsFor g cs image → (f ≡ g) × (bs ≡ cs) }
     ensures one_place { (image : List ℕ) (a b : ℕ) →
         IsDamagedAt image a → IsDamagedAt image b → a ≡ b }
-    ensures sound { (image : List ℕ) (h : Heading) (bs : List (List ℕ)) (at : ℕ) →
-        StandsFor h bs image → IsDamagedAt image at → ⊥ }
-    ensures ours { (image : List ℕ) (h : Heading) (bs : List (List ℕ)) →
-        StandsFor h bs image → IsNotOurs image → ⊥ }
+    ensures sound { (image : List ℕ) (f : Front) (bs : List (List ℕ)) (at : ℕ) →
+        StandsFor f bs image → IsDamagedAt image at → ⊥ }
+    ensures ours { (image : List ℕ) (f : Front) (bs : List (List ℕ)) →
+        StandsFor f bs image → IsNotOurs image → ⊥ }
     ensures ours_damaged { (image : List ℕ) (at : ℕ) → IsDamagedAt image at → IsNotOurs image → ⊥ }
 {}
 
 /// The side on an image is the one that it stands for.
 pub fn the_side_on_an_image()
-    ensures { (image : List ℕ) (h : Heading) (bs : List (List ℕ)) →
-        (side_on image ≡ Some (h, bs)) ↔ StandsFor h bs image }
+    ensures { (image : List ℕ) (f : Front) (bs : List (List ℕ)) →
+        (side_on image ≡ Some (f, bs)) ↔ StandsFor f bs image }
 {}
 
 /// The lengths that this crate names itself: of a name, of a body's length, of all that stands around

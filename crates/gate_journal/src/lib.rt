@@ -7,6 +7,7 @@ mod decoding;
 mod device;
 pub mod error;
 pub mod frame;
+mod fronts;
 pub mod gates;
 pub mod header;
 pub mod heads;

@@ -7,7 +7,7 @@ ghost use Rattle.gate_journal.specs.Answers.{NoneFailed, NotOpened, NotOpenedAs,
 ghost use Rattle.gate_journal.specs.Inner.Asked.{IsAsked, NotOpenedAsked};
 
 use crate::frame::Frame;
-use crate::reading::{Frames, read_side};
+use crate::reading::{Frames, ReadFront, read_side};
 use crate::{Journal, Refused, SideKind};
 use std::alloc::Global;
 use tape_disk::Disk;
@@ -20,7 +20,7 @@ impl<D: Disk> Journal<D> {
         ensures disk { Keeps (D.state disk) (D.state (disk_after result)) }
         ensures ok { IfOk result (λ journal. (journal.failed ≡ false)
             × NoneFailed (D.state disk) (D.state journal.disk)
-            × ((D.state disk).honest → StandsFor journal.heading journal.bodies (D.state disk).seen
+            × ((D.state disk).honest → StandsFor journal.front journal.bodies (D.state disk).seen
             × Only (D.state disk).seen (D.state journal.disk).may_leave)) }
         ensures refused { IfErr result (λ refused.
             NotOpened refused.error (D.state disk) (D.state refused.disk)) }
@@ -30,13 +30,13 @@ impl<D: Disk> Journal<D> {
         Self::open_asked(alloc, disk, None)
     }
 
-    /// Opens the side of this kind that the disk holds, as `open` does. The header is read before
+    /// Opens the side of this kind that the disk holds, as `open` does. The front is read before
     /// any frame, so a side of the other kind is `NotOurs`, also where it is damaged.
     pub fn open_as(alloc: Global, disk: D, kind: SideKind) -> Result<Journal<D>, Refused<D>>
         ensures disk { Keeps (D.state disk) (D.state (disk_after result)) }
-        ensures ok { IfOk result (λ journal. (journal.heading.kind ≡ kind) × (journal.failed ≡ false)
+        ensures ok { IfOk result (λ journal. (journal.front.head.heading.kind ≡ kind) × (journal.failed ≡ false)
             × NoneFailed (D.state disk) (D.state journal.disk)
-            × ((D.state disk).honest → StandsFor journal.heading journal.bodies (D.state disk).seen
+            × ((D.state disk).honest → StandsFor journal.front journal.bodies (D.state disk).seen
             × Only (D.state disk).seen (D.state journal.disk).may_leave)) }
         ensures refused { IfErr result (λ refused.
             NotOpenedAs kind refused.error (D.state disk) (D.state refused.disk)) }
@@ -49,9 +49,9 @@ impl<D: Disk> Journal<D> {
     // Opens the side that the disk holds, where it is of the kind that is asked for.
     fn open_asked(alloc: Global, disk: D, asked: Option<SideKind>) -> Result<Journal<D>, Refused<D>>
         ensures disk { Keeps (D.state disk) (D.state (disk_after result)) }
-        ensures ok { IfOk result (λ journal. IsAsked asked journal.heading.kind
+        ensures ok { IfOk result (λ journal. IsAsked asked journal.front.head.heading.kind
             × (journal.failed ≡ false) × NoneFailed (D.state disk) (D.state journal.disk)
-            × ((D.state disk).honest → StandsFor journal.heading journal.bodies (D.state disk).seen
+            × ((D.state disk).honest → StandsFor journal.front journal.bodies (D.state disk).seen
             × Only (D.state disk).seen (D.state journal.disk).may_leave)) }
         ensures refused { IfErr result (λ refused.
             NotOpenedAsked asked refused.error (D.state disk) (D.state refused.disk)) }
@@ -60,11 +60,19 @@ impl<D: Disk> Journal<D> {
     {
         let mut disk = disk;
         match read_side(alloc, &mut disk, asked) {
-            Ok((header, frames)) => {
+            Ok((front, frames)) => {
+                let ReadFront {
+                    header,
+                    copied,
+                    pair,
+                    ..
+                } = front;
                 let Frames { extents, end } = frames;
                 Ok(Journal {
                     disk,
                     header,
+                    copied,
+                    pair,
                     extents,
                     buffer: Frame::new(alloc),
                     reserved_extents: 0,

@@ -42,7 +42,7 @@ pub(crate) fn decode_body<D: Disk, T: Decodes>(
     requires room { 1 ≤ length buffer.old }
     ensures disk { Keeps (D.state journal.old.disk) (D.state journal.new.disk) }
     ensures same { (journal.new.extents ≡ journal.old.extents)
-        × (journal.new.heading ≡ journal.old.heading)
+        × (journal.new.front ≡ journal.old.front)
         × (journal.new.reserved_extents ≡ journal.old.reserved_extents) }
     ensures unwritten { (D.state journal.old.disk).honest →
         Unwritten (D.state journal.old.disk) (D.state journal.new.disk)
@@ -88,7 +88,7 @@ fn take_next<D: Disk, T: Decodes>(
         (slice_index_or journal.old.extents frame (0, 0)).0 so_far.old.bytes.bytes }
     ensures disk { Keeps (D.state journal.old.disk) (D.state journal.new.disk) }
     ensures same { (journal.new.extents ≡ journal.old.extents)
-        × (journal.new.heading ≡ journal.old.heading)
+        × (journal.new.front ≡ journal.old.front)
         × (journal.new.reserved_extents ≡ journal.old.reserved_extents) }
     ensures unwritten { (D.state journal.old.disk).honest →
         Unwritten (D.state journal.old.disk) (D.state journal.new.disk)
@@ -158,7 +158,7 @@ fn read_on<D: Disk, T: Decodes>(
         (slice_index_or journal.old.extents frame (0, 0)).0 so_far.old.bytes.bytes }
     ensures disk { Keeps (D.state journal.old.disk) (D.state journal.new.disk) }
     ensures same { (journal.new.extents ≡ journal.old.extents)
-        × (journal.new.heading ≡ journal.old.heading)
+        × (journal.new.front ≡ journal.old.front)
         × (journal.new.reserved_extents ≡ journal.old.reserved_extents) }
     ensures unwritten { (D.state journal.old.disk).honest →
         Unwritten (D.state journal.old.disk) (D.state journal.new.disk)

@@ -35,7 +35,7 @@ impl<D: Disk> Journal<D> {
     pub fn append_frame(&mut self, frame: &mut Frame) -> Result<(), JournalError>
         requires { IsBody frame.old.body }
         ensures disk { Keeps (D.state self.old.disk) (D.state self.new.disk) }
-        ensures heading { self.new.heading ≡ self.old.heading }
+        ensures front { self.new.front ≡ self.old.front }
         ensures frame { (frame.new.room ≡ frame.old.room) × MatchWrite result
             (frame.new.body ≡ []) (frame.new.body ≡ frame.old.body)
             (frame.new.body ≡ frame.old.body) (λ _. frame.new.body ≡ [])
@@ -53,10 +53,10 @@ impl<D: Disk> Journal<D> {
         ensures bodies { (D.state self.old.disk).honest → self.new.bodies
             ≡ (if is_ok result then self.old.bodies ++ frame.old.body ∷ [] else self.old.bodies) }
         ensures sure { (D.state self.old.disk).honest → OnOk result
-            (Each (D.state self.new.disk) (StandsFor self.new.heading self.new.bodies)) }
+            (Each (D.state self.new.disk) (StandsFor self.new.front self.new.bodies)) }
         ensures any_moment { (D.state self.old.disk).honest → self.old.failed ≡ false →
             LeavesOnly (D.state self.old.disk) (D.state self.new.disk)
-            (WithOrWithout self.old.heading self.old.bodies frame.old.body) }
+            (WithOrWithout self.old.front self.old.bodies frame.old.body) }
     {
         if self.failed {
             return Err(JournalError::Failed);

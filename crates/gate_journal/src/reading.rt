@@ -1,27 +1,39 @@
-//! A side is read: its header, then gate and length of each frame. No byte is read twice, no body.
-ghost use Rattle.std.specs.Prelude.{◌≡◌, ◌≢◌, ◌+◌, ◌*◌, ◌<◌, ◌≤◌, ◌^◌, ◌++◌, [], ◌∷◌, ℕ, List, length, drop, true, false, take, ◌==◌, if◌then◌else◌, OnOk, IfOk, IfSome, IfNone, MatchResult, slice_index};
+//! A side is read: its front, then gate and length of each frame. No byte is read twice, no body.
+ghost use Rattle.std.specs.Prelude.{◌≡◌, ◌+◌, ◌<◌, ◌≤◌, ◌∷◌, length, IfOk, slice_index};
 ghost use Rattle.tape_disk.specs.Disk.{Elapses, Keeps, Passes, Syncs};
-ghost use Rattle.gate_journal.specs.Side.{Heading, IsHeading, OPEN, heading_of, spell_heading};
-ghost use Rattle.gate_journal.specs.Inner.Reading.{numbers_of, heading_within};
+ghost use Rattle.gate_journal.specs.Side.{OPEN, heading_of};
+ghost use Rattle.gate_journal.specs.Inner.Reading.{copied_size, heading_told, numbers_of, size_behind};
 ghost use Rattle.std.specs.Int.{to_be_bytes, w32};
 ghost use Rattle.gate_journal.specs.Crash.{Unwritten};
 ghost use Rattle.gate_journal.specs.Reads.{OnlyReads};
-ghost use Rattle.gate_journal.specs.Inner.Found.{FindsBytes, FindsStart, FindsHeader, FindsAsked, FindsMark, FindsFrames, FindsSide};
+ghost use Rattle.gate_journal.specs.Inner.Found.{FindsBytes, FindsTold, FindsStart, FindsFront, FindsAsked, FindsMark, FindsFrames, FindsSide};
 ghost use Rattle.tape_disk.specs.Moments.{LeavesOnly};
 
 use crate::error::JournalError;
+use crate::fronts::{ToldFront, base_in, copied_size, told_front};
 use crate::header::{Header, SideKind};
-use crate::spelling::{HEADER_BYTES, OPEN, START_BYTES, kind_by_letter, name_in, spells_header};
+use crate::heads::{COPIED_BYTES, COPY_BIT, Copied};
+use crate::spelling::{HEADER_BYTES, OPEN, START_BYTES, name_in};
 use byteorder::{BigEndian, ByteOrder};
 use std::alloc::{AllocError, Global};
 use tape_disk::Disk;
 use vtl_base::DevFault;
-use vtl_base::limits::{MAX_BODY, MAX_PARTITIONS};
+use vtl_base::limits::MAX_BODY;
 
-// The bytes that a header has, in front of others, and how many they are.
-struct HeaderBytes {
+// The bytes that a front has, before others, and how many they are.
+#[derive(Clone, Copy)]
+struct FrontBytes {
     bytes: [u8; HEADER_BYTES],
     len: usize,
+}
+
+/// A side's front, as it was read, and the place behind it.
+#[derive(Drop)]
+pub(crate) struct ReadFront {
+    pub header: Header,
+    pub copied: Option<Copied>,
+    pub pair: u8,
+    pub start: u64,
 }
 
 /// Where the bodies of a side lie, and its end gate.
@@ -37,17 +49,17 @@ pub(crate) fn read_side<D: Disk>(
     alloc: Global,
     disk: &mut D,
     asked: Option<SideKind>,
-) -> Result<(Header, Frames), JournalError>
+) -> Result<(ReadFront, Frames), JournalError>
     ensures disk { Keeps (D.state disk.old) (D.state disk.new) }
     ensures any_moment { (D.state disk.old).honest →
         LeavesOnly (D.state disk.old) (D.state disk.new) (D.state disk.old).may_leave }
     ensures answer { FindsSide asked result (D.state disk.old) (D.state disk.new) }
 {
     make_sure(disk)?;
-    let header = read_asked(alloc, disk, asked)?;
-    let start = START_BYTES as u64 + 8 * header.capacities.len() as u64;
-    let frames = read_frames(alloc, disk, start)?;
-    Ok((header, frames))
+    let front = read_asked(alloc, disk, asked)?;
+    let base = base_in(front.copied);
+    let frames = read_frames(alloc, disk, front.start, base)?;
+    Ok((front, frames))
 }
 
 // From now on a crash leaves what a read gives.
@@ -59,57 +71,72 @@ fn make_sure<D: Disk>(disk: &mut D) -> Result<(), DevFault>
     disk.sync()
 }
 
-// The header that the disk begins with, where it is of the kind that is asked for.
+// The front that the disk begins with, where it is of the kind that is asked for.
 pub(crate) fn read_asked<D: Disk>(
     alloc: Global,
     disk: &mut D,
     asked: Option<SideKind>,
-) -> Result<Header, JournalError>
+) -> Result<ReadFront, JournalError>
     ensures disk { Keeps (D.state disk.old) (D.state disk.new) }
     ensures unwritten { (D.state disk.old).honest →
         Unwritten (D.state disk.old) (D.state disk.new) }
     ensures reads { OnlyReads D.effect disk.old disk.new }
     ensures answer { FindsAsked asked result (D.state disk.old) (D.state disk.new) }
 {
-    let header = read_header(alloc, disk)?;
+    let front = read_front(alloc, disk)?;
     match asked {
-        Some(kind) if kind != header.kind => Err(JournalError::NotOurs),
-        _ => Ok(header),
+        Some(kind) if kind != front.header.kind => Err(JournalError::NotOurs),
+        _ => Ok(front),
     }
 }
 
-// The header that the disk begins with.
-fn read_header<D: Disk>(alloc: Global, disk: &mut D) -> Result<Header, JournalError>
+// The front that the disk begins with.
+fn read_front<D: Disk>(alloc: Global, disk: &mut D) -> Result<ReadFront, JournalError>
     ensures disk { Keeps (D.state disk.old) (D.state disk.new) }
     ensures unwritten { (D.state disk.old).honest →
         Unwritten (D.state disk.old) (D.state disk.new) }
     ensures reads { OnlyReads D.effect disk.old disk.new }
-    ensures answer { FindsHeader result (D.state disk.old) (D.state disk.new) }
+    ensures answer { FindsFront result (D.state disk.old) (D.state disk.new) }
 {
-    let HeaderBytes { bytes, len } = read_bytes(disk)?;
-    match header_of(alloc, &bytes[..len])? {
-        Some(header) => Ok(header),
-        None => Err(JournalError::NotOurs),
-    }
+    let (found, told) = read_told(disk)?;
+    let header = header_told(alloc, &found.bytes[..found.len], told)?;
+    Ok(ReadFront {
+        header,
+        copied: told.copied,
+        pair: told.pair,
+        start: told.size as u64,
+    })
 }
 
-// The place behind the header that the disk begins with, of either kind. It takes no memory.
-pub(crate) fn find_start<D: Disk>(disk: &mut D) -> Result<u64, JournalError>
+// What is told of the front that the disk begins with, of either kind. It takes no memory.
+pub(crate) fn find_start<D: Disk>(disk: &mut D) -> Result<ToldFront, JournalError>
     ensures disk { Keeps (D.state disk.old) (D.state disk.new) }
     ensures unwritten { (D.state disk.old).honest →
         Unwritten (D.state disk.old) (D.state disk.new) }
     ensures reads { OnlyReads D.effect disk.old disk.new }
     ensures answer { FindsStart result (D.state disk.old) (D.state disk.new) }
 {
-    let HeaderBytes { bytes, len } = read_bytes(disk)?;
-    if !spells_header(&bytes[..len]) {
-        return Err(JournalError::NotOurs);
-    }
-    Ok(len as u64)
+    let (_, told) = read_told(disk)?;
+    Ok(told)
 }
 
-// The bytes that the disk begins with, as many as a header with their count of capacities has.
-fn read_bytes<D: Disk>(disk: &mut D) -> Result<HeaderBytes, JournalError>
+// The bytes of the front that the disk begins with, and what is told of it.
+fn read_told<D: Disk>(disk: &mut D) -> Result<(FrontBytes, ToldFront), JournalError>
+    ensures disk { Keeps (D.state disk.old) (D.state disk.new) }
+    ensures unwritten { (D.state disk.old).honest →
+        Unwritten (D.state disk.old) (D.state disk.new) }
+    ensures reads { OnlyReads D.effect disk.old disk.new }
+    ensures answer { FindsTold result (D.state disk.old) (D.state disk.new) }
+{
+    let found = read_bytes(disk)?;
+    match told_front(&found.bytes[..found.len]) {
+        Some(told) => Ok((found, told)),
+        None => Err(JournalError::NotOurs),
+    }
+}
+
+// The bytes that the disk begins with, as many as a front with their byte for its count has.
+fn read_bytes<D: Disk>(disk: &mut D) -> Result<FrontBytes, JournalError>
     ensures disk { Keeps (D.state disk.old) (D.state disk.new) }
     ensures unwritten { (D.state disk.old).honest →
         Unwritten (D.state disk.old) (D.state disk.new) }
@@ -122,41 +149,40 @@ fn read_bytes<D: Disk>(disk: &mut D) -> Result<HeaderBytes, JournalError>
     }
     let mut bytes = [0; HEADER_BYTES];
     disk.read_at(0, &mut bytes[..START_BYTES])?;
-    let count = bytes[10];
-    if count > MAX_PARTITIONS {
+    let more = size_behind(bytes[10]);
+    if more > HEADER_BYTES - START_BYTES {
         return Err(JournalError::NotOurs);
     }
-    if size - (START_BYTES as u64) < 8 * u64::from(count) {
+    if size - (START_BYTES as u64) < more as u64 {
         return Err(JournalError::NotOurs);
     }
-    let len = START_BYTES + 8 * count as usize;
+    let len = START_BYTES + more;
     disk.read_at(START_BYTES as u64, &mut bytes[START_BYTES..len])?;
-    Ok(HeaderBytes { bytes, len })
+    Ok(FrontBytes { bytes, len })
 }
 
-// The header that these bytes spell, where they spell one.
-fn header_of(alloc: Global, bytes: &[u8]) -> Result<Option<Header>, AllocError>
-    requires { length bytes.now ≡ 27 + 8 * slice_index bytes.now 10 }
-    ensures found { IfOk result (λ header. IfSome header (λ h.
-        IsHeading (heading_of h) × (bytes.now ≡ spell_heading (heading_of h)))) }
-    ensures none { IfOk result (λ header. IfNone header
-        ((h : Heading) → IsHeading h → bytes.now ≡ spell_heading h → ⊥)) }
+// How many bytes of a front stand behind its first 27, by the byte of its count.
+fn size_behind(count: u8) -> usize
+    ensures { result ≡ size_behind count }
 {
-    if !spells_header(bytes) {
-        return Ok(None);
+    if count < COPY_BIT {
+        8 * count as usize
+    } else {
+        8 * (count - COPY_BIT) as usize + COPIED_BYTES
     }
-    Ok(Some(header_within(alloc, bytes)?))
 }
 
-// What the bytes may be taken for.
-fn header_within(alloc: Global, bytes: &[u8]) -> Result<Header, AllocError>
-    requires { 27 ≤ length bytes.now }
-    ensures { IfOk result (λ header. heading_of header ≡ heading_within bytes.now) }
+// The header in bytes of whose front that is told.
+fn header_told(alloc: Global, bytes: &[u8], told: ToldFront) -> Result<Header, AllocError>
+    requires some { 27 + copied_size told.copied ≤ told.size }
+    requires inside { told.size ≤ length bytes.now }
+    ensures { IfOk result (λ header. heading_of header ≡ heading_told told bytes.now) }
 {
+    let end = told.size - copied_size(told.copied);
     Ok(Header {
-        kind: kind_by_letter(bytes[4]),
+        kind: told.kind,
         name: name_in(bytes),
-        capacities: numbers(alloc, &bytes[START_BYTES..])?,
+        capacities: numbers(alloc, &bytes[START_BYTES..end])?,
     })
 }
 
@@ -217,18 +243,19 @@ fn length_behind(mark: &[u8; 5]) -> u32
     BigEndian::read_u32(&mark[1..])
 }
 
-// The frames from that place on, up to the first closed gate.
+// The frames from that place on, up to the first closed gate, before which stand no fewer than the base.
 pub(crate) fn read_frames<D: Disk>(
     alloc: Global,
     disk: &mut D,
     start: u64,
+    base: u32,
 ) -> Result<Frames, JournalError>
     requires { (D.state disk.old).honest → start ≤ length (D.state disk.old).seen }
     ensures disk { Keeps (D.state disk.old) (D.state disk.new) }
     ensures unwritten { (D.state disk.old).honest →
         Unwritten (D.state disk.old) (D.state disk.new) }
     ensures reads { OnlyReads D.effect disk.old disk.new }
-    ensures answer { FindsFrames result start (D.state disk.old) (D.state disk.new) }
+    ensures answer { FindsFrames result start base (D.state disk.old) (D.state disk.new) }
 {
     let len = disk.len();
     if start >= len {
@@ -240,6 +267,9 @@ pub(crate) fn read_frames<D: Disk>(
         extents.reserve(1)?;
         extents.push_reserved((at + 5, size));
         at += 5 + u64::from(size);
+    }
+    if extents.len() < base as usize {
+        return Err(JournalError::Damaged { at });
     }
     Ok(Frames { extents, end: at })
 }

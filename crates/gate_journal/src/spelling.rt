@@ -1,4 +1,4 @@
-//! How a side is laid out, format 1 (own). Numbers are big-endian.
+//! How a side is laid out (own). Numbers are big-endian.
 //!
 //! A gate is one byte. It is open at A5h and closed at every other value; a closed one is written
 //! 00h.
@@ -7,28 +7,33 @@
 //! |---|---|
 //! | 0 | the side's gate, open |
 //! | 1 to 8 | `VTLCART1` of a cartridge, `VTLRESV1` of a drive's saved reservations |
-//! | 9 | the pair gate, 00h |
-//! | 10 | N, the count of capacities: 1 to 4 of a cartridge, 0 of a store |
+//! | 9 | the pair gate: of a cartridge any byte, 00h where it was made; of a store 00h |
+//! | 10 | N, the count of capacities: 1 to 4 of a cartridge, of a copy with 80h added; 0 of a store |
 //! | 11 to 26 | the barcode, or `DRIVE` and the drive's number, with spaces behind it |
 //! | 27 on | N capacities in bytes, each a number of 8 bytes from 4,096 to 1,099,511,627,776 |
-//! | 27 + 8N | the gate of the first frame |
+//! | 27 + 8N | of a copy: its epoch, a number of 8 bytes |
+//! | 35 + 8N | of a copy: its base, a number of 4 bytes |
+//! | 27 + 8N | the gate of the first frame; of a copy at 39 + 8N |
 //!
-//! The ten bytes up to the pair gate are the side's own. The heading stands behind them, from place
-//! 10 on, and holds no gate.
+//! What stands before the first gate is the side's front. The ten bytes up to the pair gate are its
+//! own, and the head stands behind them, from place 10 on, and holds no gate (`heads.rt`). Whether the
+//! pair gate is open, and which of two sides counts, is no question here: a side is read in the same way.
 //!
 //! A frame is its gate (1), the length of its body (4; 1 to 8,388,608) and its body, and is
 //! followed by the gate of the next frame. A side is read from the first gate on, and reading ends
-//! at the first closed one: what lies behind it counts for nothing. So a frame is added in four
+//! at the first closed one: what lies behind it counts for nothing. Of a copy no fewer frames than its
+//! base stand before that one; else it is damaged there. So a frame is added in four
 //! calls of the disk: behind the gate at the end, which stands closed, go length, body and the next
 //! closed gate in one write; a sync; A5h into the gate; a sync.
-ghost use Rattle.std.specs.Prelude.{◌≡◌, ◌↔◌, ◌+◌, ◌*◌, ◌≤◌, [], ◌∷◌, ◌++◌, length, take, drop, slice_index, IfOk, IsTrue};
+ghost use Rattle.std.specs.Prelude.{◌≡◌, ◌↔◌, ◌≤◌, [], ◌∷◌, ◌++◌, length, take, drop, IfOk, IsTrue};
 ghost use Rattle.std.specs.List.{All, flat_map};
 ghost use Rattle.std.specs.Int.{to_be_bytes, w64};
 ghost use Rattle.vtl_base.specs.Limits.{is_capacity};
-ghost use Rattle.gate_journal.specs.Side.{CLOSED, IsHeading, OPEN, heading_of, spell_heading, start};
-ghost use Rattle.gate_journal.specs.Inner.Reading.{IsSpelled, kind_by_letter, numbers_of};
+ghost use Rattle.gate_journal.specs.Side.{CLOSED, OPEN, heading_of, plain, spell_front, start};
+ghost use Rattle.gate_journal.specs.Inner.Reading.{kind_by_letter, numbers_of};
 
-use crate::header::{Header, NAME_BYTES, SideKind, is_capacity, is_count, is_name};
+use crate::header::{Header, NAME_BYTES, SideKind, is_capacity};
+use crate::heads::COPIED_BYTES;
 use byteorder::{BigEndian, ByteOrder};
 use std::alloc::{AllocError, Global};
 use vtl_base::limits::MAX_PARTITIONS;
@@ -39,29 +44,32 @@ pub(crate) const OPEN: u8 = 0xa5;
 /// A closed gate, as it is written.
 pub(crate) const CLOSED: u8 = 0x00;
 
-/// The bytes of a header before the capacities.
+/// The bytes of a side before its head: two gates, and its mark between them.
+pub(crate) const BEGUN_BYTES: usize = 10;
+
+/// The bytes of a front before the capacities.
 pub(crate) const START_BYTES: usize = 27;
 
-/// The bytes of a header with the most capacities.
-pub(crate) const HEADER_BYTES: usize = START_BYTES + 8 * MAX_PARTITIONS as usize;
+/// The bytes of the longest front: of a copy with the most capacities.
+pub(crate) const HEADER_BYTES: usize = START_BYTES + 8 * MAX_PARTITIONS as usize + COPIED_BYTES;
 
-// The ten bytes that a side of this kind begins with, where its gate is open.
-fn start(kind: SideKind) -> [u8; 10]
-    ensures { result ≡ start OPEN kind CLOSED }
+// The ten bytes that a side of this kind begins with, where its gate is open and its pair gate is this byte.
+pub(crate) fn start(kind: SideKind, pair: u8) -> [u8; BEGUN_BYTES]
+    ensures { result ≡ start OPEN kind pair }
 {
-    let mut bytes = [CLOSED; 10];
-    bytes[0] = OPEN;
+    let mut bytes = [OPEN; BEGUN_BYTES];
     bytes[1..9].copy_from_slice(kind.mark());
+    bytes[9] = pair;
     bytes
 }
 
-// A header in bytes.
+// The front of a side that is no copy and whose pair gate is closed, in bytes.
 pub(crate) fn spell_header(alloc: Global, header: &Header) -> Result<Vec<u8>, AllocError>
     requires { length header.now.capacities.items ≤ 4 }
-    ensures { IfOk result (λ bytes. bytes.items ≡ spell_heading (heading_of header.now)) }
+    ensures { IfOk result (λ bytes. bytes.items ≡ spell_front (plain (heading_of header.now))) }
 {
     let mut bytes = Vec::new(alloc);
-    bytes.extend_from_slice(&start(header.kind))?;
+    bytes.extend_from_slice(&start(header.kind, CLOSED))?;
     bytes.push(header.capacities.len() as u8)?;
     bytes.extend_from_slice(&header.name)?;
     spell_capacities(&mut bytes, &header.capacities)?;
@@ -81,30 +89,16 @@ fn spell_capacities(bytes: &mut Vec<u8>, capacities: &[u64]) -> Result<(), Alloc
     Ok(())
 }
 
-// A header with its gate closed, and a closed gate behind it.
+// The same with the side's gate closed, and a closed gate behind it.
 pub(crate) fn spell_closed(alloc: Global, header: &Header) -> Result<Vec<u8>, AllocError>
     requires { length header.now.capacities.items ≤ 4 }
     ensures { IfOk result (λ bytes.
-        bytes.items ≡ CLOSED ∷ drop 1 (spell_heading (heading_of header.now)) ++ CLOSED ∷ []) }
+        bytes.items ≡ CLOSED ∷ drop 1 (spell_front (plain (heading_of header.now))) ++ CLOSED ∷ []) }
 {
     let mut bytes = spell_header(alloc, header)?;
     bytes[0] = CLOSED;
     bytes.push(CLOSED)?;
     Ok(bytes)
-}
-
-// Whether the bytes spell a header. It takes no memory.
-pub(crate) fn spells_header(bytes: &[u8]) -> bool
-    requires { length bytes.now ≡ 27 + 8 * slice_index bytes.now 10 }
-    ensures { IsTrue result ↔ IsSpelled bytes.now }
-{
-    let kind = kind_by_letter(bytes[4]);
-    let mut begins = [0; 10];
-    begins.copy_from_slice(&bytes[..10]);
-    begins == start(kind)
-        && is_name(kind, &name_in(bytes))
-        && is_count(kind, bytes[10] as usize)
-        && hold_capacities(&bytes[START_BYTES..])
 }
 
 // The kind that this byte of a mark tells.

@@ -137,17 +137,21 @@ module _ (d0 d1 : DiskState) (sure : Only d0.seen d0.may_leave) (unwritten : Unw
     pub closed_still : (get_or d0.seen 0 0 ≢ OPEN) → IsClosedNow d0 d1
     closed_still nay = record {
       closed = subst ReadsClosed (sym unwritten.seen) (reads_closed d0.seen s nay);
+      written = λ w. absurd (nay (ap (λ (l : List ℕ). get_or l 0 0) w.1));
+      rests = λ w. unwritten.seen;
       same = ap (λ (l : List ℕ). drop 1 l) unwritten.seen;
       sure = still_sure;
     }
 
-    pub closed_now : (d2 : DiskState) → (d2.seen ≡ overwritten 0 (CLOSED ∷ []) d1.seen) × Only d2.seen d2.may_leave →
-        IsClosedNow d0 d2
-    closed_now d2 (holds, only) =
+    pub closed_now : get_or d0.seen 0 0 ≡ OPEN → (d2 : DiskState) →
+        (d2.seen ≡ overwritten 0 (CLOSED ∷ []) d1.seen) × Only d2.seen d2.may_leave → IsClosedNow d0 d2
+    closed_now e d2 (holds, only) =
         let now : d2.seen ≡ overwritten 0 (CLOSED ∷ []) d0.seen =
         holds ∙ ap (λ (l : List ℕ). overwritten 0 (CLOSED ∷ []) l) unwritten.seen in
         record {
           closed = closed_side d0.seen d2.seen s now;
+          written = λ w. now;
+          rests = λ w. absurd (w.1.2 (sym (ap (λ (l : List ℕ). get_or l 0 0) w.1.3) ∙ e));
           same = ap (λ (l : List ℕ). drop 1 l) now;
           sure = only;
         }

@@ -4,8 +4,6 @@ pub mod CutLemmas
 pub mod GateLemmas
 pub mod GivenLemmas
 pub mod HoleLemmas
-pub mod PairLemmas
 pub mod PassLemmas
 pub mod RunLemmas
 pub mod SpellLemmas
-pub mod StartLemmas

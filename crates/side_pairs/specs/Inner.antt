@@ -12,6 +12,8 @@ use Rattle.side_pairs.specs.declared.choosing.Counted.{Counted}
 use Rattle.side_pairs.specs.declared.which.Which.TheVariants.{First, Second}
 use Rattle.side_pairs.specs.Pairs.{IsClosedSide, IsOfCartridge, IsOpenSide, begun}
 use Rattle.side_pairs.specs.Choosing.{Chooses, IsFaultOfOne}
+pub mod Decided
+pub mod Starts
 
 -- the bytes begin with a head of a cartridge's side (own)
 abbrev pub HasHead : List ℕ → Type 0

@@ -3,3 +3,4 @@ pub mod Copying
 pub mod Inner
 pub mod Pairs
 pub mod Passes
+pub mod Roles

@@ -4,6 +4,7 @@ use Rattle.std.specs.List.{All, flat_map}
 use Rattle.gate_journal.specs.declared.header.SideKind.TheVariants.{Cartridge}
 use Rattle.gate_journal.specs.Heads.{Head, IsHead, base_of, epoch_of, spell_side_head}
 use Rattle.gate_journal.specs.Side.{OPEN, IsBody, IsBroken, frame, start}
+pub use Rattle.gate_journal.specs.Side.{LacksFrames}
 use Rattle.side_pairs.specs.declared.which.Which.{Which}
 use Rattle.side_pairs.specs.declared.which.Which.TheVariants.{First, Second}
 
@@ -67,11 +68,6 @@ PairStandsFor which head bodies first second =
 -- the place of the gate behind these frames (own)
 abbrev pub gate_behind : Head → List (List ℕ) → ℕ
 gate_behind head bodies = 10 + length (spell_side_head head ++ flat_map frame bodies)
-
--- fewer frames than the base stand before a closed gate (own)
-abbrev pub LacksFrames : Head → List (List ℕ) → List ℕ → Type 0
-LacksFrames head bodies behind =
-    (length bodies < base_of head) × ((gate : ℕ) × (more : List ℕ) × (gate ≢ OPEN) × (behind ≡ gate ∷ more))
 
 -- The side that counts has these whole frames, and what lies behind them, from that gate on, is broken, or is a closed
 -- gate that comes too early. The place is one of the side that counts (own).

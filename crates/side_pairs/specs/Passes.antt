@@ -96,8 +96,11 @@ pub record IsPairedNow (old new : DiskState) : Type 0 where
   pub behind : drop 10 new.seen ≡ drop 10 old.seen
   pub sure : Only new.seen new.may_leave
 
--- the side gate is closed, all behind it is as it was, and that is sure (own)
+-- The side gate is closed: 00h where it read open, and else what it was. All behind it is as it was, and that is sure
+-- (own).
 pub record IsClosedNow (old new : DiskState) : Type 0 where
   pub closed : ReadsClosed new.seen
+  pub written : ReadsOpen old.seen → new.seen ≡ CLOSED ∷ drop 1 old.seen
+  pub rests : ReadsClosed old.seen → new.seen ≡ old.seen
   pub same : drop 1 new.seen ≡ drop 1 old.seen
   pub sure : Only new.seen new.may_leave

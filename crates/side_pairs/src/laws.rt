@@ -2,10 +2,12 @@
 ghost use Rattle.std.specs.Prelude.{◌≡◌, ◌⊎◌, ◌∷◌, ℕ, List, None, drop};
 ghost use Rattle.tape_disk.specs.Disk.{Smeared};
 ghost use Rattle.gate_journal.specs.Heads.{Head};
-ghost use Rattle.gate_journal.specs.Side.{OPEN};
+ghost use Rattle.gate_journal.specs.Side.{Front, IsDamagedAt, OPEN, StandsFor};
+ghost use Rattle.gate_journal.specs.declared.header.SideKind.{SideKind};
 ghost use Rattle.side_pairs.specs.declared.which.Which.{Which};
 ghost use Rattle.side_pairs.specs.Pairs.{SideCounts, IsPairDamagedAt, IsDecidedPair, IsNoPair, IsOpenSide, PairStandsFor};
-ghost use Rattle.side_pairs.specs.Passes.{HasWritten, IsCopy, IsShutPair, SidesStandFor, TakesOver, first_image, spell_copy};
+ghost use Rattle.side_pairs.specs.Passes.{HasWritten, IsCopy, IsShutPair, SidesStandFor, TakesOver, first_image, second_image, spell_copy};
+ghost use Rattle.side_pairs.specs.Roles.{MayCountBeside, front_with};
 
 /// Each pair stands for something, is not ours, or is damaged at some place.
 pub fn each_pair_is_decided()
@@ -54,4 +56,21 @@ pub fn a_closed_side_closed_again()
         SidesStandFor which h bodies counts spare → (IsShutPair (first_image which counts spare) → ⊥) →
         IsCopy h copies → HasWritten (spell_copy h copies) spare →
         (image : List ℕ) × Smeared 0 1 spare image × TakesOver which h copies counts image }
+{}
+
+/// A cartridge's side that stands for frames, and may count beside the other image, is what the pair
+/// stands for; and so is the side that counts by itself.
+pub fn a_side_of_a_pair()
+    ensures stands { (which : Which) (front : Front) (bodies : List (List ℕ)) (counts spare : List ℕ) →
+        front.head.heading.kind ≡ SideKind.Cartridge → StandsFor front bodies counts →
+        MayCountBeside which front.pair front.head spare →
+        SidesStandFor which front.head bodies counts spare }
+    ensures counts { (which : Which) (head : Head) (bodies : List (List ℕ)) (counts spare : List ℕ) →
+        SidesStandFor which head bodies counts spare →
+        (pair : ℕ) × (head.heading.kind ≡ SideKind.Cartridge)
+        × StandsFor (front_with head pair) bodies counts × MayCountBeside which pair head spare }
+    ensures damaged { (which : Which) (counts spare : List ℕ) (at : ℕ) (damage : IsDamagedAt counts at) →
+        damage.0.head.heading.kind ≡ SideKind.Cartridge →
+        MayCountBeside which damage.0.pair damage.0.head spare →
+        IsPairDamagedAt (first_image which counts spare) (second_image which counts spare) at }
 {}

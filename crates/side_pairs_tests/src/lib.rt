@@ -6,6 +6,8 @@ mod asserted;
 #[cfg(test)]
 mod choice_tests;
 #[cfg(test)]
+mod opening_tests;
+#[cfg(test)]
 mod reclaims;
 #[cfg(test)]
 mod rows;

@@ -5,7 +5,7 @@ use Rattle.gate_journal.specs.declared.error.JournalError.{JournalError}
 use Rattle.gate_journal.specs.declared.error.JournalError.TheVariants as Calls
 use Rattle.gate_journal.specs.declared.error.OpenError.{OpenError}
 use Rattle.gate_journal.specs.declared.error.OpenError.TheVariants.{NotOurs, Damaged, BadRecord, Device, NoMemory}
-use Rattle.gate_journal.specs.Side.{Heading}
+use Rattle.gate_journal.specs.Side.{Front, Heading}
 use Rattle.gate_journal.specs.Answers.{IsFault, NoneFailed}
 use Rattle.gate_journal.specs.Decoding.{HasBadBody}
 
@@ -28,10 +28,10 @@ IsNotRead (BadRecord at) old new = ⊥
 
 -- why not all bodies are decoded: one is bad, a fault, or memory ran out (own)
 abbrev pub NotFinished : {T : Type 0} → (T → Heading → List (ℕ × ℕ) → List (List ℕ) → Type 0)
-    → (T → List ℕ → Type 0) → OpenError → Heading → List (List ℕ) → DiskState → DiskState → Type 0
-NotFinished has_read refuses (BadRecord at) heading bodies old new =
-    NoneFailed old new × (old.honest → HasBadBody has_read refuses heading bodies at)
-NotFinished has_read refuses (Device fault) heading bodies old new = IsFault fault old new
-NotFinished has_read refuses NoMemory heading bodies old new = NoneFailed old new
-NotFinished has_read refuses NotOurs heading bodies old new = ⊥
-NotFinished has_read refuses (Damaged at) heading bodies old new = ⊥
+    → (T → List ℕ → Type 0) → OpenError → Front → List (List ℕ) → DiskState → DiskState → Type 0
+NotFinished has_read refuses (BadRecord at) front bodies old new =
+    NoneFailed old new × (old.honest → HasBadBody has_read refuses front bodies at)
+NotFinished has_read refuses (Device fault) front bodies old new = IsFault fault old new
+NotFinished has_read refuses NoMemory front bodies old new = NoneFailed old new
+NotFinished has_read refuses NotOurs front bodies old new = ⊥
+NotFinished has_read refuses (Damaged at) front bodies old new = ⊥

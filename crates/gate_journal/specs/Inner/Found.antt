@@ -1,18 +1,20 @@
 -- What reading a side finds.
-use Rattle.std.specs.Prelude.{◌≡◌, ◌≢◌, ◌<◌, ◌≤◌, ◌+◌, ◌*◌, ◌^◌, ℕ, List, ◌∷◌, ◌++◌, length, take, drop, slice_index, Result, Ok, Err, Option, Some, None, false}
+use Rattle.std.specs.Prelude.{◌≡◌, ◌≢◌, ◌⊎◌, ◌<◌, ◌≤◌, ◌+◌, ◌*◌, ◌^◌, ℕ, List, ◌∷◌, ◌++◌, length, take, drop, slice_index, Result, Ok, Err, Option, Some, None, false}
 use Rattle.std.specs.List.{All, flat_map}
 use Rattle.vtl_base.specs.declared.limits.TheConstants.{MAX_BODY}
 use Rattle.tape_disk.specs.Disk.{DiskState, Only}
-use Rattle.gate_journal.specs.declared.header.Header.{Header}
 use Rattle.gate_journal.specs.declared.header.SideKind.{SideKind}
 use Rattle.gate_journal.specs.declared.reading.Frames.{Frames}
-use Rattle.gate_journal.specs.declared.reading.HeaderBytes.{HeaderBytes}
+use Rattle.gate_journal.specs.declared.reading.FrontBytes.{FrontBytes}
+use Rattle.gate_journal.specs.declared.reading.ReadFront.{ReadFront}
+use Rattle.gate_journal.specs.declared.fronts.ToldFront.{ToldFront}
 use Rattle.gate_journal.specs.declared.spelling.TheConstants.{HEADER_BYTES}
 use Rattle.gate_journal.specs.declared.error.JournalError.{JournalError}
 use Rattle.gate_journal.specs.declared.error.JournalError.TheVariants.{NotOurs, Damaged, SideFull, Device, Failed, NoMemory}
-use Rattle.gate_journal.specs.Side.{OPEN, Heading, IsBody, IsHeading, StandsFor, IsNotOurs, IsBroken, BeginsWithFrame, frame, heading_of, spell_heading}
+use Rattle.gate_journal.specs.Side.{OPEN, AreTooFew, Front, IsBody, IsFront, StandsFor, IsNotOurs, IsBroken, BeginsWithFrame, base_of, frame, front_of, spell_front}
 use Rattle.gate_journal.specs.Answers.{IsFault, NoneFailed}
 use Rattle.gate_journal.specs.Inner.Asked.{IsAsked, IsNotAsked, NotOpenedAsked}
+use Rattle.gate_journal.specs.Inner.Reading.{TellsFront, size_behind}
 use Rattle.gate_journal.specs.State.{StoresSide, IsExtent, bodies_at, extents_from}
 
 -- why a reader is refused: a cause of its own, or memory, and no call failed; or a fault (own)
@@ -24,33 +26,41 @@ NotRead NoMemory not_ours damaged memory old new = NoneFailed old new × memory
 NotRead SideFull not_ours damaged memory old new = ⊥
 NotRead Failed not_ours damaged memory old new = ⊥
 
--- the bytes that the disk begins with, as many as a header with their count of capacities has; or no header has place
+-- the front that was read (own)
+abbrev pub front_read : ReadFront → Front
+front_read read = front_of read.header read.copied read.pair
+
+-- the bytes that the disk begins with, as many as a front with their byte for its count has; or no front has place
 -- there (own)
-abbrev pub FindsBytes : Result HeaderBytes JournalError → DiskState → DiskState → Type 0
+abbrev pub FindsBytes : Result FrontBytes JournalError → DiskState → DiskState → Type 0
 FindsBytes (Ok found) old new =
-    NoneFailed old new × (found.len ≡ 27 + 8 * slice_index found.bytes 10) × (found.len ≤ HEADER_BYTES)
+    NoneFailed old new × (found.len ≡ 27 + size_behind (slice_index found.bytes 10)) × (found.len ≤ HEADER_BYTES)
     × (old.honest → (rest : List ℕ) × (old.seen ≡ take found.len found.bytes ++ rest))
 FindsBytes (Err error) old new = NotRead error (old.honest → IsNotOurs old.seen) (λ at. ⊥) ⊥ old new
 
--- the place behind the heading that the disk begins with, or none (own)
-abbrev pub FindsStart : Result ℕ JournalError → DiskState → DiskState → Type 0
-FindsStart (Ok start) old new =
-    NoneFailed old new
-    × (old.honest → (heading : Heading) × (rest : List ℕ) × IsHeading heading
-    × (old.seen ≡ spell_heading heading ++ rest) × (start ≡ length (spell_heading heading)))
+-- the bytes of the front that the disk begins with, and what is told of it; or it begins with none (own)
+abbrev pub FindsTold : Result (FrontBytes × ToldFront) JournalError → DiskState → DiskState → Type 0
+FindsTold (Ok found) old new =
+    NoneFailed old new × (found.0.len ≤ HEADER_BYTES) × TellsFront (take found.0.len found.0.bytes) (Some found.1)
+    × (old.honest → (rest : List ℕ) × (old.seen ≡ take found.0.len found.0.bytes ++ rest))
+FindsTold (Err error) old new = NotRead error (old.honest → IsNotOurs old.seen) (λ at. ⊥) ⊥ old new
+
+-- what is told of the front that the disk begins with, or that it begins with none (own)
+abbrev pub FindsStart : Result ToldFront JournalError → DiskState → DiskState → Type 0
+FindsStart (Ok told) old new = NoneFailed old new × (old.honest → TellsFront old.seen (Some told))
 FindsStart (Err error) old new = NotRead error (old.honest → IsNotOurs old.seen) (λ at. ⊥) ⊥ old new
 
--- the header that the disk begins with, or none (own)
-abbrev pub FindsHeader : Result Header JournalError → DiskState → DiskState → Type 0
-FindsHeader (Ok header) old new =
-    NoneFailed old new × IsHeading (heading_of header)
-    × (old.honest → (rest : List ℕ) × (old.seen ≡ spell_heading (heading_of header) ++ rest))
-FindsHeader (Err error) old new =
+-- the front that the disk begins with, and the place behind it; or none (own)
+abbrev pub FindsFront : Result ReadFront JournalError → DiskState → DiskState → Type 0
+FindsFront (Ok read) old new =
+    NoneFailed old new × IsFront (front_read read) × (read.start ≡ length (spell_front (front_read read)))
+    × (old.honest → (rest : List ℕ) × (old.seen ≡ spell_front (front_read read) ++ rest))
+FindsFront (Err error) old new =
     NotRead error (old.honest → IsNotOurs old.seen) (λ at. ⊥) (old.honest → 27 ≤ length old.seen) old new
 
--- the header that the disk begins with, of the kind that is asked for, or none (own)
-abbrev pub FindsAsked : Option SideKind → Result Header JournalError → DiskState → DiskState → Type 0
-FindsAsked asked (Ok header) old new = FindsHeader (Ok header) old new × IsAsked asked header.kind
+-- the front that the disk begins with, of the kind that is asked for, or none (own)
+abbrev pub FindsAsked : Option SideKind → Result ReadFront JournalError → DiskState → DiskState → Type 0
+FindsAsked asked (Ok read) old new = FindsFront (Ok read) old new × IsAsked asked read.header.kind
 FindsAsked asked (Err error) old new =
     NotRead error (old.honest → IsNotAsked asked old.seen) (λ at. ⊥) (old.honest → 27 ≤ length old.seen) old new
 
@@ -78,28 +88,29 @@ pub record Walked (seen : List ℕ) (start : ℕ) (bodies : List (List ℕ)) (ex
   pub extents_are : extents ≡ extents_from start bodies
   pub at_is : at ≡ start + length (flat_map frame bodies)
 
--- whole frames lie from the start up to that place, and break off there (own)
-abbrev pub BreaksOff : List ℕ → ℕ → ℕ → Type 0
-BreaksOff seen start at =
+-- Whole frames lie from the start up to that place. There they break off, or a gate is closed before there are as many
+-- as the base (own).
+abbrev pub BreaksOff : List ℕ → ℕ → ℕ → ℕ → Type 0
+BreaksOff seen start base at =
     (bodies : List (List ℕ)) × (extents : List (ℕ × ℕ)) × Walked seen start bodies extents at
-    × IsBroken bodies (drop at seen)
+    × (IsBroken bodies (drop at seen) ⊎ AreTooFew base bodies (drop at seen))
 
--- the frames up to a closed gate, or the place where they break off (own)
-abbrev pub FindsFrames : Result Frames JournalError → ℕ → DiskState → DiskState → Type 0
-FindsFrames (Ok frames) start old new =
-    NoneFailed old new × (frames.end + 1 < 2 ^ 64) × (start ≤ frames.end)
+-- the frames up to a closed gate, no fewer than the base, or the place where they break off (own)
+abbrev pub FindsFrames : Result Frames JournalError → ℕ → ℕ → DiskState → DiskState → Type 0
+FindsFrames (Ok frames) start base old new =
+    NoneFailed old new × (frames.end + 1 < 2 ^ 64) × (start ≤ frames.end) × (base ≤ length frames.extents.items)
     × All (IsExtent frames.end) frames.extents.items
     × (old.honest → ((bodies : List (List ℕ)) × Walked old.seen start bodies frames.extents.items frames.end)
     × ((gate : ℕ) × (rest : List ℕ) × (gate ≢ OPEN) × (drop frames.end old.seen ≡ gate ∷ rest)))
-FindsFrames (Err error) start old new =
-    NotRead error ⊥ (λ at. old.honest → BreaksOff old.seen start at) (Unit {0}) old new
+FindsFrames (Err error) start base old new =
+    NotRead error ⊥ (λ at. old.honest → BreaksOff old.seen start base at) (Unit {0}) old new
 
 -- an open side of the kind that is asked for and why it is one, or why it is none (own)
-abbrev pub FindsSide : Option SideKind → Result (Header × Frames) JournalError → DiskState → DiskState → Type 0
+abbrev pub FindsSide : Option SideKind → Result (ReadFront × Frames) JournalError → DiskState → DiskState → Type 0
 FindsSide asked (Ok side) old new =
-    NoneFailed old new × IsAsked asked side.0.kind × IsHeading (heading_of side.0) × (side.1.end + 1 < 2 ^ 64)
-    × All (IsExtent side.1.end) side.1.extents.items
+    NoneFailed old new × IsAsked asked side.0.header.kind × IsFront (front_read side.0) × (side.1.end + 1 < 2 ^ 64)
+    × (base_of (front_read side.0).head ≤ length side.1.extents.items) × All (IsExtent side.1.end) side.1.extents.items
     × (old.honest
-    → StoresSide new (heading_of side.0) (bodies_at new.seen side.1.extents.items) side.1.extents.items side.1.end false
-    × StandsFor (heading_of side.0) (bodies_at new.seen side.1.extents.items) old.seen × Only old.seen new.may_leave)
+    → StoresSide new (front_read side.0) (bodies_at new.seen side.1.extents.items) side.1.extents.items side.1.end false
+    × StandsFor (front_read side.0) (bodies_at new.seen side.1.extents.items) old.seen × Only old.seen new.may_leave)
 FindsSide asked (Err error) old new = NotOpenedAsked asked error old new

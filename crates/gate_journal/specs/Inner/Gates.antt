@@ -1,5 +1,5 @@
 -- How the last gates of a side are found.
-use Rattle.std.specs.Prelude.{◌≡◌, ◌≢◌, ◌==◌, if◌then◌else◌, ℕ, ◌-◌, List, ◌∷◌, length, drop, Result, Ok, Err, Some, slice_index_or}
+use Rattle.std.specs.Prelude.{◌≡◌, ◌≢◌, ◌≤◌, ◌==◌, if◌then◌else◌, ℕ, ◌-◌, List, ◌∷◌, length, drop, Result, Ok, Err, Some, slice_index_or}
 use Rattle.tape_disk.specs.Disk.{DiskState}
 use Rattle.gate_journal.specs.declared.error.JournalError.{JournalError}
 use Rattle.gate_journal.specs.declared.gates.Gates.{Gates}
@@ -12,15 +12,17 @@ use Rattle.gate_journal.specs.Side.{OPEN, IsNotOurs, IsDamagedAt}
 abbrev pub gate_before : List (ℕ × ℕ) → ℕ
 gate_before extents = if length extents == 0 then 0 else (slice_index_or extents (length extents - 1) (0, 0)).0 - 5
 
--- the last gates of the frames from the start up to a closed gate, or the place where they break off (own)
-abbrev pub FindsLast : Result Gates JournalError → ℕ → DiskState → DiskState → Type 0
-FindsLast (Ok gates) start old new =
+-- the last gates of the frames from the start up to a closed gate, no fewer than the base, or the place where they
+-- break off (own)
+abbrev pub FindsLast : Result Gates JournalError → ℕ → ℕ → DiskState → DiskState → Type 0
+FindsLast (Ok gates) start base old new =
     NoneFailed old new
     × (old.honest
     → ((bodies : List (List ℕ)) × (extents : List (ℕ × ℕ)) × Walked old.seen start bodies extents gates.end
-    × (gates.last ≡ gate_before extents))
+    × (gates.last ≡ gate_before extents) × (base ≤ length bodies))
     × ((gate : ℕ) × (rest : List ℕ) × (gate ≢ OPEN) × (drop gates.end old.seen ≡ gate ∷ rest)))
-FindsLast (Err error) start old new = NotRead error ⊥ (λ at. old.honest → BreaksOff old.seen start at) ⊥ old new
+FindsLast (Err error) start base old new =
+    NotRead error ⊥ (λ at. old.honest → BreaksOff old.seen start base at) ⊥ old new
 
 -- the last gates of a side that reads whole, or why there is none (own)
 abbrev pub FindsWhole : Result Gates JournalError → DiskState → DiskState → Type 0

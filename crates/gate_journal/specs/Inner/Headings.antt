@@ -1,4 +1,4 @@
--- A heading is spelled in one way, and one can find out whether bytes begin with one.
+-- What can be spelled in a heading, how long it is, and that one can find out whether a heading can be spelled.
 use Rattle.std.proofs.Common.{◌≡◌, ℕ, ◌<◌, ◌≤◌, ◌+◌, ◌-◌, ◌*◌, ◌^◌, List, [], ◌∷◌, ◌++◌, length, take, drop, get_or, replicate, refl, sym, ◌∙◌, ap, subst, arith, append_assoc, length-append, true, false, cond, nat_lt}
 use Rattle.std.specs.Prelude.{codes, Bool, IsTrue, nat_le, ◌&&◌}
 use Rattle.std.specs.List.{All, flat_map}
@@ -10,9 +10,8 @@ use Rattle.vtl_base.specs.Barcode.{IsBarcode, is_symbol}
 use Rattle.vtl_base.specs.Limits.{is_capacity}
 use Rattle.gate_journal.specs.declared.header.SideKind.{SideKind}
 use Rattle.gate_journal.specs.declared.header.SideKind.TheVariants.{Cartridge, Store}
-use Rattle.gate_journal.specs.Side.{CLOSED, OPEN, Heading, padded, digits, drive_name, IsName, IsCount, IsHeading, mark, spell_heading, spell_fields, start}
-use Rattle.gate_journal.specs.Inner.Reading.{numbers_of, heading_within}
-use Rattle.std.specs.Prelude.{slice_index}
+use Rattle.gate_journal.specs.Side.{Heading, padded, digits, drive_name, IsName, IsCount, IsHeading}
+use Rattle.gate_journal.specs.Inner.Reading.{numbers_of}
 use Rattle.byteorder.specs.Numbers.{big_number-reads_back}
 use Rattle.gate_journal.specs.Inner.Deciding.{Decidable, both, decided_as, below, is_true, all, some_below, same}
 
@@ -34,14 +33,6 @@ length_capacities [] = refl
 length_capacities (w ∷ ws) = omega
     (arith, length_capacities ws, length-append (to_be_bytes w64 w) (flat_map (to_be_bytes w64) ws))
 
--- the heading of that kind that the bytes may begin with
-abbrev pub heading_at : SideKind → List ℕ → Heading
-heading_at kind bytes = record {
-  kind = kind;
-  name = take 16 (drop 11 bytes);
-  capacities = numbers_of (take (8 * slice_index bytes 10) (drop 27 bytes));
-}
-
 second_true : (x y : Bool) → (x && y) ≡ true → y ≡ true
 second_true true y e = e
 second_true false y e = absurd (false≢true e)
@@ -58,80 +49,7 @@ numbers_again (w ∷ ws) ok =
     let fits : w < 2 ^ 64 = omega (arith, below) in
     λ i. big_number-reads_back 8 w [] fits i ∷ numbers_again ws (All-tail Allowed w ws ok) i
 
-module _ (name capacities rest : List ℕ) (named : length name ≡ 16) (ok : All Allowed capacities) where
-  abbrev tail : List ℕ
-  tail = name ++ flat_map (to_be_bytes w64) capacities ++ rest
-
-  tail_name : take 16 tail ≡ name
-  tail_name = ap (λ (l : List ℕ). take 16 l) (append_assoc name (flat_map (to_be_bytes w64) capacities) rest)
-      ∙ take_at name (flat_map (to_be_bytes w64) capacities ++ rest) 16 named
-
-  tail_capacities : numbers_of (take (8 * length capacities) (drop 16 tail)) ≡ capacities
-  tail_capacities =
-      ap (λ (l : List ℕ). numbers_of (take (8 * length capacities) l))
-      (ap (λ (l : List ℕ). drop 16 l) (append_assoc name (flat_map (to_be_bytes w64) capacities) rest)
-      ∙ drop_at name (flat_map (to_be_bytes w64) capacities ++ rest) 16 named)
-      ∙ ap numbers_of (take_at (flat_map (to_be_bytes w64) capacities) rest (8 * length capacities)
-      (length_capacities capacities))
-      ∙ numbers_again capacities ok
-
-  pub heading_again : (kind : SideKind) →
-      heading_at kind (spell_heading (record { kind = kind; name = name; capacities = capacities }) ++ rest) ≡ record
-      { kind = kind; name = name; capacities = capacities }
-  heading_again Cartridge = λ i. record { kind = Cartridge; name = tail_name i; capacities = tail_capacities i }
-  heading_again Store = λ i. record { kind = Store; name = tail_name i; capacities = tail_capacities i }
-
-within_again : (kind : SideKind) (name capacities : List ℕ) → length name ≡ 16 → All Allowed capacities →
-    heading_within (spell_heading (record { kind = kind; name = name; capacities = capacities })) ≡ record {
-      kind =
-          kind;
-      name = name;
-      capacities = capacities;
-    }
-within_again Cartridge name capacities named ok =
-    let bytes = flat_map (to_be_bytes w64) capacities in
-    λ i. record {
-      kind = Cartridge;
-      name = take_at name bytes 16 named i;
-      capacities =
-          (ap numbers_of (drop_at name bytes 16 named) ∙ numbers_again capacities ok) i;
-    }
-within_again Store name capacities named ok =
-    let bytes = flat_map (to_be_bytes w64) capacities in
-    λ i. record {
-      kind = Store;
-      name = take_at name bytes 16 named i;
-      capacities =
-          (ap numbers_of (drop_at name bytes 16 named) ∙ numbers_again capacities ok) i;
-    }
-
-pub within_is : (h : Heading) → IsHeading h → heading_within (spell_heading h) ≡ h
-within_is h ok = within_again h.kind h.name h.capacities (length_name h.kind h.name ok.name) ok.capacities
-
-pub heading_is : (h : Heading) (rest : List ℕ) → IsHeading h → heading_at h.kind (spell_heading h ++ rest) ≡ h
-heading_is h rest ok = heading_again h.name h.capacities rest (length_name h.kind h.name ok.name) ok.capacities h.kind
-
--- the mark tells the kind
-fourth : (k : SideKind) (n m r : List ℕ) →
-    get_or (spell_heading (record { kind = k; name = n; capacities = m }) ++ r) 4 0 ≡ get_or (mark k) 3 0
-fourth Cartridge n m r = refl
-fourth Store n m r = refl
-
-told_kind : (k l : SideKind) → get_or (mark k) 3 0 ≡ get_or (mark l) 3 0 → k ≡ l
-told_kind Cartridge Cartridge e = refl
-told_kind Store Store e = refl
-told_kind Cartridge Store e = absurd (omega (arith, e))
-told_kind Store Cartridge e = absurd (omega (arith, e))
-
-pub same_heading : (h k : Heading) (r s : List ℕ) → IsHeading h → IsHeading k →
-    spell_heading h ++ r ≡ spell_heading k ++ s → h ≡ k
-same_heading h k r s okh okk e =
-    let kinds = told_kind h.kind k.kind
-    (sym (fourth h.kind h.name h.capacities r) ∙ ap (λ (l : List ℕ). get_or l 4 0) e
-    ∙ fourth k.kind k.name k.capacities s) in
-    sym (heading_is h r okh) ∙ (λ i. heading_at (kinds i) (e i)) ∙ heading_is k s okk
-
--- whether bytes begin with a heading
+-- whether a heading can be spelled
 decided_barcode : (bytes : List ℕ) → Decidable (IsBarcode bytes)
 decided_barcode bytes =
     decided_as (λ w. record { some = w.0.0; short = w.0.1; symbols = w.1 }) (λ b. ((b.some, b.short), b.symbols))
@@ -175,37 +93,3 @@ few Store n count = omega (arith, count)
 
 pub few_capacities : (h : Heading) → IsHeading h → length h.capacities ≤ 4
 few_capacities h ok = few h.kind (length h.capacities) ok.count
-
-length_mark : (kind : SideKind) → length (mark kind) ≡ 8
-length_mark Cartridge = refl
-length_mark Store = refl
-
-pub length_heading : (h : Heading) → IsHeading h → length (spell_heading h) ≡ 27 + 8 * length h.capacities
-length_heading h ok =
-    omega (
-      arith,
-      length_name h.kind h.name ok.name,
-      length_capacities h.capacities,
-      length_mark h.kind,
-      length-append (start OPEN h.kind CLOSED) (spell_fields h),
-      length-append (mark h.kind) (CLOSED ∷ []),
-      length-append h.name (flat_map (to_be_bytes w64) h.capacities),
-    )
-
-told_count_at : (kind : SideKind) (name capacities rest : List ℕ) →
-    get_or (spell_heading (record { kind = kind; name = name; capacities = capacities }) ++ rest)
-    10 0 ≡ length capacities
-told_count_at Cartridge name capacities rest = refl
-told_count_at Store name capacities rest = refl
-
--- what an image that begins with a heading has in front
-module _ (h : Heading) (rest image : List ℕ) (ok : IsHeading h) (is : image ≡ spell_heading h ++ rest) where
-  pub count_there : get_or image 10 0 ≡ length h.capacities
-  count_there = ap (λ (l : List ℕ). get_or l 10 0) is ∙ told_count_at h.kind h.name h.capacities rest
-
-  pub heading_there : take (27 + 8 * length h.capacities) image ≡ spell_heading h
-  heading_there = ap (λ (l : List ℕ). take (27 + 8 * length h.capacities) l) is
-      ∙ take_at (spell_heading h) rest (27 + 8 * length h.capacities) (length_heading h ok)
-
-  pub long_enough : 27 + 8 * length h.capacities ≤ length image
-  long_enough = omega (arith, ap length is, length_heading h ok, length-append (spell_heading h) rest)

@@ -1,6 +1,7 @@
 -- What a reader takes for the head of a cartridge's side, before it is known to be one.
 use Rattle.std.specs.Prelude.{ℕ, ◌-◌, ◌*◌, List, take, drop, slice_index, Bool, true, false, Option, None, Some}
 use Rattle.byteorder.specs.Endian.{big_number}
+use Rattle.gate_journal.specs.declared.header.SideKind.{SideKind}
 use Rattle.gate_journal.specs.declared.header.SideKind.TheVariants.{Cartridge}
 use Rattle.gate_journal.specs.declared.heads.Copied.{Copied}
 use Rattle.gate_journal.specs.Side.{Heading}
@@ -26,11 +27,11 @@ abbrev pub copied_in : Bool → List ℕ → Option Copied
 copied_in false bytes = None
 copied_in true bytes = Some (record { epoch = big_number 8 bytes; base = big_number 4 (drop 8 bytes) })
 
--- the head, of a copy or not, that the bytes may begin with (own)
-abbrev pub head_as : Bool → List ℕ → Head
-head_as copy bytes = record {
+-- the head, of that kind of side, of a copy or not, that the bytes may begin with (own)
+abbrev pub head_as : SideKind → Bool → List ℕ → Head
+head_as kind copy bytes = record {
   heading = record {
-    kind = Cartridge;
+    kind = kind;
     name = take 16 (drop 1 bytes);
     capacities = numbers_of (take (8 * count_in copy (slice_index bytes 0)) (drop 17 bytes));
   };

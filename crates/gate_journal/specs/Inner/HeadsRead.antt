@@ -8,10 +8,11 @@ use Rattle.vtl_base.specs.Limits.{is_capacity}
 use Rattle.byteorder.specs.Endian.{big_number}
 use Rattle.byteorder.specs.Numbers.{big_number-reads_back}
 use Rattle.gate_journal.specs.declared.header.SideKind.{SideKind}
-use Rattle.gate_journal.specs.declared.header.SideKind.TheVariants.{Cartridge}
+use Rattle.gate_journal.specs.declared.header.SideKind.TheVariants.{Cartridge, Store}
 use Rattle.gate_journal.specs.declared.heads.Copied.{Copied}
 use Rattle.gate_journal.specs.Side.{IsHeading}
 use Rattle.gate_journal.specs.Heads.{Head, IsHead, IsCopied, BeginsWithHead, count_byte, spell_copied, spell_side_head}
+pub use Rattle.gate_journal.specs.Inner.Reading.{copied_size}
 use Rattle.gate_journal.specs.Inner.Reading.{numbers_of}
 use Rattle.gate_journal.specs.Inner.Deciding.{Decidable, both, decided_as, below, same}
 use Rattle.gate_journal.specs.Inner.Headings.{length_name, length_capacities, numbers_again, decided_heading, few_capacities}
@@ -20,9 +21,15 @@ use Rattle.gate_journal.specs.Inner.Heads.{is_copy, count_in, copied_in, head_as
 abbrev Allowed : ℕ → Type 0
 Allowed bytes = IsTrue (is_capacity bytes)
 
-count_again : (copied : Option Copied) (n : ℕ) → count_in (is_copy copied) (count_byte copied n) ≡ n
+pub count_again : (copied : Option Copied) (n : ℕ) → count_in (is_copy copied) (count_byte copied n) ≡ n
 count_again None n = refl
 count_again (Some copied) n = omega arith
+
+-- only a cartridge's side is a copy
+of_cartridge : (kind : SideKind) (copied : Option Copied) → IsCopied kind copied → IsCopied Cartridge copied
+of_cartridge kind None ok = tt
+of_cartridge Cartridge (Some copied) ok = ok
+of_cartridge Store (Some copied) ok = absurd ok
 
 copied_again : (copied : Option Copied) (rest : List ℕ) → IsCopied Cartridge copied →
     copied_in (is_copy copied) (spell_copied copied ++ rest) ≡ copied
@@ -74,27 +81,30 @@ module _ (name capacities : List ℕ) (copied : Option Copied) (rest : List ℕ)
       ∙ ap (λ (l : List ℕ). copied_in (is_copy copied) l) (drop_at numbers last (8 * n) sized)
       ∙ copied_again copied rest well
 
-  abbrev whole : Head
-  whole = record { heading = record { kind = Cartridge; name = name; capacities = capacities }; copied = copied }
-
-  again : head_as (is_copy copied) (count_byte copied (length capacities) ∷ tail) ≡ whole
-  again = λ i. record {
-    heading = record { kind = Cartridge; name = name_told i; capacities = capacities_told i };
+  again : (kind : SideKind) → head_as kind (is_copy copied) (count_byte copied (length capacities) ∷ tail) ≡ record {
+    heading = record { kind = kind; name = name; capacities = capacities };
+    copied = copied;
+  }
+  again kind = λ i. record {
+    heading = record { kind = kind; name = name_told i; capacities = capacities_told i };
     copied = copied_told i;
   }
 
-pub head_is : (h : Head) (rest : List ℕ) → h.heading.kind ≡ Cartridge → IsHead h →
-    head_as (is_copy h.copied) (spell_side_head h ++ rest) ≡ h
-head_is h rest is ok =
+-- a head of any kind of side is read as it was spelled
+pub any_head_is : (h : Head) (rest : List ℕ) → IsHead h →
+    head_as h.heading.kind (is_copy h.copied) (spell_side_head h ++ rest) ≡ h
+any_head_is h rest ok =
     again h.heading.name h.heading.capacities h.copied rest (length_name h.heading.kind h.heading.name ok.heading.name)
-    ok.heading.capacities (subst (λ (k : SideKind). IsCopied k h.copied) is ok.copied)
-    ∙ (λ i. record {
-      heading = record { kind = sym is i; name = h.heading.name; capacities = h.heading.capacities };
-      copied = h.copied;
-    })
+    ok.heading.capacities (of_cartridge h.heading.kind h.copied ok.copied) h.heading.kind
+
+pub head_is : (h : Head) (rest : List ℕ) → h.heading.kind ≡ Cartridge → IsHead h →
+    head_as Cartridge (is_copy h.copied) (spell_side_head h ++ rest) ≡ h
+head_is h rest is ok =
+    (λ i. head_as (sym is i) (is_copy h.copied) (spell_side_head h ++ rest)) ∙ any_head_is h rest ok
 
 -- the count tells whether a head is that of a copy
-told_copy : (a b : Option Copied) (m n : ℕ) → m ≤ 4 → n ≤ 4 → count_byte a m ≡ count_byte b n → is_copy a ≡ is_copy b
+pub told_copy : (a b : Option Copied) (m n : ℕ) → m ≤ 4 → n ≤ 4 → count_byte a m ≡ count_byte b n →
+    is_copy a ≡ is_copy b
 told_copy None None m n few less e = refl
 told_copy (Some a) (Some b) m n few less e = refl
 told_copy None (Some b) m n few less e = absurd (omega (arith, few, less, e))
@@ -107,14 +117,15 @@ same_head h k r s hc kc okh okk e =
     let copies = told_copy h.copied k.copied (length h.heading.capacities) (length k.heading.capacities)
     (few_capacities h.heading okh.heading) (few_capacities k.heading okk.heading)
     (ap (λ (l : List ℕ). get_or l 0 0) e) in
-    let one : h ≡ k = sym (head_is h r hc okh) ∙ (λ i. head_as (copies i) (e i)) ∙ head_is k s kc okk in (
+    let one : h ≡ k = sym (head_is h r hc okh) ∙ (λ i. head_as Cartridge (copies i) (e i)) ∙ head_is k s kc okk in (
       one,
       append_cancel_left (spell_side_head k) r s (ap (λ (g : Head). spell_side_head g ++ r) (sym one) ∙ e),
     )
 
-decided_copied : (copied : Option Copied) → Decidable (IsCopied Cartridge copied)
-decided_copied None = inl tt
-decided_copied (Some copied) = decided_as
+pub decided_copied : (kind : SideKind) (copied : Option Copied) → Decidable (IsCopied kind copied)
+decided_copied kind None = inl tt
+decided_copied Store (Some copied) = inr (λ never. never)
+decided_copied Cartridge (Some copied) = decided_as
     (λ (w : (copied.epoch + 1 ≤ 2 ^ 64) × (copied.base + 1 ≤ 2 ^ 32)). (omega (arith, w.0), omega (arith, w.1)))
     (λ (w : (copied.epoch < 2 ^ 64) × (copied.base < 2 ^ 32)). (omega (arith, w.0), omega (arith, w.1)))
     (both (below (copied.epoch + 1) (2 ^ 64)) (below (copied.base + 1) (2 ^ 32)))
@@ -124,19 +135,19 @@ OfKind copy bytes =
     (h : Head) × (rest : List ℕ) × (h.heading.kind ≡ Cartridge) × IsHead h × (bytes ≡ spell_side_head h ++ rest)
     × (is_copy h.copied ≡ copy)
 
-kind_again : (copy : Bool) (bytes : List ℕ) → is_copy (copied_in copy bytes) ≡ copy
+pub kind_again : (copy : Bool) (bytes : List ℕ) → is_copy (copied_in copy bytes) ≡ copy
 kind_again false bytes = refl
 kind_again true bytes = refl
 
 module _ (copy : Bool) (bytes : List ℕ) where
   abbrev guess : Head
-  guess = head_as copy bytes
+  guess = head_as Cartridge copy bytes
 
   abbrev behind : List ℕ
   behind = drop (length (spell_side_head guess)) bytes
 
   guessed : (w : OfKind copy bytes) → guess ≡ w.0
-  guessed w = (let back : copy ≡ is_copy w.0.copied = sym w.5 in λ i. head_as (back i) (w.4 i))
+  guessed w = (let back : copy ≡ is_copy w.0.copied = sym w.5 in λ i. head_as Cartridge (back i) (w.4 i))
       ∙ head_is w.0 w.1 w.2 w.3
 
   spelled : (w : OfKind copy bytes) → spell_side_head guess ++ behind ≡ bytes
@@ -161,7 +172,7 @@ module _ (copy : Bool) (bytes : List ℕ) where
       ))
       (λ (w : OfKind copy bytes). let ok : IsHead guess = subst IsHead (sym (guessed w)) w.3 in
       ((ok.heading, ok.copied), spelled w))
-      (both (both (decided_heading guess.heading) (decided_copied guess.copied))
+      (both (both (decided_heading guess.heading) (decided_copied Cartridge guess.copied))
       (same (spell_side_head guess ++ behind) bytes))
 
 one_of_two : (bytes : List ℕ) → BeginsWithHead bytes → OfKind false bytes ⊎ OfKind true bytes
@@ -180,11 +191,6 @@ decided_head bytes = elim (decided_of_kind false bytes) [
     | inr nor ↦ inr (λ w. ⊎_elim never nor (one_of_two bytes w))
   ]
 ]
-
--- the bytes of epoch and base
-abbrev pub copied_size : Option Copied → ℕ
-copied_size None = 0
-copied_size (Some copied) = 12
 
 length_copied : (copied : Option Copied) → length (spell_copied copied) ≡ copied_size copied
 length_copied None = refl

@@ -21,7 +21,7 @@ loop-frame-preserved g c =
     ap (λ (e : List (ℕ × ℕ)). slice_index_or e frame (0, 0)) (sym inv.extents) in
     record {
       fine = c.in_ok-decode_body.ensures.ok.0;
-      heading = c.decode_body.ensures.same.1 ∙ inv.heading;
+      front = c.decode_body.ensures.same.1 ∙ inv.front;
       extents = c.decode_body.ensures.same.0 ∙ inv.extents;
       reserved = c.decode_body.ensures.same.2 ∙ inv.reserved;
       room = omega (arith, inv.room, c.decode_body.auto.buffer);
@@ -32,8 +32,9 @@ loop-frame-preserved g c =
       };
       none_failed = c.in_ok-decode_body.ensures.ok.1 ∙ inv.none_failed;
       read =
-          decoded_next g.T.Decodes.has_read g.T.Decodes.refuses c.loop-frame.decoder start.heading start.extents
-          start.bodies old.honest frame inv.read c.decode_body.new.decoder c.in_ok-decode_body.field-0 extent.0
+          decoded_next g.T.Decodes.has_read g.T.Decodes.refuses c.loop-frame.decoder start.front.head.heading
+          start.extents start.bodies old.honest frame inv.read c.decode_body.new.decoder c.in_ok-decode_body.field-0
+          extent.0
           decodes.read c.if-not-branch.false inside (extent_is ∙ (λ i. (extent.0, sym decodes.sized i))) decodes.takes
           (λ h. (
             omega (arith, c.loop-frame-test.true, c.frames-frame-end.ensures.value),

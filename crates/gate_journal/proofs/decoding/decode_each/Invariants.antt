@@ -12,14 +12,14 @@ invariant-loop-frame g l =
     let new = g.D.Disk.state l.journal.disk in
     record {
       fine : l.journal.failed ≡ false;
-      heading : l.journal.heading ≡ start.heading;
+      front : l.journal.front ≡ start.front;
       extents : l.journal.extents ≡ start.extents;
       reserved : l.journal.reserved_extents ≡ start.reserved_extents;
       room : 1 ≤ length l.buffer;
       keeps : Keeps old new;
       none_failed : NoneFailed old new;
       read :
-          HasDecoded g.T.Decodes.has_read l.decoder start.heading (take l.frame start.extents)
+          HasDecoded g.T.Decodes.has_read l.decoder start.front.head.heading (take l.frame start.extents)
           (take l.frame start.bodies) old.honest;
       unwritten : old.honest → Unwritten old new;
       bodies : old.honest → l.journal.bodies ≡ start.bodies;

@@ -1,16 +1,16 @@
-use Rattle.std.proofs.Common.{◌≡◌, ℕ, List, ◌++◌, ◌∷◌, [], drop, ◌+◌, arith, refl, sym, ◌∙◌, ap}
+use Rattle.std.proofs.Common.{◌≡◌, ℕ, List, ◌++◌, ◌∷◌, [], length, length-append, drop, ◌+◌, arith, refl, sym, ◌∙◌, ap}
 use Rattle.std.proofs.lemmas.Result.{err_from_is_err_and}
 use Rattle.tape_disk.specs.Sequences.{keeps_in_sequence}
 use Rattle.gate_journal.specs.Reads.{reads_then}
 use Rattle.gate_journal.proofs.GateLemmas.{gate_pushed}
-use Rattle.gate_journal.proofs.Walks.{nothing_there, walked_more, broken_there, unwritten_then, not_read_since}
+use Rattle.gate_journal.proofs.Walks.{as_many, broken_there, nothing_there, not_read_since, too_few, unwritten_then, walked_more}
 use Rattle.gate_journal.proofs.gates.walk_frames.Goals as goal
 
 pub returns-then-start-len-clause-answer : goal.returns-then-start-len-clause-answer
 returns-then-start-len-clause-answer g c = (
   refl,
   λ honest.
-      nothing_there (g.D.Disk.state c.args.disk.now).seen c.args.start
+      nothing_there (g.D.Disk.state c.args.disk.now).seen c.args.start c.args.base
       (omega (arith, c.len-len.ensures.length honest, c.if-start-len.true)),
 )
 
@@ -25,7 +25,7 @@ returns-in_err-size-clause-answer g c =
     (not_read_since d0 d1 d2 i.none_failed c.in_err-size.field-0.0 _ _ _ _
     (λ place found honest.
     let so_far = i.honest honest in
-    broken_there d0.seen d1.seen so_far.0.seen c.args.start so_far.2.0 so_far.2.1 c.loop-size.at
+    broken_there d0.seen d1.seen so_far.0.seen c.args.start c.args.base so_far.2.0 so_far.2.1 c.loop-size.at
     place so_far.2.2 found.0 (found.1 (i.keeps.stays_honest honest)))
     (λ never. absurd never)
     c.in_err-size.ensures.answer)
@@ -42,6 +42,7 @@ loop-size-preserved g c =
     let far : at + (5 + c.from.result) ≡ at + 5 + size = omega (arith, c.from.ensures) in
     record {
       inside = omega (arith, far, found.3);
+      counted = omega (arith, far, i.counted);
       reads = reads_then g.D.Disk.effect _ _ _ i.reads c.read_mark.ensures.reads;
       keeps = keeps_in_sequence d0 d1 d2 i.keeps c.read_mark.ensures.disk;
       none_failed = found.0 ∙ i.none_failed;
@@ -62,6 +63,7 @@ loop-size-preserved g c =
                   frame.2 found.1 found.2 (ap (λ (l : List ℕ). drop at l) (sym same) ∙ frame.3)
                   (frame.4 ∙ ap (λ (l : List ℕ). drop (at + 5 + size) l) same) refl far,
               sym (gate_pushed extents at size),
+              omega (arith, so_far.2.4, length-append extents ((at + 5, size) ∷ [])),
             ),
           );
     }
@@ -73,3 +75,44 @@ returns-in_err-size-clause-reads g c =
 pub returns-clause-reads : goal.returns-clause-reads
 returns-clause-reads g c =
     reads_then g.D.Disk.effect _ _ _ c.loop-size.invariant.reads c.read_mark.ensures.reads
+
+pub returns-then-frames-from-clause-reads : goal.returns-then-frames-from-clause-reads
+returns-then-frames-from-clause-reads g c =
+    reads_then g.D.Disk.effect _ _ _ c.loop-size.invariant.reads c.read_mark.ensures.reads
+
+pub returns-then-frames-from-clause-answer : goal.returns-then-frames-from-clause-answer
+returns-then-frames-from-clause-answer g c =
+    let d0 = g.D.Disk.state c.args.disk.now in
+    let i = c.loop-size.invariant in
+    let at = c.loop-size.at in
+    let shut = rw c.in_default.is at c.in_ok-size.ensures.answer in (
+      shut.0 ∙ i.none_failed,
+      λ honest.
+          let so_far = i.honest honest in
+          let gate = shut.1 (i.keeps.stays_honest honest) in
+          too_few d0.seen c.args.start so_far.2.0 so_far.2.1 at so_far.2.2 c.args.base
+          (omega (arith, so_far.2.4, c.if-frames-from.true, c.from-2.ensures))
+          (gate.0, gate.1, gate.2, ap (λ (l : List ℕ). drop at l) (sym so_far.0.seen) ∙ gate.3),
+    )
+
+pub returns-clause-answer : goal.returns-clause-answer
+returns-clause-answer g c =
+    let d0 = g.D.Disk.state c.args.disk.now in
+    let i = c.loop-size.invariant in
+    let at = c.loop-size.at in
+    let shut = rw c.in_default.is at c.in_ok-size.ensures.answer in (
+      shut.0 ∙ i.none_failed,
+      λ honest.
+          let so_far = i.honest honest in
+          let gate = shut.1 (i.keeps.stays_honest honest) in
+          let many = as_many d0.seen c.args.start so_far.2.0 so_far.2.1 at so_far.2.2 in (
+            (
+              so_far.2.0,
+              so_far.2.1,
+              so_far.2.2,
+              so_far.2.3,
+              omega (arith, so_far.2.4, many, c.if-frames-from.false, c.from-2.ensures),
+            ),
+            (gate.0, gate.1, gate.2, ap (λ (l : List ℕ). drop at l) (sym so_far.0.seen) ∙ gate.3),
+          ),
+    )

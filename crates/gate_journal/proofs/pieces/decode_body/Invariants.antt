@@ -14,7 +14,7 @@ invariant-loop-so_far g l =
     let extent = slice_index_or start.extents l.frame (0, 0) in
     record {
       fine : l.journal.failed ≡ false;
-      heading : l.journal.heading ≡ start.heading;
+      front : l.journal.front ≡ start.front;
       extents : l.journal.extents ≡ start.extents;
       reserved : l.journal.reserved_extents ≡ start.reserved_extents;
       room : 1 ≤ length l.buffer;

@@ -1,16 +1,16 @@
-use Rattle.std.proofs.Common.{◌≡◌, ℕ, List, ◌++◌, ◌∷◌, [], drop, ◌+◌, arith, refl, sym, ◌∙◌, ap}
+use Rattle.std.proofs.Common.{◌≡◌, ℕ, List, ◌++◌, ◌∷◌, [], length, drop, ◌+◌, arith, rules, refl, sym, ◌∙◌, ap}
 use Rattle.std.proofs.lemmas.Result.{err_from_is_err_and}
 use Rattle.tape_disk.specs.Sequences.{keeps_in_sequence}
 use Rattle.gate_journal.specs.Reads.{reads_then}
 use Rattle.gate_journal.proofs.Extents.{one_more}
-use Rattle.gate_journal.proofs.Walks.{nothing_there, walked_more, broken_there, unwritten_then, not_read_since}
+use Rattle.gate_journal.proofs.Walks.{broken_there, nothing_there, not_read_since, too_few, unwritten_then, walked_more}
 use Rattle.gate_journal.proofs.reading.read_frames.Goals as goal
 
 pub returns-then-start-len-clause-answer : goal.returns-then-start-len-clause-answer
 returns-then-start-len-clause-answer g c = (
   refl,
   λ honest.
-      nothing_there (g.D.Disk.state c.args.disk.now).seen c.args.start
+      nothing_there (g.D.Disk.state c.args.disk.now).seen c.args.start c.args.base
       (omega (arith, c.len-len.ensures.length honest, c.if-start-len.true)),
 )
 
@@ -25,7 +25,8 @@ returns-in_err-size-clause-answer g c =
     (not_read_since d0 d1 d2 i.none_failed c.in_err-size.field-0.0 _ _ _ _
     (λ place found honest.
     let so_far = i.honest honest in
-    broken_there d0.seen d1.seen so_far.0.seen c.args.start so_far.2.0 c.loop-extents.extents.items c.loop-extents.at
+    broken_there d0.seen d1.seen so_far.0.seen c.args.start c.args.base so_far.2.0
+    c.loop-extents.extents.items c.loop-extents.at
     place so_far.2.1 found.0 (found.1 (i.keeps.stays_honest honest)))
     (λ never. absurd never)
     c.in_err-size.ensures.answer)
@@ -78,3 +79,24 @@ returns-in_err-reserve-clause-reads g c =
 pub returns-clause-reads : goal.returns-clause-reads
 returns-clause-reads g c =
     reads_then g.D.Disk.effect _ _ _ c.loop-extents.invariant.reads c.read_mark.ensures.reads
+
+pub returns-then-len-base-clause-reads : goal.returns-then-len-base-clause-reads
+returns-then-len-base-clause-reads g c =
+    reads_then g.D.Disk.effect _ _ _ c.loop-extents.invariant.reads c.read_mark.ensures.reads
+
+pub returns-then-len-base-clause-answer : goal.returns-then-len-base-clause-answer
+returns-then-len-base-clause-answer g c =
+    let d0 = g.D.Disk.state c.args.disk.now in
+    let i = c.loop-extents.invariant in
+    let at = c.loop-extents.at in
+    let extents = c.loop-extents.extents.items in
+    let count : c.len.result ≡ length extents = search rules in
+    let shut = rw c.in_default.is at c.in_ok-size.ensures.answer in (
+      shut.0 ∙ i.none_failed,
+      λ honest.
+          let so_far = i.honest honest in
+          let gate = shut.1 (i.keeps.stays_honest honest) in
+          too_few d0.seen c.args.start so_far.2.0 extents at so_far.2.1 c.args.base
+          (omega (arith, count, c.if-len-base.true))
+          (gate.0, gate.1, gate.2, ap (λ (l : List ℕ). drop at l) (sym so_far.0.seen) ∙ gate.3),
+    )

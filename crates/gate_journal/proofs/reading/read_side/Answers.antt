@@ -1,24 +1,23 @@
-use Rattle.std.proofs.Common.{◌≡◌, ℕ, List, length, ◌+◌, ◌*◌, arith, rules, ap, subst, sym, ◌∙◌, length-append}
+use Rattle.std.proofs.Common.{◌≡◌, ℕ, List, length, ◌≤◌, arith, ap, subst, sym, ◌∙◌, length-append}
 use Rattle.std.proofs.lemmas.Result.{err_from_is_err_and}
 use Rattle.tape_disk.specs.Sequences.{keeps_of_passes}
-use Rattle.gate_journal.specs.Side.{heading_of}
-use Rattle.gate_journal.specs.Side.{spell_heading, StandsFor}
+use Rattle.gate_journal.specs.Side.{base_of, spell_front, StandsFor}
 use Rattle.gate_journal.specs.State.{bodies_at}
 use Rattle.gate_journal.specs.Inner.Asked.{IsNotAsked, IsDamagedAsked}
-use Rattle.gate_journal.specs.Inner.Headings.{length_heading}
+use Rattle.gate_journal.specs.Inner.Found.{front_read}
+use Rattle.gate_journal.specs.Inner.Fronts.{length_front}
 use Rattle.gate_journal.proofs.AskedLemmas.{damaged_asked}
-use Rattle.gate_journal.proofs.Walks.{not_opened_since, damaged_there, stands_for, on_disk, seen_2, only_3}
+use Rattle.gate_journal.proofs.Walks.{as_many, not_opened_since, damaged_there, stands_for, on_disk, seen_2, only_3}
 use Rattle.gate_journal.proofs.reading.read_side.Goals as goal
 
 pub read_frames-requires : goal.read_frames-requires
 read_frames-requires g c = λ honest.
-    let h = heading_of c.in_ok-header.header in
-    let found = c.in_ok-header.ensures.answer.0 in
+    let f = front_read c.in_ok-front.front in
+    let found = c.in_ok-front.ensures.answer.0 in
     let honest1 = c.read_asked.ensures.disk.was_honest honest in
-    let rest = found.2 honest1 in
+    let rest = found.3 honest1 in
     let seen = (c.read_asked.ensures.unwritten honest1).seen ∙ rest.1 in
-    let count : c.len.result ≡ length c.in_ok-header.header.capacities.items = search rules in
-    omega (arith, count, length_heading h found.1, ap length seen, length-append (spell_heading h) rest.0)
+    omega (arith, found.2, ap length seen, length-append (spell_front f) rest.0)
 
 pub returns-in_err-frames-clause-answer : goal.returns-in_err-frames-clause-answer
 returns-in_err-frames-clause-answer g c =
@@ -26,13 +25,12 @@ returns-in_err-frames-clause-answer g c =
     let d1 = g.D.Disk.state c.make_sure.new.disk in
     let d2 = g.D.Disk.state c.read_asked.new.disk in
     let d3 = g.D.Disk.state c.read_frames.new.disk in
-    let h = heading_of c.in_ok-header.header in
+    let start = c.in_ok-front.front.start in
+    let f = front_read c.in_ok-front.front in
     let kept1 = keeps_of_passes d0 d1 c.make_sure.result c.make_sure.ensures.passes in
     let none1 = c.in_ok-make_sure.ensures.passes.none_failed in
-    let asked = c.in_ok-header.ensures.answer.1 in
-    let found = c.in_ok-header.ensures.answer.0 in
-    let count : c.len.result ≡ length c.in_ok-header.header.capacities.items = search rules in
-    let here : 27 + 8 * c.len.result ≡ length (spell_heading h) = omega (arith, count, length_heading h found.1) in
+    let asked = c.in_ok-front.ensures.answer.1 in
+    let found = c.in_ok-front.ensures.answer.0 in
     let p = err_from_is_err_and c.from_residual-in_err-frames.result c.from_residual-in_err-frames.ensures.1 in
     rw (p.1, p.2)
     (not_opened_since d0 d2 d3 (found.0 ∙ none1) (IsNotAsked c.args.asked) (IsDamagedAsked c.args.asked)
@@ -44,12 +42,12 @@ returns-in_err-frames-clause-answer g c =
     let disk1 = g.met.D.Disk.is_disk c.make_sure.new.disk honest1 in
     let first = c.read_asked.ensures.unwritten honest1 in
     let second = c.read_frames.ensures.unwritten honest2 in
-    let rest = found.2 honest1 in
+    let rest = found.3 honest1 in
     let b = broken honest2 in (
       subst (λ (l : List ℕ). IsDamagedAsked c.args.asked l at) (seen_2 d0 d1 d2 d3 sure disk1 first second)
-          (damaged_asked c.args.asked h rest.0 d2.seen at found.1 asked (first.seen ∙ rest.1)
-          (damaged_there d2.seen (27 + 8 * c.len.result) b.0 b.1 at b.2 h found.1 rest.0 (first.seen ∙ rest.1)
-          here b.3)),
+          (damaged_asked c.args.asked f rest.0 d2.seen at found.1 asked (first.seen ∙ rest.1)
+          (damaged_there d2.seen start b.0 b.1 at b.2 f found.1 rest.0 (first.seen ∙ rest.1)
+          found.2 c.base_in-base.result c.base_in-base.ensures b.3)),
       only_3 d0 d1 d2 d3 sure disk1 first second,
     ))
     (λ _ honest.
@@ -57,9 +55,9 @@ returns-in_err-frames-clause-answer g c =
     let honest2 = c.read_asked.ensures.disk.stays_honest honest1 in
     let sure = (c.in_ok-make_sure.ensures.syncs honest).durable in
     let disk1 = g.met.D.Disk.is_disk c.make_sure.new.disk honest1 in
-    let rest = found.2 honest1 in
+    let rest = found.3 honest1 in
     let same = sure d1.seen disk1.reads in (
-      omega (arith, ap length same, ap length rest.1, length-append (spell_heading h) rest.0, here),
+      omega (arith, ap length same, ap length rest.1, length-append (spell_front f) rest.0, length_front f found.1),
       only_3 d0 d1 d2 d3 sure disk1 (c.read_asked.ensures.unwritten honest1) (c.read_frames.ensures.unwritten honest2),
     ))
     c.in_err-frames.ensures.answer)
@@ -70,13 +68,12 @@ returns-clause-answer g c =
     let d1 = g.D.Disk.state c.make_sure.new.disk in
     let d2 = g.D.Disk.state c.read_asked.new.disk in
     let d3 = g.D.Disk.state c.read_frames.new.disk in
-    let h = heading_of c.in_ok-header.header in
+    let start = c.in_ok-front.front.start in
+    let f = front_read c.in_ok-front.front in
     let kept1 = keeps_of_passes d0 d1 c.make_sure.result c.make_sure.ensures.passes in
     let none1 = c.in_ok-make_sure.ensures.passes.none_failed in
-    let asked = c.in_ok-header.ensures.answer.1 in
-    let found = c.in_ok-header.ensures.answer.0 in
-    let count : c.len.result ≡ length c.in_ok-header.header.capacities.items = search rules in
-    let here : 27 + 8 * c.len.result ≡ length (spell_heading h) = omega (arith, count, length_heading h found.1) in
+    let asked = c.in_ok-front.ensures.answer.1 in
+    let found = c.in_ok-front.ensures.answer.0 in
     let frames = c.in_ok-frames.ensures.answer in
     let extents = c.in_ok-frames.frames.extents.items in
     let end = c.in_ok-frames.frames.end in (
@@ -84,7 +81,8 @@ returns-clause-answer g c =
       asked,
       found.1,
       frames.1,
-      frames.3,
+      omega (arith, frames.3, c.base_in-base.ensures),
+      frames.4,
       λ honest.
           let honest1 = kept1.stays_honest honest in
           let honest2 = c.read_asked.ensures.disk.stays_honest honest1 in
@@ -92,16 +90,18 @@ returns-clause-answer g c =
           let disk1 = g.met.D.Disk.is_disk c.make_sure.new.disk honest1 in
           let first = c.read_asked.ensures.unwritten honest1 in
           let second = c.read_frames.ensures.unwritten honest2 in
-          let rest = found.2 honest1 in
-          let walk = frames.4 honest2 in
+          let rest = found.3 honest1 in
+          let walk = frames.5 honest2 in
           let same2 = seen_2 d0 d1 d2 d3 sure disk1 first second in
           let only = only_3 d0 d1 d2 d3 sure disk1 first second in
-          let stands = stands_for d2.seen (27 + 8 * c.len.result) walk.0.0 extents end walk.0.1 h found.1 rest.0
-          (first.seen ∙ rest.1) here walk.1.0 walk.1.1 walk.1.2 walk.1.3 in
-          let both = on_disk d2.seen (27 + 8 * c.len.result) walk.0.0 extents end walk.0.1 h found.1 rest.0
-          (first.seen ∙ rest.1) here d3 second.seen (λ image left. only image left ∙ sym same2) stands in (
+          let many = as_many d2.seen start walk.0.0 extents end walk.0.1 in
+          let enough : base_of f.head ≤ length walk.0.0 = omega (arith, many, frames.3, c.base_in-base.ensures) in
+          let stands = stands_for d2.seen start walk.0.0 extents end walk.0.1 f found.1 rest.0
+          (first.seen ∙ rest.1) found.2 enough walk.1.0 walk.1.1 walk.1.2 walk.1.3 in
+          let both = on_disk d2.seen start walk.0.0 extents end walk.0.1 f found.1 rest.0
+          (first.seen ∙ rest.1) found.2 enough d3 second.seen (λ image left. only image left ∙ sym same2) stands in (
             both.0,
-            subst (λ (l : List ℕ). StandsFor h (bodies_at d3.seen extents) l) same2 both.1,
+            subst (λ (l : List ℕ). StandsFor f (bodies_at d3.seen extents) l) same2 both.1,
             only,
           ),
     )

@@ -1,7 +1,7 @@
 use Rattle.std.specs.Prelude.{◌++◌, ◌∷◌}
 use Rattle.std.specs.List.{flat_map}
 use Rattle.gate_journal.specs.Side.{frame}
-use Rattle.side_pairs.proofs.PairLemmas.{one_thing, one_place, sound}
+use Rattle.side_pairs.specs.Inner.Decided.{one_thing, one_place, sound}
 use Rattle.side_pairs.proofs.laws.no_pair_is_decided_twice.Goals as goal
 
 pub returns : goal.returns

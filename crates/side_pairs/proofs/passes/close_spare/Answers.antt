@@ -24,7 +24,8 @@ pub returns-clause-ok : goal.returns-clause-ok
 returns-clause-ok g c = λ h start.
     on_ok_weaker c.write_gate.result
     (closed_now (g.D.Disk.state c.args.spare.now) (g.D.Disk.state c.read_gate.new.disk) start.sure
-    (c.read_gate.ensures.unwritten h) start.start (g.D.Disk.state c.write_gate.new.disk))
+    (c.read_gate.ensures.unwritten h) start.start (sym (c.in_ok-side.ensures.gate h) ∙ c.if-side.false)
+    (g.D.Disk.state c.write_gate.new.disk))
     (c.write_gate.ensures.written (c.read_gate.ensures.passes.stays_honest h)
     (let long = still_long (g.D.Disk.state c.args.spare.now) (g.D.Disk.state c.read_gate.new.disk) start.sure
     (c.read_gate.ensures.unwritten h) start.start in omega (arith, long)))

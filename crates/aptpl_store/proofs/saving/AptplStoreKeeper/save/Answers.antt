@@ -28,11 +28,11 @@ invariant_of-self g c =
     let savable : IsSavable state = subst IsSavable c.state.ensures.state c.fill_body.ensures.savable in
     let said = c.in-Ok.ensures in (
       saved_open g.D.Disk.state g.met.D.Disk.is_disk old new _ _ notes c.self.invariant.0 c.self.invariant.1
-          room state savable body body_is said.disk said.heading said.answer.0.was_fine
+          room state savable body body_is said.disk said.front said.answer.0.was_fine
           (λ h. said.any_moment h said.answer.0.was_fine)
           said.answer.0 said.bodies said.sure c.with_state-self-inside.result.notes c.with_state-self-inside.ensures,
       saved_stores g.D.Disk.state g.met.D.Disk.is_disk old new _ _ notes c.self.invariant.0 c.self.invariant.1
-          room state savable body body_is said.disk said.heading said.answer.0.was_fine
+          room state savable body body_is said.disk said.front said.answer.0.was_fine
           (λ h. said.any_moment h said.answer.0.was_fine)
           said.answer.0 said.bodies said.sure c.with_state-self-inside.result.notes c.with_state-self-inside.ensures,
     )
@@ -52,11 +52,11 @@ invariant_of-self-in-Err-Device g c =
     let said = c.in-Err-Device.ensures in
     let broke = rw c.in-Err-Device.field-0-is at said.answer in (
       broken_open g.D.Disk.state g.met.D.Disk.is_disk old new _ _ notes c.self.invariant.0 c.self.invariant.1
-          room state savable body body_is said.disk said.heading broke.0.was_fine
+          room state savable body body_is said.disk said.front broke.0.was_fine
           (λ h. said.any_moment h broke.0.was_fine)
           broke.0 said.bodies c.with_torn_state-self-inside.result.notes c.with_torn_state-self-inside.ensures,
       broken_stores g.D.Disk.state g.met.D.Disk.is_disk old new _ _ notes c.self.invariant.0 c.self.invariant.1
-          room state savable body body_is said.disk said.heading broke.0.was_fine
+          room state savable body body_is said.disk said.front broke.0.was_fine
           (λ h. said.any_moment h broke.0.was_fine)
           broke.0 said.bodies c.with_torn_state-self-inside.result.notes c.with_torn_state-self-inside.ensures,
     )
@@ -77,7 +77,7 @@ returns-in-Ok-clause-answer g c =
     let said = c.in-Ok.ensures in (
       said.answer.0.was_fine,
       saved_kept g.D.Disk.state g.met.D.Disk.is_disk old new _ _ notes c.self.invariant.0 c.self.invariant.1
-          room state savable body body_is said.disk said.heading said.answer.0.was_fine
+          room state savable body body_is said.disk said.front said.answer.0.was_fine
           (λ h. said.any_moment h said.answer.0.was_fine)
           said.answer.0 said.bodies said.sure c.with_state-self-inside.result.notes c.with_state-self-inside.ensures,
     ))
@@ -97,7 +97,7 @@ returns-in-Ok-clause-advances g c =
     let savable : IsSavable state = subst IsSavable c.state.ensures.state c.fill_body.ensures.savable in
     let said = c.in-Ok.ensures in
     saved_advances g.D.Disk.state g.met.D.Disk.is_disk old new _ _ notes c.self.invariant.0 c.self.invariant.1
-    room state savable body body_is said.disk said.heading said.answer.0.was_fine
+    room state savable body body_is said.disk said.front said.answer.0.was_fine
     (λ h. said.any_moment h said.answer.0.was_fine)
     said.answer.0 said.bodies said.sure c.with_state-self-inside.result.notes
     c.with_state-self-inside.ensures said.answer.1)
@@ -117,7 +117,7 @@ returns-in-Ok-clause-saves g c =
     let savable : IsSavable state = subst IsSavable c.state.ensures.state c.fill_body.ensures.savable in
     let said = c.in-Ok.ensures in
     saved_value g.D.Disk.state g.met.D.Disk.is_disk old new _ _ notes c.self.invariant.0 c.self.invariant.1
-    room state savable body body_is said.disk said.heading said.answer.0.was_fine
+    room state savable body body_is said.disk said.front said.answer.0.was_fine
     (λ h. said.any_moment h said.answer.0.was_fine)
     said.answer.0 said.bodies said.sure c.with_state-self-inside.result.notes c.with_state-self-inside.ensures)
 
@@ -136,7 +136,7 @@ returns-in-Ok-clause-sure g c =
     let savable : IsSavable state = subst IsSavable c.state.ensures.state c.fill_body.ensures.savable in
     let said = c.in-Ok.ensures in
     opens_saved g.D.Disk.state g.met.D.Disk.is_disk old new _ _ notes c.self.invariant.0 c.self.invariant.1
-    room state savable body body_is said.disk said.heading said.answer.0.was_fine
+    room state savable body body_is said.disk said.front said.answer.0.was_fine
     (λ h. said.any_moment h said.answer.0.was_fine)
     said.answer.0 said.bodies said.sure c.with_state-self-inside.result.notes c.with_state-self-inside.ensures)
 
@@ -155,7 +155,7 @@ returns-in-Ok-clause-any_moment g c =
     let savable : IsSavable state = subst IsSavable c.state.ensures.state c.fill_body.ensures.savable in
     let said = c.in-Ok.ensures in
     (λ h fine. opened g.D.Disk.state g.met.D.Disk.is_disk old new _ _ notes c.self.invariant.0 c.self.invariant.1
-    room state savable body body_is said.disk said.heading said.answer.0.was_fine
+    room state savable body body_is said.disk said.front said.answer.0.was_fine
     (λ h. said.any_moment h said.answer.0.was_fine) h))
 
 pub returns-in-Err-Device-clause-answer : goal.returns-in-Err-Device-clause-answer
@@ -175,7 +175,7 @@ returns-in-Err-Device-clause-answer g c =
     let broke = rw c.in-Err-Device.field-0-is at said.answer in (
       broke.0.was_fine,
       broken_kept g.D.Disk.state g.met.D.Disk.is_disk old new _ _ notes c.self.invariant.0 c.self.invariant.1
-          room state savable body body_is said.disk said.heading broke.0.was_fine
+          room state savable body body_is said.disk said.front broke.0.was_fine
           (λ h. said.any_moment h broke.0.was_fine)
           broke.0 said.bodies c.with_torn_state-self-inside.result.notes c.with_torn_state-self-inside.ensures,
     ))
@@ -196,7 +196,7 @@ returns-in-Err-Device-clause-advances g c =
     let said = c.in-Err-Device.ensures in
     let broke = rw c.in-Err-Device.field-0-is at said.answer in
     broken_advances g.D.Disk.state g.met.D.Disk.is_disk old new _ _ notes c.self.invariant.0 c.self.invariant.1
-    room state savable body body_is said.disk said.heading broke.0.was_fine
+    room state savable body body_is said.disk said.front broke.0.was_fine
     (λ h. said.any_moment h broke.0.was_fine)
     broke.0 said.bodies c.with_torn_state-self-inside.result.notes c.with_torn_state-self-inside.ensures broke.1.cause)
 
@@ -216,7 +216,7 @@ returns-in-Err-Device-clause-any_moment g c =
     let said = c.in-Err-Device.ensures in
     let broke = rw c.in-Err-Device.field-0-is at said.answer in
     (λ h fine. opened g.D.Disk.state g.met.D.Disk.is_disk old new _ _ notes c.self.invariant.0 c.self.invariant.1
-    room state savable body body_is said.disk said.heading broke.0.was_fine
+    room state savable body body_is said.disk said.front broke.0.was_fine
     (λ h. said.any_moment h broke.0.was_fine) h))
 
 pub returns-in-Err-NoMemory-clause-answer : goal.returns-in-Err-NoMemory-clause-answer
@@ -261,7 +261,7 @@ returns-in-Err-NoMemory-clause-any_moment g c =
     let said = c.in-Err-NoMemory.ensures in
     let why = rw c.in-Err-NoMemory.field-0-is at said.answer in
     (λ h fine. opened g.D.Disk.state g.met.D.Disk.is_disk old new _ _ notes c.self.invariant.0 c.self.invariant.1
-    room state savable body body_is said.disk said.heading why.0
+    room state savable body body_is said.disk said.front why.0
     (λ h. said.any_moment h why.0) h))
 
 pub returns-in-Err-SideFull-clause-answer : goal.returns-in-Err-SideFull-clause-answer
@@ -306,7 +306,7 @@ returns-in-Err-SideFull-clause-any_moment g c =
     let said = c.in-Err-SideFull.ensures in
     let why = rw c.in-Err-SideFull.field-0-is at said.answer in
     (λ h fine. opened g.D.Disk.state g.met.D.Disk.is_disk old new _ _ notes c.self.invariant.0 c.self.invariant.1
-    room state savable body body_is said.disk said.heading why.0
+    room state savable body body_is said.disk said.front why.0
     (λ h. said.any_moment h why.0) h))
 
 pub returns-in-Err-Failed-clause-advances : goal.returns-in-Err-Failed-clause-advances

@@ -1,7 +1,7 @@
-use Rattle.std.proofs.Common.{◌≡◌, ℕ, length, ◌+◌, List, ◌++◌, ◌∷◌, [], ◌∙◌, ap, arith, refl}
-use Rattle.gate_journal.specs.Side.{heading_of}
+use Rattle.std.proofs.Common.{◌≡◌, ℕ, length, ◌+◌, List, ◌++◌, ◌∷◌, [], ◌∙◌, ap, arith, refl, length-append}
+use Rattle.gate_journal.specs.Side.{front_of}
 use Rattle.gate_journal.specs.Inner.Writing.{tail_of}
-use Rattle.gate_journal.proofs.Bodies.{moments, failed_on, failed_bodies, added_on, added_bodies, added_each}
+use Rattle.gate_journal.proofs.Bodies.{moments, failed_on, failed_bodies, added_on, added_bodies, added_each, still}
 use Rattle.gate_journal.proofs.Extents.{one_more}
 use Rattle.gate_journal.proofs.journal.Journal.append_frame.Goals as goal
 
@@ -21,11 +21,18 @@ invariant_of-self-in-Ok g c =
           (omega (arith, sized)),
       λ h'.
           let h = c.write_behind.ensures.passes.was_honest h' in
-          added_on d (heading_of i.header) i.extents.items i.end i.failed (c.self.invariant.3 h)
+          added_on d (front_of i.header i.copied i.pair) i.extents.items i.end i.failed (c.self.invariant.3 h)
           c.if-self.false body c.requires d' (tail_of c.args.frame.now.body) refl
           c.push_reserved.new.self.items extents_are (c.in-Ok.ensures.opened h) (i.end + (5 + c.from-in-Ok.result))
           i.failed (omega (arith, sized)) c.if-self.false,
       omega arith,
+      omega (
+        arith,
+        c.self.invariant.5,
+        ap length extents_are,
+        length-append i.extents.items
+            ((i.end + 5, length body) ∷ []),
+      ),
     )
 
 pub invariant_of-self-in-Err : goal.invariant_of-self-in-Err
@@ -39,11 +46,12 @@ invariant_of-self-in-Err g c =
       λ h'.
           let h = c.write_behind.ensures.passes.was_honest h' in
           rw c.reserve.ensures.items
-          (failed_on d (heading_of i.header) i.extents.items i.end i.failed (c.self.invariant.3 h)
+          (failed_on d (front_of i.header i.copied i.pair) i.extents.items i.end i.failed (c.self.invariant.3 h)
           c.if-self.false c.args.frame.now.body c.requires d' (tail_of c.args.frame.now.body)
           refl
           (c.write_behind.ensures.any_moment h) (g.met.D.Disk.is_disk c.write_behind.new.disk h')),
       omega arith,
+      rw c.reserve.ensures.items c.self.invariant.5,
     )
 
 pub returns-in-Ok-clause-bodies : goal.returns-in-Ok-clause-bodies
@@ -54,7 +62,7 @@ returns-in-Ok-clause-bodies g c = rw (← c.self.view_is) (λ h.
     let body = c.args.frame.now.body in
     let extents_are = c.push_reserved.ensures.items
     ∙ (λ k. c.reserve.ensures.items k ++ (i.end + 5, length (c.body.ensures k)) ∷ []) in
-    added_bodies d (heading_of i.header) i.extents.items i.end i.failed (c.self.invariant.3 h)
+    added_bodies d (front_of i.header i.copied i.pair) i.extents.items i.end i.failed (c.self.invariant.3 h)
     c.if-self.false body c.requires d' (tail_of c.args.frame.now.body) refl
     c.push_reserved.new.self.items extents_are (c.in-Ok.ensures.opened h))
 
@@ -66,14 +74,15 @@ returns-in-Ok-clause-sure g c = rw (← c.self.view_is) (λ h.
     let body = c.args.frame.now.body in
     let extents_are = c.push_reserved.ensures.items
     ∙ (λ k. c.reserve.ensures.items k ++ (i.end + 5, length (c.body.ensures k)) ∷ []) in
-    added_each d (heading_of i.header) i.extents.items i.end i.failed (c.self.invariant.3 h)
+    added_each d (front_of i.header i.copied i.pair) i.extents.items i.end i.failed (c.self.invariant.3 h)
     c.if-self.false body c.requires d' (tail_of c.args.frame.now.body) refl
     c.push_reserved.new.self.items extents_are (c.in-Ok.ensures.opened h))
 
 pub returns-in-Ok-clause-any_moment : goal.returns-in-Ok-clause-any_moment
 returns-in-Ok-clause-any_moment g c = rw (← c.self.view_is) (λ h fine.
     let i = c.self.inside in
-    moments (g.D.Disk.state i.disk) (heading_of i.header) i.extents.items i.end i.failed (c.self.invariant.3 h)
+    moments (g.D.Disk.state i.disk) (front_of i.header i.copied i.pair) i.extents.items i.end i.failed
+    (c.self.invariant.3 h)
     fine c.args.frame.now.body c.requires
     (g.D.Disk.state c.write_behind.new.disk) (tail_of c.args.frame.now.body) refl
     (c.write_behind.ensures.any_moment h))
@@ -85,7 +94,7 @@ returns-in-Err-clause-bodies g c = rw (← c.self.view_is) (λ h.
     let d' = g.D.Disk.state c.write_behind.new.disk in
     let h' = c.write_behind.ensures.passes.stays_honest h in
     rw c.reserve.ensures.items
-    (failed_bodies d (heading_of i.header) i.extents.items i.end i.failed (c.self.invariant.3 h)
+    (failed_bodies d (front_of i.header i.copied i.pair) i.extents.items i.end i.failed (c.self.invariant.3 h)
     c.if-self.false c.args.frame.now.body c.requires d' (tail_of c.args.frame.now.body)
     refl
     (c.write_behind.ensures.any_moment h) (g.met.D.Disk.is_disk c.write_behind.new.disk h')))
@@ -93,7 +102,20 @@ returns-in-Err-clause-bodies g c = rw (← c.self.view_is) (λ h.
 pub returns-in-Err-clause-any_moment : goal.returns-in-Err-clause-any_moment
 returns-in-Err-clause-any_moment g c = rw (← c.self.view_is) (λ h fine.
     let i = c.self.inside in
-    moments (g.D.Disk.state i.disk) (heading_of i.header) i.extents.items i.end i.failed (c.self.invariant.3 h)
+    moments (g.D.Disk.state i.disk) (front_of i.header i.copied i.pair) i.extents.items i.end i.failed
+    (c.self.invariant.3 h)
     fine c.args.frame.now.body c.requires
     (g.D.Disk.state c.write_behind.new.disk) (tail_of c.args.frame.now.body) refl
     (c.write_behind.ensures.any_moment h))
+
+pub returns-then-from-saturating_sub-clause-any_moment : goal.returns-then-from-saturating_sub-clause-any_moment
+returns-then-from-saturating_sub-clause-any_moment g c = rw (← c.self.view_is) (λ h fine.
+    let i = c.self.inside in
+    still (g.D.Disk.state i.disk) (front_of i.header i.copied i.pair) i.extents.items i.end i.failed
+    (c.self.invariant.3 h) fine c.args.frame.now.body (g.met.D.Disk.is_disk i.disk h))
+
+pub returns-in_err-reserve-clause-any_moment : goal.returns-in_err-reserve-clause-any_moment
+returns-in_err-reserve-clause-any_moment g c = rw (← c.self.view_is) (λ h fine.
+    let i = c.self.inside in
+    still (g.D.Disk.state i.disk) (front_of i.header i.copied i.pair) i.extents.items i.end i.failed
+    (c.self.invariant.3 h) fine c.args.frame.now.body (g.met.D.Disk.is_disk i.disk h))

@@ -1,10 +1,10 @@
 use Rattle.std.proofs.Common.{◌≡◌, List, ◌∷◌, length, drop, ◌+◌, ◌*◌, ◌≤◌, ℕ, ◌∙◌, ap, arith, rules}
-use Rattle.gate_journal.specs.Side.{heading_of}
-use Rattle.gate_journal.specs.Side.{spell_heading}
+use Rattle.gate_journal.specs.Side.{heading_of, plain, spell_front}
 use Rattle.std.proofs.Common.{sym, ◌++◌, []}
 use Rattle.std.proofs.lemmas.List.{append-nil}
 use Rattle.gate_journal.proofs.Bodies.{fresh}
-use Rattle.gate_journal.specs.Inner.Headings.{length_heading, few_capacities}
+use Rattle.gate_journal.specs.Inner.Fronts.{length_front, plain_front}
+use Rattle.gate_journal.specs.Inner.Headings.{few_capacities}
 use Rattle.gate_journal.proofs.Extents.{none_yet}
 use Rattle.gate_journal.proofs.journal.Journal.create.Goals as goal
 
@@ -13,9 +13,9 @@ invariant_of-result g c =
     let h = heading_of c.args.header in
     let few : length c.args.header.capacities.items ≤ 4 = few_capacities h c.requires in
     let count : c.len.result ≡ length c.args.header.capacities.items = search rules in
-    let long : length (spell_heading h) ≡ 27 + 8 * length c.args.header.capacities.items =
-    length_heading h c.requires in (
-      c.requires,
+    let long : length (spell_front (plain h)) ≡ 27 + 8 * length c.args.header.capacities.items + 0 =
+    length_front (plain h) (plain_front h c.requires) in (
+      plain_front h c.requires,
       omega (arith, few, count),
       none_yet (27 + 8 * c.len.result) c.new.result.items c.new.ensures.items,
       λ honest'.
@@ -26,6 +26,7 @@ invariant_of-result g c =
           (there.0 ∙ ap (λ (l : List ℕ). 165 ∷ drop 1 l) bytes) there.1 c.new.ensures.items
           (omega (arith, long, count)),
       omega arith,
+      omega arith,
     )
 
 pub returns-in-Ok-write_new-clause-bytes : goal.returns-in-Ok-write_new-clause-bytes
@@ -33,4 +34,4 @@ returns-in-Ok-write_new-clause-bytes g c = λ honest.
     let h = heading_of c.args.header in
     let there = c.in-Ok-write_new.ensures.written honest in
     there.0 ∙ ap (λ (l : List ℕ). 165 ∷ drop 1 l) (c.deref.ensures.value ∙ c.in-Ok.ensures)
-    ∙ ap (λ (l : List ℕ). l ++ 0 ∷ []) (sym (append-nil (spell_heading h)))
+    ∙ ap (λ (l : List ℕ). l ++ 0 ∷ []) (sym (append-nil (spell_front (plain h))))

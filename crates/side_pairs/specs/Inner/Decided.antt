@@ -12,7 +12,7 @@ use Rattle.gate_journal.specs.Heads.{Head, epoch_of, base_of, spell_side_head}
 use Rattle.side_pairs.specs.Pairs.{begun, gate_behind, IsOpenSide, IsClosedSide, YieldsTo, SideCounts, IsNoPair, AreFrames, PairStandsFor, LacksFrames, IsPairDamagedAt, IsDecidedPair}
 use Rattle.side_pairs.specs.Passes.{HasStart}
 use Rattle.side_pairs.specs.Inner.{IsOpenWith, IsHeadless}
-use Rattle.side_pairs.proofs.StartLemmas.{has_head, same_head}
+use Rattle.side_pairs.specs.Inner.Starts.{has_head, same_head}
 
 -- the ten bytes tell their two gates and the rest
 pub same_pair : (a b p q : ℕ) (xs ys : List ℕ) → begun a p ++ xs ≡ begun b q ++ ys → p ≡ q

@@ -1,0 +1,66 @@
+-- What a side says of itself that is no copy, and the ten bytes that stand before it.
+use Rattle.std.specs.Prelude.{◌≡◌, ◌≤◌, ℕ, ◌+◌, ◌-◌, List, [], ◌∷◌, ◌++◌, length, replicate, codes, if◌then◌else◌, nat_lt, IsTrue}
+use Rattle.std.specs.List.{All}
+use Rattle.vtl_base.specs.Barcode.{IsBarcode}
+use Rattle.vtl_base.specs.Limits.{is_capacity}
+use Rattle.vtl_base.specs.declared.limits.TheConstants.{MAX_PARTITIONS, DRIVES}
+use Rattle.gate_journal.specs.declared.header.Header.{Header}
+use Rattle.gate_journal.specs.declared.header.SideKind.{SideKind}
+use Rattle.gate_journal.specs.declared.header.SideKind.TheVariants.{Cartridge, Store}
+use Rattle.gate_journal.specs.declared.header.TheConstants.{NAME_BYTES}
+
+-- an open gate; every other byte is a closed one (own)
+abbrev pub OPEN : ℕ
+OPEN = 165
+
+-- a closed gate, as it is written (own)
+abbrev pub CLOSED : ℕ
+CLOSED = 0
+
+-- What a side says of itself: its kind, its name, and of a cartridge the capacity of each partition. It is what a
+-- contract sees of a `Header`, with no word of how that is kept in memory (own).
+pub record Heading : Type 0 where
+  pub kind : SideKind
+  pub name : List ℕ
+  pub capacities : List ℕ
+
+-- the heading of a header in memory (own)
+abbrev pub heading_of : Header → Heading
+heading_of header = record { kind = header.kind; name = header.name; capacities = header.capacities.items }
+
+-- a text, and spaces behind it up to the length of a name (own)
+abbrev pub padded : List ℕ → List ℕ
+padded text = text ++ replicate (NAME_BYTES - length text) 32
+
+-- a number below 20 in decimal digits (own)
+abbrev pub digits : ℕ → List ℕ
+digits n = if nat_lt n 10 then (48 + n) ∷ [] else 49 ∷ (38 + n) ∷ []
+
+-- the name of a reservation store: `DRIVE` and the drive's number (own)
+abbrev pub drive_name : ℕ → List ℕ
+drive_name n = padded (codes "DRIVE" ++ digits n)
+
+-- the names that a side of this kind may have: a barcode, or that of a drive (own)
+abbrev pub IsName : SideKind → List ℕ → Type 0
+IsName Cartridge name = (text : List ℕ) × IsBarcode text × (name ≡ padded text)
+IsName Store name = (n : ℕ) × (1 ≤ n) × (n ≤ DRIVES) × (name ≡ drive_name n)
+
+-- how many capacities a side of this kind may have: one for each partition, or none (own)
+abbrev pub IsCount : SideKind → ℕ → Type 0
+IsCount Cartridge n = (1 ≤ n) × (n ≤ MAX_PARTITIONS)
+IsCount Store n = n ≡ 0
+
+-- a heading that can be spelled (own)
+pub record IsHeading (heading : Heading) : Type 0 where
+  pub name : IsName heading.kind heading.name
+  pub count : IsCount heading.kind (length heading.capacities)
+  pub capacities : All (λ bytes. IsTrue (is_capacity bytes)) heading.capacities
+
+-- the bytes by which the kind is recognized (own)
+abbrev pub mark : SideKind → List ℕ
+mark Cartridge = codes "VTLCART1"
+mark Store = codes "VTLRESV1"
+
+-- the ten bytes that a side of this kind begins with: the side gate, the mark of the kind, the pair gate (own)
+abbrev pub start : ℕ → SideKind → ℕ → List ℕ
+start side kind pair = side ∷ mark kind ++ pair ∷ []

@@ -1,0 +1,247 @@
+-- A front is spelled in one way, and one can find out whether bytes begin with one.
+use Rattle.std.proofs.Common.{◌≡◌, ◌⊎◌, inl, inr, ℕ, ◌≤◌, ◌+◌, ◌*◌, List, [], ◌∷◌, ◌++◌, length, take, drop, get_or, refl, sym, ◌∙◌, ap, subst, arith, append_assoc, length-append, Bool, true, false, nat_lt}
+use Rattle.std.specs.Prelude.{Option, None, Some, ◌-◌, if◌then◌else◌}
+use Rattle.std.proofs.lemmas.Bool.{cases_eq, le-ltb, lt-ltb}
+use Rattle.std.proofs.lemmas.List.{append_cancel_left, drop_at, take_at}
+use Rattle.gate_journal.specs.declared.header.SideKind.{SideKind}
+use Rattle.gate_journal.specs.declared.header.SideKind.TheVariants.{Cartridge, Store}
+use Rattle.gate_journal.specs.declared.heads.Copied.{Copied}
+use Rattle.gate_journal.specs.Heads.{Head, IsHead, IsCopied, count_byte, spell_side_head}
+use Rattle.gate_journal.specs.Side.{CLOSED, OPEN, Front, Heading, IsFront, IsHeading, IsPairGate, mark, plain, spell_front, start}
+use Rattle.gate_journal.specs.Inner.Deciding.{Decidable, both, decided_as, same}
+use Rattle.gate_journal.specs.Inner.Heads.{head_as, is_copy}
+use Rattle.gate_journal.specs.Inner.HeadsRead.{any_head_is, decided_copied, kind_again, length_head, short_head, told_copy}
+use Rattle.gate_journal.specs.Inner.Headings.{decided_heading, few_capacities}
+use Rattle.gate_journal.specs.Inner.Reading.{BeginsWithFront, copied_size, size_behind}
+
+-- the front of that kind, of a copy or not, that the bytes may begin with
+abbrev pub front_as : SideKind → Bool → List ℕ → Front
+front_as kind copy bytes = record { head = head_as kind copy (drop 10 bytes); pair = get_or bytes 9 0 }
+
+-- what stands behind the ten bytes
+pub behind_start : (kind : SideKind) (pair : ℕ) (head rest : List ℕ) →
+    drop 10 (start OPEN kind pair ++ head ++ rest) ≡ head ++ rest
+behind_start Cartridge pair head rest = refl
+behind_start Store pair head rest = refl
+
+-- the pair gate among them
+pub pair_there : (kind : SideKind) (pair : ℕ) (head rest : List ℕ) →
+    get_or (start OPEN kind pair ++ head ++ rest) 9 0 ≡ pair
+pair_there Cartridge pair head rest = refl
+pair_there Store pair head rest = refl
+
+-- the letter of the mark among them
+letter_there : (kind : SideKind) (pair : ℕ) (head rest : List ℕ) →
+    get_or (start OPEN kind pair ++ head ++ rest) 4 0 ≡ get_or (mark kind) 3 0
+letter_there Cartridge pair head rest = refl
+letter_there Store pair head rest = refl
+
+-- the first byte behind them
+byte_there : (kind : SideKind) (pair byte : ℕ) (head rest : List ℕ) →
+    get_or (start OPEN kind pair ++ (byte ∷ head) ++ rest) 10 0 ≡ byte
+byte_there Cartridge pair byte head rest = refl
+byte_there Store pair byte head rest = refl
+
+pub length_start : (kind : SideKind) (pair : ℕ) → length (start OPEN kind pair) ≡ 10
+length_start Cartridge pair = refl
+length_start Store pair = refl
+
+-- a front is read as it was spelled
+pub front_is : (f : Front) (rest : List ℕ) → IsFront f →
+    front_as f.head.heading.kind (is_copy f.head.copied) (spell_front f ++ rest) ≡ f
+front_is f rest ok =
+    let kind = f.head.heading.kind in
+    let head = spell_side_head f.head in
+    λ i. record {
+      head = (ap (λ (l : List ℕ). head_as kind (is_copy f.head.copied) l) (behind_start kind f.pair head rest)
+          ∙ any_head_is f.head rest ok.head) i;
+      pair = pair_there kind f.pair head rest i;
+    }
+
+-- the mark tells the kind
+told_kind : (k l : SideKind) → get_or (mark k) 3 0 ≡ get_or (mark l) 3 0 → k ≡ l
+told_kind Cartridge Cartridge e = refl
+told_kind Store Store e = refl
+told_kind Cartridge Store e = absurd (omega (arith, e))
+told_kind Store Cartridge e = absurd (omega (arith, e))
+
+module _ (f : Front) (rest image : List ℕ) (is : image ≡ spell_front f ++ rest) where
+  -- the byte of the count in an image that begins with a front
+  pub count_there : get_or image 10 0 ≡ count_byte f.head.copied (length f.head.heading.capacities)
+  count_there =
+      ap (λ (l : List ℕ). get_or l 10 0) is
+      ∙ byte_there f.head.heading.kind f.pair (count_byte f.head.copied (length f.head.heading.capacities))
+      (drop 1 (spell_side_head f.head)) rest
+
+  pub letter_is : get_or image 4 0 ≡ get_or (mark f.head.heading.kind) 3 0
+  letter_is =
+      ap (λ (l : List ℕ). get_or l 4 0) is
+      ∙ letter_there f.head.heading.kind f.pair (spell_side_head f.head) rest
+
+-- bytes begin with one front
+pub same_front : (f g : Front) (r s : List ℕ) → IsFront f → IsFront g → spell_front f ++ r ≡ spell_front g ++ s →
+    (f ≡ g) × (r ≡ s)
+same_front f g r s okf okg e =
+    let kinds = told_kind f.head.heading.kind g.head.heading.kind
+    (sym (letter_is f r (spell_front f ++ r) refl) ∙ letter_is g s (spell_front f ++ r) e) in
+    let copies = told_copy f.head.copied g.head.copied (length f.head.heading.capacities)
+    (length g.head.heading.capacities) (few_capacities f.head.heading okf.head.heading)
+    (few_capacities g.head.heading okg.head.heading)
+    (sym (count_there f r (spell_front f ++ r) refl) ∙ count_there g s (spell_front f ++ r) e) in
+    let one : f ≡ g = sym (front_is f r okf) ∙ (λ i. front_as (kinds i) (copies i) (e i)) ∙ front_is g s okg in (
+      one,
+      append_cancel_left (spell_front g) r s (ap (λ (h : Front). spell_front h ++ r) (sym one) ∙ e),
+    )
+
+-- a store's front is plain
+pub store_is_plain : (f : Front) → IsFront f → f.head.heading.kind ≡ Store → f ≡ plain f.head.heading
+store_is_plain f ok store =
+    let none : f.head.copied ≡ None =
+    never_copy f.head.copied (subst (λ (k : SideKind). IsCopied k f.head.copied) store ok.head.copied) in
+    let shut : f.pair ≡ CLOSED = subst (λ (k : SideKind). IsPairGate k f.pair) store ok.pair in
+    λ i. record { head = record { heading = f.head.heading; copied = none i }; pair = shut i }
+  where
+    never_copy : (copied : Option Copied) → IsCopied Store copied → copied ≡ None
+    never_copy None is = refl
+    never_copy (Some copied) is = absurd is
+
+-- and a heading that can be spelled has such a front
+pub plain_front : (h : Heading) → IsHeading h → IsFront (plain h)
+plain_front h ok = record { head = record { heading = ok; copied = tt }; pair = shut h.kind }
+  where
+    shut : (kind : SideKind) → IsPairGate kind CLOSED
+    shut Cartridge = tt
+    shut Store = refl
+
+-- how long a front is
+pub length_front : (f : Front) → IsFront f →
+    length (spell_front f) ≡ 27 + 8 * length f.head.heading.capacities + copied_size f.head.copied
+length_front f ok = omega (
+  arith,
+  length_head f.head ok.head,
+  length_start f.head.heading.kind f.pair,
+  length-append (start OPEN f.head.heading.kind f.pair) (spell_side_head f.head),
+)
+
+pub short_front : (f : Front) → IsFront f → length (spell_front f) ≤ 71
+short_front f ok = omega (
+  arith,
+  short_head f.head ok.head,
+  length_start f.head.heading.kind f.pair,
+  length-append (start OPEN f.head.heading.kind f.pair) (spell_side_head f.head),
+)
+
+-- whether bytes begin with a front
+decided_pair : (kind : SideKind) (pair : ℕ) → Decidable (IsPairGate kind pair)
+decided_pair Cartridge pair = inl tt
+decided_pair Store pair = cases_eq pair 0
+
+pub decided_front : (f : Front) → Decidable (IsFront f)
+decided_front f =
+    decided_as (λ w. record { head = record { heading = w.0.0; copied = w.0.1 }; pair = w.1 })
+    (λ ok. ((ok.head.heading, ok.head.copied), ok.pair))
+    (both (both (decided_heading f.head.heading) (decided_copied f.head.heading.kind f.head.copied))
+    (decided_pair f.head.heading.kind f.pair))
+
+abbrev OfKind : List ℕ → SideKind → Bool → Type 0
+OfKind bytes kind copy =
+    (f : Front) × (rest : List ℕ) × IsFront f × (bytes ≡ spell_front f ++ rest) × (f.head.heading.kind ≡ kind)
+    × (is_copy f.head.copied ≡ copy)
+
+module _ (bytes : List ℕ) (kind : SideKind) (copy : Bool) where
+  abbrev guess : Front
+  guess = front_as kind copy bytes
+
+  abbrev behind : List ℕ
+  behind = drop (length (spell_front guess)) bytes
+
+  guessed : (w : OfKind bytes kind copy) → guess ≡ w.0
+  guessed w =
+      (let k : kind ≡ w.0.head.heading.kind = sym w.4 in
+      let c : copy ≡ is_copy w.0.head.copied = sym w.5 in
+      λ i. front_as (k i) (c i) (w.3 i)) ∙ front_is w.0 w.1 w.2
+
+  spelled : (w : OfKind bytes kind copy) → spell_front guess ++ behind ≡ bytes
+  spelled w =
+      (λ i. spell_front (guessed w i) ++ drop (length (spell_front (guessed w i))) bytes)
+      ∙ ap (λ (l : List ℕ). spell_front w.0 ++ drop (length (spell_front w.0)) l) w.3
+      ∙ ap (λ (l : List ℕ). spell_front w.0 ++ l) (drop_at (spell_front w.0) w.1 (length (spell_front w.0)) refl)
+      ∙ sym w.3
+
+  decided_of_kind : Decidable (OfKind bytes kind copy)
+  decided_of_kind =
+      decided_as
+      (λ (w : IsFront guess × (spell_front guess ++ behind ≡ bytes)). (
+        guess,
+        behind,
+        w.0,
+        sym w.1,
+        refl,
+        kind_again copy _,
+      ))
+      (λ (w : OfKind bytes kind copy). (subst IsFront (sym (guessed w)) w.2, spelled w))
+      (both (decided_front guess) (same (spell_front guess ++ behind) bytes))
+
+either_copy : (P : Bool → Type 0) → ((copy : Bool) → Decidable (P copy)) → Decidable ((copy : Bool) × P copy)
+either_copy P each = elim (each false) [
+  | inl p ↦ inl (false, p)
+  | inr never ↦ elim (each true) [
+    | inl p ↦ inl (true, p)
+    | inr nor ↦ inr (none never nor)
+  ]
+]
+  where
+    none : (P false → ⊥) → (P true → ⊥) → (copy : Bool) × P copy → ⊥
+    none never nor (false, p) = never p
+    none never nor (true, p) = nor p
+
+either_kind : (P : SideKind → Type 0) → ((kind : SideKind) → Decidable (P kind)) →
+    Decidable ((kind : SideKind) × P kind)
+either_kind P each = elim (each Cartridge) [
+  | inl p ↦ inl (Cartridge, p)
+  | inr never ↦ elim (each Store) [
+    | inl p ↦ inl (Store, p)
+    | inr nor ↦ inr (none never nor)
+  ]
+]
+  where
+    none : (P Cartridge → ⊥) → (P Store → ⊥) → (kind : SideKind) × P kind → ⊥
+    none never nor (Cartridge, p) = never p
+    none never nor (Store, p) = nor p
+
+-- whether bytes begin with a front
+pub begin_decided : (bytes : List ℕ) → Decidable (BeginsWithFront bytes)
+begin_decided bytes =
+    decided_as
+    (λ (w : (kind : SideKind) × ((copy : Bool) × OfKind bytes kind copy)). (w.1.1.0, w.1.1.1, w.1.1.2, w.1.1.3))
+    (λ (w : BeginsWithFront bytes).
+    (w.0.head.heading.kind, (is_copy w.0.head.copied, (w.0, w.1, w.2, w.3, refl, refl))))
+    (either_kind (λ kind. (copy : Bool) × OfKind bytes kind copy)
+    (λ kind. either_copy (OfKind bytes kind) (decided_of_kind bytes kind)))
+
+-- how many bytes of a front stand behind its first 27, by the byte of its count
+size_told : (copied : Option Copied) (n : ℕ) → n ≤ 4 → size_behind (count_byte copied n) ≡ 8 * n + copied_size copied
+size_told None n few =
+    let small : nat_lt n 128 ≡ true = lt-ltb n 128 (omega (arith, few)) in
+    ap (λ (b : Bool). if b then 8 * n else 8 * (n - 128) + 12) small ∙ (let e : 8 * n ≡ 8 * n + 0 = omega arith in e)
+size_told (Some copied) n few =
+    let big : nat_lt (128 + n) 128 ≡ false = le-ltb (128 + n) 128 (omega arith) in
+    let less : 128 + n - 128 ≡ n = omega arith in
+    ap (λ (b : Bool). if b then 8 * (128 + n) else 8 * (128 + n - 128) + 12) big
+    ∙ ap (λ (m : ℕ). 8 * m + 12) less
+
+-- what an image that begins with a front has in front
+module _ (f : Front) (rest image : List ℕ) (ok : IsFront f) (is : image ≡ spell_front f ++ rest) where
+  pub sized_by : length (spell_front f) ≡ 27 + size_behind (get_or image 10 0)
+  sized_by =
+      let few = few_capacities f.head.heading ok.head.heading in
+      let told : size_behind (get_or image 10 0) ≡ 8 * length f.head.heading.capacities + copied_size f.head.copied =
+      ap size_behind (count_there f rest image is) ∙ size_told f.head.copied (length f.head.heading.capacities) few in
+      omega (arith, told, length_front f ok)
+
+  pub front_there : take (length (spell_front f)) image ≡ spell_front f
+  front_there = ap (λ (l : List ℕ). take (length (spell_front f)) l) is
+      ∙ take_at (spell_front f) rest (length (spell_front f)) refl
+
+  pub long_enough : length (spell_front f) ≤ length image
+  long_enough = omega (arith, ap length is, length-append (spell_front f) rest)

@@ -1,0 +1,110 @@
+//! What stands before a side's frames: its ten bytes, and its head.
+ghost use Rattle.std.specs.Prelude.{◌≡◌, ◌↔◌, ◌≤◌, IsTrue, Option, Some, length, take, slice_index};
+ghost use Rattle.gate_journal.specs.Heads.{base_in};
+ghost use Rattle.gate_journal.specs.Side.{CLOSED, IsName, OPEN, start};
+ghost use Rattle.gate_journal.specs.Inner.Reading.{TellsFront, copied_size};
+
+use crate::header::{NAME_BYTES, SideKind, is_name};
+use crate::heads::{COPIED_BYTES, Copied, told_head};
+use crate::spelling::{BEGUN_BYTES, CLOSED, START_BYTES, kind_by_letter, name_in, start};
+
+// What of a front tells where the frames begin, and how many there are at least.
+#[derive(Clone, Copy)]
+pub(crate) struct ToldFront {
+    pub kind: SideKind,
+    // The byte of its pair gate.
+    pub pair: u8,
+    pub copied: Option<Copied>,
+    // How many bytes it takes.
+    pub size: usize,
+}
+
+// How many frames are the copy.
+pub(crate) fn base_in(copied: Option<Copied>) -> u32
+    ensures { result ≡ base_in copied }
+{
+    match copied {
+        Some(copied) => copied.base,
+        None => 0,
+    }
+}
+
+// How many bytes say of a copy how it came about.
+pub(crate) fn copied_size(copied: Option<Copied>) -> usize
+    ensures { result ≡ copied_size copied }
+{
+    match copied {
+        Some(_) => COPIED_BYTES,
+        None => 0,
+    }
+}
+
+// The front that these bytes begin with, where they begin with one. It takes no memory.
+pub(crate) fn told_front(bytes: &[u8]) -> Option<ToldFront>
+    ensures { TellsFront bytes.now result }
+{
+    if bytes.len() < START_BYTES {
+        return None;
+    }
+    let kind = kind_by_letter(bytes[4]);
+    if !begin_as(kind, bytes) {
+        return None;
+    }
+    match kind {
+        SideKind::Cartridge => told_cartridge(bytes),
+        SideKind::Store => told_store(bytes),
+    }
+}
+
+// Whether the bytes begin with the ten of an open side of this kind, whatever its pair gate is.
+fn begin_as(kind: SideKind, bytes: &[u8]) -> bool
+    requires { 27 ≤ length bytes.now }
+    ensures { IsTrue result ↔ (take 10 bytes.now ≡ start OPEN kind (slice_index bytes.now 9)) }
+{
+    let mut begun = [0; BEGUN_BYTES];
+    begun.copy_from_slice(&bytes[..BEGUN_BYTES]);
+    begun == start(kind, bytes[9])
+}
+
+// The front of a cartridge's side that begins with its ten bytes.
+fn told_cartridge(bytes: &[u8]) -> Option<ToldFront>
+    requires some { 27 ≤ length bytes.now }
+    requires begins { take 10 bytes.now ≡ start OPEN SideKind.Cartridge (slice_index bytes.now 9) }
+    ensures { TellsFront bytes.now result }
+{
+    match told_head(&bytes[BEGUN_BYTES..]) {
+        Some(head) => Some(ToldFront {
+            kind: SideKind::Cartridge,
+            pair: bytes[9],
+            copied: head.copied,
+            size: BEGUN_BYTES + head.size,
+        }),
+        None => None,
+    }
+}
+
+// The front of a store's side that begins with its ten bytes.
+fn told_store(bytes: &[u8]) -> Option<ToldFront>
+    requires some { 27 ≤ length bytes.now }
+    requires begins { take 10 bytes.now ≡ start OPEN SideKind.Store (slice_index bytes.now 9) }
+    ensures { TellsFront bytes.now result }
+{
+    let pair = bytes[9];
+    if !are_of_store(pair, bytes[10], &name_in(bytes)) {
+        return None;
+    }
+    Some(ToldFront {
+        kind: SideKind::Store,
+        pair,
+        copied: None,
+        size: START_BYTES,
+    })
+}
+
+// Whether pair gate, count and name are those of a store: it is no copy, and its pair gate is closed as it is
+// written.
+fn are_of_store(pair: u8, count: u8, name: &[u8; NAME_BYTES]) -> bool
+    ensures { IsTrue result ↔ (pair ≡ CLOSED) × (count ≡ 0) × IsName SideKind.Store name.now }
+{
+    pair == CLOSED && count == 0 && is_name(SideKind::Store, name)
+}
