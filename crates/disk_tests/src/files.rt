@@ -1,9 +1,11 @@
 //! Disks over real files: what is written is read back, after another opening too.
 use crate::memory::written_elsewhere;
 use crate::openings::side_of;
-use crate::steps::{Step, act, forget_time, get, holds, is_written, new_folder, taken_away};
+use crate::steps::{
+    Step, act, failures, forget_time, get, holds, is_written, new_folder, taken_away,
+};
 use assertions::{assert_equal, assert_holds};
-use file_disk::{create, open, open_to_read};
+use file_disk::{create, no_file, open, open_to_read};
 use std::fs;
 use std::process::Abort;
 use std::test::Fail;
@@ -79,4 +81,22 @@ fn a_gate_is_written_again(rt: HostRuntime) -> Result<(), Fail> {
     let folder = new_folder(&rt)?;
     written_again(&rt, &rt, &folder.path)?;
     taken_away(&rt, &folder)
+}
+
+// The calls of a disk over no file, and what each answers.
+static OVER_NOTHING: &'static [(Step, u64)] = &[
+    (Step::Read(0), 0),
+    (Step::Sync, 0),
+    (Step::Put(0, b"a"), 1),
+    (Step::Cut(0), 2),
+    (Step::Sync, 0),
+];
+
+#[test]
+fn a_disk_over_no_file(rt: HostRuntime) {
+    let mut disk = no_file();
+    for &(step, failed) in OVER_NOTHING {
+        assert_equal!(rt; failures(act(&mut disk, step)), failed);
+        assert_equal!(rt; disk.len(), 0);
+    }
 }

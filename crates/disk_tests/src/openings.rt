@@ -72,8 +72,8 @@ fn opened(
     Ok(())
 }
 
-// The last open gate alone, and only before the first good sync, or before a write that comes first: a sync that fails
-// behind it leaves the gate alone.
+// Of a store the last open gate alone, and only before the first good sync, or before a write that comes first: a
+// sync that fails behind it leaves the gate alone.
 static OF_A_SIDE: &'static [(&'static [&'static [u8]], &'static [Turn], &'static [Row])] = &[
     (
         &[],
@@ -106,10 +106,11 @@ static OF_A_SIDE: &'static [(&'static [&'static [u8]], &'static [Turn], &'static
             (Step::Sync, 0, 3, 41, 2),
         ],
     ),
-    // The seven calls of the first sync, a write, and the sync that fails.
+    // The eight calls of the first sync, a write, and the sync that fails.
     (
         &[b"body"],
         &[
+            Turn::Whole,
             Turn::Whole,
             Turn::Whole,
             Turn::Whole,
@@ -130,7 +131,7 @@ static OF_A_SIDE: &'static [(&'static [&'static [u8]], &'static [Turn], &'static
 ];
 
 #[test]
-fn an_opening_writes_one_byte(rt: HostRuntime) -> Result<(), Fail> {
+fn an_opening_of_a_store_writes_one_byte(rt: HostRuntime) -> Result<(), Fail> {
     for &(bodies, turns, rows) in OF_A_SIDE {
         let side = side_of(rt.alloc(), bodies)?;
         opened(&rt, rt.alloc(), side.bytes(), turns, rows)?;
@@ -138,26 +139,54 @@ fn an_opening_writes_one_byte(rt: HostRuntime) -> Result<(), Fail> {
     Ok(())
 }
 
-// The capacities of a cartridge stand before its first frame.
+// A cartridge of so many partitions, with one body of four bytes: its last open gate stands behind the capacities.
+fn cartridge_of(alloc: Global, partitions: usize) -> Result<MemDisk, Fail> {
+    let header = Header {
+        kind: SideKind::Cartridge,
+        name: *b"T00001L6        ",
+        capacities: vec![in alloc; 4_096; partitions]?,
+    };
+    side_with(alloc, header, &[b"body"])
+}
+
+// Of a cartridge the last open gate, and the ten bytes that it begins with, the side's and the pair's gate among them.
+// The pair's gate may be open.
 #[test]
-fn the_gate_of_a_cartridge(rt: HostRuntime) -> Result<(), Fail> {
-    for count in 1..5 {
-        let header = Header {
-            kind: SideKind::Cartridge,
-            name: *b"T00001L6        ",
-            capacities: vec![in rt.alloc(); 4_096; count]?,
-        };
-        let side = side_with(rt.alloc(), header, &[b"body"])?;
-        let gate = 27 + 8 * count as u64;
-        opened(
-            &rt,
-            rt.alloc(),
-            side.bytes(),
-            &[],
-            &[(Step::Sync, 0, 1, gate, 1)],
-        )?;
+fn an_opening_of_a_cartridge_writes_eleven_bytes(rt: HostRuntime) -> Result<(), Fail> {
+    for partitions in 1..5 {
+        let mut side = cartridge_of(rt.alloc(), partitions)?;
+        let rows = [(Step::Sync, 0, 11, 0, 1), (Step::Sync, 0, 11, 0, 2)];
+        opened(&rt, rt.alloc(), side.bytes(), &[], &rows)?;
+        act(&mut side, Step::Put(9, b"\xa5"))?;
+        opened(&rt, rt.alloc(), side.bytes(), &[], &rows)?;
     }
     Ok(())
+}
+
+// Bytes that a cartridge's side begins with whose own gate is closed, and what stands behind them.
+static CLOSED: &'static [&'static [u8]] = &[
+    b"\0VTLCART1\0",
+    b"\0VTLCART1\xa5",
+    b"\x07VTLCART1\0",
+    b"\0VTLCART1\0\x81T00001L6",
+    b"\0VTLCART1\0\xa5\xa5\xa5",
+];
+
+// All of a side whose own gate is closed, and of one that has fewer bytes than a side begins with.
+#[test]
+fn an_unfinished_side_is_written_again_whole(rt: HostRuntime) -> Result<(), Fail> {
+    for &bytes in CLOSED {
+        let rows = [(Step::Sync, 0, bytes.len() as u64, 0, 1)];
+        opened(&rt, rt.alloc(), bytes, &[], &rows)?;
+    }
+    for length in 0..10 {
+        let rows = [(Step::Sync, 0, length as u64, 0, 1)];
+        opened(&rt, rt.alloc(), &b"\0VTLCART1"[..length], &[], &rows)?;
+    }
+    let mut side = cartridge_of(rt.alloc(), 1)?;
+    act(&mut side, Step::Put(0, b"\0"))?;
+    let rows = [(Step::Sync, 0, side.len(), 0, 1)];
+    opened(&rt, rt.alloc(), side.bytes(), &[], &rows)
 }
 
 // What a stop in an append left behind the end gate is written again, too.
@@ -174,17 +203,20 @@ fn what_stands_behind_the_end(rt: HostRuntime) -> Result<(), Fail> {
     )
 }
 
-// No side, one that is damaged, and one whose last gate is behind a write that was not synced.
+// Files of other programs: nothing is written to them.
+static NO_SIDES: &'static [&'static [u8]] = &[
+    b"something else",
+    b"\0VTLRESV1\0",
+    b"\0VTLCART2\0",
+    b"\xa5VTLCART1\0",
+];
+
+// No side, and one that is damaged.
 #[test]
 fn a_file_that_is_no_side(rt: HostRuntime) -> Result<(), Fail> {
-    opened(&rt, rt.alloc(), b"", &[], &[(Step::Sync, 0, 0, 0, 1)])?;
-    opened(
-        &rt,
-        rt.alloc(),
-        b"no side",
-        &[],
-        &[(Step::Sync, 0, 0, 0, 1)],
-    )?;
+    for &bytes in NO_SIDES {
+        opened(&rt, rt.alloc(), bytes, &[], &[(Step::Sync, 0, 0, 0, 1)])?;
+    }
     let mut side = side_of(rt.alloc(), &[b"body"])?;
     act(&mut side, Step::Cut(33))?;
     opened(
@@ -196,9 +228,10 @@ fn a_file_that_is_no_side(rt: HostRuntime) -> Result<(), Fail> {
     )
 }
 
-// The calls of a first sync over a side with one body: four reads for header and gates, the byte that is read and
-// written again, and the sync.
+// The calls of a first sync over a store with one body: five reads for beginning, header and gates, the byte that is
+// read and written again, and the sync.
 static CALLS: &'static [Turn] = &[
+    Turn::Whole,
     Turn::Whole,
     Turn::Whole,
     Turn::Whole,
@@ -212,7 +245,7 @@ static CALLS: &'static [Turn] = &[
 #[test]
 fn a_first_sync_that_fails(rt: HostRuntime) -> Result<(), Fail> {
     let side = side_of(rt.alloc(), &[b"body"])?;
-    for first in 0..7 {
+    for first in 0..8 {
         let rows: [Row; 2] = match first {
             0 => [(Step::Sync, 1, 1, 27, 0), (Step::Sync, 0, 2, 27, 1)],
             _ => [(Step::Sync, 1, 0, 0, 0), (Step::Sync, 0, 1, 27, 1)],
@@ -229,31 +262,65 @@ pub fn leaves(rt: &impl Abort, disk: &MemDisk, bytes: &[u8]) -> Result<(), Fail>
     Ok(())
 }
 
-// An earlier process opened the last gate, and its sync failed: a later one passes over it.
-fn gate_in_doubt(
+// An earlier process wrote a byte over another one, and its sync failed: a later one passes over it.
+fn byte_in_doubt(
     rt: &impl Abort,
     alloc: Global,
     side: &[u8],
+    place: u64,
+    old: &'static [u8],
+    new: u8,
 ) -> Result<Noted<ForgetfulFile>, Fail> {
     let mut before = MemDisk::from_bytes(alloc, side)?;
-    act(&mut before, Step::Put(27, b"\0"))?;
+    act(&mut before, Step::Put(place, old))?;
     act(&mut before, Step::Sync)?;
     let mut file = Noted::new(ForgetfulFile::new(before));
-    assert_equal!(rt; file.write_some(27, &[0xa5]), Ok(1));
+    assert_equal!(rt; file.write_some(place, &[new]), Ok(1));
     assert_equal!(rt; file.sync(), Err(CallFailed));
     assert_equal!(rt; file.sync(), Ok(()));
     let left = file.file().disk().copy()?.crash(0, b'.')?;
-    assert_holds!(rt; left.bytes().get(27) == Some(&b'.'));
+    assert_holds!(rt; left.bytes().get(place as usize) == Some(&b'.'));
     Ok(file)
 }
 
-// The next opening makes it sure.
+// The next opening makes the byte sure.
+fn is_made_sure(
+    rt: &impl Abort,
+    file: Noted<ForgetfulFile>,
+    written: u64,
+    bytes: &[u8],
+) -> Result<(), Fail> {
+    let mut disk = DiskOver::opened(file);
+    assert_equal!(rt; failures(disk.sync()), 0);
+    assert_equal!(rt; disk.file().bytes, written);
+    leaves(rt, disk.file().file().disk(), bytes)
+}
+
 #[test]
 fn a_gate_in_doubt(rt: HostRuntime) -> Result<(), Fail> {
     let side = side_of(rt.alloc(), &[b"body"])?;
-    let file = gate_in_doubt(&rt, rt.alloc(), side.bytes())?;
-    let mut disk = DiskOver::opened(file);
-    assert_equal!(rt; failures(disk.sync()), 0);
-    assert_equal!(rt; (disk.file().bytes, disk.file().last), (2, 27));
-    leaves(&rt, disk.file().file().disk(), side.bytes())
+    let file = byte_in_doubt(&rt, rt.alloc(), side.bytes(), 27, b"\0", 0xa5)?;
+    is_made_sure(&rt, file, 2, side.bytes())
+}
+
+// The gates of a cartridge that a reclaim opens: that of the side, that of the pair, that of the last frame.
+#[test]
+fn an_open_gate_of_a_cartridge_in_doubt(rt: HostRuntime) -> Result<(), Fail> {
+    let side = cartridge_of(rt.alloc(), 1)?;
+    for place in [0, 9, 35] {
+        let mut opened = side.copy()?;
+        act(&mut opened, Step::Put(place, b"\xa5"))?;
+        let file = byte_in_doubt(&rt, rt.alloc(), opened.bytes(), place, b"\0", 0xa5)?;
+        is_made_sure(&rt, file, 12, opened.bytes())?;
+    }
+    Ok(())
+}
+
+// And the one that it closes.
+#[test]
+fn a_closed_gate_of_a_cartridge_in_doubt(rt: HostRuntime) -> Result<(), Fail> {
+    let mut side = cartridge_of(rt.alloc(), 1)?;
+    act(&mut side, Step::Put(0, b"\0"))?;
+    let file = byte_in_doubt(&rt, rt.alloc(), side.bytes(), 0, b"\xa5", 0)?;
+    is_made_sure(&rt, file, 1 + side.len(), side.bytes())
 }

@@ -1,3 +1,4 @@
+pub mod BeginLemmas
 pub mod DoubtLemmas
 pub mod RestedLemmas
 pub mod RunLemmas

@@ -1,12 +1,13 @@
 -- A file of the system, and the state of a disk over it.
+use Rattle.std.specs.Prelude.{Option}
 use Rattle.std.specs.declared.fs.File.{File}
 use Rattle.tape_disk.specs.Disk.{DiskState}
 use Rattle.file_disk.specs.Inner.SystemFile.{system_state}
 use Rattle.file_disk.specs.OpenFile.{OpenFile, file_disk_state}
 use Rattle.file_disk.specs.declared.system.SystemFile.{SystemFile}
 
--- the open file that the system has (own)
-abbrev pub system_file : SystemFile → File
+-- the open file that the system has, if there is one (own)
+abbrev pub system_file : SystemFile → Option File
 system_file file = file.file
 
 -- the state of a disk over a file of the system, of which no proof knows whether it is honest (own)

@@ -1,7 +1,8 @@
 -- Why a file is not made or opened, and how an earlier process has to leave one.
-use Rattle.std.specs.Prelude.{◌≡◌, ◌⊎◌, ℕ, ◌<◌, List, length}
+use Rattle.std.specs.Prelude.{◌≡◌, ◌≢◌, ◌⊎◌, ℕ, ◌<◌, ◌++◌, List, length}
 use Rattle.gate_journal.specs.Gates.{last_gate}
-use Rattle.gate_journal.specs.Side.{Heading, StandsFor, spell}
+use Rattle.gate_journal.specs.Side.{Front, OPEN, StandsFor, spell, start}
+use Rattle.gate_journal.specs.declared.header.SideKind.TheVariants.{Cartridge}
 use Rattle.file_disk.specs.RawFile.{ReachesAll}
 use Rattle.file_disk.specs.declared.error.FileError.{FileError}
 use Rattle.file_disk.specs.declared.error.FileError.TheVariants.{Exists, Missing, NotAFile, InUse, Device}
@@ -14,14 +15,34 @@ IsOneFailure Missing = Unit {0}
 IsOneFailure NotAFile = Unit {0}
 IsOneFailure InUse = Unit {0}
 
--- the place is that of the last open gate, or lies behind the end gate (own)
-abbrev pub IsLastOrBehind : Heading → List (List ℕ) → ℕ → Type 0
-IsLastOrBehind heading bodies place = (place ≡ last_gate heading bodies) ⊎ (length (spell heading bodies) < place)
+-- the bytes that a side begins with: its own gate, the mark of its kind, the pair gate (own)
+abbrev pub START_BYTES : ℕ
+START_BYTES = 10
 
--- Where the bytes stand for a side, what a sync passes over, and what was written since the last good one, is its last
--- open gate or lies behind its end gate. Where they stand for none, a sync passes over nothing (own).
+-- the place is that of the last open gate, or lies behind the end gate (own)
+abbrev pub IsLastOrBehind : Front → List (List ℕ) → ℕ → Type 0
+IsLastOrBehind front bodies place = (place ≡ last_gate front bodies) ⊎ (length (spell front bodies) < place)
+
+-- the place is one of the first ten of a cartridge's side, where it has two gates, or its last open gate, or it lies
+-- behind its end gate (own)
+abbrev pub MayBeInDoubt : Front → List (List ℕ) → ℕ → Type 0
+MayBeInDoubt front bodies place =
+    ((front.head.heading.kind ≡ Cartridge) × (place < START_BYTES)) ⊎ IsLastOrBehind front bodies place
+
+-- the bytes begin with the ten bytes of a cartridge's side whose own gate is this byte (own)
+abbrev pub BeginsWithGate : ℕ → List ℕ → Type 0
+BeginsWithGate gate seen = (pair : ℕ) × (rest : List ℕ) × (seen ≡ start gate Cartridge pair ++ rest)
+
+-- the bytes are those of a cartridge's side that is being made, or written anew: fewer than ten, or ten whose own gate
+-- is closed, and what stands behind them (own)
+abbrev pub IsUnfinished : List ℕ → Type 0
+IsUnfinished seen = (length seen < START_BYTES) ⊎ ((gate : ℕ) × (gate ≢ OPEN) × BeginsWithGate gate seen)
+
+-- What a sync passes over, and what was written since the last good one. Where the bytes stand for a side, it is where
+-- the side may be in doubt. Where they are those of an unfinished one, it may be anywhere. Where they are neither, a
+-- sync passes over nothing (own).
 pub record IsLeftWell (seen : List ℕ) (passed_over unsynced : ℕ → Type 0) : Type 0 where
-  pub side : (heading : Heading) (bodies : List (List ℕ)) → StandsFor heading bodies seen
-      → (place : ℕ) → passed_over place ⊎ unsynced place → IsLastOrBehind heading bodies place
-  pub none : ((heading : Heading) (bodies : List (List ℕ)) → StandsFor heading bodies seen → ⊥)
-      → ReachesAll passed_over
+  pub side : (front : Front) (bodies : List (List ℕ)) → StandsFor front bodies seen
+      → (place : ℕ) → passed_over place ⊎ unsynced place → MayBeInDoubt front bodies place
+  pub none : ((front : Front) (bodies : List (List ℕ)) → StandsFor front bodies seen → ⊥)
+      → (IsUnfinished seen → ⊥) → ReachesAll passed_over

@@ -1,11 +1,12 @@
 //! What of an open file is in doubt, and how it is made sure.
-ghost use Rattle.std.specs.Prelude.{◌≡◌, ◌⊎◌, ◌<◌, ◌≤◌, ◌^◌, ℕ, false, length, IfSome, OnOk};
+ghost use Rattle.std.specs.Prelude.{◌≡◌, ◌≢◌, ◌⊎◌, ◌<◌, ◌≤◌, ◌^◌, ℕ, false, length, IfSome, OnOk};
 ghost use Rattle.file_disk.specs.Opening.{IsLeftWell};
 ghost use Rattle.file_disk.specs.RawFile.{ReachesAll};
-ghost use Rattle.file_disk.specs.Inner.Doubts.{Covers, IsInDoubt, IsLookedAt, LieIn};
+ghost use Rattle.file_disk.specs.Inner.Doubts.{BeginsSo, Covers, InSpan, IsInDoubt, IsLookedAt, LieIn};
 ghost use Rattle.file_disk.specs.Inner.Rested.{OnlyRead, Rested};
 
 use crate::again::write_again;
+use crate::begins::{Begins, START_BYTES, beginning_of};
 use crate::disk::MAX_FILE;
 use crate::looked::Looked;
 use crate::raw::{CallFailed, RawFile};
@@ -23,11 +24,14 @@ pub(crate) enum Doubt {
     SyncFailed,
 }
 
-// What is in doubt of a side with these gates in so many bytes: the last open gate, and what stands
-// behind the end gate. None where the gates do not lie in the bytes.
-fn doubt_of(gates: Gates, bytes: u64) -> Option<Written>
-    ensures { IfSome result (λ written. (place : ℕ) →
+// What is in doubt of a side that begins so and has these gates in so many bytes: the last open gate,
+// what stands behind the end gate, and of a cartridge's the bytes that it begins with. None where the
+// gates do not lie in the bytes.
+fn doubt_of(begins: Begins, gates: Gates, bytes: u64) -> Option<Written>
+    ensures gates { IfSome result (λ written. (place : ℕ) →
         (place ≡ gates.last) ⊎ ((gates.end < place) × (place < bytes)) → Covers written place) }
+    ensures start { IfSome result (λ written. (place : ℕ) →
+        begins ≡ Begins.Cartridge → place < 10 → Covers written place) }
 {
     if gates.last >= bytes || gates.end >= bytes {
         return None;
@@ -41,14 +45,30 @@ fn doubt_of(gates: Gates, bytes: u64) -> Option<Written>
             from: gates.end + 1,
             end: bytes,
         },
-        is_apart: false,
+        ..started(begins)
     })
 }
 
-// Looks at a file of so many bytes that was just opened. None where that failed.
-fn look<F: RawFile>(looked: &mut Looked<F>, bytes: u64) -> Option<(Doubt, Written)>
+// What is in doubt of the bytes that a side begins with.
+fn started(begins: Begins) -> Written
+    ensures { (place : ℕ) → begins ≡ Begins.Cartridge → place < 10 → InSpan result.start place }
+{
+    match begins {
+        Begins::Cartridge => Written::first(START_BYTES as u64),
+        _ => Written::none(),
+    }
+}
+
+// Looks at the gates of a file of so many bytes that begins so. None where that failed.
+fn look_at_gates<F: RawFile>(
+    looked: &mut Looked<F>,
+    begins: Begins,
+    bytes: u64,
+) -> Option<(Doubt, Written)>
+    requires { begins ≢ Begins.Unfinished }
     ensures read { OnlyRead F.state F.passed_over F.unsynced looked.old.file looked.new.file }
     ensures found { (F.state looked.old.file).honest → bytes ≡ length (F.state looked.old.file).seen →
+        BeginsSo begins (F.state looked.old.file).seen →
         IsLeftWell (F.state looked.old.file).seen (F.passed_over looked.old.file) (F.unsynced looked.old.file) →
         IfSome result (λ found. IsInDoubt found.0 found.1 (F.state looked.new.file).seen
         (F.passed_over looked.new.file) (F.unsynced looked.new.file)) }
@@ -59,10 +79,25 @@ fn look<F: RawFile>(looked: &mut Looked<F>, bytes: u64) -> Option<(Doubt, Writte
     let Some(gates) = found else {
         return Some((Doubt::Nothing, Written::apart()));
     };
-    let Some(written) = doubt_of(gates, bytes) else {
+    let Some(written) = doubt_of(begins, gates, bytes) else {
         return None;
     };
     Some((Doubt::SyncFailed, written))
+}
+
+// Looks at a file of so many bytes that was just opened. None where that failed.
+fn look<F: RawFile>(looked: &mut Looked<F>, bytes: u64) -> Option<(Doubt, Written)>
+    ensures read { OnlyRead F.state F.passed_over F.unsynced looked.old.file looked.new.file }
+    ensures found { (F.state looked.old.file).honest → bytes ≡ length (F.state looked.old.file).seen →
+        IsLeftWell (F.state looked.old.file).seen (F.passed_over looked.old.file) (F.unsynced looked.old.file) →
+        IfSome result (λ found. IsInDoubt found.0 found.1 (F.state looked.new.file).seen
+        (F.passed_over looked.new.file) (F.unsynced looked.new.file)) }
+{
+    let begins = beginning_of(looked)?;
+    match begins {
+        Begins::Unfinished => Some((Doubt::SyncFailed, Written::first(bytes))),
+        _ => look_at_gates(looked, begins, bytes),
+    }
 }
 
 // Writes the ranges again, as far as they lie in so many bytes.
@@ -79,7 +114,8 @@ fn write_ranges<F: RawFile>(file: &mut F, written: Written, bytes: u64) -> Resul
         return Err(CallFailed);
     }
     write_again(file, written.one.from, written.one.end.min(bytes))?;
-    write_again(file, written.other.from, written.other.end.min(bytes))
+    write_again(file, written.other.from, written.other.end.min(bytes))?;
+    write_again(file, written.start.from, written.start.end.min(bytes))
 }
 
 // Looks at a file that was just opened; of another one that was done.

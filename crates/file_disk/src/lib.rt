@@ -2,6 +2,7 @@
 #![tactic(auto)]
 
 mod again;
+mod begins;
 pub mod disk;
 mod doubt;
 pub mod error;
@@ -17,7 +18,7 @@ mod written;
 pub use disk::DiskOver;
 pub use error::FileError;
 pub use forgetful::ForgetfulFile;
-pub use opening::{create, open, open_to_read};
+pub use opening::{create, no_file, open, open_to_read};
 pub use raw::{CallFailed, RawFile, Stop};
 pub use staged::{StagedFile, Turn};
 pub use system::SystemFile;

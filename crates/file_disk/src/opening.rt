@@ -1,6 +1,7 @@
 //! Making and opening the file of a disk.
-ghost use Rattle.std.specs.Prelude.{◌≡◌, IfOk, IfErr};
+ghost use Rattle.std.specs.Prelude.{◌≡◌, [], IfOk, IfErr};
 ghost use Rattle.std.specs.IoError.{error_kind};
+ghost use Rattle.file_disk.specs.FileDisk.{file_state};
 ghost use Rattle.file_disk.specs.Inner.Causes.{IsErrorOfKind, IsLockAnswer};
 ghost use Rattle.file_disk.specs.Opening.{IsOneFailure};
 ghost use Rattle.file_disk.specs.declared.error.FileError.{FileError};
@@ -129,6 +130,15 @@ pub fn open_to_read(rt: &HostRuntime, path: &str) -> Result<FileDisk, FileError>
     ensures device { IfErr result IsOneFailure }
 {
     open_as(rt, path, Access::Read)
+}
+
+/// A disk of no bytes, over no file: it stands for a file that is missing. Each call that would change
+/// it fails.
+pub fn no_file() -> FileDisk
+    ensures failures { result.failures ≡ 0 }
+    ensures empty { (file_state result).honest → (file_state result).seen ≡ [] }
+{
+    DiskOver::new(SystemFile::none())
 }
 
 // The name is looked at first, since the opening of a pipe may wait for its other end.

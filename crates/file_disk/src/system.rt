@@ -1,5 +1,5 @@
 //! A file of the operating system, by its calls.
-ghost use Rattle.std.specs.Prelude.{◌≡◌, ◌≢◌};
+ghost use Rattle.std.specs.Prelude.{◌≡◌, ◌≢◌, None, Some};
 ghost use Rattle.file_disk.specs.FileDisk.{system_file};
 
 use crate::raw::{CallFailed, RawFile, Stop};
@@ -7,10 +7,10 @@ use std::fs::File;
 use std::io::ErrorKind;
 use std::os::unix::fs::FileExt;
 
-/// An open file of the operating system. Whether it is honest no proof says.
+/// An open file of the operating system, or none. Whether it is honest no proof says.
 #[derive(Drop)]
 pub struct SystemFile {
-    file: File,
+    file: Option<File>,
 }
 
 // What an error of the system means for a call that moves bytes.
@@ -32,9 +32,16 @@ impl SystemFile {
     /// `DiskOver::opened` where it was written before. `create`, `open` and `open_to_read` see to all of
     /// this for theirs.
     pub fn over(file: File) -> SystemFile
-        ensures { system_file result ≡ file }
+        ensures { system_file result ≡ Some file }
     {
-        SystemFile { file }
+        SystemFile { file: Some(file) }
+    }
+
+    /// No file. It has no bytes, its sync answers Ok, and each call that would change it fails.
+    pub fn none() -> SystemFile
+        ensures { system_file result ≡ None }
+    {
+        SystemFile { file: None }
     }
 }
 
@@ -52,28 +59,40 @@ impl RawFile for SystemFile {
     ghost within = { λ file honest place lies. of_honest file honest };
 
     fn size(&self) -> Option<u64> {
-        match self.file.metadata() {
+        let Some(file) = &self.file else {
+            return Some(0);
+        };
+        match file.metadata() {
             Ok(found) => Some(found.len()),
             Err(_) => None,
         }
     }
 
     fn read_some(&mut self, at: u64, buffer: &mut [u8]) -> Result<usize, Stop> {
-        match self.file.read_at(buffer, at) {
+        let Some(file) = &self.file else {
+            return Ok(0);
+        };
+        match file.read_at(buffer, at) {
             Ok(count) => Ok(count),
             Err(error) => Err(stop_of(error.kind())),
         }
     }
 
     fn write_some(&mut self, at: u64, bytes: &[u8]) -> Result<usize, Stop> {
-        match self.file.write_at(bytes, at) {
+        let Some(file) = &self.file else {
+            return Err(Stop::Failed);
+        };
+        match file.write_at(bytes, at) {
             Ok(count) => Ok(count),
             Err(error) => Err(stop_of(error.kind())),
         }
     }
 
     fn write_again(&mut self, at: u64, bytes: &[u8]) -> Result<usize, Stop> {
-        match self.file.write_at(bytes, at) {
+        let Some(file) = &self.file else {
+            return Err(Stop::Failed);
+        };
+        match file.write_at(bytes, at) {
             Ok(count) => Ok(count),
             Err(error) => Err(stop_of(error.kind())),
         }
@@ -81,14 +100,20 @@ impl RawFile for SystemFile {
 
     // The standard library makes this call and the next one again where a signal interrupts them.
     fn cut(&mut self, len: u64) -> Result<(), CallFailed> {
-        match self.file.set_len(len) {
+        let Some(file) = &self.file else {
+            return Err(CallFailed);
+        };
+        match file.set_len(len) {
             Ok(()) => Ok(()),
             Err(_) => Err(CallFailed),
         }
     }
 
     fn sync(&mut self) -> Result<(), CallFailed> {
-        match self.file.sync_all() {
+        let Some(file) = &self.file else {
+            return Ok(());
+        };
+        match file.sync_all() {
             Ok(()) => Ok(()),
             Err(_) => Err(CallFailed),
         }

@@ -32,11 +32,14 @@ impl Span {
     }
 }
 
-/// The bytes that were written: two ranges at most, or more, of which nothing is kept.
+/// The bytes that were written: two ranges at most, or more, of which nothing is kept. An opening has
+/// a third one.
 #[derive(Clone, Copy)]
 pub(crate) struct Written {
     pub one: Span,
     pub other: Span,
+    /// What an opening found at the start of a side.
+    pub start: Span,
     pub is_apart: bool,
 }
 
@@ -49,7 +52,21 @@ impl Written {
         Written {
             one: NO_BYTES,
             other: NO_BYTES,
+            start: NO_BYTES,
             is_apart: false,
+        }
+    }
+
+    /// The first bytes of a file, so many.
+    pub fn first(bytes: u64) -> Written
+        ensures { (place : ℕ) → place < bytes → InSpan result.start place }
+    {
+        Written {
+            start: Span {
+                from: 0,
+                end: bytes,
+            },
+            ..Written::none()
         }
     }
 
@@ -60,6 +77,7 @@ impl Written {
         Written {
             one: NO_BYTES,
             other: NO_BYTES,
+            start: NO_BYTES,
             is_apart: true,
         }
     }

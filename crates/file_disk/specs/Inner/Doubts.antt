@@ -1,7 +1,9 @@
 -- What of a file is in doubt.
 use Rattle.std.specs.Prelude.{◌≡◌, ◌⊎◌, ℕ, ◌<◌, ◌≤◌, List, true}
-use Rattle.file_disk.specs.Opening.{IsLeftWell}
+use Rattle.file_disk.specs.Opening.{BeginsWithGate, IsLeftWell, IsUnfinished}
 use Rattle.file_disk.specs.RawFile.{ReachesAll}
+use Rattle.file_disk.specs.declared.begins.Begins.{Begins}
+use Rattle.file_disk.specs.declared.begins.Begins.TheVariants.{Cartridge, Other, Unfinished}
 use Rattle.file_disk.specs.declared.doubt.Doubt.{Doubt}
 use Rattle.file_disk.specs.declared.doubt.Doubt.TheVariants.{Nothing, Opened, SyncFailed}
 use Rattle.file_disk.specs.declared.written.Span.{Span}
@@ -13,7 +15,9 @@ InSpan span place = (span.from ≤ place) × (place < span.end)
 
 -- the place lies in one of the ranges, or nothing is known of the places (own)
 abbrev pub Covers : Written → ℕ → Type 0
-Covers written place = (written.is_apart ≡ true) ⊎ (InSpan written.one place ⊎ InSpan written.other place)
+Covers written place =
+    (written.is_apart ≡ true)
+    ⊎ (InSpan written.one place ⊎ (InSpan written.other place ⊎ InSpan written.start place))
 
 -- each of these places lies in the ranges (own)
 abbrev pub LieIn : Written → (ℕ → Type 0) → Type 0
@@ -31,3 +35,9 @@ abbrev pub IsLookedAt : Doubt → Type 0
 IsLookedAt Nothing = Unit {0}
 IsLookedAt Opened = ⊥
 IsLookedAt SyncFailed = Unit {0}
+
+-- how the bytes of a file begin (own)
+abbrev pub BeginsSo : Begins → List ℕ → Type 0
+BeginsSo Unfinished seen = IsUnfinished seen
+BeginsSo Cartridge seen = IsUnfinished seen → ⊥
+BeginsSo Other seen = (IsUnfinished seen → ⊥) × ((gate : ℕ) → BeginsWithGate gate seen → ⊥)

@@ -1,46 +1,28 @@
-use Rattle.file_disk.specs.declared.doubt.Doubt.TheVariants.{SyncFailed}
-use Rattle.file_disk.proofs.DoubtLemmas.{gates_in_doubt, read_in_doubt}
-use Rattle.file_disk.proofs.RestedLemmas.{read_all_of}
+use Rattle.std.proofs.Common.{ℕ, List, length, sym, ap, subst, ◌∙◌}
+use Rattle.file_disk.specs.Inner.Doubts.{BeginsSo}
+use Rattle.file_disk.specs.Opening.{IsLeftWell}
+use Rattle.file_disk.proofs.DoubtLemmas.{first_in_doubt, well_still}
 use Rattle.file_disk.proofs.doubt.look.Goals as goal
 
-pub returns-in_default-clause-read : goal.returns-in_default-clause-read
-returns-in_default-clause-read g c =
-    read_all_of g.F.RawFile.state g.F.RawFile.passed_over g.F.RawFile.unsynced _ _ c.last_gates.ensures.reads
-
-pub returns-in_default-found-clause-read : goal.returns-in_default-found-clause-read
-returns-in_default-found-clause-read g c =
-    read_all_of g.F.RawFile.state g.F.RawFile.passed_over g.F.RawFile.unsynced _ _ c.last_gates.ensures.reads
-
-pub returns-in_default-doubt_of-clause-read : goal.returns-in_default-doubt_of-clause-read
-returns-in_default-doubt_of-clause-read g c =
-    read_all_of g.F.RawFile.state g.F.RawFile.passed_over g.F.RawFile.unsynced _ _ c.last_gates.ensures.reads
-
-pub returns-clause-read : goal.returns-clause-read
-returns-clause-read g c =
-    read_all_of g.F.RawFile.state g.F.RawFile.passed_over g.F.RawFile.unsynced _ _ c.last_gates.ensures.reads
-
-pub returns-in_default-found-clause-found : goal.returns-in_default-found-clause-found
-returns-in_default-found-clause-found g c = λ honest sized well.
-    let answer = rw c.in_default-found.is at c.in-Ok.ensures.answer in
-    let read = read_all_of g.F.RawFile.state g.F.RawFile.passed_over g.F.RawFile.unsynced c.args.looked.now
-    c.last_gates.new.disk c.last_gates.ensures.reads in (
-      λ place passed. well.none (answer.1 honest) place (read.rested.reaches honest place passed),
-      λ place written. c.apart.ensures place,
-    )
-
-pub returns-clause-found : goal.returns-clause-found
-returns-clause-found g c = λ honest sized well.
-    let answer = rw c.in-Some.is at c.in-Ok.ensures.answer in
-    let side = answer.1 honest in
+pub returns-in-Unfinished-clause-found : goal.returns-in-Unfinished-clause-found
+returns-in-Unfinished-clause-found g c = λ honest sized well.
+    let read = c.beginning_of.ensures.read in
     let old = c.args.looked.now.file in
-    let new = c.last_gates.new.disk.file in
-    let seen = (g.F.RawFile.state c.args.looked.now.file).seen in
-    let written = c.in-Some-doubt_of.written in
-    let read = read_all_of g.F.RawFile.state g.F.RawFile.passed_over g.F.RawFile.unsynced c.args.looked.now
-    c.last_gates.new.disk c.last_gates.ensures.reads in
-    let before = gates_in_doubt seen (g.F.RawFile.passed_over old) (g.F.RawFile.unsynced old) well
-    (g.met.F.RawFile.within old honest) side.0 side.1 side.2 c.in-Some.gates.last c.in-Some.gates.end c.args.bytes
-    side.3 side.4 sized written c.in-Some-doubt_of.ensures in
-    read_in_doubt seen (g.F.RawFile.state new).seen (g.F.RawFile.passed_over old) (g.F.RawFile.passed_over new)
-    (g.F.RawFile.unsynced old) (g.F.RawFile.unsynced new) (read.rested.reaches honest) (read.adds_none honest)
-    SyncFailed written (read.rested.rests honest).seen before
+    let new = c.beginning_of.new.looked.file in
+    first_in_doubt (g.F.RawFile.state old).seen (g.F.RawFile.passed_over old) (g.F.RawFile.passed_over new)
+    (g.F.RawFile.unsynced old) (g.F.RawFile.unsynced new) (g.met.F.RawFile.within old honest)
+    (read.rested.reaches honest) (read.adds_none honest) c.args.bytes sized c.first.result c.first.ensures
+
+pub returns-in_default-clause-found : goal.returns-in_default-clause-found
+returns-in_default-clause-found g c = λ honest sized well.
+    let read = c.beginning_of.ensures.read in
+    let old = c.args.looked.now.file in
+    let new = c.beginning_of.new.looked.file in
+    let same = (read.rested.rests honest).seen in
+    let so = subst (λ (l : List ℕ). BeginsSo c.in_ok-begins.begins l) (sym same)
+    (c.in_ok-begins.ensures.begins honest) in
+    let still : IsLeftWell (g.F.RawFile.state new).seen (g.F.RawFile.passed_over new) (g.F.RawFile.unsynced new) =
+    well_still (g.F.RawFile.state old).seen (g.F.RawFile.state new).seen (g.F.RawFile.passed_over old)
+    (g.F.RawFile.passed_over new) (g.F.RawFile.unsynced old) (g.F.RawFile.unsynced new) (read.rested.reaches honest)
+    (read.adds_none honest) same well in
+    c.look_at_gates.ensures.found (read.rested.honesty.stays_honest honest) (sized ∙ ap length (sym same)) so still

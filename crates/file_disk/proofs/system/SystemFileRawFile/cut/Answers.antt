@@ -12,3 +12,9 @@ returns-in-Err-clause-time c = λ honest. of_honest c.args.self.now honest
 
 pub returns-in-Err-clause-cuts : goal.returns-in-Err-clause-cuts
 returns-in-Err-clause-cuts c = λ honest. of_honest c.args.self.now honest
+
+pub returns-in_default-clause-time : goal.returns-in_default-clause-time
+returns-in_default-clause-time c = λ honest. of_honest c.args.self.now honest
+
+pub returns-in_default-clause-cuts : goal.returns-in_default-clause-cuts
+returns-in_default-clause-cuts c = λ honest. of_honest c.args.self.now honest

@@ -9,3 +9,9 @@ returns-in-Ok-clause-bytes c = λ honest. of_honest c.args.self.now honest
 
 pub returns-in-Err-clause-time : goal.returns-in-Err-clause-time
 returns-in-Err-clause-time c = λ honest. of_honest c.args.self.now honest
+
+pub returns-in_default-clause-time : goal.returns-in_default-clause-time
+returns-in_default-clause-time c = λ honest. of_honest c.args.self.now honest
+
+pub returns-in_default-clause-bytes : goal.returns-in_default-clause-bytes
+returns-in_default-clause-bytes c = λ honest. of_honest c.args.self.now honest

@@ -15,3 +15,12 @@ returns-in-Err-clause-syncs c = λ honest. of_honest c.args.self.now honest
 
 pub returns-in-Ok-clause-synced : goal.returns-in-Ok-clause-synced
 returns-in-Ok-clause-synced c = λ honest. of_honest c.args.self.now honest
+
+pub returns-in_default-clause-time : goal.returns-in_default-clause-time
+returns-in_default-clause-time c = λ honest. of_honest c.args.self.now honest
+
+pub returns-in_default-clause-syncs : goal.returns-in_default-clause-syncs
+returns-in_default-clause-syncs c = λ honest. of_honest c.args.self.now honest
+
+pub returns-in_default-clause-synced : goal.returns-in_default-clause-synced
+returns-in_default-clause-synced c = λ honest. of_honest c.args.self.now honest

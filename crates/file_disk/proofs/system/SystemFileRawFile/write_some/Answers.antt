@@ -15,3 +15,9 @@ returns-in-Err-clause-writes c = λ honest. of_honest c.args.self.now honest
 
 pub returns-in-Ok-clause-again : goal.returns-in-Ok-clause-again
 returns-in-Ok-clause-again c = λ honest. of_honest c.args.self.now honest
+
+pub returns-in_default-clause-time : goal.returns-in_default-clause-time
+returns-in_default-clause-time c = λ honest. of_honest c.args.self.now honest
+
+pub returns-in_default-clause-writes : goal.returns-in_default-clause-writes
+returns-in_default-clause-writes c = λ honest. of_honest c.args.self.now honest

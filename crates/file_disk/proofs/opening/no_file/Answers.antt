@@ -1,0 +1,11 @@
+use Rattle.file_disk.specs.Inner.SystemFile.{of_honest}
+use Rattle.file_disk.proofs.opening.no_file.Goals as goal
+
+pub new-requires-clause-reaches : goal.new-requires-clause-reaches
+new-requires-clause-reaches c = λ honest. of_honest _ honest
+
+pub new-requires-clause-synced : goal.new-requires-clause-synced
+new-requires-clause-synced c = λ honest. of_honest _ honest
+
+pub returns-clause-empty : goal.returns-clause-empty
+returns-clause-empty c = λ honest. of_honest _ honest

@@ -1,0 +1,67 @@
+//! How a file begins that was just opened.
+ghost use Rattle.std.specs.Prelude.{◌≡◌, ◌↔◌, ◌++◌, ℕ, List, length, slice_range, IfSome, IsTrue};
+ghost use Rattle.gate_journal.specs.Side.{mark};
+ghost use Rattle.gate_journal.specs.declared.header.SideKind.TheVariants.{Cartridge};
+ghost use Rattle.file_disk.specs.Inner.Doubts.{BeginsSo};
+ghost use Rattle.file_disk.specs.Inner.Rested.{OnlyRead};
+
+use crate::looked::Looked;
+use crate::raw::RawFile;
+use tape_disk::Disk;
+
+/// The bytes that a side begins with: its own gate, the mark of its kind, the pair gate.
+pub(crate) const START_BYTES: usize = 10;
+
+const OPEN: u8 = 0xa5;
+
+const MARK: &[u8] = b"VTLCART1";
+
+/// How the bytes of a file begin.
+#[derive(Clone, Copy)]
+pub(crate) enum Begins {
+    /// As a cartridge's side that is being made, or written anew: fewer than ten bytes, or ten whose
+    /// own gate is closed.
+    Unfinished,
+    /// As a cartridge's side whose own gate is open.
+    Cartridge,
+    /// In another way.
+    Other,
+}
+
+// The first bytes have the mark of a cartridge.
+fn has_mark(start: &[u8; START_BYTES]) -> bool
+    ensures { IsTrue result ↔ (slice_range start.now 1 9 ≡ mark Cartridge) }
+{
+    let found = &start[1..9];
+    found == MARK
+}
+
+// How bytes begin of which these are the first.
+fn begins_with(start: &[u8; START_BYTES]) -> Begins
+    ensures { (rest : List ℕ) → BeginsSo result (start.now ++ rest) }
+{
+    if !has_mark(start) {
+        return Begins::Other;
+    }
+    if start[0] == OPEN {
+        Begins::Cartridge
+    } else {
+        Begins::Unfinished
+    }
+}
+
+/// How a file begins. None where it can't be read.
+pub(crate) fn beginning_of<F: RawFile>(looked: &mut Looked<F>) -> Option<Begins>
+    ensures read { OnlyRead F.state F.passed_over F.unsynced looked.old.file looked.new.file }
+    ensures begins { (F.state looked.old.file).honest →
+        IfSome result (λ begins. BeginsSo begins (F.state looked.old.file).seen) }
+{
+    if looked.len() < START_BYTES as u64 {
+        return Some(Begins::Unfinished);
+    }
+    let mut start = [0; START_BYTES];
+    match looked.read_at(0, &mut start) {
+        Ok(()) => Some(begins_with(&start)),
+        Err(_) => None,
+    }
+}
