@@ -1,0 +1,3 @@
+mod PairedLemmas
+mod ReadyLemmas
+mod TakingLemmas

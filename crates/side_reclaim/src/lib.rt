@@ -1,0 +1,8 @@
+//! The passes of a reclaim, one after the other.
+#![tactic(auto)]
+
+pub mod readying;
+pub mod taking;
+
+pub use readying::make_ready;
+pub use taking::copy_over;

@@ -1,0 +1,42 @@
+//! A copy is written on the side that does not count, and opened: it counts from then on.
+ghost use Rattle.std.specs.Prelude.{◌≡◌, ◌+◌, ◌≤◌, List, ℕ, IfErr, OnOk, vec_capacity};
+ghost use Rattle.tape_disk.specs.Disk.{Keeps};
+ghost use Rattle.tape_disk.specs.Moments.{LeavesOnly};
+ghost use Rattle.gate_journal.specs.Heads.{Head};
+ghost use Rattle.gate_journal.specs.Side.{IsHeading, heading_of};
+ghost use Rattle.side_pairs.specs.declared.which.Which.{Which};
+ghost use Rattle.side_pairs.specs.declared.copying.TheConstants.{COPY_BODY};
+ghost use Rattle.side_pairs.specs.Copying.{NotCopied};
+ghost use Rattle.side_reclaim.specs.Taking.{HasTaken, MayTake, WithOrWithoutCopy};
+
+use gate_journal::{Copied, Header};
+use side_pairs::{GivesBodies, open_copy, write_copy};
+use tape_disk::Disk;
+use vtl_base::DevFault;
+
+/// Writes a copy on the side that does not count, and lets it count. At every moment, and after a
+/// fault of its disk or of the source, each pair of images stands for what it stood for, or for the
+/// copy.
+pub fn copy_over<D: Disk, S: GivesBodies>(
+    spare: &mut D,
+    header: &Header,
+    copied: Copied,
+    source: &mut S,
+    buffer: &mut Vec<u8>,
+) -> Result<(), DevFault>
+    requires header { IsHeading (heading_of header.now) }
+    requires room { COPY_BODY + 5 ≤ vec_capacity buffer.old }
+    ensures disk { Keeps (D.state spare.old) (D.state spare.new) }
+    ensures ok { OnOk result ((copies : List (List ℕ)) × HasTaken S.gives header.now copied copies
+        source.old source.new (D.state spare.old) (D.state spare.new)) }
+    ensures err { IfErr result (λ fault. NotCopied S.gives S.fails fault
+        source.old source.new (D.state spare.old) (D.state spare.new)) }
+    ensures any_moment { (D.state spare.old).honest →
+        (which : Which) (head : Head) (bodies : List (List ℕ)) (counts : List ℕ) →
+        MayTake header.now copied which head bodies counts (D.state spare.old) →
+        LeavesOnly (D.state spare.old) (D.state spare.new)
+        (WithOrWithoutCopy S.gives copied.base source.old source.new which head bodies counts) }
+{
+    write_copy(spare, header, copied, source, buffer)?;
+    open_copy(spare)
+}

@@ -1,0 +1,4 @@
+mod CursorLemmas
+mod PackedLemmas
+mod RunLemmas
+mod SpellingLemmas

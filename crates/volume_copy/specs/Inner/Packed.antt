@@ -1,0 +1,11 @@
+-- What was packed so far.
+use Rattle.std.specs.Prelude.{◌+◌, ℕ, nat_le, if◌then◌else◌}
+use Rattle.volume_copy.specs.declared.totals.Packed.{Packed}
+use Rattle.volume_copy.specs.declared.totals.TheConstants.{FRAME_BODY}
+
+-- with a record of so many bytes more: in the last frame, if it fits there (own)
+abbrev pub packed_with : Packed → ℕ → Packed
+packed_with packed size =
+    if nat_le (packed.last + size) FRAME_BODY
+    then (record { frames = packed.frames; bytes = packed.bytes + size; last = packed.last + size })
+    else (record { frames = packed.frames + 1; bytes = packed.bytes + size; last = size })

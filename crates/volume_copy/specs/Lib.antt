@@ -1,0 +1,13 @@
+pub mod Copies
+pub mod Frames
+pub mod Entries
+pub mod Matching
+pub mod FrameFacts
+pub mod CopyFacts
+pub mod EntryFacts
+pub mod OrderFacts
+pub mod PackedFacts
+pub mod ShapeFacts
+pub mod SizeFacts
+pub mod Spelling
+pub mod Inner

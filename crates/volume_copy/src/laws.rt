@@ -1,0 +1,54 @@
+//! Laws of the definitions. Each is a function that does nothing, and its contract is the law.
+ghost use Rattle.std.specs.Prelude.{◌≡◌, ◌≤◌, List, length, map};
+ghost use Rattle.std.specs.List.{All, flat_map};
+ghost use Rattle.volume_core.specs.declared.changes.Change.{Change};
+ghost use Rattle.volume_core.specs.Volume.{IsVolume, Part, empty_volume};
+ghost use Rattle.record_index.specs.Records.{IsRecord, record_of, spell_all};
+ghost use Rattle.record_index.specs.Shapes.{shape_of};
+ghost use Rattle.volume_copy.specs.declared.totals.TheConstants.{FRAME_BODY};
+ghost use Rattle.volume_copy.specs.Copies.{Makes, NoRunIsCut, copy_of};
+ghost use Rattle.volume_copy.specs.CopyFacts.{capacities_of};
+ghost use Rattle.volume_copy.specs.Frames.{ArePackedInto, change_size, frames_of};
+
+/// The copy of a volume, carried out on a volume with no object, makes it again, and each change
+/// of it applies.
+pub fn a_copy_makes_the_volume()
+    ensures { (volume : List Part) → IsVolume volume →
+        Makes (empty_volume (capacities_of volume)) (copy_of volume) volume }
+{}
+
+/// A copy has one record for each longest run of filemarks.
+pub fn no_run_is_cut()
+    ensures { (volume : List Part) → NoRunIsCut (copy_of volume) }
+{}
+
+/// Each change of a copy has a spelling.
+pub fn a_copy_is_spelled()
+    ensures { (volume : List Part) → IsVolume volume → All IsRecord (copy_of volume) }
+{}
+
+/// A copy is packed into frames, as many records into each as it takes: one after the other they are
+/// the copy, and the body of each has 1 to 4,194,304 bytes.
+pub fn a_copy_is_packed()
+    ensures packed { (volume : List Part) → IsVolume volume →
+        ArePackedInto change_size (copy_of volume) (frames_of (copy_of volume)) }
+    ensures whole { (volume : List Part) → IsVolume volume →
+        flat_map (λ frame. frame) (frames_of (copy_of volume)) ≡ copy_of volume }
+    ensures bodies { (volume : List Part) → IsVolume volume →
+        All (λ frame. (1 ≤ length (spell_all frame)) × (length (spell_all frame) ≤ FRAME_BODY))
+        (frames_of (copy_of volume)) }
+    ensures bound { FRAME_BODY ≡ 4194304 }
+{}
+
+/// Changes are packed into frames in one way.
+pub fn changes_are_packed_in_one_way()
+    ensures { (changes : List Change) (frames : List (List Change)) →
+        ArePackedInto change_size changes frames → frames ≡ frames_of changes }
+{}
+
+/// No byte of a block decides how many frames a copy has, and how long they are.
+pub fn a_copy_is_sized_by_its_shape()
+    ensures { (volume other : List Part) → shape_of volume ≡ shape_of other →
+        map (map record_of) (frames_of (copy_of volume))
+        ≡ map (map record_of) (frames_of (copy_of other)) }
+{}

@@ -1,0 +1,164 @@
+//! The frames of a copy are spelled, one after the other. No memory is taken.
+ghost use Rattle.std.specs.Prelude.{◌≡◌, ◌≢◌, ◌≤◌, ◌+◌, ◌-◌, [], ◌∷◌, ◌++◌, ℕ, List, IfErr, IfNone, IfOk, IfSome, OnOk, length, take, vec_capacity, vec_len};
+ghost use Rattle.record_index.specs.Records.{spell_head};
+ghost use Rattle.volume_copy.specs.declared.entries.Entry.{Entry};
+ghost use Rattle.volume_copy.specs.declared.totals.TheConstants.{FRAME_BODY};
+ghost use Rattle.volume_copy.specs.Entries.{entries_from, entry_size};
+ghost use Rattle.volume_copy.specs.Frames.{NoMoreFits};
+ghost use Rattle.volume_copy.specs.Spelling.{IsBlockRead, SpellsEntry, SpellsFrame, record_head};
+
+use crate::blocks::ReadsBlocks;
+use crate::cursor::{Ahead, Cursor};
+use crate::entries::Entry;
+use crate::totals::FRAME_BODY;
+use byteorder::{BigEndian, ByteOrder};
+use record_index::{HEAD_BYTES, Index, Record};
+use vtl_base::{DevFault, ObjNo, PartNo};
+
+// The kinds of records.
+const BLOCK: u8 = 1;
+
+const MARKS: u8 = 2;
+
+const ERASE: u8 = 3;
+
+/// Puts the body of the next frame of a copy behind what is in the buffer, and returns where the
+/// copy stands then. The blocks are read where the index has them.
+pub fn spell_frame<R: ReadsBlocks>(
+    start: Cursor,
+    index: &Index,
+    reader: &mut R,
+    buffer: &mut Vec<u8>,
+) -> Result<Cursor, DevFault>
+    requires some { entries_from index.now start.part start.at ≢ [] }
+    requires room { vec_len buffer.old + FRAME_BODY ≤ vec_capacity buffer.old }
+    ensures room { vec_capacity buffer.old ≤ vec_capacity buffer.new }
+    ensures reads { OnOk result (R.reads reader.old reader.new) }
+    ensures ok { IfOk result (λ behind. (frame : List Entry) × (body : List ℕ)
+        × (buffer.new.items ≡ buffer.old.items ++ body)
+        × SpellsFrame (R.honest reader.old) (R.lies reader.old) frame
+        (entries_from index.now behind.part behind.at)
+        (entries_from index.now start.part start.at) body) }
+    ensures err { IfErr result (λ fault. R.fails reader.old fault reader.new) }
+{
+    // Asked for the proof's sake: the index keeps the limits of a volume.
+    let _ = index.parts();
+    let mut cursor = start;
+    let mut bytes = 0;
+    while let Some(ahead) = fitting(cursor, index, bytes) {
+        put_entry(ahead.entry, reader, buffer)?;
+        bytes += ahead.entry.item.size();
+        cursor = ahead.behind;
+    }
+    Ok(cursor)
+}
+
+// What comes next in a copy, if it fits behind so many bytes of a frame.
+fn fitting(cursor: Cursor, index: &Index, bytes: usize) -> Option<Ahead>
+    requires { bytes ≤ FRAME_BODY }
+    ensures next { IfSome result (λ ahead. entries_from index.now cursor.part cursor.at
+        ≡ ahead.entry ∷ entries_from index.now ahead.behind.part ahead.behind.at) }
+    ensures fits { IfSome result (λ ahead. bytes + entry_size ahead.entry ≤ FRAME_BODY) }
+    ensures none { IfNone result
+        (NoMoreFits entry_size bytes (entries_from index.now cursor.part cursor.at)) }
+{
+    let ahead = cursor.next(index)?;
+    if ahead.entry.item.size() <= FRAME_BODY - bytes {
+        Some(ahead)
+    } else {
+        None
+    }
+}
+
+// Puts the record of an entry behind what is in the buffer.
+fn put_entry<R: ReadsBlocks>(
+    entry: Entry,
+    reader: &mut R,
+    buffer: &mut Vec<u8>,
+) -> Result<(), DevFault>
+    requires room { vec_len buffer.old + entry_size entry ≤ vec_capacity buffer.old }
+    ensures room { vec_capacity buffer.old ≤ vec_capacity buffer.new }
+    ensures reads { OnOk result (R.reads reader.old reader.new) }
+    ensures ok { OnOk result ((bytes : List ℕ) × (buffer.new.items ≡ buffer.old.items ++ bytes)
+        × SpellsEntry (R.honest reader.old) (R.lies reader.old) entry bytes) }
+    ensures err { IfErr result (λ fault. R.fails reader.old fault reader.new) }
+{
+    put(buffer, &head_of(entry.item));
+    match entry.item {
+        Record::Put { length, .. } => put_block(entry.place, length, reader, buffer),
+        Record::Marks { .. } | Record::Erase { .. } => Ok(()),
+    }
+}
+
+// Puts a block of so many bytes, which lies at that place, behind what is in the buffer.
+fn put_block<R: ReadsBlocks>(
+    place: u64,
+    size: u32,
+    reader: &mut R,
+    buffer: &mut Vec<u8>,
+) -> Result<(), DevFault>
+    requires room { vec_len buffer.old + size ≤ vec_capacity buffer.old }
+    ensures room { vec_capacity buffer.old ≤ vec_capacity buffer.new }
+    ensures reads { OnOk result (R.reads reader.old reader.new) }
+    ensures ok { OnOk result ((block : List ℕ) × (buffer.new.items ≡ buffer.old.items ++ block)
+        × IsBlockRead (R.honest reader.old) (R.lies reader.old) place size block) }
+    ensures err { IfErr result (λ fault. R.fails reader.old fault reader.new) }
+{
+    let from = buffer.len();
+    let Ok(()) = buffer.resize(from + size as usize, 0) else {
+        unreachable!()
+    };
+    read_behind(place, from, reader, buffer)
+}
+
+// Reads a block, which lies at that place, over all that stands behind so many bytes.
+fn read_behind<R: ReadsBlocks>(
+    place: u64,
+    from: usize,
+    reader: &mut R,
+    bytes: &mut [u8],
+) -> Result<(), DevFault>
+    requires from { from ≤ length bytes.old }
+    ensures reads { OnOk result (R.reads reader.old reader.new) }
+    ensures ok { OnOk result ((block : List ℕ) × (bytes.new ≡ take from bytes.old ++ block)
+        × IsBlockRead (R.honest reader.old) (R.lies reader.old) place
+        (length bytes.old - from) block) }
+    ensures err { IfErr result (λ fault. R.fails reader.old fault reader.new) }
+{
+    reader.read(place, &mut bytes[from..])
+}
+
+// Puts bytes behind what is in the buffer.
+fn put(buffer: &mut Vec<u8>, bytes: &[u8])
+    requires { vec_len buffer.old + length bytes.now ≤ vec_capacity buffer.old }
+    ensures items { buffer.new.items ≡ buffer.old.items ++ bytes.now }
+    ensures len { vec_len buffer.new ≡ vec_len buffer.old + length bytes.now }
+    ensures room { vec_capacity buffer.old ≤ vec_capacity buffer.new }
+{
+    let Ok(()) = buffer.extend_from_slice(bytes) else {
+        unreachable!()
+    };
+}
+
+// What a record begins with.
+fn head_of(item: Record) -> [u8; HEAD_BYTES]
+    ensures { result ≡ record_head item }
+{
+    match item {
+        Record::Put { part, at, length } => head(BLOCK, part, at, length),
+        Record::Marks { part, at, count } => head(MARKS, part, at, count),
+        Record::Erase { part, at } => head(ERASE, part, at, 0),
+    }
+}
+
+// A head of that kind.
+fn head(kind: u8, part: PartNo, at: ObjNo, number: u32) -> [u8; HEAD_BYTES]
+    ensures { result ≡ spell_head kind part at number }
+{
+    let mut head = [0; HEAD_BYTES];
+    head[0] = kind;
+    head[1] = part;
+    BigEndian::write_u32(&mut head[2..], at);
+    BigEndian::write_u32(&mut head[6..], number);
+    head
+}

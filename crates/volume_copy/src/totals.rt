@@ -1,0 +1,91 @@
+//! How large a copy is.
+ghost use Rattle.std.specs.Prelude.{◌≡◌, ◌≤◌, ◌<◌, ◌+◌, ◌*◌, length, sum_by};
+ghost use Rattle.vtl_base.specs.declared.limits.TheConstants.{MAX_CAPACITY, MAX_OBJECTS, MAX_PARTITIONS};
+ghost use Rattle.volume_copy.specs.Entries.{entries_in, entry_size};
+ghost use Rattle.volume_copy.specs.Frames.{frames_by};
+ghost use Rattle.volume_copy.specs.Inner.Packed.{packed_with};
+
+use crate::cursor::Cursor;
+use record_index::Index;
+
+/// The longest body of a copy's frame.
+pub const FRAME_BODY: usize = 4_194_304;
+
+/// How large a copy is.
+#[derive(Clone, Copy, PartialEq, Eq, Debug)]
+pub struct Totals {
+    /// How many frames it has, 64,000,000 at most.
+    pub frames: u32,
+    /// The bytes of its frames' bodies.
+    pub bytes: u64,
+}
+
+impl Totals {
+    /// How large the copy of an index is. No block is read.
+    pub fn of(index: &Index) -> Self
+        ensures frames { result.frames ≡ length (frames_by entry_size (entries_in index.now)) }
+        ensures bytes { result.bytes ≡ sum_by entry_size (entries_in index.now) }
+        ensures few { result.frames ≤ MAX_OBJECTS * MAX_PARTITIONS }
+        ensures bound { result.bytes ≤ MAX_CAPACITY * MAX_PARTITIONS }
+    {
+        // Asked for the proof's sake: the index keeps the limits of a volume.
+        let _ = index.parts();
+        let mut packed = Packed::none();
+        let mut cursor = Cursor::start();
+        while let Some(ahead) = cursor.next(index) {
+            packed = packed.with(ahead.entry.item.size());
+            cursor = ahead.behind;
+        }
+        Totals {
+            frames: packed.frames,
+            bytes: packed.bytes,
+        }
+    }
+}
+
+// What was packed so far: how many frames, how many bytes, and how many of these in the last frame.
+#[derive(Clone, Copy)]
+pub(crate) struct Packed {
+    pub(crate) frames: u32,
+    pub(crate) bytes: u64,
+    pub(crate) last: usize,
+}
+
+impl Packed {
+    // Nothing yet. What comes begins a frame.
+    fn none() -> Self
+        ensures frames { result.frames ≡ 0 }
+        ensures bytes { result.bytes ≡ 0 }
+        ensures last { result.last ≡ FRAME_BODY }
+    {
+        Packed {
+            frames: 0,
+            bytes: 0,
+            last: FRAME_BODY,
+        }
+    }
+
+    // A record of so many bytes more.
+    fn with(self, size: usize) -> Self
+        requires frames { self.frames ≤ MAX_OBJECTS * MAX_PARTITIONS }
+        requires bytes { self.bytes ≤ MAX_CAPACITY * MAX_PARTITIONS }
+        requires last { self.last ≤ FRAME_BODY }
+        requires size { size ≤ FRAME_BODY }
+        ensures { result ≡ packed_with self size }
+    {
+        let bytes = self.bytes + size as u64;
+        if self.last + size <= FRAME_BODY {
+            Packed {
+                frames: self.frames,
+                bytes,
+                last: self.last + size,
+            }
+        } else {
+            Packed {
+                frames: self.frames + 1,
+                bytes,
+                last: size,
+            }
+        }
+    }
+}

@@ -1,0 +1,2 @@
+mod GivenLemmas
+mod SidesLemmas

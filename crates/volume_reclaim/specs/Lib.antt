@@ -1,0 +1,4 @@
+pub mod Reading
+pub mod ReadFacts
+pub mod Reclaiming
+pub mod Inner

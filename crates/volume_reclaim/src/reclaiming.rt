@@ -1,0 +1,143 @@
+//! A volume is copied to the side that does not count, which counts from then on.
+ghost use Rattle.std.specs.Prelude.{◌≡◌, ◌⊎◌, ◌+◌, ◌≤◌, List, ℕ, OnOk, vec_capacity};
+ghost use Rattle.volume_core.specs.Volume.{Part};
+ghost use Rattle.tape_disk.specs.TwoDisks.{AreHonest, EachOfTwo, KeepsDisks, TwoLeave};
+ghost use Rattle.gate_journal.specs.Heads.{Head};
+ghost use Rattle.gate_journal.specs.Side.{IsHeading, heading_of};
+ghost use Rattle.side_pairs.specs.declared.copying.TheConstants.{COPY_BODY};
+ghost use Rattle.side_pairs.specs.Choosing.{FaultsOfOne};
+ghost use Rattle.side_reclaim.specs.Ready.{GivesSide, IsReady};
+ghost use Rattle.volume_reclaim.specs.Reclaiming.{GivesCopy, MayReclaim, two_by};
+
+use crate::blocks::Blocks;
+use crate::source::Source;
+use gate_journal::{Copied, Header};
+use record_index::Index;
+use side_pairs::Which;
+use side_reclaim::{copy_over, make_ready};
+use tape_disk::Disk;
+use volume_copy::Cursor;
+use vtl_base::DevFault;
+
+/// Two disks after a reclaim, and whether it was done.
+#[derive(Drop)]
+pub struct Ended<D> {
+    pub first: D,
+    pub second: D,
+    pub result: Result<(), DevFault>,
+}
+
+/// Copies the volume of an index from the side that counts to the other one, which counts from then
+/// on. At every moment, and after a fault of either disk, each pair of images stands for what it
+/// stood for, or for the copy. No memory is taken.
+pub fn reclaim_volume<D: Disk>(
+    which: Which,
+    first: D,
+    second: D,
+    header: &Header,
+    copied: Copied,
+    index: Index,
+    buffer: Vec<u8>,
+) -> Ended<D>
+    requires header { IsHeading (heading_of header.now) }
+    requires room { COPY_BODY + 5 ≤ vec_capacity buffer }
+    ensures disks { KeepsDisks D.state (record { first = first; second = second })
+        (record { first = result.first; second = result.second }) }
+    ensures faults { FaultsOfOne result.result (D.state first) (D.state result.first)
+        (D.state second) (D.state result.second) }
+    ensures ok { AreHonest D.state (record { first = first; second = second }) →
+        (head : Head) (bodies : List (List ℕ)) (volume : List Part) →
+        MayReclaim D.state (record { first = first; second = second }) which header.now copied index
+        head bodies volume → OnOk result.result
+        (EachOfTwo D.state (record { first = result.first; second = result.second })
+        (GivesCopy which head volume)) }
+    ensures any_moment { AreHonest D.state (record { first = first; second = second }) →
+        (head : Head) (bodies : List (List ℕ)) (volume : List Part) →
+        MayReclaim D.state (record { first = first; second = second }) which header.now copied index
+        head bodies volume →
+        TwoLeave D.state (record { first = first; second = second })
+        (record { first = result.first; second = result.second })
+        (λ images. GivesSide which head bodies images ⊎ GivesCopy which head volume images) }
+{
+    let mut first = first;
+    let mut second = second;
+    match make_ready(which, &mut first, &mut second) {
+        Ok(()) => match which {
+            Which::First => {
+                let done = copy_sides(which, first, second, header, copied, index, buffer);
+                Ended {
+                    first: done.counts,
+                    second: done.spare,
+                    result: done.result,
+                }
+            }
+            Which::Second => {
+                let done = copy_sides(which, second, first, header, copied, index, buffer);
+                Ended {
+                    first: done.spare,
+                    second: done.counts,
+                    result: done.result,
+                }
+            }
+        },
+        Err(fault) => Ended {
+            first,
+            second,
+            result: Err(fault),
+        },
+    }
+}
+
+// The disks of both sides after a copy, and whether it was written.
+#[derive(Drop)]
+struct Copying<D> {
+    counts: D,
+    spare: D,
+    result: Result<(), DevFault>,
+}
+
+// Copies the volume of an index to the side that does not count, where both disks are ready.
+fn copy_sides<D: Disk>(
+    which: Which,
+    counts: D,
+    spare: D,
+    header: &Header,
+    copied: Copied,
+    index: Index,
+    buffer: Vec<u8>,
+) -> Copying<D>
+    requires header { IsHeading (heading_of header.now) }
+    requires room { COPY_BODY + 5 ≤ vec_capacity buffer }
+    ensures disks { KeepsDisks D.state (record { first = counts; second = spare })
+        (record { first = result.counts; second = result.spare }) }
+    ensures faults { FaultsOfOne result.result (D.state counts) (D.state result.counts)
+        (D.state spare) (D.state result.spare) }
+    ensures ok { AreHonest D.state (two_by which counts spare) →
+        (head : Head) (bodies : List (List ℕ)) (volume : List Part) →
+        MayReclaim D.state (two_by which counts spare) which header.now copied index
+        head bodies volume → IsReady D.state (two_by which counts spare) which → OnOk result.result
+        (EachOfTwo D.state (two_by which result.counts result.spare) (GivesCopy which head volume)) }
+    ensures any_moment { AreHonest D.state (two_by which counts spare) →
+        (head : Head) (bodies : List (List ℕ)) (volume : List Part) →
+        MayReclaim D.state (two_by which counts spare) which header.now copied index
+        head bodies volume → IsReady D.state (two_by which counts spare) which →
+        TwoLeave D.state (two_by which counts spare) (two_by which result.counts result.spare)
+        (λ images. GivesSide which head bodies images ⊎ GivesCopy which head volume images) }
+{
+    // The clauses speak of the side that counts.
+    let _ = which;
+    let mut spare = spare;
+    let mut buffer = buffer;
+    let mut source = Source {
+        blocks: Blocks { disk: counts },
+        index,
+        cursor: Cursor::start(),
+    };
+    let result = copy_over(&mut spare, header, copied, &mut source, &mut buffer);
+    let Source { blocks, .. } = source;
+    Copying {
+        counts: blocks.disk,
+        spare,
+        result,
+    }
+}
