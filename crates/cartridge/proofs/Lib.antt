@@ -1,4 +1,8 @@
+pub mod BesideLemmas
+pub mod ChoosingLemmas
 pub mod ContentsLemmas
+pub mod CreatedLemmas
+pub mod DisksLemmas
 pub mod FetchLemmas
 pub mod GrowingLemmas
 pub mod OpenLemmas
@@ -7,6 +11,9 @@ pub mod OpeningLemmas
 pub mod PieceLemmas
 pub mod PlacingLemmas
 pub mod RecordLemmas
+pub mod ShownLemmas
 pub mod StoreLemmas
 pub mod StoringLemmas
 pub mod WalkingLemmas
+mod ReclaimLemmas
+mod CopiedLemmas

@@ -8,16 +8,17 @@ use Rattle.volume_core.specs.declared.changes.Change.{Change}
 use Rattle.volume_core.specs.Volume.{Part, AllApply, after}
 use Rattle.tape_disk.specs.Disk.{DiskState, Each, IsDisk}
 use Rattle.tape_disk.specs.Moments.{LeavesOnly, holds_now}
-use Rattle.gate_journal.specs.Side.{Heading, StandsFor}
+use Rattle.gate_journal.specs.Side.{Front, Heading, StandsFor}
 use Rattle.gate_journal.specs.Crash.{WithOrWithout}
+use Rattle.side_pairs.specs.declared.which.Which.{Which}
 use Rattle.record_index.specs.Records.{IsRecord, spell_all}
 use Rattle.record_index.specs.Places.{PlacedPart}
 use Rattle.record_index.specs.Shapes.{IsIndexOf}
 use Rattle.record_index.specs.Indexes.{Indexes, indexes_by, indexes_shape}
-use Rattle.cartridge.specs.Contents.{Contents, GivesContents, IsContents, ShowsContents, bodies_of, volume_made}
-use Rattle.cartridge.specs.Notes.{Notes, noted_contents, with_frame, with_torn}
+use Rattle.cartridge.specs.Contents.{Contents, IsContents, bodies_of, volume_made, with_frames}
+use Rattle.cartridge.specs.Notes.{Notes, noted_as, noted_contents, with_frame, with_torn}
 use Rattle.cartridge.specs.Lying.{LiesIn, LiesOnSide}
-use Rattle.cartridge.specs.Inner.Open.{IsOpen, StoresContents}
+use Rattle.cartridge.specs.Inner.Open.{IsOpen, SideGives, SideShows, StoresContents}
 use Rattle.cartridge.specs.Inner.Growing.{IsGrown}
 use Rattle.cartridge.specs.Extending.{bodies_more, contents_more, volume_more}
 use Rattle.cartridge.proofs.ContentsLemmas.{gives_more, is_bodies_more, moments}
@@ -138,59 +139,60 @@ module _ (heading : Heading) (extents : List (ℕ × ℕ)) (failed : Bool) (inde
       }
 
     -- what each image shows
-    module _ (few : length index ≤ 4) (bodies : List (List ℕ)) (body : List ℕ) (body_is : body ≡ spell_all changes)
-      where
-        pub store_moments : (disk old new : DiskState) → StoresContents disk bodies notes
-            → LeavesOnly old new (WithOrWithout heading bodies body)
-            → LeavesOnly old new (ShowsContents (noted_contents notes) (changes ∷ []))
-        store_moments disk old new stores run =
-            moments (noted_contents notes) changes is.contents (open_contents few) heading is.heading_is bodies
-            stores.bodies_are body body_is old new run
+    module _ (few : length index ≤ 4) (which : Which) (front : Front)
+        (own : IsContents (noted_as which front.head.copied notes)) where
+      -- with the changes they are contents too
+      pub own_more : IsContents (noted_as which front.head.copied (with_frame notes changes))
+      own_more = contents_more (noted_as which front.head.copied notes) changes own (open_records few) apply
 
-        pub store_sure : (disk new : DiskState) (heading' : Heading) (bodies' : List (List ℕ))
-            → StoresContents disk bodies notes → heading' ≡ heading → bodies' ≡ bodies ++ body ∷ []
-            → Each new (StandsFor heading' bodies') → Each new (GivesContents (noted_contents (with_frame notes
-            changes)))
-        store_sure disk new heading' bodies' stores heading_is bodies_are sure image left =
-            gives_more (noted_contents notes) changes is.contents (open_contents few) heading is.heading_is bodies
-            stores.bodies_are body body_is image
-            (subst (λ (x : Heading × List (List ℕ)). StandsFor x.0 x.1 image) (λ i. (heading_is i, bodies_are i))
-            (sure image left))
+      module _ (bodies : List (List ℕ)) (body : List ℕ) (body_is : body ≡ spell_all changes) (disk spare : DiskState)
+          (stores : StoresContents disk spare which front bodies notes) where
+        abbrev noted_so : Contents
+        noted_so = noted_as which front.head.copied notes
 
-        pub stores_stored : (disk new : DiskState) (heading' : Heading) (bodies' : List (List ℕ))
-            → StoresContents disk bodies notes → heading' ≡ heading → bodies' ≡ bodies ++ body ∷ []
-            → Each new (StandsFor heading' bodies') → StoresContents new bodies' (with_frame notes changes)
-        stores_stored disk new heading' bodies' stores heading_is bodies_are sure = record {
-          bodies_are =
-              bodies_are
-              ∙ is_bodies_more (noted_contents notes) changes is.contents (open_contents few) heading is.heading_is
-              bodies stores.bodies_are body body_is;
-          shows = λ image left. inl (store_sure disk new heading' bodies' stores heading_is bodies_are sure image left);
+        pub store_moments : (old new : DiskState) → LeavesOnly old new (WithOrWithout front bodies body)
+            → LeavesOnly old new (SideShows front noted_so (changes ∷ []))
+        store_moments old new run =
+            moments noted_so changes own own_more front bodies stores.bodies_are body body_is old new run
+
+        pub store_sure : (new : DiskState) → Each new (StandsFor front (bodies ++ body ∷ []))
+            → Each new (SideGives front (with_frames noted_so (changes ∷ [])))
+        store_sure new sure image left =
+            gives_more noted_so changes own own_more front bodies stores.bodies_are body body_is image
+            (sure image left)
+
+        pub stores_stored : (new : DiskState) → Each new (StandsFor front (bodies ++ body ∷ []))
+            → StoresContents new spare which front (bodies ++ body ∷ []) (with_frame notes changes)
+        stores_stored new sure = record {
+          bodies_are = is_bodies_more noted_so changes own own_more front bodies stores.bodies_are body body_is;
+          shows = λ image left. inl (store_sure new sure image left);
+          beside = stores.beside;
         }
 
-        pub stores_broken : (disk new : DiskState) (bodies' : List (List ℕ)) → StoresContents disk bodies notes
-            → IsDisk new → bodies' ≡ bodies → LeavesOnly disk new (WithOrWithout heading bodies body)
-            → StoresContents new bodies' (with_torn notes changes)
-        stores_broken disk new bodies' stores is_disk bodies_are run = record {
-          bodies_are = bodies_are ∙ stores.bodies_are;
+        pub stores_broken : (new : DiskState) → IsDisk new → LeavesOnly disk new (WithOrWithout front bodies body)
+            → StoresContents new spare which front bodies (with_torn notes changes)
+        stores_broken new is_disk run = record {
+          bodies_are = stores.bodies_are;
           shows =
-              holds_now disk new (ShowsContents (noted_contents notes) (changes ∷ [])) is_disk
-              (store_moments disk disk new stores run);
+              holds_now disk new (SideShows front noted_so (changes ∷ [])) is_disk (store_moments disk new run);
+          beside = stores.beside;
         }
 
 -- nothing was written, or nothing was called
-pub stores_unwritten : (disk new : DiskState) (bodies bodies' : List (List ℕ)) (notes : Notes)
-    → StoresContents disk bodies notes → bodies' ≡ bodies
-    → ((image : List ℕ) → new.may_leave image → disk.may_leave image) → StoresContents new bodies' notes
-stores_unwritten disk new bodies bodies' notes stores same images = record {
+pub stores_unwritten : (disk spare new : DiskState) (which : Which) (front : Front) (bodies bodies' : List (List ℕ))
+    (notes : Notes) → StoresContents disk spare which front bodies notes → bodies' ≡ bodies
+    → ((image : List ℕ) → new.may_leave image → disk.may_leave image)
+    → StoresContents new spare which front bodies' notes
+stores_unwritten disk spare new which front bodies bodies' notes stores same images = record {
   bodies_are = same ∙ stores.bodies_are;
   shows = λ image left. stores.shows image (images image left);
+  beside = stores.beside;
 }
 
 -- with no frame under way an image gives the contents
-pub sure_at_rest : (contents : Contents) (torn : List (List Change)) (image : List ℕ) → torn ≡ []
-    → ShowsContents contents torn image → GivesContents contents image
-sure_at_rest contents torn image none (inl gives) = gives
-sure_at_rest contents torn image none (inr gives) =
-    subst (λ (l : List (List Change)). GivesContents (record contents { frames = l }) image)
+pub sure_at_rest : (front : Front) (contents : Contents) (torn : List (List Change)) (image : List ℕ) → torn ≡ []
+    → SideShows front contents torn image → SideGives front contents image
+sure_at_rest front contents torn image none (inl gives) = gives
+sure_at_rest front contents torn image none (inr gives) =
+    subst (λ (l : List (List Change)). SideGives front (record contents { frames = l }) image)
     (ap (λ (l : List (List Change)). contents.frames ++ l) none ∙ append-nil contents.frames) gives

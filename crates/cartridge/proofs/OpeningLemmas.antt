@@ -10,15 +10,17 @@ use Rattle.std.proofs.lemmas.Grind.{common_steps}
 use Rattle.gate_journal.specs.declared.header.SideKind.{SideKind}
 use Rattle.gate_journal.specs.declared.header.SideKind.TheVariants.{Cartridge}
 use Rattle.vtl_base.specs.Limits.{is_capacity}
-use Rattle.volume_core.specs.Volume.{Part, AllApply, are_capacities}
+use Rattle.volume_core.specs.Volume.{Part, AllApply, after, are_capacities, empty_volume}
 use Rattle.gate_journal.specs.Decoding.{TakesPiece}
-use Rattle.gate_journal.specs.Side.{Heading, IsCount, IsHeading, spell}
+use Rattle.gate_journal.specs.Heads.{Head}
+use Rattle.gate_journal.specs.Side.{Heading, IsCount, IsHeading}
+use Rattle.side_pairs.specs.Pairs.{gate_behind}
 use Rattle.record_index.specs.Records.{IsRecord, spell_all}
 use Rattle.record_index.specs.ChangesOn.{changes_on, changes_on_is}
 use Rattle.record_index.specs.Places.{PlacedPart, empty_placed}
 use Rattle.record_index.specs.Readers.{ReaderState}
 use Rattle.record_index.specs.Indexes.{Indexes, indexes_empty}
-use Rattle.cartridge.specs.Contents.{IsBadFrame, IsContents, bodies_of, contents_from, volume_made}
+use Rattle.cartridge.specs.Contents.{AreGood, IsBadFrame, bodies_of, changes_of, volume_made}
 use Rattle.cartridge.specs.Notes.{Notes, noted_contents, with_frame}
 use Rattle.cartridge.specs.Lying.{LiesIn, LiesOnSide}
 use Rattle.cartridge.specs.Inner.Reading.{BehindEach, HasRead, IsBadBody, IsWithin, Walks, WalksTo}
@@ -84,23 +86,26 @@ module _ (index : List PlacedPart) (notes : Notes) (heading : Heading) (extents 
           (λ i. so_far.spelled i ++ good.1.1 i ∷ []) ∙ sym (bodies_more (noted_contents notes) good.0)
 
   -- the body behind those that were read is the first bad one of a side that has it
-  pub bad_frame : (all : List (List ℕ)) (good at : ℕ) → bodies ≡ take good all → good < length all
-      → at ≡ length (spell heading (take good all))
+  pub bad_frame : (head : Head) (all : List (List ℕ)) (good at : ℕ) → head.heading ≡ heading
+      → bodies ≡ take good all → good < length all → at ≡ gate_behind head (take good all)
       → IsBadBody (volume_made (noted_contents notes)) (slice_index_or all good [])
-      → IsBadFrame heading all notes.frames at
-  bad_frame all good at read inside at_is bad = record {
+      → IsBadFrame head all notes.frames at
+  bad_frame head all good at same read inside at_is bad = record {
     inside = omega (arith, inside, counted);
     before =
-        subst (λ (h : Heading). IsContents (contents_from h notes.frames)) (sym so_far.is_open.heading_is)
-        so_far.is_open.contents;
+        subst (λ (capacities : List ℕ). AreGood capacities notes.frames) capacities_are
+        (record { records = so_far.is_open.contents.records; apply = so_far.is_open.contents.apply });
     spelled = sym so_far.spelled ∙ read ∙ ap (λ (n : ℕ). take n all) (sym counted);
-    gate = at_is ∙ ap (λ (b : List (List ℕ)). length (spell heading b)) (sym read ∙ so_far.spelled);
+    gate = at_is ∙ ap (λ (b : List (List ℕ)). gate_behind head b) (sym read ∙ so_far.spelled);
     bad = λ changes records is apply.
         bad changes records (ap (λ (n : ℕ). slice_index_or all n []) (sym counted) ∙ is)
-        (subst (λ (h : Heading). AllApply (volume_made (contents_from h notes.frames)) changes)
-        so_far.is_open.heading_is apply);
+        (subst (λ (capacities : List ℕ). AllApply (after (empty_volume capacities) (changes_of notes.frames)) changes)
+        (sym capacities_are) apply);
   }
     where
+      capacities_are : notes.heading.capacities ≡ head.heading.capacities
+      capacities_are = ap (λ (h : Heading). h.capacities) (sym so_far.is_open.heading_is ∙ sym same)
+
       counted : length notes.frames ≡ good
       counted =
           omega (
@@ -130,18 +135,21 @@ module _ {T : Type 0} (index : T → List PlacedPart) (notes : T → Notes) (rea
 
 -- no frame was read
 pub read_none : (heading : Heading) (index : List PlacedPart) (notes : Notes) → heading.kind ≡ Cartridge
-    → index ≡ map empty_placed heading.capacities → notes ≡ record { heading = heading; frames = []; torn = [] }
+    → IsHeading heading → index ≡ map empty_placed heading.capacities
+    → notes ≡ record { heading = heading; frames = []; torn = [] }
     → HasRead index notes heading [] []
-read_none heading index notes kind index_is notes_are =
+read_none heading index notes kind valid index_is notes_are =
     subst (λ (x : Notes × List PlacedPart). HasRead x.1 x.0 heading [] [])
     (λ i. (sym notes_are i, sym index_is i)) (record {
       is_open = record {
         heading_is = refl;
         contents = record {
           kind = kind;
+          spelled = record { heading = valid; copied = tt };
           base = refl;
           records = All-nil (All IsRecord);
           apply = tt;
+          copied = omega arith;
         };
         at_rest = λ fine. refl;
         counted = refl;

@@ -1,18 +1,23 @@
 -- What a store's answers come to.
-use Rattle.std.proofs.Common.{◌≡◌, ◌⊎◌, inl, inr, ℕ, ◌<◌, ◌≤◌, ◌+◌, List, [], ◌∷◌, length, map, sum_by, Result, Ok, Err, sym, ap, subst, arith, length-append}
+use Rattle.std.proofs.Common.{◌≡◌, ◌⊎◌, inl, inr, ℕ, ◌<◌, ◌≤◌, ◌+◌, List, [], ◌∷◌, length, map, sum_by, Option, Result, Ok, Err, sym, ap, subst, arith, length-append}
 use Rattle.std.specs.Prelude.{IfErr, OnErr, OnOk, slice_index_or}
 use Rattle.std.specs.Result.{IsErrAnd}
 use Rattle.std.proofs.lemmas.Bool.{cases_lt}
 use Rattle.volume_core.specs.declared.changes.Change.{Change}
 use Rattle.volume_core.specs.Volume.{Part, AllApply}
 use Rattle.tape_disk.specs.Disk.{DiskState}
+use Rattle.tape_disk.specs.TwoDisks.{AreHonest}
+use Rattle.gate_journal.specs.declared.heads.Copied.{Copied}
+use Rattle.gate_journal.specs.Side.{Front}
 use Rattle.gate_journal.specs.State.{OpenSide, room_behind}
+use Rattle.side_pairs.specs.declared.which.Which.{Which}
 use Rattle.record_index.specs.Records.{spell_change, spell_all}
 use Rattle.record_index.specs.Places.{PlacedPart, reserved_of}
 use Rattle.cartridge.specs.Answers.{LacksReserved, entries_of}
-use Rattle.cartridge.specs.Contents.{Contents}
+use Rattle.cartridge.specs.Contents.{IsContents}
+use Rattle.cartridge.specs.Disks.{disks_by}
 use Rattle.cartridge.specs.State.{OpenCartridge, Reserved}
-use Rattle.cartridge.specs.Notes.{Notes}
+use Rattle.cartridge.specs.Notes.{Notes, noted_as}
 use Rattle.cartridge.specs.Inner.Growing.{HasRoomFor, HasRoomWithin, IsGrown, IsSameSide, TakesEntries}
 use Rattle.cartridge.specs.Inner.Open.{IsOpen, StoresContents}
 use Rattle.cartridge.proofs.GrowingLemmas.{entries_at, grown_reserved}
@@ -66,19 +71,31 @@ room_for volume index changes apply same room part = elim (cases_lt part (length
   | inr beyond ↦ omega (arith, entries_none volume changes part apply (omega (arith, same, beyond)))
 ]
 
-module _ {D : Type 0} (state : D → DiskState) (old new : OpenSide D) (same : IsSameSide old new)
-    (index index' : List PlacedPart) (notes : Notes) where
-  pub same_open : IsGrown index index' → IsOpen old.heading old.extents old.failed index notes
-      → IsOpen new.heading new.extents new.failed index' notes
-  same_open grown is =
-      open_grown old.heading old.extents old.failed index notes is new.heading new.extents new.failed index'
-      same.heading same.extents same.failed grown
+module _ {D : Type 0} (old new : OpenSide D) (same : IsSameSide old new) (index index' : List PlacedPart)
+    (notes : Notes)
+  where
+    pub same_open : IsGrown index index' → IsOpen old.front.head.heading old.extents old.failed index notes
+        → IsOpen new.front.head.heading new.extents new.failed index' notes
+    same_open grown is =
+        open_grown old.front.head.heading old.extents old.failed index notes is new.front.head.heading new.extents
+        new.failed index' (ap (λ f. f.head.heading) same.front) same.extents same.failed grown
 
-  pub same_stores : ((state old.disk).honest → StoresContents (state old.disk) old.bodies notes)
-      → (state new.disk).honest → StoresContents (state new.disk) new.bodies notes
-  same_stores stores =
-      subst (λ (x : D × List (List ℕ)). (state x.0).honest → StoresContents (state x.0) x.1 notes)
-      (λ i. (sym same.disk i, sym same.bodies i)) stores
+    module _ (which : Which) where
+      pub same_own : IsContents (noted_as which old.front.head.copied notes)
+          → IsContents (noted_as which new.front.head.copied notes)
+      same_own own =
+          subst (λ (c : Option Copied). IsContents (noted_as which c notes))
+          (ap (λ f. f.head.copied) (sym same.front)) own
+
+      pub same_stores : (state : D → DiskState) (spare : D)
+          → (AreHonest state (disks_by which old.disk spare)
+          → StoresContents (state old.disk) (state spare) which old.front old.bodies notes)
+          → AreHonest state (disks_by which new.disk spare)
+          → StoresContents (state new.disk) (state spare) which new.front new.bodies notes
+      same_stores state spare stores =
+          subst (λ (x : D × (Front × List (List ℕ))). AreHonest state (disks_by which x.0 spare)
+          → StoresContents (state x.0) (state spare) which x.1.0 x.1.1 notes)
+          (λ i. (sym same.disk i, (sym same.front i, sym same.bodies i))) stores
 
 -- too little was reserved for these changes
 pub lacks_told : (index : List PlacedPart) (frames body size : ℕ) (changes : List Change)
@@ -94,27 +111,27 @@ lacks_told index frames body size changes is (inr (inl less)) = inr (inl (omega 
 lacks_told index frames body size changes is (inr (inr fewer)) =
     inr (inr (fewer.0, omega (arith, entries_at index fewer.0, fewer.1)))
 
--- an open cartridge over this side
-abbrev pub cartridge_on : {D : Type 0} → OpenSide D → Contents → List (List Change) → Reserved → OpenCartridge D
-cartridge_on side contents torn reserved =
+-- an open cartridge over this side and the other disk
+abbrev pub cartridge_on : {D : Type 0} → Which → OpenSide D → D → Notes → Reserved → OpenCartridge D
+cartridge_on which side spare notes reserved =
     record {
-      disk = side.disk;
-      contents = contents;
-      torn = torn;
+      disks = disks_by which side.disk spare;
+      contents = noted_as which side.front.head.copied notes;
+      torn = notes.torn;
       failed = side.failed;
       room = room_behind side.end;
       reserved = reserved;
     }
 
 -- over a side that is the same it is the same
-pub same_view : {D : Type 0} (old new : OpenSide D) → IsSameSide old new → (contents : Contents)
-    (torn : List (List Change)) (reserved : Reserved)
-    → cartridge_on new contents torn reserved ≡ cartridge_on old contents torn reserved
-same_view old new same contents torn reserved = λ k.
+pub same_view : {D : Type 0} (old new : OpenSide D) → IsSameSide old new → (which : Which) (spare : D) (notes : Notes)
+    (reserved : Reserved)
+    → cartridge_on which new spare notes reserved ≡ cartridge_on which old spare notes reserved
+same_view old new same which spare notes reserved = λ k.
     record {
-      disk = same.disk k;
-      contents = contents;
-      torn = torn;
+      disks = disks_by which (same.disk k) spare;
+      contents = noted_as which (same.front k).head.copied notes;
+      torn = notes.torn;
       failed = same.failed k;
       room = room_behind (same.end k);
       reserved = reserved;
@@ -124,7 +141,7 @@ same_view old new same contents torn reserved = λ k.
 pub same_side : {D : Type 0} (old new : OpenSide D) → new ≡ old → IsSameSide old new
 same_side old new e = record {
   disk = ap (λ s. s.disk) e;
-  heading = ap (λ s. s.heading) e;
+  front = ap (λ s. s.front) e;
   bodies = ap (λ s. s.bodies) e;
   extents = ap (λ s. s.extents) e;
   end = ap (λ s. s.end) e;
@@ -138,7 +155,7 @@ pub reserved_side : {D : Type 0} (old new : OpenSide D)
     → old.reserved_extents ≤ new.reserved_extents → IsSameSide old new
 reserved_side old new e more = record {
   disk = ap (λ s. s.disk) e;
-  heading = ap (λ s. s.heading) e;
+  front = ap (λ s. s.front) e;
   bodies = ap (λ s. s.bodies) e;
   extents = ap (λ s. s.extents) e;
   end = ap (λ s. s.end) e;

@@ -3,15 +3,14 @@ use Rattle.std.specs.Prelude.{◌≡◌, ◌⊎◌, ◌<◌, ◌≤◌, ◌+◌,
 use Rattle.vtl_base.specs.declared.faults.DevFault.{DevFault}
 use Rattle.volume_core.specs.declared.changes.Change.{Change}
 use Rattle.volume_core.specs.declared.changes.Change.TheVariants.{Put, Marks, Erase}
-use Rattle.tape_disk.specs.Disk.{DiskState, Only}
-use Rattle.gate_journal.specs.declared.header.SideKind.TheVariants.{Cartridge}
-use Rattle.gate_journal.specs.Side.{IsDamagedOf}
-use Rattle.gate_journal.specs.Answers.{IsFault, NoneFailed}
+use Rattle.tape_disk.specs.Disk.{DiskState}
+use Rattle.tape_disk.specs.TwoDisks.{AreHonest, TwoDisks, seen_of_two}
 use Rattle.cartridge.specs.declared.error.CartridgeError.{CartridgeError}
 use Rattle.cartridge.specs.declared.error.CartridgeError.TheVariants.{NotOurs, Damaged, BadRecord, SideFull, Device, Failed, NoMemory}
 use Rattle.cartridge.specs.declared.error.NotCreated.{NotCreated}
 use Rattle.cartridge.specs.declared.error.NotOpened.{NotOpened}
-use Rattle.cartridge.specs.Contents.{IsBadFrameAt, IsNoCartridge, with_frames}
+use Rattle.cartridge.specs.Contents.{IsBadFrameAt, IsDamagedPairAt, IsNoCartridge, with_frames}
+use Rattle.cartridge.specs.Disks.{IsFaultOfTwo, NoneOfTwo, OnlyOfTwo}
 use Rattle.record_index.specs.Records.{spell_all}
 use Rattle.cartridge.specs.State.{ClosedCartridge, OpenCartridge, Reserved}
 
@@ -87,17 +86,17 @@ module _ {D : Type 0} where
     pub same : new ≡ record old { reserved = new.reserved }
     pub reserved : KeepsReserved old.reserved new.reserved
 
-  -- the disk that a creation gives back (own)
-  abbrev pub disk_created : Result (ClosedCartridge D) (NotCreated D) → D
-  disk_created (Ok cartridge) = cartridge.disk
-  disk_created (Err refused) = refused.disk
+  -- the disks that a creation gives back (own)
+  abbrev pub disks_created : Result (ClosedCartridge D) (NotCreated D) → TwoDisks D
+  disks_created (Ok cartridge) = cartridge.disks
+  disks_created (Err refused) = record { first = refused.first; second = refused.second }
 
--- the disk that an opening gives, in an open cartridge or in the closed one that is handed back (own)
-abbrev pub disk_opened : {D : Type 0} → Result (OpenCartridge D) (NotOpened D) → D
-disk_opened (Ok cartridge) = cartridge.disk
-disk_opened (Err refused) = refused.shelved.disk
+-- the disks that an opening gives, in an open cartridge or in the closed one that is handed back (own)
+abbrev pub disks_opened : {D : Type 0} → Result (OpenCartridge D) (NotOpened D) → TwoDisks D
+disks_opened (Ok cartridge) = cartridge.disks
+disks_opened (Err refused) = refused.shelved.disks
 
--- why a cartridge is not made: memory ran out, and the disk was not touched; or a fault (own)
+-- why a cartridge is not made: memory ran out, and no disk was touched; or a fault (own)
 abbrev pub IsNotCreated : CartridgeError → Type 0 → (DevFault → Type 0) → Type 0
 IsNotCreated NoMemory memory device = memory
 IsNotCreated (Device fault) memory device = device fault
@@ -107,16 +106,19 @@ IsNotCreated (BadRecord at) memory device = ⊥
 IsNotCreated SideFull memory device = ⊥
 IsNotCreated Failed memory device = ⊥
 
--- Why a cartridge is not opened: what the old bytes are; a fault; or want of memory, where there are the 27 bytes of a
--- heading. But for a fault no call failed, and what stands is sure (own).
-abbrev pub IsNotOpened : CartridgeError → DiskState → DiskState → Type 0
-IsNotOpened NotOurs old new = NoneFailed old new × (old.honest → IsNoCartridge old.seen × Only old.seen new.may_leave)
-IsNotOpened (Damaged at) old new =
-    NoneFailed old new × (old.honest → IsDamagedOf Cartridge old.seen at × Only old.seen new.may_leave)
-IsNotOpened (BadRecord at) old new =
-    NoneFailed old new × (old.honest → IsBadFrameAt old.seen at × Only old.seen new.may_leave)
-IsNotOpened (Device fault) old new = IsFault fault old new
-IsNotOpened NoMemory old new =
-    NoneFailed old new × (old.honest → (27 ≤ length old.seen) × Only old.seen new.may_leave)
-IsNotOpened SideFull old new = ⊥
-IsNotOpened Failed old new = ⊥
+module _ {D : Type 0} (state : D → DiskState) where
+  -- no call of either disk failed; and where both are honest this is what they read, and it is sure (own)
+  abbrev pub ReadsSure : TwoDisks D → TwoDisks D → Type 0 → Type 0
+  ReadsSure old new what =
+      NoneOfTwo state old new × (AreHonest state old → what × OnlyOfTwo state old new)
+
+  -- Why a cartridge is not opened: what the old bytes are; a fault; or memory ran out, where a side counts. But for a
+  -- fault no call failed, and what stands is sure (own).
+  abbrev pub IsNotOpened : CartridgeError → TwoDisks D → TwoDisks D → Type 0
+  IsNotOpened NotOurs old new = ReadsSure old new (IsNoCartridge (seen_of_two state old))
+  IsNotOpened (Damaged at) old new = ReadsSure old new (IsDamagedPairAt (seen_of_two state old) at)
+  IsNotOpened (BadRecord at) old new = ReadsSure old new (IsBadFrameAt (seen_of_two state old) at)
+  IsNotOpened (Device fault) old new = IsFaultOfTwo state fault old new
+  IsNotOpened NoMemory old new = ReadsSure old new (IsNoCartridge (seen_of_two state old) → ⊥)
+  IsNotOpened SideFull old new = ⊥
+  IsNotOpened Failed old new = ⊥

@@ -1,14 +1,18 @@
 -- Contents as plain data, for the views of types and for what is noted.
-use Rattle.std.specs.Prelude.{◌≡◌, ◌⊎◌, ℕ, List, Bool, true, refl}
+use Rattle.std.specs.Prelude.{◌≡◌, ◌⊎◌, ℕ, List, Bool, true, false, Option, refl}
 use Rattle.std.proofs.Common.{inl, inr}
-use Rattle.std.specs.Coded.{Coded, code_by, coded×, coded⊎, coded_ℕ, coded_bool, coded_list}
+use Rattle.std.specs.Coded.{Coded, code_by, coded×, coded⊎, coded_ℕ, coded_bool, coded_list, coded_option}
 use Rattle.volume_core.specs.declared.changes.Change.{Change}
 use Rattle.volume_core.specs.declared.changes.Change.TheVariants.{Put, Marks, Erase}
 use Rattle.volume_core.specs.declared.objects.Object.{Object}
 use Rattle.volume_core.specs.declared.objects.Object.TheVariants.{Block, Mark}
 use Rattle.volume_core.specs.Volume.{Part}
+use Rattle.gate_journal.specs.declared.heads.Copied.{Copied}
+use Rattle.gate_journal.specs.Heads.{Head}
 use Rattle.gate_journal.specs.Side.{Heading}
 use Rattle.gate_journal.specs.State.{heading_code}
+use Rattle.side_pairs.specs.declared.which.Which.{Which}
+use Rattle.side_pairs.specs.declared.which.Which.TheVariants.{First, Second}
 use Rattle.cartridge.specs.Contents.{Contents}
 use Rattle.cartridge.specs.Notes.{Notes}
 
@@ -66,13 +70,38 @@ part_code =
     code_by (ℕ × List Object) (coded× coded_ℕ (coded_list object_code)) (λ p. (p.capacity, p.objects))
     (λ p. record { capacity = p.0; objects = p.1 }) (λ _. refl)
 
--- what a side holds, as plain data (own)
+-- a side as a bit, and back (own)
+abbrev is_first : Which → Bool
+is_first First = true
+is_first Second = false
+
+abbrev which_of : Bool → Which
+which_of true = First
+which_of false = Second
+
+-- a side as plain data (own)
+abbrev which_code : Coded Which
+which_code = code_by Bool coded_bool is_first which_of (elim [ First ↦ refl | Second ↦ refl ])
+
+-- what is said of a copy as plain data (own)
+abbrev copy_code : Coded Copied
+copy_code =
+    code_by (ℕ × ℕ) (coded× coded_ℕ coded_ℕ) (λ c. (c.epoch, c.base)) (λ p. record { epoch = p.0; base = p.1 })
+    (λ _. refl)
+
+-- a head as plain data (own)
+abbrev head_code : Coded Head
+head_code =
+    code_by (Heading × Option Copied) (coded× heading_code (coded_option copy_code)) (λ h. (h.heading, h.copied))
+    (λ p. record { heading = p.0; copied = p.1 }) (λ _. refl)
+
+-- what a cartridge holds, as plain data (own)
 abbrev pub contents_code : Coded Contents
 contents_code =
-    code_by (Heading × (List Part × List (List Change)))
-    (coded× heading_code (coded× (coded_list part_code) frames_code))
-    (λ c. (c.heading, (c.base, c.frames)))
-    (λ p. record { heading = p.0; base = p.1.0; frames = p.1.1 }) (λ _. refl)
+    code_by (Which × (Head × (List Part × List (List Change))))
+    (coded× which_code (coded× head_code (coded× (coded_list part_code) frames_code)))
+    (λ c. (c.which, (c.head, (c.base, c.frames))))
+    (λ p. record { which = p.0; head = p.1.0; base = p.1.1.0; frames = p.1.1.1 }) (λ _. refl)
 
 -- what is noted of a side as plain data (own)
 abbrev pub notes_code : Coded Notes

@@ -1,15 +1,16 @@
 -- Contents with one frame more, and what they are seen as.
-use Rattle.std.proofs.Common.{◌≡◌, List, [], ◌∷◌, ◌++◌, sym, ◌∙◌, ap, subst, refl}
+use Rattle.std.proofs.Common.{◌≡◌, ◌≤◌, List, [], ◌∷◌, ◌++◌, length, take, drop, sym, ◌∙◌, ap, subst, refl, arith, length-append, take-append-drop}
 use Rattle.std.specs.List.{All}
 use Rattle.std.proofs.lemmas.Grind.{flat_map-append}
-use Rattle.std.proofs.lemmas.List.{append-nil, map-append}
+use Rattle.std.proofs.lemmas.List.{append-nil, map-append, take-append-le, drop-append-le}
 use Rattle.std.proofs.lemmas.List.Elements.{All-append, All-cons, All-nil}
 use Rattle.volume_core.specs.declared.changes.Change.{Change}
 use Rattle.volume_core.specs.Volume.{AllApply, after}
 use Rattle.volume_core.specs.Plain.{moves_on_by_changes}
 use Rattle.volume_core.specs.Stores.{after_append}
 use Rattle.record_index.specs.Records.{IsRecord, spell_all}
-use Rattle.cartridge.specs.Contents.{Contents, IsContents, bodies_of, changes_in, volume_made, with_frames}
+use Rattle.gate_journal.specs.Heads.{base_of}
+use Rattle.cartridge.specs.Contents.{Contents, IsContents, base_frames, bodies_of, changes_in, changes_of, changes_since, start_of, volume_made, with_frames}
 
 module _ (contents : Contents) (changes : List Change) where
   -- the changes of one frame more come last
@@ -33,6 +34,7 @@ module _ (contents : Contents) (changes : List Change) where
       → IsContents (with_frames contents (changes ∷ []))
   contents_more is records apply = record {
     kind = is.kind;
+    spelled = is.spelled;
     base = is.base;
     records =
         All-append (All IsRecord) contents.frames (changes ∷ []) is.records
@@ -41,4 +43,32 @@ module _ (contents : Contents) (changes : List Change) where
         subst (AllApply contents.base) (sym changes_more)
         (moves_on_by_changes contents.base (volume_made contents) (after (volume_made contents) changes)
         (changes_in contents) changes (is.apply, refl) (apply, refl)).0;
+    copied = omega (arith, is.copied, length-append contents.frames (changes ∷ []));
   }
+
+-- the volume is what the changes since make of what they are carried out from
+pub volume_since : (contents : Contents)
+    → volume_made contents ≡ after (start_of contents).volume (changes_since contents)
+volume_since contents =
+    let n = base_of contents.head in
+    ap (λ (frames : List (List Change)). after contents.base (changes_of frames))
+    (sym (take-append-drop n contents.frames))
+    ∙ ap (after contents.base)
+    (flat_map-append (λ (frame : List Change). frame) (take n contents.frames) (drop n contents.frames))
+    ∙ after_append contents.base (changes_of (base_frames contents)) (changes_since contents)
+
+-- frames behind those of a copy
+module _ (contents : Contents) (more : List (List Change)) (copied : base_of contents.head ≤ length contents.frames)
+  where
+    -- begin from the same
+    pub start_with : start_of (with_frames contents more) ≡ start_of contents
+    start_with =
+        ap (λ (frames : List (List Change)). record (start_of contents) {
+          volume = after contents.base (changes_of frames);
+        }) (take-append-le (base_of contents.head) contents.frames more copied)
+
+    -- and hold changes behind those since then
+    pub since_with : changes_since (with_frames contents more) ≡ changes_since contents ++ changes_of more
+    since_with =
+        ap changes_of (drop-append-le (base_of contents.head) contents.frames more copied)
+        ∙ flat_map-append (λ (frame : List Change). frame) (drop (base_of contents.head) contents.frames) more

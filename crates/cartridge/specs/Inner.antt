@@ -3,5 +3,6 @@ pub mod Answered
 pub mod Causes
 pub mod Growing
 pub mod Open
+pub mod Opening
 pub mod Reading
 pub mod Unique

@@ -2,8 +2,10 @@ pub mod Answers
 pub mod Codes
 pub mod Contents
 pub mod ContentsOn
+pub mod Disks
 pub mod Extending
 pub mod Inner
 pub mod Lying
 pub mod Notes
 pub mod State
+pub mod Reclaiming

@@ -1,7 +1,10 @@
 -- What proofs alone know of a side, beside what is in memory.
-use Rattle.std.specs.Prelude.{List, [], ◌∷◌, ◌++◌}
+use Rattle.std.specs.Prelude.{List, [], ◌∷◌, ◌++◌, Option, None}
 use Rattle.volume_core.specs.declared.changes.Change.{Change}
+use Rattle.gate_journal.specs.declared.heads.Copied.{Copied}
 use Rattle.gate_journal.specs.Side.{Heading}
+use Rattle.side_pairs.specs.declared.which.Which.{Which}
+use Rattle.side_pairs.specs.declared.which.Which.TheVariants.{First}
 use Rattle.cartridge.specs.Contents.{Contents, contents_from}
 
 -- what is noted of a side: its heading, the changes that each of its frames spells, and those of the frame that was
@@ -11,9 +14,13 @@ pub record Notes : Type 0 where
   pub frames : List (List Change)
   pub torn : List (List Change)
 
--- the contents that are noted (own)
+-- what is noted as the contents of a cartridge, of which that side counts, and says this of a copy (own)
+abbrev pub noted_as : Which → Option Copied → Notes → Contents
+noted_as which copied notes = contents_from which (record { heading = notes.heading; copied = copied }) notes.frames
+
+-- what is noted as the contents of one that was never reclaimed (own)
 abbrev pub noted_contents : Notes → Contents
-noted_contents notes = contents_from notes.heading notes.frames
+noted_contents = noted_as First None
 
 -- what is noted, with one frame more, of these changes (own)
 abbrev pub with_frame : Notes → List Change → Notes

@@ -1,11 +1,13 @@
 //! An open cartridge.
 ghost use Rattle.std.specs.Prelude.{◌≡◌, ◌<◌, ◌≤◌, [], length, true, false};
-ghost use Rattle.tape_disk.specs.Disk.{Each};
+ghost use Rattle.tape_disk.specs.TwoDisks.{AreHonest, EachOfTwo};
 ghost use Rattle.vtl_base.specs.declared.limits.TheConstants.{MAX_CAPACITY, MAX_OBJECTS, MAX_PARTITIONS};
 ghost use Rattle.volume_core.specs.Volume.{IsMarkOf, capacity_of, count_of, kind_at, mark_count, marks_upto, used_up_to};
-ghost use Rattle.gate_journal.specs.Side.{spell};
 ghost use Rattle.gate_journal.specs.State.{room_behind};
+ghost use Rattle.side_pairs.specs.Pairs.{gate_behind};
+ghost use Rattle.side_pairs.specs.Passes.{other};
 ghost use Rattle.cartridge.specs.Contents.{GivesContents, IsContents, ShowsContents, bodies_of, volume_made};
+ghost use Rattle.cartridge.specs.Disks.{disk_at};
 
 use crate::noted::Noted;
 use crate::shelved::Shelved;
@@ -13,16 +15,22 @@ use gate_journal::header::NAME_BYTES;
 use gate_journal::{Frame, Journal};
 use record_index::Index;
 use record_index::laws::a_volume_is_seen_by_its_shape;
+use side_pairs::Which;
 use std::marker::Model;
 use tape_disk::Disk;
 use volume_core::Kind;
 use vtl_base::{ObjNo, PartNo};
 
-/// An open cartridge on a disk. After a device fault it has failed until it was closed and opened
-/// again.
+/// An open cartridge on two disks, of which the one is called on which the side lies that counts.
+/// After a device fault it has failed until it was closed and opened again.
 #[derive(Drop)]
 pub struct Cartridge<D: Disk> {
+    // The side that counts.
     pub(crate) journal: Journal<D>,
+    // The other disk.
+    pub(crate) spare: D,
+    // Which of the two sides counts.
+    pub(crate) which: Which,
     pub(crate) index: Index,
     // The next frame is spelled here.
     pub(crate) frame: Frame,
@@ -31,10 +39,13 @@ pub struct Cartridge<D: Disk> {
 
 impl<D: Disk> Model for Cartridge<D> {
     ghost use Rattle.std.specs.Prelude.{map};
+    ghost use Rattle.tape_disk.specs.TwoDisks.{AreHonest};
     ghost use Rattle.gate_journal.specs.State.{room_behind};
     ghost use Rattle.record_index.specs.Places.{PlacedPart};
+    ghost use Rattle.cartridge.specs.Contents.{IsContents};
+    ghost use Rattle.cartridge.specs.Disks.{disks_by};
     ghost use Rattle.cartridge.specs.Inner.Open.{IsOpen, StoresContents};
-    ghost use Rattle.cartridge.specs.Notes.{noted_contents};
+    ghost use Rattle.cartridge.specs.Notes.{noted_as};
     ghost use Rattle.cartridge.specs.State.{OpenCartridge, open_code};
 
     ghost Value = { OpenCartridge D };
@@ -42,8 +53,8 @@ impl<D: Disk> Model for Cartridge<D> {
     ghost coded = { open_code D.code };
 
     ghost view = { λ a. record {
-      disk = a.journal.disk;
-      contents = noted_contents a.noted.notes;
+      disks = disks_by a.which a.journal.disk a.spare;
+      contents = noted_as a.which a.journal.front.head.copied a.noted.notes;
       torn = a.noted.notes.torn;
       failed = a.journal.failed;
       room = room_behind a.journal.end;
@@ -55,24 +66,26 @@ impl<D: Disk> Model for Cartridge<D> {
     } };
 
     ghost invariant = { λ a.
-        IsOpen a.journal.heading a.journal.extents a.journal.failed a.index a.noted.notes
-        × ((D.state a.journal.disk).honest →
-        StoresContents (D.state a.journal.disk) a.journal.bodies a.noted.notes) };
+        IsOpen a.journal.front.head.heading a.journal.extents a.journal.failed a.index a.noted.notes
+        × IsContents (noted_as a.which a.journal.front.head.copied a.noted.notes)
+        × (AreHonest D.state (disks_by a.which a.journal.disk a.spare) →
+        StoresContents (D.state a.journal.disk) (D.state a.spare) a.which a.journal.front
+        a.journal.bodies a.noted.notes) };
 }
 
 impl<D: Disk> Cartridge<D> {
-    /// Where the disk is honest, each image that a crash now may leave gives the contents, or these
-    /// with the frame that was under way when the disk failed; where it has not failed, the
-    /// contents. The room is what the side's spelling leaves.
+    /// Where the disks are honest, each pair of images that a crash now may leave gives the contents,
+    /// or these with the frame that was under way when a disk failed; where it has not failed, the
+    /// contents. The room is what the spelling of the side that counts leaves.
     pub fn known(&self)
         ensures contents { IsContents self.now.contents }
         ensures at_rest { self.now.failed ≡ false → self.now.torn ≡ [] }
-        ensures shows { (D.state self.now.disk).honest →
-            Each (D.state self.now.disk) (ShowsContents self.now.contents self.now.torn) }
-        ensures sure { (D.state self.now.disk).honest → self.now.failed ≡ false →
-            Each (D.state self.now.disk) (GivesContents self.now.contents) }
-        ensures room { (D.state self.now.disk).honest → self.now.room ≡ room_behind
-            (length (spell self.now.contents.heading (bodies_of self.now.contents.frames))) }
+        ensures shows { AreHonest D.state self.now.disks →
+            EachOfTwo D.state self.now.disks (ShowsContents self.now.contents self.now.torn) }
+        ensures sure { AreHonest D.state self.now.disks → self.now.failed ≡ false →
+            EachOfTwo D.state self.now.disks (GivesContents self.now.contents) }
+        ensures room { AreHonest D.state self.now.disks → self.now.room ≡ room_behind
+            (gate_behind self.now.contents.head (bodies_of self.now.contents.frames)) }
     {
         // Looked at for the proof's sake: the facts are the type's.
         self.journal.known();
@@ -88,7 +101,7 @@ impl<D: Disk> Cartridge<D> {
 
     /// The barcode, with spaces behind it up to 16 bytes.
     pub fn barcode(&self) -> &[u8; NAME_BYTES]
-        ensures { result.now ≡ self.now.contents.heading.name }
+        ensures { result.now ≡ self.now.contents.head.heading.name }
     {
         &self.journal.header().name
     }
@@ -173,24 +186,45 @@ impl<D: Disk> Cartridge<D> {
         self.journal.room()
     }
 
-    /// The disk, to be looked at.
+    /// Which of the two sides counts.
+    pub fn which(&self) -> Which
+        ensures { result ≡ self.now.contents.which }
+    {
+        self.which
+    }
+
+    /// The disk on which the side lies that counts, to be looked at.
     pub fn disk(&self) -> &D
-        ensures { result.now ≡ self.now.disk }
+        ensures { result.now ≡ disk_at self.now.contents.which self.now.disks }
     {
         self.journal.disk()
     }
 
-    /// Closes it. What its side then gives is the contents, or these with the frame that was under
-    /// way when the disk failed.
+    /// The other disk, to be looked at.
+    pub fn other_disk(&self) -> &D
+        ensures { result.now ≡ disk_at (other self.now.contents.which) self.now.disks }
+    {
+        &self.spare
+    }
+
+    /// Closes it. What its disks then give is the contents, or these with the frame that was under
+    /// way when a disk failed.
     pub fn shelve(self) -> Shelved<D>
         ensures { result ≡ record {
-          disk = self.disk;
+          disks = self.disks;
           known = true;
           contents = self.contents;
           torn = self.torn;
         } }
     {
-        let Cartridge { journal, noted, .. } = self;
-        Shelved::with(journal.close(), noted)
+        let Cartridge {
+            journal,
+            spare,
+            which,
+            noted,
+            ..
+        } = self;
+        let copied = journal.copied();
+        Shelved::with(which, journal.close(), spare, copied, noted)
     }
 }

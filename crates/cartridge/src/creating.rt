@@ -1,12 +1,14 @@
 //! A cartridge is made.
 ghost use Rattle.std.specs.Prelude.{◌≡◌, ◌++◌, [], ◌∷◌, true, IfOk, IfErr, IsTrue};
-ghost use Rattle.tape_disk.specs.Disk.{Each, Keeps};
+ghost use Rattle.tape_disk.specs.Disk.{Keeps};
+ghost use Rattle.tape_disk.specs.TwoDisks.{EachOfTwo};
 ghost use Rattle.vtl_base.specs.Barcode.{IsBarcode};
 ghost use Rattle.volume_core.specs.Volume.{are_capacities};
 ghost use Rattle.gate_journal.specs.Answers.{IsFault, NoneFailed};
-ghost use Rattle.gate_journal.specs.Side.{CLOSED, heading_of, spell};
-ghost use Rattle.cartridge.specs.Answers.{IsNotCreated, disk_created};
-ghost use Rattle.cartridge.specs.Contents.{GivesContents, contents_from, heading_with};
+ghost use Rattle.gate_journal.specs.Side.{CLOSED, heading_of, plain, spell};
+ghost use Rattle.side_pairs.specs.declared.which.Which.TheVariants.{First};
+ghost use Rattle.cartridge.specs.Answers.{IsNotCreated, disks_created};
+ghost use Rattle.cartridge.specs.Contents.{GivesContents, contents_from, heading_with, plain_head};
 
 use crate::cartridges::Cartridge;
 use crate::error::{CartridgeError, NotCreated};
@@ -14,41 +16,53 @@ use crate::noted::Noted;
 use crate::shelved::Shelved;
 use gate_journal::header::NAME_BYTES;
 use gate_journal::{Header, Journal, JournalError, Refused, SideKind};
+use side_pairs::Which;
 use std::alloc::{AllocError, Global};
 use tape_disk::Disk;
 use vtl_base::Barcode;
 
 impl<D: Disk> Cartridge<D> {
-    /// Makes a cartridge with no objects, whatever the disk held, closed. `are_capacities` tests the
-    /// condition. After a device fault anything may stand on the disk; after `NoMemory` it was not
-    /// touched.
+    /// Makes a cartridge with no objects, whatever the disks held, closed. Its side is written on the
+    /// first disk, and is no copy; the second disk is not touched, and does not count. `are_capacities`
+    /// tests the condition. After a device fault anything may stand on the first disk; after
+    /// `NoMemory` it was not touched.
     pub fn create(
         alloc: Global,
-        disk: D,
+        first: D,
+        second: D,
         barcode: &Barcode,
         capacities: &[u64],
     ) -> Result<Shelved<D>, NotCreated<D>>
         requires { IsTrue (are_capacities capacities.now) }
-        ensures disk { Keeps (D.state disk) (D.state (disk_created result)) }
+        ensures disks { Keeps (D.state first) (D.state (disks_created result).first)
+            × ((disks_created result).second ≡ second) }
         ensures ok { IfOk result (λ shelved. (shelved.known ≡ true) × (shelved.torn ≡ [])
-            × (shelved.contents ≡ contents_from (heading_with barcode.now capacities.now) [])
-            × NoneFailed (D.state disk) (D.state shelved.disk)) }
-        ensures bytes { IfOk result (λ shelved. (D.state disk).honest →
-            (D.state shelved.disk).seen ≡ spell shelved.contents.heading [] ++ CLOSED ∷ []) }
-        ensures sure { IfOk result (λ shelved. (D.state disk).honest →
-            Each (D.state shelved.disk) (GivesContents shelved.contents)) }
+            × (shelved.contents
+            ≡ contents_from First (plain_head (heading_with barcode.now capacities.now)) [])
+            × NoneFailed (D.state first) (D.state shelved.disks.first)) }
+        ensures bytes { IfOk result (λ shelved. (D.state first).honest →
+            (D.state shelved.disks.first).seen
+            ≡ spell (plain (heading_with barcode.now capacities.now)) [] ++ CLOSED ∷ []) }
+        ensures sure { IfOk result (λ shelved. (D.state first).honest →
+            EachOfTwo D.state shelved.disks (GivesContents shelved.contents)) }
         ensures refused { IfErr result (λ refused. IsNotCreated refused.error
-            (refused.disk ≡ disk) (λ fault. IsFault fault (D.state disk) (D.state refused.disk))) }
+            (refused.first ≡ first) (λ fault. IsFault fault (D.state first) (D.state refused.first))) }
     {
         let Ok(header) = header_with(alloc, barcode, capacities) else {
             let error = CartridgeError::NoMemory;
-            return Err(NotCreated { error, disk });
+            return Err(NotCreated {
+                error,
+                first,
+                second,
+            });
         };
         let noted = Noted::new(&header);
-        match Journal::create(alloc, disk, header) {
+        match Journal::create(alloc, first, header) {
             Ok(journal) => {
                 journal.known();
-                Ok(Shelved::with(journal.close(), noted))
+                // Looked at for the proof's sake: a header in memory can be spelled.
+                let _ = journal.header();
+                Ok(Shelved::with(Which::First, journal.close(), second, None, noted))
             }
             Err(refused) => {
                 let Refused { error, disk } = refused;
@@ -60,7 +74,11 @@ impl<D: Disk> Cartridge<D> {
                     JournalError::SideFull => unreachable!(),
                     JournalError::Failed => unreachable!(),
                 };
-                Err(NotCreated { error, disk })
+                Err(NotCreated {
+                    error,
+                    first: disk,
+                    second,
+                })
             }
         }
     }

@@ -12,17 +12,18 @@ use vtl_base::{DevFault, NoMemory};
 /// Why a call on a cartridge is refused (own).
 #[derive(Clone, Copy, PartialEq, Eq, Debug, Error)]
 pub enum CartridgeError {
-    /// The bytes begin with no header of a cartridge.
+    /// No side of the two disks counts as a cartridge's.
     #[error("not a cartridge")]
     NotOurs,
-    /// The first frame that is not whole has its gate at this place, counted in bytes.
+    /// On the side that counts the first frame that is not whole, or that lacks, has its gate at this
+    /// place, counted in bytes.
     #[error("damaged at {at}")]
     Damaged {
         /// The place of the gate.
         at: u64,
     },
-    /// The first frame whose body spells no changes, or one that does not apply to what stands
-    /// before it, has its gate at this place, counted in bytes.
+    /// On the side that counts the first frame whose body spells no changes, or one that does not
+    /// apply to what stands before it, has its gate at this place, counted in bytes.
     #[error("bad record at {at}")]
     BadRecord {
         /// The place of the gate.
@@ -31,13 +32,13 @@ pub enum CartridgeError {
     /// The frame would pass the longest side.
     #[error("side full")]
     SideFull,
-    /// The disk failed in this call.
+    /// A disk failed in this call.
     #[error("device fault")]
     Device(DevFault),
-    /// The disk failed in an earlier call. The cartridge has to be closed and opened again.
+    /// A disk failed in an earlier call. The cartridge has to be closed and opened again.
     #[error("failed before")]
     Failed,
-    /// Memory ran out. Nothing was written, and no call of the disk failed.
+    /// Memory ran out. Nothing was written, and no call of a disk failed.
     #[error("out of memory")]
     NoMemory,
 }
@@ -74,16 +75,18 @@ impl From<NoMemory> for CartridgeError {
     }
 }
 
-/// A cartridge that could not be made, and its disk.
+/// A cartridge that could not be made, and its disks.
 #[derive(Drop, Debug)]
 pub struct NotCreated<D> {
     /// Why.
     pub error: CartridgeError,
-    /// The disk that was handed in.
-    pub disk: D,
+    /// The first disk that was given.
+    pub first: D,
+    /// The second disk that was given.
+    pub second: D,
 }
 
-/// A cartridge that could not be opened, closed as it was handed in.
+/// A cartridge that could not be opened, closed as it was given.
 #[derive(Drop)]
 pub struct NotOpened<D: Disk> {
     /// Why.

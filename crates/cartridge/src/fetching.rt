@@ -1,13 +1,12 @@
 //! A block is read.
 ghost use Rattle.std.specs.Prelude.{◌≡◌, ◌<◌, ◌≤◌, Some, length, true, false, IfSome, OnOk, vec_capacity};
-ghost use Rattle.tape_disk.specs.Disk.{Keeps};
+ghost use Rattle.tape_disk.specs.TwoDisks.{AreHonest};
 ghost use Rattle.vtl_base.specs.declared.limits.TheConstants.{MAX_BLOCK};
 ghost use Rattle.volume_core.specs.declared.objects.Kind.TheVariants as Kinds;
 ghost use Rattle.volume_core.specs.Volume.{block_at, kind_at};
-ghost use Rattle.gate_journal.specs.Answers.{IsFault, NoneFailed};
-ghost use Rattle.gate_journal.specs.Crash.{Unwritten};
 ghost use Rattle.cartridge.specs.Answers.{MatchCall};
 ghost use Rattle.cartridge.specs.Contents.{volume_made};
+ghost use Rattle.cartridge.specs.Disks.{CallsOne, IsFaultOfTwo, NoneOfTwo, UnwrittenTwo};
 
 use crate::cartridges::Cartridge;
 use crate::error::CartridgeError;
@@ -18,9 +17,9 @@ use vtl_base::{ObjNo, PartNo};
 
 impl<D: Disk> Cartridge<D> {
     /// Gives the bytes of the block of an object number, in the place of what `into` held, by one
-    /// call of the disk. It takes memory only where the capacity of `into` is less than the block
-    /// has bytes, 1,048,576 at most. After an `Err` it may hold anything. After `Device` the
-    /// cartridge has failed.
+    /// call of the disk on which the side lies that counts. It takes memory only where the capacity
+    /// of `into` is less than the block has bytes, 1,048,576 at most. After an `Err` it may hold
+    /// anything. After `Device` the cartridge has failed.
     pub fn fetch(
         &mut self,
         part: PartNo,
@@ -28,27 +27,27 @@ impl<D: Disk> Cartridge<D> {
         into: &mut Vec<u8>,
     ) -> Result<(), CartridgeError>
         requires { kind_at (volume_made self.old.contents) part at ≡ Some Kinds.Block }
-        ensures disk { Keeps (D.state self.old.disk) (D.state self.new.disk) }
+        ensures disks { CallsOne D.state self.old.contents.which self.old.disks self.new.disks }
         ensures same { self.new ≡ record self.old {
-          disk = self.new.disk;
+          disks = self.new.disks;
           failed = self.new.failed;
         } }
         ensures answer { MatchCall result
             ((self.old.failed ≡ false) × (self.new.failed ≡ false)
-            × NoneFailed (D.state self.old.disk) (D.state self.new.disk)
+            × NoneOfTwo D.state self.old.disks self.new.disks
             × IfSome (block_at (volume_made self.old.contents) part at)
             (λ block. length into.new.items ≡ length block))
             ((self.old.failed ≡ false) × (self.new ≡ self.old)
             × IfSome (block_at (volume_made self.old.contents) part at)
             (λ block. vec_capacity into.old < length block)) ⊥
             (λ fault. (self.old.failed ≡ false) × (self.new.failed ≡ true)
-            × IsFault fault (D.state self.old.disk) (D.state self.new.disk))
+            × IsFaultOfTwo D.state fault self.old.disks self.new.disks)
             ((self.old.failed ≡ true) × (self.new ≡ self.old)) }
-        ensures bytes { (D.state self.old.disk).honest → OnOk result
+        ensures bytes { AreHonest D.state self.old.disks → OnOk result
             (block_at (volume_made self.old.contents) part at ≡ Some into.new.items) }
         ensures bound { OnOk result (length into.new.items ≤ MAX_BLOCK) }
-        ensures unwritten { (D.state self.old.disk).honest →
-            Unwritten (D.state self.old.disk) (D.state self.new.disk) }
+        ensures unwritten { AreHonest D.state self.old.disks →
+            UnwrittenTwo D.state self.old.disks self.new.disks }
     {
         if self.journal.has_failed() {
             return Err(CartridgeError::Failed);

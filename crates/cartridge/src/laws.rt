@@ -1,36 +1,45 @@
 //! Laws of a cartridge's contents. Each is a function that does nothing, and its contract is the
 //! law.
-ghost use Rattle.std.specs.Prelude.{◌≡◌, ℕ, List};
-ghost use Rattle.gate_journal.specs.declared.header.SideKind.TheVariants.{Cartridge};
-ghost use Rattle.gate_journal.specs.Side.{IsDamagedOf};
-ghost use Rattle.cartridge.specs.Contents.{Contents, GivesContents, IsAnswered, IsBadFrameAt, IsNoCartridge};
+ghost use Rattle.std.specs.Prelude.{◌≡◌, ℕ};
+ghost use Rattle.volume_core.specs.Volume.{after};
+ghost use Rattle.tape_disk.specs.TwoDisks.{Images};
+ghost use Rattle.cartridge.specs.Contents.{Contents, GivesContents, IsAnswered, IsBadFrameAt, IsDamagedPairAt, IsNoCartridge, changes_since, start_of, volume_made};
 
-/// An image gives at most one cartridge's contents, and what gives some is a cartridge's side, is
-/// not damaged and has no bad frame.
-pub fn an_image_gives_one_volume()
-    ensures contents { (image : List ℕ) (a b : Contents) → GivesContents a image → GivesContents b image → a ≡ b }
-    ensures ours { (image : List ℕ) (contents : Contents) →
-        GivesContents contents image → IsNoCartridge image → ⊥ }
-    ensures whole { (image : List ℕ) (contents : Contents) (at : ℕ) →
-        GivesContents contents image → IsDamagedOf Cartridge image at → ⊥ }
-    ensures bad { (image : List ℕ) (contents : Contents) (at : ℕ) →
-        GivesContents contents image → IsBadFrameAt image at → ⊥ }
-    ensures one_place { (image : List ℕ) (a b : ℕ) →
-        IsBadFrameAt image a → IsBadFrameAt image b → a ≡ b }
+/// A pair of images gives at most one cartridge's contents. Of what gives some a side counts, which
+/// is not damaged and has no bad frame.
+pub fn a_pair_gives_one_volume()
+    ensures contents { (images : Images) (a b : Contents) →
+        GivesContents a images → GivesContents b images → a ≡ b }
+    ensures ours { (images : Images) (contents : Contents) →
+        GivesContents contents images → IsNoCartridge images → ⊥ }
+    ensures whole { (images : Images) (contents : Contents) (at : ℕ) →
+        GivesContents contents images → IsDamagedPairAt images at → ⊥ }
+    ensures bad { (images : Images) (contents : Contents) (at : ℕ) →
+        GivesContents contents images → IsBadFrameAt images at → ⊥ }
+    ensures one_place { (images : Images) (a b : ℕ) →
+        IsBadFrameAt images a → IsBadFrameAt images b → a ≡ b }
 {}
 
 /// What gives no contents does so for one cause, at one place.
 pub fn a_refusal_has_one_cause()
-    ensures none_damaged { (image : List ℕ) (at : ℕ) →
-        IsNoCartridge image → IsDamagedOf Cartridge image at → ⊥ }
-    ensures none_bad { (image : List ℕ) (at : ℕ) → IsNoCartridge image → IsBadFrameAt image at → ⊥ }
-    ensures damaged_bad { (image : List ℕ) (a b : ℕ) →
-        IsDamagedOf Cartridge image a → IsBadFrameAt image b → ⊥ }
-    ensures one_place { (image : List ℕ) (a b : ℕ) →
-        IsDamagedOf Cartridge image a → IsDamagedOf Cartridge image b → a ≡ b }
+    ensures none_damaged { (images : Images) (at : ℕ) →
+        IsNoCartridge images → IsDamagedPairAt images at → ⊥ }
+    ensures none_bad { (images : Images) (at : ℕ) → IsNoCartridge images → IsBadFrameAt images at → ⊥ }
+    ensures damaged_bad { (images : Images) (a b : ℕ) →
+        IsDamagedPairAt images a → IsBadFrameAt images b → ⊥ }
+    ensures one_place { (images : Images) (a b : ℕ) →
+        IsDamagedPairAt images a → IsDamagedPairAt images b → a ≡ b }
 {}
 
-/// Each image gives contents, is no cartridge's, is a damaged cartridge's, or has a first bad frame.
-pub fn each_image_is_answered()
-    ensures { (image : List ℕ) → IsAnswered image }
+/// Each pair of images gives contents, is no cartridge's, or its side that counts is damaged or has a
+/// first bad frame.
+pub fn each_pair_is_answered()
+    ensures { (images : Images) → IsAnswered images }
+{}
+
+/// The volume is what the changes since the cartridge was made or last reclaimed make of the volume
+/// that they are carried out from.
+pub fn a_volume_is_made_since()
+    ensures { (contents : Contents) → volume_made contents
+        ≡ after (start_of contents).volume (changes_since contents) }
 {}

@@ -1,4 +1,5 @@
-//! A cartridge on a disk: its changes are stored a frame at a time, each frame whole or not at all.
+//! A cartridge on two disks, of which one counts: its changes are stored a frame at a time, each frame
+//! whole or not at all.
 #![tactic(auto)]
 
 mod bodies;
@@ -10,11 +11,14 @@ pub mod laws;
 mod noted;
 mod opening;
 mod placing;
+pub mod reclaiming;
 mod recovering;
 pub mod shelved;
+mod sides;
 mod storing;
 mod walking;
 
 pub use cartridges::Cartridge;
 pub use error::{CartridgeError, NotCreated, NotOpened};
+pub use reclaiming::{NotReclaimed, ReclaimError};
 pub use shelved::Shelved;

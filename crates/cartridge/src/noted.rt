@@ -2,6 +2,7 @@
 ghost use Rattle.std.specs.Prelude.{◌≡◌, [], unwrap_or};
 ghost use Rattle.gate_journal.specs.Side.{heading_of};
 ghost use Rattle.cartridge.specs.Notes.{Notes, with_frame, with_torn};
+ghost use Rattle.cartridge.specs.Reclaiming.{notes_copied};
 ghost use Rattle.cartridge.specs.Codes.{notes_code};
 ghost use Rattle.record_index.specs.ChangesOn.{changes_on};
 
@@ -52,6 +53,13 @@ impl Noted {
         by_body(self, body)
     }
 
+    /// Of the copy of the volume, in its frames.
+    pub(crate) fn copied(&self) -> Noted
+        ensures { result.notes ≡ notes_copied self.now.notes }
+    {
+        by_noted(self)
+    }
+
     /// With these changes in a frame that is under way.
     pub(crate) fn with_torn(&self, changes: &[Change]) -> Noted
         ensures { result.notes ≡ with_torn self.now.notes changes.now }
@@ -62,6 +70,14 @@ impl Noted {
 
 // What the caller names, which may speak of a header.
 fn by_header(_header: &Header) -> Noted
+    ghost notes: { Notes }
+    ensures { result.notes ≡ notes }
+{
+    made(&0)
+}
+
+// What the caller names, which may speak of what was noted.
+fn by_noted(_noted: &Noted) -> Noted
     ghost notes: { Notes }
     ensures { result.notes ≡ notes }
 {

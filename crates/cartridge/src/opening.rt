@@ -1,54 +1,162 @@
-//! A closed cartridge is opened: the bodies of its frames are read once, in pieces, and most bytes of long blocks are
-//! not read.
+//! A closed cartridge is opened: it is found which side counts, and the bodies of its frames are read once, in pieces.
+//! Most bytes of long blocks are not read.
 ghost use Rattle.std.specs.Prelude.{◌≡◌, [], IfOk, IfErr, false};
-ghost use Rattle.tape_disk.specs.Disk.{Keeps, Only};
-ghost use Rattle.tape_disk.specs.Moments.{LeavesOnly};
-ghost use Rattle.gate_journal.specs.Answers.{NoneFailed};
-ghost use Rattle.cartridge.specs.Answers.{IsNotOpened, disk_opened};
+ghost use Rattle.tape_disk.specs.TwoDisks.{AreHonest, KeepsDisks, MayLeave, TwoLeave, seen_of_two};
+ghost use Rattle.cartridge.specs.Answers.{IsNotOpened, disks_opened};
 ghost use Rattle.cartridge.specs.Contents.{GivesContents};
+ghost use Rattle.cartridge.specs.Disks.{EachStays, NoneOfTwo, OnlyOfTwo};
+ghost use Rattle.cartridge.specs.Inner.Opening.{HasSide, disks_found};
 
 use crate::cartridges::Cartridge;
 use crate::error::{CartridgeError, NotOpened};
 use crate::recovering::Recovered;
 use crate::shelved::Shelved;
+use crate::sides::{apart, in_order};
 use gate_journal::{Frame, Journal, NotDecoded};
+use side_pairs::{Which, choose};
 use std::alloc::Global;
 use tape_disk::Disk;
 
+// Two disks that were not opened as a cartridge, and why.
+#[derive(Drop)]
+struct Unopened<D> {
+    error: CartridgeError,
+    first: D,
+    second: D,
+}
+
 impl<D: Disk> Cartridge<D> {
-    /// Opens a closed cartridge. It begins with a sync, and writes nothing: at every moment of it,
-    /// and after every error, the disk stands for what it stood for. After each but `Device` that
-    /// is sure too. A store's side is `NotOurs`, also where it is damaged: the header is read first.
-    /// The cartridge is handed back closed, as it was.
+    /// Opens a closed cartridge, by the side that counts. It begins with a sync of both disks, and
+    /// writes nothing: at every moment of it, and after every error, the disks stand for what they
+    /// stood for, and so does a disk that is honest beside one that is not. After each error but
+    /// `Device` that is sure too. The cartridge is given back closed, as it was.
     pub fn open(alloc: Global, shelved: Shelved<D>) -> Result<Cartridge<D>, NotOpened<D>>
-        ensures disk { Keeps (D.state shelved.disk) (D.state (disk_opened result)) }
+        ensures disks { KeepsDisks D.state shelved.disks (disks_opened result) }
         ensures ok { IfOk result (λ cartridge. (cartridge.failed ≡ false) × (cartridge.torn ≡ [])
-            × NoneFailed (D.state shelved.disk) (D.state cartridge.disk)) }
-        ensures gives { IfOk result (λ cartridge. (D.state shelved.disk).honest →
-            GivesContents cartridge.contents (D.state shelved.disk).seen
-            × Only (D.state shelved.disk).seen (D.state cartridge.disk).may_leave) }
+            × NoneOfTwo D.state shelved.disks cartridge.disks) }
+        ensures gives { IfOk result (λ cartridge. AreHonest D.state shelved.disks →
+            GivesContents cartridge.contents (seen_of_two D.state shelved.disks)
+            × OnlyOfTwo D.state shelved.disks cartridge.disks) }
         ensures refused { IfErr result (λ refused.
-            IsNotOpened refused.error (D.state shelved.disk) (D.state refused.shelved.disk)) }
+            IsNotOpened D.state refused.error shelved.disks refused.shelved.disks) }
         ensures same { IfErr result (λ refused.
-            refused.shelved ≡ record shelved { disk = refused.shelved.disk }) }
-        ensures any_moment { (D.state shelved.disk).honest →
-            LeavesOnly (D.state shelved.disk) (D.state (disk_opened result))
-            (D.state shelved.disk).may_leave }
+            refused.shelved ≡ record shelved { disks = refused.shelved.disks }) }
+        ensures any_moment { AreHonest D.state shelved.disks →
+            TwoLeave D.state shelved.disks (disks_opened result) (MayLeave D.state shelved.disks) }
+        ensures each { EachStays D.state shelved.disks (disks_opened result) }
     {
-        let Shelved { disk, known, noted } = shelved;
-        match Journal::open_decoded::<Recovered>(alloc, disk, 0) {
-            Ok((journal, recovered)) => Ok(Cartridge {
+        let Shelved {
+            first,
+            second,
+            known,
+            which,
+            copied,
+            noted,
+        } = shelved;
+        match open_disks(alloc, first, second) {
+            Ok(cartridge) => Ok(cartridge),
+            Err(refused) => {
+                let Unopened {
+                    error,
+                    first,
+                    second,
+                } = refused;
+                let shelved = Shelved {
+                    first,
+                    second,
+                    known,
+                    which,
+                    copied,
+                    noted,
+                };
+                Err(NotOpened { error, shelved })
+            }
+        }
+    }
+}
+
+// Opens the side that counts of two disks.
+fn open_disks<D: Disk>(alloc: Global, first: D, second: D) -> Result<Cartridge<D>, Unopened<D>>
+    ensures disks { KeepsDisks D.state (record { first = first; second = second }) (disks_found result) }
+    ensures ok { IfOk result (λ cartridge. (cartridge.failed ≡ false) × (cartridge.torn ≡ [])
+        × NoneOfTwo D.state (record { first = first; second = second }) cartridge.disks) }
+    ensures gives { IfOk result (λ cartridge.
+        AreHonest D.state (record { first = first; second = second }) →
+        GivesContents cartridge.contents (seen_of_two D.state (record { first = first; second = second }))
+        × OnlyOfTwo D.state (record { first = first; second = second }) cartridge.disks) }
+    ensures refused { IfErr result (λ refused.
+        IsNotOpened D.state refused.error (record { first = first; second = second })
+        (record { first = refused.first; second = refused.second })) }
+    ensures any_moment { AreHonest D.state (record { first = first; second = second }) →
+        TwoLeave D.state (record { first = first; second = second }) (disks_found result)
+        (MayLeave D.state (record { first = first; second = second })) }
+    ensures each { EachStays D.state (record { first = first; second = second }) (disks_found result) }
+{
+    let mut first = first;
+    let mut second = second;
+    match choose(&mut first, &mut second) {
+        Ok(Some(counted)) => open_side(alloc, counted.which, first, second),
+        Ok(None) => Err(Unopened {
+            error: CartridgeError::NotOurs,
+            first,
+            second,
+        }),
+        Err(fault) => Err(Unopened {
+            error: CartridgeError::Device(fault),
+            first,
+            second,
+        }),
+    }
+}
+
+// Opens that side, which counts.
+fn open_side<D: Disk>(
+    alloc: Global,
+    which: Which,
+    first: D,
+    second: D,
+) -> Result<Cartridge<D>, Unopened<D>>
+    requires { AreHonest D.state (record { first = first; second = second }) →
+        HasSide which (seen_of_two D.state (record { first = first; second = second }))
+        × OnlyOfTwo D.state (record { first = first; second = second })
+        (record { first = first; second = second }) }
+    ensures disks { KeepsDisks D.state (record { first = first; second = second }) (disks_found result) }
+    ensures ok { IfOk result (λ cartridge. (cartridge.failed ≡ false) × (cartridge.torn ≡ [])
+        × NoneOfTwo D.state (record { first = first; second = second }) cartridge.disks) }
+    ensures gives { IfOk result (λ cartridge.
+        AreHonest D.state (record { first = first; second = second }) →
+        GivesContents cartridge.contents (seen_of_two D.state (record { first = first; second = second }))
+        × OnlyOfTwo D.state (record { first = first; second = second }) cartridge.disks) }
+    ensures refused { IfErr result (λ refused.
+        IsNotOpened D.state refused.error (record { first = first; second = second })
+        (record { first = refused.first; second = refused.second })) }
+    ensures any_moment { AreHonest D.state (record { first = first; second = second }) →
+        TwoLeave D.state (record { first = first; second = second }) (disks_found result)
+        (MayLeave D.state (record { first = first; second = second })) }
+    ensures each { EachStays D.state (record { first = first; second = second }) (disks_found result) }
+{
+    let (counts, spare) = apart(which, first, second);
+    match Journal::open_decoded::<Recovered>(alloc, counts, 0) {
+        Ok((journal, recovered)) => {
+            // Asked for the proof's sake: over any disk there are as many frames as the copy has.
+            journal.known();
+            Ok(Cartridge {
                 journal,
+                spare,
+                which,
                 index: recovered.index,
                 frame: Frame::new(alloc),
                 noted: recovered.noted,
-            }),
-            Err(refused) => {
-                let NotDecoded { error, disk } = refused;
-                let error = CartridgeError::from(error);
-                let shelved = Shelved { disk, known, noted };
-                Err(NotOpened { error, shelved })
-            }
+            })
+        }
+        Err(refused) => {
+            let NotDecoded { error, disk } = refused;
+            let (first, second) = in_order(which, disk, spare);
+            Err(Unopened {
+                error: CartridgeError::from(error),
+                first,
+                second,
+            })
         }
     }
 }

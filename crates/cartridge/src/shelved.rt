@@ -1,26 +1,35 @@
 //! A closed cartridge.
 ghost use Rattle.std.specs.Prelude.{◌≡◌, true, false};
-ghost use Rattle.tape_disk.specs.Disk.{Each};
-ghost use Rattle.cartridge.specs.Contents.{ShowsContents};
-ghost use Rattle.cartridge.specs.Notes.{noted_contents};
+ghost use Rattle.tape_disk.specs.TwoDisks.{AreHonest, EachOfTwo};
+ghost use Rattle.gate_journal.specs.Heads.{epoch_of};
+ghost use Rattle.cartridge.specs.Contents.{IsContents, ShowsContents};
+ghost use Rattle.cartridge.specs.Disks.{disks_by};
+ghost use Rattle.cartridge.specs.Notes.{noted_as};
 
 use crate::noted::Noted;
+use crate::sides::in_order;
+use gate_journal::Copied;
+use side_pairs::Which;
 use std::marker::Model;
 use tape_disk::Disk;
 
-/// A closed cartridge: a disk, and what proofs know of it.
+/// A closed cartridge: two disks, and what proofs know of them.
 #[derive(Drop)]
 pub struct Shelved<D: Disk> {
-    pub(crate) disk: D,
+    pub(crate) first: D,
+    pub(crate) second: D,
     pub(crate) known: bool,
+    // The side that counts, and what it says of a copy, where they are known.
+    pub(crate) which: Which,
+    pub(crate) copied: Option<Copied>,
     pub(crate) noted: Noted,
 }
 
 impl<D: Disk> Model for Shelved<D> {
     ghost use Rattle.std.specs.Prelude.{◌≡◌, true};
-    ghost use Rattle.tape_disk.specs.Disk.{Each};
-    ghost use Rattle.cartridge.specs.Contents.{ShowsContents};
-    ghost use Rattle.cartridge.specs.Notes.{noted_contents};
+    ghost use Rattle.tape_disk.specs.TwoDisks.{AreHonest, EachOfTwo};
+    ghost use Rattle.cartridge.specs.Contents.{IsContents, ShowsContents};
+    ghost use Rattle.cartridge.specs.Notes.{noted_as};
     ghost use Rattle.cartridge.specs.State.{ClosedCartridge, closed_code};
 
     ghost Value = { ClosedCartridge D };
@@ -28,68 +37,105 @@ impl<D: Disk> Model for Shelved<D> {
     ghost coded = { closed_code D.code };
 
     ghost view = { λ a. record {
-      disk = a.disk;
+      disks = record { first = a.first; second = a.second };
       known = a.known;
-      contents = noted_contents a.noted.notes;
+      contents = noted_as a.which a.copied a.noted.notes;
       torn = a.noted.notes.torn;
     } };
 
-    ghost invariant = { λ a. a.known ≡ true → (D.state a.disk).honest →
-        Each (D.state a.disk) (ShowsContents (noted_contents a.noted.notes) a.noted.notes.torn) };
+    ghost invariant = { λ a. a.known ≡ true →
+        IsContents (noted_as a.which a.copied a.noted.notes)
+        × (AreHonest D.state (record { first = a.first; second = a.second }) →
+        EachOfTwo D.state (record { first = a.first; second = a.second })
+        (ShowsContents (noted_as a.which a.copied a.noted.notes) a.noted.notes.torn)) };
 }
 
 impl<D: Disk> Shelved<D> {
-    /// A disk that is taken for a cartridge. Nothing is known of its side until it was opened.
-    pub fn of(disk: D) -> Shelved<D>
-        ensures disk { result.disk ≡ disk }
+    /// Two disks that are taken for a cartridge, the first one first. Nothing is known of them until
+    /// it was opened.
+    pub fn of(first: D, second: D) -> Shelved<D>
+        ensures disks { result.disks ≡ record { first = first; second = second } }
         ensures unknown { result.known ≡ false }
     {
         Shelved {
-            disk,
+            first,
+            second,
             known: false,
+            which: Which::First,
+            copied: None,
             noted: Noted::none(),
         }
     }
 
-    // A closed cartridge whose side is known.
-    pub(crate) fn with(disk: D, noted: Noted) -> Shelved<D>
-        requires { (D.state disk).honest →
-            Each (D.state disk) (ShowsContents (noted_contents noted.notes) noted.notes.torn) }
+    // A closed cartridge of which that side counts, whose disk comes before the other one.
+    pub(crate) fn with(
+        which: Which,
+        counts: D,
+        spare: D,
+        copied: Option<Copied>,
+        noted: Noted,
+    ) -> Shelved<D>
+        requires contents { IsContents (noted_as which copied noted.notes) }
+        requires shows { AreHonest D.state (disks_by which counts spare) →
+            EachOfTwo D.state (disks_by which counts spare)
+            (ShowsContents (noted_as which copied noted.notes) noted.notes.torn) }
         ensures { result ≡ record {
-          disk = disk;
+          disks = disks_by which counts spare;
           known = true;
-          contents = noted_contents noted.notes;
+          contents = noted_as which copied noted.notes;
           torn = noted.notes.torn;
         } }
     {
+        let (first, second) = in_order(which, counts, spare);
         Shelved {
-            disk,
+            first,
+            second,
             known: true,
+            which,
+            copied,
             noted,
         }
     }
 
-    /// Each image that a crash may leave gives the contents, or these with the frame that was under
-    /// way when the disk failed.
+    /// Each pair of images that a crash may leave gives the contents, or these with the frame that
+    /// was under way when a disk failed. The contents are a cartridge's over any disks.
     pub fn known(&self)
-        ensures { self.now.known ≡ true → (D.state self.now.disk).honest →
-            Each (D.state self.now.disk) (ShowsContents self.now.contents self.now.torn) }
+        ensures contents { self.now.known ≡ true → IsContents self.now.contents }
+        ensures shows { self.now.known ≡ true → AreHonest D.state self.now.disks →
+            EachOfTwo D.state self.now.disks (ShowsContents self.now.contents self.now.torn) }
     {
         // Looked at for the proof's sake: the facts are the type's.
         let _ = &self.known;
     }
 
-    /// The disk, to be looked at.
-    pub fn disk(&self) -> &D
-        ensures { result.now ≡ self.now.disk }
+    /// How often it was reclaimed, where something is known of it.
+    pub fn epoch(&self) -> u64
+        ensures { self.now.known ≡ true → result ≡ epoch_of self.now.contents.head }
     {
-        &self.disk
+        match self.copied {
+            Some(copied) => copied.epoch,
+            None => 0,
+        }
     }
 
-    /// Gives the disk back.
-    pub fn into_disk(self) -> D
-        ensures { result ≡ self.disk }
+    /// The first disk, to be looked at.
+    pub fn disk(&self) -> &D
+        ensures { result.now ≡ self.now.disks.first }
     {
-        self.disk
+        &self.first
+    }
+
+    /// The second disk, to be looked at.
+    pub fn second(&self) -> &D
+        ensures { result.now ≡ self.now.disks.second }
+    {
+        &self.second
+    }
+
+    /// Gives the disks back, the first one first.
+    pub fn into_disks(self) -> (D, D)
+        ensures { (record { first = result.0; second = result.1 }) ≡ self.disks }
+    {
+        (self.first, self.second)
     }
 }

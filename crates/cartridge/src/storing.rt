@@ -1,15 +1,14 @@
 //! Changes are stored, as one frame.
 ghost use Rattle.std.specs.Prelude.{◌≡◌, ◌⊎◌, ◌+◌, ◌<◌, ◌≤◌, ◌++◌, [], ◌∷◌, ℕ, length, sum_by, true, false, OnOk, OnErr, IfErr, slice_index_or, map};
 ghost use Rattle.std.specs.List.{All};
-ghost use Rattle.tape_disk.specs.Disk.{Each, Keeps};
-ghost use Rattle.tape_disk.specs.Moments.{LeavesOnly};
+ghost use Rattle.tape_disk.specs.TwoDisks.{AreHonest, EachOfTwo, TwoLeave};
 ghost use Rattle.vtl_base.specs.declared.limits.TheConstants.{MAX_BODY, MAX_PARTITIONS};
 ghost use Rattle.volume_core.specs.Volume.{AllApply};
-ghost use Rattle.gate_journal.specs.Answers.{IsFault, NoneFailed};
 ghost use Rattle.record_index.specs.Records.{IsRecord, spell_all};
 ghost use Rattle.record_index.specs.Places.{reserved_of};
 ghost use Rattle.cartridge.specs.Answers.{HasBroken, HasStored, KeepsReserved, Lacks, LacksMemory, MatchCall, entries_of};
 ghost use Rattle.cartridge.specs.Contents.{GivesContents, ShowsContents, bodies_of, volume_made};
+ghost use Rattle.cartridge.specs.Disks.{CallsOne, IsFaultOfTwo, NoneOfTwo};
 ghost use Rattle.cartridge.specs.Inner.Growing.{HasRoomWithin, IsGrown, IsSameSide};
 
 use crate::bodies::{fill_body, size_of_body};
@@ -47,7 +46,8 @@ impl<D: Disk> Cartridge<D> {
         Ok(())
     }
 
-    /// Stores changes as one frame: at Ok all of them are sure. There is at least one, each applies
+    /// Stores changes as one frame of the side that counts: at Ok all of them are sure. The other disk
+    /// is not called. There is at least one, each applies
     /// to what stands before it, and in bytes they are at most 8,388,608. Within what was reserved
     /// it takes no memory. After `Device` the side has the frame or not, and nothing more is
     /// written; after every other error nothing changed but what is reserved.
@@ -55,20 +55,20 @@ impl<D: Disk> Cartridge<D> {
         requires some { 1 ≤ length changes.now }
         requires apply { AllApply (volume_made self.old.contents) changes.now }
         requires short { length (spell_all changes.now) ≤ MAX_BODY }
-        ensures disk { Keeps (D.state self.old.disk) (D.state self.new.disk) }
+        ensures disks { CallsOne D.state self.old.contents.which self.old.disks self.new.disks }
         ensures answer { MatchCall result
             (HasStored self.old changes.now self.new
-            × NoneFailed (D.state self.old.disk) (D.state self.new.disk))
+            × NoneOfTwo D.state self.old.disks self.new.disks)
             (LacksMemory self.old changes.now self.new)
             ((self.old.failed ≡ false) × (self.old.room < length (spell_all changes.now) + 5)
             × (self.new ≡ self.old))
             (λ fault. HasBroken self.old changes.now self.new
-            × IsFault fault (D.state self.old.disk) (D.state self.new.disk))
+            × IsFaultOfTwo D.state fault self.old.disks self.new.disks)
             ((self.old.failed ≡ true) × (self.new ≡ self.old)) }
-        ensures sure { (D.state self.old.disk).honest → OnOk result
-            (Each (D.state self.new.disk) (GivesContents self.new.contents)) }
-        ensures any_moment { (D.state self.old.disk).honest → self.old.failed ≡ false →
-            LeavesOnly (D.state self.old.disk) (D.state self.new.disk)
+        ensures sure { AreHonest D.state self.old.disks → OnOk result
+            (EachOfTwo D.state self.new.disks (GivesContents self.new.contents)) }
+        ensures any_moment { AreHonest D.state self.old.disks → self.old.failed ≡ false →
+            TwoLeave D.state self.old.disks self.new.disks
             (ShowsContents self.old.contents (changes.now ∷ [])) }
     {
         if self.journal.has_failed() {

@@ -21,7 +21,7 @@ pub type Timed = (u128, usize);
 
 // A cartridge in memory with no objects.
 fn new_cartridge(alloc: Global) -> Option<Known<MemDisk>> {
-    Known::made(alloc, MemDisk::new(alloc), &[TEBIBYTE]).ok()
+    Known::made(alloc, MemDisk::new(alloc), MemDisk::new(alloc), &[TEBIBYTE]).ok()
 }
 
 // That many blocks of so many bytes, from an object number on.
@@ -153,7 +153,7 @@ fn open_one(rt: &HostRuntime, shelved: Shelved<MemDisk>) -> Option<Timed> {
 pub fn opened(rt: &HostRuntime, count: u32) -> Option<Timed> {
     let bytes = side_of(rt.alloc(), count)?;
     let disk = MemDisk::from_bytes(rt.alloc(), &bytes).ok()?;
-    let timed = open_one(rt, Shelved::of(disk));
+    let timed = open_one(rt, Shelved::of(disk, MemDisk::new(rt.alloc())));
     // The last byte of the side is its end gate, which is closed.
     match bytes.last() {
         Some(0) => timed,

@@ -23,12 +23,13 @@ fn answers(rt: &impl Abort, alloc: Global, cartridge: &mut Cartridge<Liar>) {
 
 fn is_opened_again(alloc: Global, shelved: Shelved<Liar>) {
     shelved.known();
-    let _ = opened(alloc, shelved.into_disk());
+    let (first, second) = shelved.into_disks();
+    let _ = opened(alloc, first, second);
 }
 
-// Whether the disk is taken for a cartridge's.
+// Whether two such disks are taken for a cartridge's.
 fn is_opened(rt: &impl Abort, alloc: Global, shift: usize, step: usize) -> bool {
-    let Ok(mut cartridge) = opened(alloc, Liar { shift, step }) else {
+    let Ok(mut cartridge) = opened(alloc, Liar { shift, step }, Liar { shift, step }) else {
         return false;
     };
     answers(rt, alloc, &mut cartridge);
@@ -37,7 +38,9 @@ fn is_opened(rt: &impl Abort, alloc: Global, shift: usize, step: usize) -> bool 
 }
 
 fn is_made(alloc: Global, barcode: &Barcode, shift: usize, step: usize) -> bool {
-    Cartridge::create(alloc, Liar { shift, step }, barcode, &[4_096]).is_ok()
+    let first = Liar { shift, step };
+    let second = Liar { shift, step };
+    Cartridge::create(alloc, first, second, barcode, &[4_096]).is_ok()
 }
 
 #[test]

@@ -1,5 +1,5 @@
 //! The bodies of a cartridge are read in pieces while it is opened, and long blocks are passed over.
-use crate::samples::{FAULT, block, has, made, opened, told};
+use crate::samples::{FAULT, block, has, made, opened, spare, told};
 use assertions::assert_equal;
 use cartridge::{Cartridge, CartridgeError};
 use std::alloc::Global;
@@ -14,8 +14,8 @@ fn side_of_two(alloc: Global, first: &[u8], second: &[u8]) -> Result<MemDisk, Fa
         alloc,
         &[block(alloc, 0, 0, first)?, block(alloc, 0, 1, second)?],
     )?;
-    let disk = known.into_disk();
-    Ok(MemDisk::from_bytes(alloc, disk.bytes())?)
+    let (first, _) = known.into_disks();
+    Ok(MemDisk::from_bytes(alloc, first.bytes())?)
 }
 
 // Opened, it read at most 65,536 bytes at a time, and then both blocks are there, which take so many bytes.
@@ -39,7 +39,7 @@ fn a_head_in_two_pieces(rt: HostRuntime) -> Result<(), Fail> {
     let first = vec![in alloc; 0x5a; 65_520]?;
     let second = vec![in alloc; 0xa5; 100]?;
     let disk = side_of_two(alloc, &first, &second)?;
-    let mut cartridge = opened(alloc, disk)?;
+    let mut cartridge = opened(alloc, disk, MemDisk::new(alloc))?;
     holds_two(&rt, alloc, &mut cartridge, 65_652, (&first, &second));
     Ok(())
 }
@@ -51,7 +51,7 @@ fn a_block_that_is_passed_over(rt: HostRuntime) -> Result<(), Fail> {
     let first = vec![in alloc; 0x5a; 1_048_576]?;
     let second = vec![in alloc; 0xa5; 100]?;
     let disk = side_of_two(alloc, &first, &second)?;
-    let mut cartridge = opened(alloc, disk)?;
+    let mut cartridge = opened(alloc, disk, MemDisk::new(alloc))?;
     holds_two(&rt, alloc, &mut cartridge, 1_048_708, (&first, &second));
     Ok(())
 }
@@ -62,7 +62,7 @@ fn opened_by(
     disk: &MemDisk,
     calls: u64,
 ) -> Result<Result<(), CartridgeError>, Fail> {
-    match opened(alloc, FuseDisk::new(disk.copy()?, calls)) {
+    match opened(alloc, FuseDisk::new(disk.copy()?, calls), spare(alloc)) {
         Ok(_) => Ok(Ok(())),
         Err(error) => Ok(Err(error)),
     }
@@ -70,15 +70,16 @@ fn opened_by(
 
 // Blocks of so many bytes, and how often an opening asks the disk.
 static ROWS: &'static [(usize, usize, u64)] = &[
-    (131_063, 100, 7),
-    (131_062, 100, 8),
-    (1_048_576, 4_086, 7),
-    (1_048_576, 4_087, 8),
+    (131_063, 100, 9),
+    (131_062, 100, 10),
+    (1_048_576, 4_086, 9),
+    (1_048_576, 4_087, 10),
 ];
 
-// Five calls come before the body: a sync, two reads of the header, one of the frame's mark, one of the end gate. A
-// first piece has 65,526 bytes of the first block. Where 65,537 of it are left, they are passed over, and the next
-// piece has at most 4,096 bytes. Where 65,536 are left, they are read.
+// Seven calls come before the body: a sync and a read of the front show which side counts; then a sync, two reads of
+// the front, one of the frame's mark, one of the end gate. A first piece has 65,526 bytes of the first block. Where
+// 65,537 of it are left, they are passed over, and the next piece has at most 4,096 bytes. Where 65,536 are left, they
+// are read.
 #[test]
 fn how_often_the_disk_is_asked(rt: HostRuntime) -> Result<(), Fail> {
     let alloc = rt.alloc();

@@ -3,7 +3,7 @@ use cartridge::{Cartridge, CartridgeError, Shelved};
 use known_cartridge::Known;
 use std::alloc::Global;
 use std::test::Fail;
-use tape_disk::{Disk, MemDisk};
+use tape_disk::{Disk, FuseDisk, MemDisk};
 use volume_core::{Change, Kind};
 use vtl_base::{Bytes, DevFault, NoMemory, ObjNo, PartNo};
 
@@ -31,9 +31,13 @@ pub fn marks(part: PartNo, at: ObjNo, count: u32) -> Change {
     Change::Marks { part, at, count }
 }
 
-/// The cartridge that a disk holds, or why it is none.
-pub fn opened<D: Disk + Drop>(alloc: Global, disk: D) -> Result<Cartridge<D>, CartridgeError> {
-    match Cartridge::open(alloc, Shelved::of(disk)) {
+/// The cartridge that two disks hold, or why they hold none.
+pub fn opened<D: Disk + Drop>(
+    alloc: Global,
+    first: D,
+    second: D,
+) -> Result<Cartridge<D>, CartridgeError> {
+    match Cartridge::open(alloc, Shelved::of(first, second)) {
         Ok(cartridge) => Ok(cartridge),
         Err(refused) => Err(refused.error),
     }
@@ -61,7 +65,7 @@ pub fn store_side<D: Disk + Drop>(
 
 /// A new cartridge of these capacities.
 pub fn made(alloc: Global, capacities: &[u64]) -> Result<Known<MemDisk>, Fail> {
-    match Known::made(alloc, MemDisk::new(alloc), capacities) {
+    match Known::made(alloc, MemDisk::new(alloc), MemDisk::new(alloc), capacities) {
         Ok(known) => Ok(known),
         Err(_) => Err(Fail::from("not made")),
     }
@@ -81,13 +85,15 @@ pub fn told<D: Disk>(cartridge: &Cartridge<D>) -> (usize, ObjNo, u64) {
     (cartridge.frames(), count, cartridge.used(0, count))
 }
 
-/// What the cartridge tells that a disk holds, or why it is none.
-pub fn found<D: Disk + Drop>(
-    alloc: Global,
-    disk: D,
-) -> Result<(usize, ObjNo, u64), CartridgeError> {
-    let cartridge = opened(alloc, disk)?;
+/// What the cartridge tells that a disk holds beside an empty one, or why it is none.
+pub fn found(alloc: Global, disk: MemDisk) -> Result<(usize, ObjNo, u64), CartridgeError> {
+    let cartridge = opened(alloc, disk, MemDisk::new(alloc))?;
     Ok(told(&cartridge))
+}
+
+/// A disk that never fails, with nothing on it.
+pub fn spare(alloc: Global) -> FuseDisk<MemDisk> {
+    FuseDisk::new(MemDisk::new(alloc), u64::MAX)
 }
 
 /// Whether a block has these bytes; where there is no block, there are none.

@@ -44,6 +44,8 @@ static CHANGED: &'static [(usize, u8, Found)] = &[
     (70, 0xa5, Err(CartridgeError::Damaged { at: 70 })),
     (55, 0x00, Ok((1, 1, 21))),
     (0, 0x00, Err(CartridgeError::NotOurs)),
+    (9, 0x07, Ok((2, 2, 37))),
+    (9, 0xa5, Err(CartridgeError::NotOurs)),
 ];
 
 // What an open cartridge says of itself and of its objects.
@@ -71,16 +73,21 @@ fn reserves<D: Disk + Drop>(rt: &impl Abort, cartridge: &mut Cartridge<D>) {
     assert_equal!(rt; told(cartridge), (2, 2, 37));
 }
 
-// The disk of a closed cartridge has the vector, as it is and as it comes out.
+// The first disk of a closed cartridge has the vector, as it is and as it comes out.
 fn is_shelved(rt: &impl Abort, shelved: Shelved<MemDisk>) {
     shelved.known();
     assert_equal!(rt; shelved.disk().bytes(), SIDE.as_slice());
-    assert_equal!(rt; Shelved::of(shelved.into_disk()).into_disk().bytes(), SIDE.as_slice());
+    assert_equal!(rt; shelved.second().bytes(), b"".as_slice());
+    let (first, second) = shelved.into_disks();
+    let (first, second) = Shelved::of(first, second).into_disks();
+    assert_equal!(rt; first.bytes(), SIDE.as_slice());
+    assert_equal!(rt; second.bytes(), b"".as_slice());
 }
 
 #[test]
 fn the_vector_is_read(rt: HostRuntime) -> Result<(), Fail> {
-    let mut cartridge = opened(rt.alloc(), MemDisk::from_bytes(rt.alloc(), SIDE)?)?;
+    let first = MemDisk::from_bytes(rt.alloc(), SIDE)?;
+    let mut cartridge = opened(rt.alloc(), first, MemDisk::new(rt.alloc()))?;
     is_vector(&rt, &cartridge);
     assert_equal!(rt; has(rt.alloc(), &mut cartridge, 0, 0, b"hello"), Ok(true));
     reserves(&rt, &mut cartridge);
@@ -99,7 +106,7 @@ const WHOLE: &'static [u8; 97] = b"\xa5VTLCART1\0\x01T00001L6        \0\0\0\0\0\
 
 // What stands on the disk of a cartridge that was just made where a longer side stood.
 fn assert_made(rt: &impl Abort, alloc: Global, disk: MemDisk) {
-    match Known::made(alloc, disk, &[4_096]) {
+    match Known::made(alloc, disk, MemDisk::new(alloc), &[4_096]) {
         Ok(known) => assert_equal!(rt; known.cartridge().disk().bytes(), BEGIN.as_slice()),
         Err(_) => assert_holds!(rt; false, "not made"),
     }
@@ -118,12 +125,12 @@ fn rewrite(alloc: Global, known: &mut Known<MemDisk>) -> Result<(), CartridgeErr
     known.store(alloc, &[marks(0, 0, 2), block])
 }
 
-// Two syncs make a cartridge, one opens it, and two store each frame.
+// Two syncs make a cartridge, two open it, and two store each frame.
 fn writes(rt: &impl Abort, alloc: Global, known: &mut Known<MemDisk>) {
     assert_equal!(rt; store_side(alloc, known), Ok(()));
-    is_written(rt, known, SIDE, 7);
+    is_written(rt, known, SIDE, 8);
     assert_equal!(rt; rewrite(alloc, known), Ok(()));
-    is_written(rt, known, WHOLE, 9);
+    is_written(rt, known, WHOLE, 10);
 }
 
 #[test]

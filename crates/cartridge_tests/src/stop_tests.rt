@@ -1,5 +1,7 @@
 //! A stop and a fault at each call of the disk.
-use crate::samples::{FAULT, SIDE, cut, erased, found, has, store_block, store_side, store_two};
+use crate::samples::{
+    FAULT, SIDE, cut, erased, found, has, spare, store_block, store_side, store_two,
+};
 use assertions::{assert_equal, assert_holds};
 use cartridge::{Cartridge, CartridgeError, NotCreated, Shelved};
 use gate_journal::stops::{Run, Stop, stop_at_each_call};
@@ -35,19 +37,19 @@ fn stored<D: Disk + Drop>(
 
 impl Run for Work {
     fn run(&self, alloc: Global, disk: FuseDisk<MemDisk>) -> (MemDisk, bool) {
-        let reached = match Known::made(alloc, disk, &[4_096]) {
+        let reached = match Known::made(alloc, disk, spare(alloc), &[4_096]) {
             Ok(known) => stored(alloc, known),
             Err(refused) => Err(refused),
         };
         match reached {
-            Ok((known, ended)) => (known.into_disk().into_inner(), ended),
-            Err(refused) => (refused.disk.into_inner(), false),
+            Ok((known, ended)) => (known.into_disks().0.into_inner(), ended),
+            Err(refused) => (refused.first.into_inner(), false),
         }
     }
 }
 
 // What the disk may be found to hold after that many calls of the work, before or with what was
-// under way. To make a cartridge takes five calls, to store four, and to open four, with two for
+// under way. To make a cartridge takes five calls, to store four, and to open six, with two for
 // each frame.
 fn may_be_found(calls: u64, before: Found) -> (Found, Found) {
     let none = Err(CartridgeError::NotOurs);
@@ -60,12 +62,12 @@ fn may_be_found(calls: u64, before: Found) -> (Found, Found) {
     match calls {
         0 => (before, before),
         1..=4 => (none, new),
-        5..=9 => (new, new),
-        10..=12 => (new, one),
-        13 => (one, one),
-        14..=16 => (one, two),
-        17..=25 => (two, two),
-        26..=28 => (two, three),
+        5..=11 => (new, new),
+        12..=14 => (new, one),
+        15 => (one, one),
+        16..=18 => (one, two),
+        19..=29 => (two, two),
+        30..=32 => (two, three),
         _ => (three, three),
     }
 }
@@ -79,7 +81,7 @@ static BEFORE: &'static [(&'static [u8], Found)] = &[
 // What a stop of the work leaves may be found, and the work has ended just behind its last call.
 fn is_right(rt: &impl Abort, alloc: Global, stop: Stop, before: Found) {
     let Stop { calls, ended, disk } = stop;
-    assert_equal!(rt; ended, calls == 39);
+    assert_equal!(rt; ended, calls == 45);
     let left = found(alloc, disk);
     let (old, new) = may_be_found(calls, before);
     assert_holds!(rt; left == old || left == new; (left, calls));
@@ -91,10 +93,10 @@ fn stops_of<R: Run>(alloc: Global, bytes: &[u8], run: &R) -> Result<Vec<Stop>, N
     stop_at_each_call(alloc, &disk, run)
 }
 
-// Before each of 39 calls and behind them all, nine crashes.
+// Before each of 45 calls and behind them all, nine crashes.
 fn stopped(rt: &impl Abort, alloc: Global, bytes: &[u8], before: Found) -> Result<(), NoMemory> {
     let stops = stops_of(alloc, bytes, &Work)?;
-    assert_equal!(rt; stops.len(), 360);
+    assert_equal!(rt; stops.len(), 414);
     for stop in stops {
         is_right(rt, alloc, stop, before);
     }
@@ -114,18 +116,19 @@ struct Opening;
 
 impl Run for Opening {
     fn run(&self, alloc: Global, disk: FuseDisk<MemDisk>) -> (MemDisk, bool) {
-        match Cartridge::open(alloc, Shelved::of(disk)) {
-            Ok(cartridge) => (cartridge.shelve().into_disk().into_inner(), true),
-            Err(refused) => (refused.shelved.into_disk().into_inner(), false),
+        match Cartridge::open(alloc, Shelved::of(disk, spare(alloc))) {
+            Ok(cartridge) => (cartridge.shelve().into_disks().0.into_inner(), true),
+            Err(refused) => (refused.shelved.into_disks().0.into_inner(), false),
         }
     }
 }
 
-// A sync, two reads of the header, three of gates and two of bodies, which leave the side as it is.
+// A sync and a read of the front show which side counts. Then a sync, two reads of the front, three of gates and two of
+// bodies. All leave the side as it is.
 fn are_openings(rt: &impl Abort, stops: &[Stop]) {
-    assert_equal!(rt; stops.len(), 81);
+    assert_equal!(rt; stops.len(), 99);
     for stop in stops {
-        assert_equal!(rt; stop.ended, stop.calls == 8);
+        assert_equal!(rt; stop.ended, stop.calls == 10);
         assert_equal!(rt; stop.disk.bytes(), SIDE.as_slice(); stop.calls);
     }
 }
@@ -142,28 +145,29 @@ struct Refusal;
 
 impl Run for Refusal {
     fn run(&self, alloc: Global, disk: FuseDisk<MemDisk>) -> (MemDisk, bool) {
-        match Cartridge::open(alloc, Shelved::of(disk)) {
-            Ok(cartridge) => (cartridge.shelve().into_disk().into_inner(), true),
+        match Cartridge::open(alloc, Shelved::of(disk, spare(alloc))) {
+            Ok(cartridge) => (cartridge.shelve().into_disks().0.into_inner(), true),
             Err(refused) => {
                 let ended = refused.error != FAULT;
-                (refused.shelved.into_disk().into_inner(), ended)
+                (refused.shelved.into_disks().0.into_inner(), ended)
             }
         }
     }
 }
 
 // How many bytes of the side there are, a place and what stands there, how many calls of the disk the opening takes,
-// and why it is refused: a sync, two reads of the heading, one of each gate, and then one of each body.
+// and why it is refused: a sync and a read of the front, then a sync, two reads of the front, one of each gate, and one
+// of each body.
 static REFUSED: &'static [(usize, usize, u8, u64, CartridgeError)] = &[
-    (26, 0, 0xa5, 1, CartridgeError::NotOurs),
+    (26, 0, 0xa5, 2, CartridgeError::NotOurs),
     (34, 0, 0xa5, 2, CartridgeError::NotOurs),
-    (71, 9, 0x07, 3, CartridgeError::NotOurs),
-    (35, 0, 0xa5, 3, CartridgeError::Damaged { at: 35 }),
-    (55, 0, 0xa5, 4, CartridgeError::Damaged { at: 35 }),
-    (70, 0, 0xa5, 5, CartridgeError::Damaged { at: 55 }),
-    (71, 70, 0xa5, 6, CartridgeError::Damaged { at: 70 }),
-    (71, 40, 0x04, 7, CartridgeError::BadRecord { at: 35 }),
-    (71, 65, 0x03, 8, CartridgeError::BadRecord { at: 55 }),
+    (71, 10, 0x05, 2, CartridgeError::NotOurs),
+    (35, 0, 0xa5, 5, CartridgeError::Damaged { at: 35 }),
+    (55, 0, 0xa5, 6, CartridgeError::Damaged { at: 35 }),
+    (70, 0, 0xa5, 7, CartridgeError::Damaged { at: 55 }),
+    (71, 70, 0xa5, 8, CartridgeError::Damaged { at: 70 }),
+    (71, 40, 0x04, 9, CartridgeError::BadRecord { at: 35 }),
+    (71, 65, 0x03, 10, CartridgeError::BadRecord { at: 55 }),
 ];
 
 // The first bytes of the side, of which one is this.
@@ -230,7 +234,8 @@ fn answers<D: Disk + Drop>(alloc: Global, known: Known<D>) -> (Answers, usize) {
 }
 
 fn used(alloc: Global, disk: OnceDisk<MemDisk>) -> Result<(Answers, usize), CartridgeError> {
-    match Known::made(alloc, disk, &[4_096]) {
+    let second = OnceDisk::new(MemDisk::new(alloc), u64::MAX);
+    match Known::made(alloc, disk, second, &[4_096]) {
         Ok(known) => Ok(answers(alloc, with_block(alloc, known)?)),
         Err(refused) => Err(refused.error),
     }
@@ -240,14 +245,14 @@ fn used(alloc: Global, disk: OnceDisk<MemDisk>) -> Result<(Answers, usize), Cart
 fn a_fault_at_each_call(rt: HostRuntime) -> Result<(), Fail> {
     let alloc = rt.alloc();
     let failed = Err(CartridgeError::Failed);
-    // Five calls make the cartridge, four open it, four store, four store, one reads, four store.
+    // Five calls make the cartridge, six open it, four store, four store, one reads, four store.
     // One of them fails, and those behind it would pass.
-    for calls in 0..23 {
+    for calls in 0..25 {
         let expected = match calls {
-            0..=12 => Err(FAULT),
-            13..=16 => Ok(([Err(FAULT), failed, failed], 1)),
-            17 => Ok(([Ok(()), Err(FAULT), failed], 2)),
-            18..=21 => Ok(([Ok(()), Ok(()), Err(FAULT)], 2)),
+            0..=14 => Err(FAULT),
+            15..=18 => Ok(([Err(FAULT), failed, failed], 1)),
+            19 => Ok(([Ok(()), Err(FAULT), failed], 2)),
+            20..=23 => Ok(([Ok(()), Ok(()), Err(FAULT)], 2)),
             _ => Ok(([Ok(()), Ok(()), Ok(())], 3)),
         };
         let found = used(alloc, OnceDisk::new(MemDisk::new(alloc), calls));

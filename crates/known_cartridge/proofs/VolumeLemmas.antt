@@ -11,22 +11,23 @@ use Rattle.volume_core.specs.Volume.{Part, AllApply, after, changed, refusal_of}
 use Rattle.volume_core.specs.Medium.{frame_size}
 use Rattle.volume_core.specs.Plain.{moves_on_by_changes}
 use Rattle.volume_core.specs.Stores.{after_append}
+use Rattle.tape_disk.specs.TwoDisks.{Images}
 use Rattle.record_index.specs.Records.{spell_all, spell_change, spell_head}
 use Rattle.cartridge.specs.Contents.{Contents, GivesContents, ShowsContents, changes_in, volume_made, with_frames}
 
 -- a cartridge that is opened holds the volume that it held when it was closed
-pub same_volume : (volume : List Part) (closed opened : Contents) (torn : List (List Change)) (image : List ℕ)
-    → torn ≡ [] → volume ≡ volume_made closed → ShowsContents closed torn image → GivesContents opened image
-    → ((image : List ℕ) (a b : Contents) → GivesContents a image → GivesContents b image → a ≡ b)
+pub same_volume : (volume : List Part) (closed opened : Contents) (torn : List (List Change)) (images : Images)
+    → torn ≡ [] → volume ≡ volume_made closed → ShowsContents closed torn images → GivesContents opened images
+    → ((images : Images) (a b : Contents) → GivesContents a images → GivesContents b images → a ≡ b)
     → volume ≡ volume_made opened
-same_volume volume closed opened torn image whole is (inl shown) found one =
-    is ∙ ap volume_made (one image closed opened shown found)
-same_volume volume closed opened torn image whole is (inr shown) found one =
+same_volume volume closed opened torn images whole is (inl shown) found one =
+    is ∙ ap volume_made (one images closed opened shown found)
+same_volume volume closed opened torn images whole is (inr shown) found one =
     let none : with_frames closed torn ≡ closed =
     ap (with_frames closed) whole
     ∙ ap (λ (frames : List (List Change)). let contents : Contents = record closed { frames = frames } in contents)
     (append-nil closed.frames) in
-    is ∙ ap volume_made (sym none ∙ one image (with_frames closed torn) opened shown found)
+    is ∙ ap volume_made (sym none ∙ one images (with_frames closed torn) opened shown found)
 
 -- one change more
 pub taken_next : (changes : List Change) (i : ℕ) (change : Change) → i < length changes

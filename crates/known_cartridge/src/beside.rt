@@ -1,11 +1,12 @@
 //! A cartridge, and beside it in memory the volume that it holds, which tells whether changes apply.
 ghost use Rattle.std.specs.Prelude.{◌≡◌, ◌≤◌, [], ◌∷◌, length, true, IfSome, OnOk};
 ghost use Rattle.volume_core.specs.Volume.{AllApply, after};
+ghost use Rattle.tape_disk.specs.TwoDisks.{AreHonest};
 ghost use Rattle.record_index.specs.Records.{spell_all};
 ghost use Rattle.vtl_base.specs.declared.limits.TheConstants.{MAX_BODY};
 ghost use Rattle.cartridge.specs.Contents.{volume_made, with_frames};
 
-use cartridge::laws::an_image_gives_one_volume;
+use cartridge::laws::a_pair_gives_one_volume;
 use cartridge::{Cartridge, CartridgeError, NotCreated, NotOpened, Shelved};
 use std::alloc::Global;
 use std::marker::Model;
@@ -25,6 +26,7 @@ pub struct Known<D: Disk> {
 
 impl<D: Disk> Model for Known<D> {
     ghost use Rattle.std.specs.Prelude.{◌≡◌, [], IfSome};
+    ghost use Rattle.tape_disk.specs.TwoDisks.{AreHonest};
     ghost use Rattle.cartridge.specs.Contents.{volume_made};
     ghost use Rattle.cartridge.specs.State.{OpenCartridge, open_code};
 
@@ -36,35 +38,48 @@ impl<D: Disk> Model for Known<D> {
 
     ghost invariant = { λ known. IfSome known.volume (λ volume.
         (volume ≡ volume_made known.cartridge.contents) × (known.cartridge.torn ≡ [])
-        × (D.state known.cartridge.disk).honest) };
+        × AreHonest D.state known.cartridge.disks) };
 }
 
 impl<D: Disk + Drop> Known<D> {
     /// Makes a cartridge of these capacities, and opens it.
-    pub fn made(alloc: Global, disk: D, capacities: &[u64]) -> Result<Known<D>, NotCreated<D>>
-        requires { (D.state disk).honest }
+    pub fn made(
+        alloc: Global,
+        first: D,
+        second: D,
+        capacities: &[u64],
+    ) -> Result<Known<D>, NotCreated<D>>
+        requires { AreHonest D.state (record { first = first; second = second }) }
     {
         let (Ok(barcode), true) = (Barcode::parse(b"T00001L6"), are_capacities(capacities)) else {
             let error = CartridgeError::NotOurs;
-            return Err(NotCreated { error, disk });
+            return Err(NotCreated {
+                error,
+                first,
+                second,
+            });
         };
         let Ok(volume) = Volume::new(alloc, capacities) else {
             let error = CartridgeError::NoMemory;
-            return Err(NotCreated { error, disk });
+            return Err(NotCreated {
+                error,
+                first,
+                second,
+            });
         };
-        let shelved = Cartridge::create(alloc, disk, &barcode, capacities)?;
+        let shelved = Cartridge::create(alloc, first, second, &barcode, capacities)?;
         Known::opened(alloc, shelved, volume)
     }
 
     // Opens a cartridge that holds this volume.
     fn opened(alloc: Global, shelved: Shelved<D>, volume: Volume) -> Result<Known<D>, NotCreated<D>>
-        requires honest { (D.state shelved.disk).honest }
+        requires honest { AreHonest D.state shelved.disks }
         requires known { shelved.known ≡ true }
         requires whole { shelved.torn ≡ [] }
         requires same { volume ≡ volume_made shelved.contents }
     {
         shelved.known();
-        an_image_gives_one_volume();
+        a_pair_gives_one_volume();
         match Cartridge::open(alloc, shelved) {
             Ok(cartridge) => Ok(Known {
                 cartridge,
@@ -72,8 +87,12 @@ impl<D: Disk + Drop> Known<D> {
             }),
             Err(refused) => {
                 let NotOpened { error, shelved } = refused;
-                let disk = shelved.into_disk();
-                Err(NotCreated { error, disk })
+                let (first, second) = shelved.into_disks();
+                Err(NotCreated {
+                    error,
+                    first,
+                    second,
+                })
             }
         }
     }
@@ -86,8 +105,12 @@ impl<D: Disk + Drop> Known<D> {
             Some(volume) => Known::opened(alloc, shelved, volume),
             None => {
                 let error = CartridgeError::Failed;
-                let disk = shelved.into_disk();
-                Err(NotCreated { error, disk })
+                let (first, second) = shelved.into_disks();
+                Err(NotCreated {
+                    error,
+                    first,
+                    second,
+                })
             }
         }
     }
@@ -133,9 +156,9 @@ impl<D: Disk + Drop> Known<D> {
         self.cartridge
     }
 
-    /// Its disk.
-    pub fn into_disk(self) -> D {
-        self.cartridge.shelve().into_disk()
+    /// Its disks, the first one first.
+    pub fn into_disks(self) -> (D, D) {
+        self.cartridge.shelve().into_disks()
     }
 }
 
@@ -147,7 +170,7 @@ fn store_frame<D: Disk>(
     requires some { 1 ≤ length changes.now }
     requires apply { AllApply (volume_made cartridge.old.contents) changes.now }
     requires short { length (spell_all changes.now) ≤ MAX_BODY }
-    ensures honest { (D.state cartridge.old.disk).honest → (D.state cartridge.new.disk).honest }
+    ensures honest { AreHonest D.state cartridge.old.disks → AreHonest D.state cartridge.new.disks }
     ensures ok { OnOk result ((cartridge.new.torn ≡ cartridge.old.torn)
         × (cartridge.new.contents ≡ with_frames cartridge.old.contents (changes.now ∷ []))) }
 {

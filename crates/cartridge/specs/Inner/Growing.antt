@@ -30,7 +30,7 @@ TakesEntries old changes new =
 -- an open side as it was, but for what is reserved, which is no less (own)
 pub record IsSameSide {D : Type 0} (old new : OpenSide D) : Type 0 where
   pub disk : new.disk ≡ old.disk
-  pub heading : new.heading ≡ old.heading
+  pub front : new.front ≡ old.front
   pub bodies : new.bodies ≡ old.bodies
   pub extents : new.extents ≡ old.extents
   pub end : new.end ≡ old.end

@@ -10,5 +10,6 @@ returns-clause-count g c = rw (← c.self.view_is)
     (let i = c.self.inside in
     c.count.ensures.count
     ∙ ap (λ (v : List Part). count_of v c.args.part)
-    (open_shape i.journal.heading i.journal.extents i.journal.failed i.index i.noted.notes c.self.invariant.0)
+    (open_shape i.journal.front.head.heading i.journal.extents
+    i.journal.failed i.index i.noted.notes c.self.invariant.0)
     ∙ c.a_volume_is_seen_by_its_shape.ensures.count (volume_made (noted_contents i.noted.notes)) c.args.part)

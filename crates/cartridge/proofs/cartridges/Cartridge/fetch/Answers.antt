@@ -5,6 +5,7 @@ use Rattle.record_index.specs.Indexes.{indexes_block}
 use Rattle.cartridge.specs.Contents.{bodies_of, volume_made}
 use Rattle.cartridge.specs.Lying.{LiesOnSide}
 use Rattle.cartridge.specs.Notes.{noted_contents}
+use Rattle.cartridge.proofs.DisksLemmas.{honest_by, unwritten_by}
 use Rattle.cartridge.proofs.FetchLemmas.{block_short, can_be_read, filled_whole, length-take-le-whole, not_a_mark, not_none, read_is}
 use Rattle.cartridge.proofs.OpenLemmas.{open_shape}
 use Rattle.cartridge.proofs.StoringLemmas.{on_ok_any}
@@ -15,7 +16,8 @@ pub unreachable-requires : goal.unreachable-requires
 unreachable-requires g c =
     let i = c.self.inside in
     not_a_mark i.index (volume_made (noted_contents i.noted.notes)) c.args.part c.args.at
-    (open_shape i.journal.heading i.journal.extents i.journal.failed i.index i.noted.notes c.self.invariant.0)
+    (open_shape i.journal.front.head.heading i.journal.extents
+    i.journal.failed i.index i.noted.notes c.self.invariant.0)
     (sym c.place.ensures ∙ c.in-Some-Mark.is ∙ ap Some c.in-Some-Mark.field-0-is)
     (rw (← c.self.view_is) at c.requires)
 
@@ -23,7 +25,8 @@ pub unreachable-requires-in-None : goal.unreachable-requires-in-None
 unreachable-requires-in-None g c =
     let i = c.self.inside in
     not_none i.index (volume_made (noted_contents i.noted.notes)) c.args.part c.args.at
-    (open_shape i.journal.heading i.journal.extents i.journal.failed i.index i.noted.notes c.self.invariant.0)
+    (open_shape i.journal.front.head.heading i.journal.extents
+    i.journal.failed i.index i.noted.notes c.self.invariant.0)
     (sym c.place.ensures ∙ c.in-None.is)
     (rw (← c.self.view_is) at c.requires)
 
@@ -130,7 +133,8 @@ returns-clause-bytes g c = rw (← c.self.view_is) (λ h. elim c.match-read.bran
       ∙ ap Some (sym (whole
       ∙ read_is (bodies_of i.noted.notes.frames) i.journal.bodies i.journal.extents found.0 c.in-Some-Block.place
       bytes found.3
-      (c.self.invariant.1 h).bodies_are (long ∙ found.2) (w.in-Ok.ensures.bytes h)))
+      (c.self.invariant.2 h).bodies_are (long ∙ found.2)
+      (w.in-Ok.ensures.bytes (honest_by g.D.Disk.state i.which i.journal.disk i.spare h).0)))
       )
   | in-Err-Device w ↦ rw w.result-is tt
 ])
@@ -148,3 +152,9 @@ returns-clause-bound g c = on_ok_any c.match-read.result (
       length-take-le-whole c.resize.new.self.len (c.read_body-read.new.buffer ++ drop (length
           c.read_body-read.new.buffer) c.resize.new.self.items),
     ))
+
+pub returns-clause-unwritten : goal.returns-clause-unwritten
+returns-clause-unwritten g c = rw (← c.self.view_is) (λ h.
+    let i = c.self.inside in
+    unwritten_by g.D.Disk.state i.which i.journal.disk i.spare c.read_body-read.new.self.disk
+    (c.read_body-read.ensures.unwritten (honest_by g.D.Disk.state i.which i.journal.disk i.spare h).0))

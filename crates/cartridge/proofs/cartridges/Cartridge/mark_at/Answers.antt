@@ -9,7 +9,7 @@ use Rattle.cartridge.proofs.cartridges.Cartridge.mark_at.Goals as goal
 pub mark_at-requires : goal.mark_at-requires
 mark_at-requires g c =
     let i = c.self.inside in
-    let shape = open_shape i.journal.heading i.journal.extents i.journal.failed i.index i.noted.notes
+    let shape = open_shape i.journal.front.head.heading i.journal.extents i.journal.failed i.index i.noted.notes
     c.self.invariant.0 in
     subst (λ (n : ℕ). c.args.k < n)
     (sym (ap (λ (v : List Part). mark_count v c.args.part) shape
@@ -19,7 +19,7 @@ mark_at-requires g c =
 pub returns : goal.returns
 returns g c = rw (← c.self.view_is)
     (let i = c.self.inside in
-    let shape = open_shape i.journal.heading i.journal.extents i.journal.failed i.index i.noted.notes
+    let shape = open_shape i.journal.front.head.heading i.journal.extents i.journal.failed i.index i.noted.notes
     c.self.invariant.0 in
     mark_of_by_shape (volume_made (noted_contents i.noted.notes)) c.args.part c.args.k c.mark_at.result
     (subst (λ (v : List Part). IsMarkOf v c.args.part c.args.k c.mark_at.result) shape c.mark_at.ensures))

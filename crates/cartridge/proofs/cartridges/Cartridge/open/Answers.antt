@@ -1,21 +1,19 @@
-use Rattle.cartridge.specs.declared.recovering.Recovered.{Recovered}
-use Rattle.cartridge.proofs.OpenedLemmas.{not_opened, opened_gives}
+use Rattle.tape_disk.specs.TwoDisks.{MayLeave, TwoDisks, two_hold_now}
+use Rattle.cartridge.proofs.ChoosingLemmas.{are_disks, was_honest}
 use Rattle.cartridge.proofs.cartridges.Cartridge.open.Goals as goal
 
-pub returns-in-Err-clause-refused : goal.returns-in-Err-clause-refused
-returns-in-Err-clause-refused g c =
-    rw (← c.shelved.view_is) (rw c.from-error.ensures (
-    not_opened (λ (d : Recovered). d.index) (λ (d : Recovered). d.noted.notes) c.in-Err.refused.error
-    (g.D.Disk.state c.shelved.inside.disk) (g.D.Disk.state c.in-Err.refused.disk) c.in-Err.ensures.refused
-    ))
-
-pub returns-in-Ok-clause-gives : goal.returns-in-Ok-clause-gives
-returns-in-Ok-clause-gives g c = rw (← c.shelved.view_is) (λ h.
-    let journal = c.in-Ok.journal in
-    let found = c.in-Ok.recovered in
-    let stands = c.in-Ok.ensures.stands h in
-    let read = c.in-Ok.ensures.read in (
-      opened_gives (g.D.Disk.state c.shelved.inside.disk).seen journal.heading journal.bodies read.0 journal.extents
-          found.index found.noted.notes stands.0 (read.2 h) read.1,
-      stands.1,
-    ))
+pub invariant_of-shelved : goal.invariant_of-shelved
+invariant_of-shelved g c = λ known. (
+  (c.shelved.invariant known).0,
+  λ later images left.
+      let state = g.D.Disk.state in
+      let i = c.shelved.inside in
+      let refused = c.in-Err.refused in
+      let old : TwoDisks g.row.D.Denot = record { first = i.first; second = i.second } in
+      let new : TwoDisks g.row.D.Denot = record { first = refused.first; second = refused.second } in
+      let h = was_honest state g.met.D.Disk.is_disk old new c.in-Err.ensures.disks later in
+      (c.shelved.invariant known).1 h images
+      (two_hold_now state old new (MayLeave state old)
+      (are_disks state g.met.D.Disk.is_disk old new c.in-Err.ensures.disks later) (c.in-Err.ensures.any_moment h) images
+      left),
+)

@@ -6,4 +6,5 @@ pub returns-clause-parts : goal.returns-clause-parts
 returns-clause-parts g c = rw (← c.self.view_is)
     (let i = c.self.inside in
     c.parts.ensures.parts
-    ∙ open_parts i.journal.heading i.journal.extents i.journal.failed i.index i.noted.notes c.self.invariant.0)
+    ∙ open_parts i.journal.front.head.heading i.journal.extents
+    i.journal.failed i.index i.noted.notes c.self.invariant.0)

@@ -3,7 +3,7 @@ use Rattle.std.proofs.lemmas.List.{length-map}
 use Rattle.record_index.specs.Places.{PlacedPart}
 use Rattle.cartridge.proofs.GrowingLemmas.{entries_at}
 use Rattle.cartridge.proofs.OpenLemmas.{open_grown}
-use Rattle.cartridge.proofs.StoringLemmas.{grown_entries, if_err_by, reserved_side, same_open, same_side, same_stores}
+use Rattle.cartridge.proofs.StoringLemmas.{grown_entries, if_err_by, reserved_side, same_open, same_own, same_side, same_stores}
 use Rattle.cartridge.proofs.cartridges.Cartridge.reserve.Goals as goal
 
 pub invariant_of-self-in_err-reserve_part : goal.invariant_of-self-in_err-reserve_part
@@ -11,9 +11,11 @@ invariant_of-self-in_err-reserve_part g c =
     let i = c.self.inside in
     let index = c.reserve_part.new.index in
     let grown = c.reserve_part.ensures.grown in (
-      open_grown i.journal.heading i.journal.extents i.journal.failed i.index i.noted.notes c.self.invariant.0
-          i.journal.heading i.journal.extents i.journal.failed index refl refl refl grown,
+      open_grown i.journal.front.head.heading i.journal.extents
+          i.journal.failed i.index i.noted.notes c.self.invariant.0
+          i.journal.front.head.heading i.journal.extents i.journal.failed index refl refl refl grown,
       c.self.invariant.1,
+      c.self.invariant.2,
     )
 
 pub returns-in_err-reserve_part-clause-grows : goal.returns-in_err-reserve_part-clause-grows
@@ -47,10 +49,10 @@ invariant_of-self-in_default g c =
     let index = c.reserve_part.new.index in
     let grown = c.reserve_part.ensures.grown in
     let side = same_side i.journal c.reserve_extents.new.self c.in_default.ensures.refused.2 in (
-      same_open g.D.Disk.state i.journal c.reserve_extents.new.self side i.index index i.noted.notes grown
-          c.self.invariant.0,
-      same_stores g.D.Disk.state i.journal c.reserve_extents.new.self side i.index index i.noted.notes
-          c.self.invariant.1,
+      same_open i.journal c.reserve_extents.new.self side i.index index i.noted.notes grown c.self.invariant.0,
+      same_own i.journal c.reserve_extents.new.self side i.index index i.noted.notes i.which c.self.invariant.1,
+      same_stores i.journal c.reserve_extents.new.self side i.index index i.noted.notes i.which g.D.Disk.state i.spare
+          c.self.invariant.2,
     )
 
 pub returns-in_default-clause-grows : goal.returns-in_default-clause-grows
@@ -72,10 +74,10 @@ invariant_of-self-2 g c =
     let grown = c.reserve_part.ensures.grown in
     let done = c.in-Ok.ensures.ok in
     let side = reserved_side i.journal c.reserve_extents.new.self done.3 done.1 in (
-      same_open g.D.Disk.state i.journal c.reserve_extents.new.self side i.index index i.noted.notes grown
-          c.self.invariant.0,
-      same_stores g.D.Disk.state i.journal c.reserve_extents.new.self side i.index index i.noted.notes
-          c.self.invariant.1,
+      same_open i.journal c.reserve_extents.new.self side i.index index i.noted.notes grown c.self.invariant.0,
+      same_own i.journal c.reserve_extents.new.self side i.index index i.noted.notes i.which c.self.invariant.1,
+      same_stores i.journal c.reserve_extents.new.self side i.index index i.noted.notes i.which g.D.Disk.state i.spare
+          c.self.invariant.2,
     )
 
 pub returns-clause-grows : goal.returns-clause-grows

@@ -1,9 +1,14 @@
-use Rattle.std.proofs.Common.{◌≡◌, ℕ, List, length, false, ap, sym, subst, ◌∙◌, arith}
+use Rattle.std.proofs.Common.{◌≡◌, inl, ℕ, List, [], ◌∷◌, length, false, ap, sym, subst, ◌∙◌, arith}
+use Rattle.tape_disk.specs.TwoDisks.{TwoLeave, two_rest_still}
 use Rattle.gate_journal.specs.Answers.{IsFault}
 use Rattle.record_index.specs.Records.{spell_all}
-use Rattle.cartridge.specs.Notes.{noted_contents}
-use Rattle.cartridge.proofs.StoreLemmas.{all_records, broken_answer, broken_open, broken_stores, counted_more, last_fits, last_sized, lies_before, room_made, shown_moments, stored_answer, stored_open, stored_stores, stored_sure}
-use Rattle.cartridge.proofs.StoringLemmas.{grown_entries, lacks_told, same_open, same_stores, same_view, some_body}
+use Rattle.cartridge.specs.Contents.{ShowsContents}
+use Rattle.cartridge.specs.Disks.{disks_by}
+use Rattle.cartridge.specs.Notes.{noted_as}
+use Rattle.cartridge.proofs.DisksLemmas.{fault_by, none_by}
+use Rattle.cartridge.proofs.ShownLemmas.{sure_now}
+use Rattle.cartridge.proofs.StoreLemmas.{all_records, broken_answer, broken_open, broken_own, broken_stores, counted_more, last_fits, last_sized, lies_before, room_made, shown_moments, stored_answer, stored_open, stored_own, stored_stores, stored_sure}
+use Rattle.cartridge.proofs.StoringLemmas.{grown_entries, lacks_told, same_open, same_own, same_stores, same_view, some_body}
 use Rattle.cartridge.proofs.cartridges.Cartridge.store.Goals as goal
 
 pub invariant_of-self : goal.invariant_of-self
@@ -15,9 +20,28 @@ invariant_of-self g c =
     let index = c.make_room.new.index in
     let same = c.make_room.ensures.side in
     let grown = c.make_room.ensures.grown in (
-      same_open g.D.Disk.state j k same i.index index notes grown c.self.invariant.0,
-      same_stores g.D.Disk.state j k same i.index index notes c.self.invariant.1,
+      same_open j k same i.index index notes grown c.self.invariant.0,
+      same_own j k same i.index index notes i.which c.self.invariant.1,
+      same_stores j k same i.index index notes i.which g.D.Disk.state i.spare c.self.invariant.2,
     )
+
+pub returns-then-from-room-clause-any_moment : goal.returns-then-from-room-clause-any_moment
+returns-then-from-room-clause-any_moment g c = rw (← c.self.view_is) (λ h fine.
+    let i = c.self.inside in
+    two_rest_still g.D.Disk.state (disks_by i.which i.journal.disk i.spare) _ (λ images left.
+    inl (sure_now g.D.Disk.state i.which i.journal i.spare i.index i.noted.notes c.self.invariant.0
+    (c.self.invariant.2 h) fine images left)))
+
+pub returns-in_default-clause-any_moment : goal.returns-in_default-clause-any_moment
+returns-in_default-clause-any_moment g c = rw (← c.self.view_is) (λ h fine.
+    let i = c.self.inside in
+    subst (λ (d : g.row.D.Denot). TwoLeave g.D.Disk.state (disks_by i.which i.journal.disk i.spare)
+    (disks_by i.which d i.spare)
+    (ShowsContents (noted_as i.which i.journal.front.head.copied i.noted.notes) (c.args.changes.now ∷ [])))
+    (sym c.make_room.ensures.side.disk)
+    (two_rest_still g.D.Disk.state (disks_by i.which i.journal.disk i.spare) _ (λ images left.
+    inl (sure_now g.D.Disk.state i.which i.journal i.spare i.index i.noted.notes c.self.invariant.0
+    (c.self.invariant.2 h) fine images left))))
 
 pub returns-in_default-clause-answer : goal.returns-in_default-clause-answer
 returns-in_default-clause-answer g c =
@@ -36,7 +60,7 @@ returns-in_default-clause-answer g c =
       lacked =
           lacks_told i.index j.reserved_extents _ _ c.args.changes.now c.size_of_body-size.ensures
           c.in_default.ensures.err;
-      same = same_view j k same (noted_contents notes) notes.torn _;
+      same = same_view j k same i.which i.spare notes _;
       reserved = record {
         body = c.make_room.ensures.body;
         frames = same.reserved;
@@ -138,13 +162,17 @@ invariant_of-self-in-Ok-append_frame g c =
     let body_is : body ≡ spell_all c.args.changes.now = c.fill_body.ensures.body in
     let said = c.in-Ok-append_frame.ensures in (
       stored_open old.journal mid.journal made.side old.index mid.index made.grown made.few old.noted.notes
-          c.self.invariant.0 c.args.changes.now apply c.append_frame.new.self body body_is
-          said.answer.0 c.with_frame-self-inside.result.notes c.with_frame-self-inside.ensures
-          c.place_frame.new.index c.append_frame.ensures.heading c.place_frame.ensures.lies,
+          c.self.invariant.0 c.args.changes.now apply c.append_frame.new.self body body_is said.answer.0
+          c.with_frame-self-inside.result.notes c.with_frame-self-inside.ensures c.append_frame.ensures.front
+          c.place_frame.new.index c.place_frame.ensures.lies,
+      stored_own old.journal mid.journal made.side old.index mid.index made.grown made.few old.noted.notes
+          c.self.invariant.0 c.args.changes.now apply c.append_frame.new.self body body_is said.answer.0
+          c.with_frame-self-inside.result.notes c.with_frame-self-inside.ensures c.append_frame.ensures.front
+          old.which old.spare c.self.invariant.1,
       stored_stores old.journal mid.journal made.side old.index mid.index made.grown made.few old.noted.notes
-          c.self.invariant.0 c.args.changes.now apply c.append_frame.new.self body body_is
-          said.answer.0 c.with_frame-self-inside.result.notes c.with_frame-self-inside.ensures
-          g.D.Disk.state c.self.invariant.1 c.append_frame.ensures.heading said.bodies said.sure
+          c.self.invariant.0 c.args.changes.now apply c.append_frame.new.self body body_is said.answer.0
+          c.with_frame-self-inside.result.notes c.with_frame-self-inside.ensures c.append_frame.ensures.front
+          old.which old.spare c.self.invariant.1 g.D.Disk.state c.self.invariant.2 said.bodies said.sure
           c.append_frame.ensures.disk,
     )
 
@@ -159,14 +187,18 @@ invariant_of-self-in-Err-Device g c =
     let said = c.in-Err-Device.ensures in
     let answer = rw c.in-Err-Device.field-0-is at said.answer in (
       broken_open old.journal mid.journal made.side old.index mid.index made.grown made.few old.noted.notes
-          c.self.invariant.0 c.args.changes.now apply c.append_frame.new.self body body_is
-          answer.0 c.with_torn-self-inside.result.notes c.with_torn-self-inside.ensures c.append_frame.ensures.heading,
+          c.self.invariant.0 c.args.changes.now apply c.append_frame.new.self body body_is answer.0
+          c.with_torn-self-inside.result.notes c.with_torn-self-inside.ensures c.append_frame.ensures.front,
+      broken_own old.journal mid.journal made.side old.index mid.index made.grown made.few old.noted.notes
+          c.self.invariant.0 c.args.changes.now apply c.append_frame.new.self body body_is answer.0
+          c.with_torn-self-inside.result.notes c.with_torn-self-inside.ensures c.append_frame.ensures.front
+          old.which old.spare c.self.invariant.1,
       broken_stores old.journal mid.journal made.side old.index mid.index made.grown made.few old.noted.notes
-          c.self.invariant.0 c.args.changes.now apply c.append_frame.new.self body body_is
-          answer.0 c.with_torn-self-inside.result.notes c.with_torn-self-inside.ensures
-          g.D.Disk.state c.self.invariant.1 (g.met.D.Disk.is_disk c.append_frame.new.self.disk)
-          c.append_frame.ensures.disk
-          said.bodies said.any_moment,
+          c.self.invariant.0 c.args.changes.now apply c.append_frame.new.self body body_is answer.0
+          c.with_torn-self-inside.result.notes c.with_torn-self-inside.ensures c.append_frame.ensures.front
+          old.which old.spare c.self.invariant.1 g.D.Disk.state c.self.invariant.2
+          (g.met.D.Disk.is_disk c.append_frame.new.self.disk) c.append_frame.ensures.disk said.bodies
+          said.any_moment,
     )
 
 pub returns-in-Ok-append_frame-clause-answer : goal.returns-in-Ok-append_frame-clause-answer
@@ -182,10 +214,11 @@ returns-in-Ok-append_frame-clause-answer g c =
       stored_answer old.journal mid.journal made.side old.index mid.index made.grown made.few old.noted.notes
           c.self.invariant.0 c.args.changes.now apply c.append_frame.new.self body body_is
           said.answer.0 c.with_frame-self-inside.result.notes c.with_frame-self-inside.ensures
-          c.place_frame.new.index _ _
+          c.append_frame.ensures.front old.which old.spare c.place_frame.new.index _ _
           (omega (arith, made.body, c.fill_body.ensures.room, c.append_frame.ensures.frame.0))
           c.place_frame.ensures.reserved,
-      said.answer.1 ∙ ap (λ d. (g.D.Disk.state d).failures) made.side.disk,
+      none_by g.D.Disk.state old.which old.journal.disk old.spare c.append_frame.new.self.disk
+          (said.answer.1 ∙ ap (λ d. (g.D.Disk.state d).failures) made.side.disk),
     ))
 
 pub returns-in-Ok-append_frame-clause-sure : goal.returns-in-Ok-append_frame-clause-sure
@@ -201,7 +234,8 @@ returns-in-Ok-append_frame-clause-sure g c =
     stored_sure old.journal mid.journal made.side old.index mid.index made.grown made.few old.noted.notes
     c.self.invariant.0 c.args.changes.now apply c.append_frame.new.self body body_is
     said.answer.0 c.with_frame-self-inside.result.notes c.with_frame-self-inside.ensures
-    g.D.Disk.state c.self.invariant.1 c.append_frame.ensures.heading said.bodies said.sure)
+    c.append_frame.ensures.front old.which old.spare c.self.invariant.1 g.D.Disk.state c.self.invariant.2 said.bodies
+    said.sure)
 
 pub returns-in-Ok-append_frame-clause-any_moment : goal.returns-in-Ok-append_frame-clause-any_moment
 returns-in-Ok-append_frame-clause-any_moment g c =
@@ -213,8 +247,8 @@ returns-in-Ok-append_frame-clause-any_moment g c =
     let body = c.fill_body.new.frame.body in
     let body_is : body ≡ spell_all c.args.changes.now = c.fill_body.ensures.body in
     shown_moments old.journal mid.journal made.side old.index mid.index made.grown made.few old.noted.notes
-    c.self.invariant.0 c.args.changes.now apply c.append_frame.new.self body body_is
-    g.D.Disk.state c.self.invariant.1 c.in-Ok-append_frame.ensures.any_moment)
+    c.self.invariant.0 c.args.changes.now apply c.append_frame.new.self body body_is old.which old.spare
+    c.self.invariant.1 g.D.Disk.state c.self.invariant.2 c.in-Ok-append_frame.ensures.any_moment)
 
 pub returns-in-Err-Device-clause-any_moment : goal.returns-in-Err-Device-clause-any_moment
 returns-in-Err-Device-clause-any_moment g c =
@@ -226,8 +260,8 @@ returns-in-Err-Device-clause-any_moment g c =
     let body = c.fill_body.new.frame.body in
     let body_is : body ≡ spell_all c.args.changes.now = c.fill_body.ensures.body in
     shown_moments old.journal mid.journal made.side old.index mid.index made.grown made.few old.noted.notes
-    c.self.invariant.0 c.args.changes.now apply c.append_frame.new.self body body_is
-    g.D.Disk.state c.self.invariant.1 c.in-Err-Device.ensures.any_moment)
+    c.self.invariant.0 c.args.changes.now apply c.append_frame.new.self body body_is old.which old.spare
+    c.self.invariant.1 g.D.Disk.state c.self.invariant.2 c.in-Err-Device.ensures.any_moment)
 
 pub returns-in-Err-Device-clause-answer : goal.returns-in-Err-Device-clause-answer
 returns-in-Err-Device-clause-answer g c =
@@ -242,8 +276,11 @@ returns-in-Err-Device-clause-answer g c =
     let answer = rw c.in-Err-Device.field-0-is at said.answer in (
       broken_answer old.journal mid.journal made.side old.index mid.index made.grown made.few old.noted.notes
           c.self.invariant.0 c.args.changes.now apply c.append_frame.new.self body body_is
-          answer.0 c.with_torn-self-inside.result.notes c.with_torn-self-inside.ensures _ _
+          answer.0 c.with_torn-self-inside.result.notes c.with_torn-self-inside.ensures c.append_frame.ensures.front
+          old.which old.spare _ _
           (omega (arith, made.body, c.fill_body.ensures.room, c.append_frame.ensures.frame.0)),
-      subst (λ d. IsFault c.in-Err-Device.fault (g.D.Disk.state d) (g.D.Disk.state c.append_frame.new.self.disk))
-          made.side.disk answer.1,
+      fault_by g.D.Disk.state old.which old.journal.disk old.spare c.append_frame.new.self.disk
+          c.in-Err-Device.fault
+          (subst (λ d. IsFault c.in-Err-Device.fault (g.D.Disk.state d) (g.D.Disk.state c.append_frame.new.self.disk))
+          made.side.disk answer.1),
     ))

@@ -11,4 +11,4 @@ new-requires c =
 pub returns : goal.returns
 returns c =
     read_none (heading_of c.args.header.now) c.in_ok-index.index c.new-noted.result.notes c.requires.kind
-    (c.in_ok-index.ensures ∙ ap (map empty_placed) c.deref.ensures.value) c.new-noted.ensures
+    c.requires.valid (c.in_ok-index.ensures ∙ ap (map empty_placed) c.deref.ensures.value) c.new-noted.ensures

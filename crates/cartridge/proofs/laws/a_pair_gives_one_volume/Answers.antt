@@ -1,5 +1,5 @@
 use Rattle.cartridge.specs.Inner.Unique.{bad_once, gives_good, gives_one, gives_ours, gives_whole}
-use Rattle.cartridge.proofs.laws.an_image_gives_one_volume.Goals as goal
+use Rattle.cartridge.proofs.laws.a_pair_gives_one_volume.Goals as goal
 
 pub returns : goal.returns
 returns c = record {

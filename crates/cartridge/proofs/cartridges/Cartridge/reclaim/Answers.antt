@@ -1,0 +1,65 @@
+use Rattle.std.proofs.Common.{◌≡◌, ◌⊎◌, inl, inr, List, ℕ, refl, sym, subst, ap, ◌∙◌}
+use Rattle.tape_disk.specs.TwoDisks.{AreHonest, Images, MayLeave, TwoDisks, TwoLeave, two_in_sequence, seen_of_two, two_weakened}
+use Rattle.cartridge.specs.Contents.{GivesContents}
+use Rattle.cartridge.specs.Reclaiming.{GivesVolume, IsNotReclaimed, LeavesVolume, disks_reclaimed}
+use Rattle.cartridge.specs.State.{ClosedCartridge}
+use Rattle.cartridge.proofs.cartridges.Cartridge.reclaim.Goals as goal
+
+pub copy_cartridge-requires-clause-sure : goal.copy_cartridge-requires-clause-sure
+copy_cartridge-requires-clause-sure g c = λ honest images left.
+    let state = g.D.Disk.state in
+    let laws = g.met.D.Disk.is_disk in
+    let now = c.in-Ok.cartridge.disks in
+    let keeps = c.in-Ok.ensures.disks in
+    let old : AreHonest state c.args.shelved.disks =
+    (keeps.0.was_honest honest.0, keeps.1.was_honest honest.1) in
+    let only = (c.in-Ok.ensures.gives old).1 in
+    only images left
+    ∙ sym (only (seen_of_two state now) ((laws now.first honest.0).reads, (laws now.second honest.1).reads))
+
+pub returns-in-Ok-plan_copy-clause-any_moment : goal.returns-in-Ok-plan_copy-clause-any_moment
+returns-in-Ok-plan_copy-clause-any_moment g c = λ honest.
+    let state = g.D.Disk.state in
+    let old = c.args.shelved.disks in
+    let mid = c.in-Ok.cartridge.disks in
+    let contents = c.in-Ok.cartridge.contents in
+    let new = disks_reclaimed c.copy_cartridge.result in
+    let P = λ (images : Images). LeavesVolume (MayLeave state old) (seen_of_two state old) images in
+    let keeps = c.in-Ok.ensures.disks in
+    let still : AreHonest state mid = (keeps.0.stays_honest honest.0, keeps.1.stays_honest honest.1) in
+    let found = (c.in-Ok.ensures.gives honest).0 in
+    two_in_sequence state old mid new P
+    (two_weakened state old mid (MayLeave state old) P (c.in-Ok.ensures.any_moment honest) (λ images left. inl left))
+    (two_weakened state mid new (GivesVolume contents) P (c.copy_cartridge.ensures.any_moment still)
+    (λ images gives. inr (contents, found, gives)))
+
+pub returns-in-Err-plan_copy-clause-refused : goal.returns-in-Err-plan_copy-clause-refused
+returns-in-Err-plan_copy-clause-refused g c =
+    let state = g.D.Disk.state in
+    let error = c.in-Err-plan_copy.error in
+    subst (λ (s : ClosedCartridge g.row.D.Denot). IsNotReclaimed state c.args.shelved
+    (record { error = error; shelved = s })) (sym c.shelve.ensures)
+    (inr (inl (
+      c.in-Ok.ensures.ok.2,
+      refl,
+      c.in-Err-plan_copy.ensures.refused,
+      λ honest. (c.in-Ok.ensures.gives honest).0,
+    )))
+
+pub returns-in-Err-plan_copy-clause-any_moment : goal.returns-in-Err-plan_copy-clause-any_moment
+returns-in-Err-plan_copy-clause-any_moment g c = λ honest.
+    let state = g.D.Disk.state in
+    let old = c.args.shelved.disks in
+    let mid = c.in-Ok.cartridge.disks in
+    let P = λ (images : Images). LeavesVolume (MayLeave state old) (seen_of_two state old) images in
+    subst (λ (d : TwoDisks g.row.D.Denot). TwoLeave state old d P)
+    (sym (ap (λ (s : ClosedCartridge g.row.D.Denot). s.disks) c.shelve.ensures))
+    (two_weakened state old mid (MayLeave state old) P (c.in-Ok.ensures.any_moment honest) (λ images left. inl left))
+
+pub returns-in-Err-clause-any_moment : goal.returns-in-Err-clause-any_moment
+returns-in-Err-clause-any_moment g c = λ honest.
+    let state = g.D.Disk.state in
+    let old = c.args.shelved.disks in
+    let new = c.in-Err.refused.shelved.disks in
+    let P = λ (images : Images). LeavesVolume (MayLeave state old) (seen_of_two state old) images in
+    two_weakened state old new (MayLeave state old) P (c.in-Err.ensures.any_moment honest) (λ images left. inl left)

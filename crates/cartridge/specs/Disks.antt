@@ -1,0 +1,60 @@
+-- What calls do to the two disks of a cartridge.
+use Rattle.std.specs.Prelude.{◌≡◌, ℕ, List}
+use Rattle.vtl_base.specs.declared.faults.DevFault.{DevFault}
+use Rattle.tape_disk.specs.Disk.{DiskState}
+use Rattle.tape_disk.specs.Moments.{LeavesOnly}
+use Rattle.tape_disk.specs.TwoDisks.{Images, KeepsDisks, MayLeave, TwoDisks, TwoLeave, seen_of_two}
+use Rattle.gate_journal.specs.Answers.{NoneFailed}
+use Rattle.side_pairs.specs.declared.which.Which.{Which}
+use Rattle.side_pairs.specs.declared.which.Which.TheVariants.{First, Second}
+use Rattle.side_pairs.specs.Choosing.{IsFaultOfOne}
+use Rattle.side_pairs.specs.Passes.{first_image, other, second_image}
+
+-- the disk on which that side lies (own)
+abbrev pub disk_at : {D : Type 0} → Which → TwoDisks D → D
+disk_at First disks = disks.first
+disk_at Second disks = disks.second
+
+-- two disks, by that of this side and the other one (own)
+abbrev pub disks_by : {D : Type 0} → Which → D → D → TwoDisks D
+disks_by First this spare = record { first = this; second = spare }
+disks_by Second this spare = record { first = spare; second = this }
+
+-- two images, by that of this side and the other one (own)
+abbrev pub images_by : Which → List ℕ → List ℕ → Images
+images_by which this spare = (first_image which this spare, second_image which this spare)
+
+module _ {D : Type 0} (state : D → DiskState) where
+  -- no call of either disk failed since the old moment (own)
+  abbrev pub NoneOfTwo : TwoDisks D → TwoDisks D → Type 0
+  NoneOfTwo old new =
+      NoneFailed (state old.first) (state new.first) × NoneFailed (state old.second) (state new.second)
+
+  -- a call of one of them failed since then, and none of the other, and the fault says how many have so far (own)
+  abbrev pub IsFaultOfTwo : DevFault → TwoDisks D → TwoDisks D → Type 0
+  IsFaultOfTwo fault old new =
+      IsFaultOfOne fault (state old.first) (state new.first) (state old.second) (state new.second)
+
+  -- what a read gave of the two is the only pair of images that a crash now may leave (own)
+  abbrev pub OnlyOfTwo : TwoDisks D → TwoDisks D → Type 0
+  OnlyOfTwo old new = (images : Images) → MayLeave state new images → images ≡ seen_of_two state old
+
+  -- calls of the disk of that side lead from old to new, and the other disk is as it was (own)
+  pub record CallsOne (which : Which) (old new : TwoDisks D) : Type 0 where
+    pub keeps : KeepsDisks state old new
+    pub rests : disk_at (other which) new ≡ disk_at (other which) old
+
+  -- From old to new nothing was written: a read gives the same, and a crash since leaves what it might have left before
+  -- (own).
+  pub record UnwrittenTwo (old new : TwoDisks D) : Type 0 where
+    pub seen : seen_of_two state new ≡ seen_of_two state old
+    pub images : (images : Images) → MayLeave state new images → MayLeave state old images
+    pub moments : TwoLeave state old new (MayLeave state old)
+
+  -- Of each of the two that is honest, whatever the other one is: a crash since leaves what it might have left before
+  -- (own).
+  pub record EachStays (old new : TwoDisks D) : Type 0 where
+    pub first : (state old.first).honest →
+        LeavesOnly (state old.first) (state new.first) (state old.first).may_leave
+    pub second : (state old.second).honest →
+        LeavesOnly (state old.second) (state new.second) (state old.second).may_leave

@@ -1,0 +1,25 @@
+//! The two disks of a cartridge: that of the side that counts, and the other one.
+ghost use Rattle.std.specs.Prelude.{◌≡◌};
+ghost use Rattle.cartridge.specs.Disks.{disks_by};
+
+use side_pairs::Which;
+
+// The disks in their order, by that of this side and the other one.
+pub(crate) fn in_order<D>(which: Which, this: D, other: D) -> (D, D)
+    ensures { (record { first = result.0; second = result.1 }) ≡ disks_by which this other }
+{
+    match which {
+        Which::First => (this, other),
+        Which::Second => (other, this),
+    }
+}
+
+// The disk of this side and the other one, by the disks in their order.
+pub(crate) fn apart<D>(which: Which, first: D, second: D) -> (D, D)
+    ensures { disks_by which result.0 result.1 ≡ record { first = first; second = second } }
+{
+    match which {
+        Which::First => (first, second),
+        Which::Second => (second, first),
+    }
+}
