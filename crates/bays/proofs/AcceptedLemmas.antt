@@ -9,11 +9,11 @@ use Rattle.pr_core.specs.States.{empty_state, power_loss}
 use Rattle.gate_journal.specs.Side.{Heading}
 use Rattle.accepting.specs.Core.{NeverRebases, Rules}
 use Rattle.accepting.specs.Events.{ShowsCore}
-use Rattle.accepting.specs.Laws.{AcknowledgedIsKept, KeptBegins}
+use Rattle.accepting.specs.Laws.{AcknowledgedBegins, AcknowledgedIsKept, KeptBegins}
 use Rattle.aptpl_store.specs.Contents.{OpensAs}
 use Rattle.tape_buffer.specs.Moves.{buffer_below}
 use Rattle.tape_buffer.specs.State.{state_of}
-use Rattle.bays.specs.Accepted.{PrEvent, StopsKeepAccepted, order_rules, orders_core, pr_after, pr_after_all}
+use Rattle.bays.specs.Accepted.{PrEvent, StopsKeepAccepted, StopsKeepThrough, order_rules, orders_core, pr_after, pr_after_all}
 use Rattle.bays.specs.Bays.{ShowsOrders}
 use Rattle.bays.specs.Elements.{BayState}
 use Rattle.bays.specs.Reservations.{GivesHeld, HoldingGives, IsHolding}
@@ -23,6 +23,14 @@ pub stops_keep : (rules : Rules) → AcknowledgedIsKept rules → KeptBegins rul
 stops_keep rules kept begins never first acked last events before after rest all core one two =
     (begins never acked.base last.base acked.accepted last.accepted
     (kept first acked last before after core one two)).1
+
+pub stops_keep_through : (rules : Rules) → AcknowledgedIsKept rules → AcknowledgedBegins rules → StopsKeepThrough rules
+stops_keep_through rules kept begins first acked last events before after rest all core one two =
+    record {
+      kept = kept first acked last before after core one two;
+      base = λ none. (begins first acked last before after core one two none).0;
+      first = λ none. (begins first acked last before after core one two none).1;
+    }
 
 -- one more comes last
 more_last : (state : PrState) (events : List PrEvent) (event : PrEvent)

@@ -1,34 +1,32 @@
 -- What was acknowledged of a cartridge in a drive is kept.
-use Rattle.std.specs.Prelude.{◌≡◌, ◌++◌, ℕ, List, [], ◌∷◌, Bool, true, false, Option, None, Some, length, take, refl}
+use Rattle.std.specs.Prelude.{◌≡◌, ◌++◌, List, [], ◌∷◌, Bool, true, false, Option, None, Some, length, refl}
 use Rattle.std.proofs.Common.{sym, ◌∙◌, ap, subst}
 use Rattle.std.proofs.lemmas.List.{append-nil}
 use Rattle.vtl_base.specs.Below.{Below}
-use Rattle.tape_disk.specs.Disk.{DiskState, Each, IsDisk}
-use Rattle.tape_disk.specs.Moments.{LeavesOnly, weakened}
+use Rattle.tape_disk.specs.Disk.{DiskState, IsDisk}
+use Rattle.tape_disk.specs.TwoDisks.{AreHonest, EachOfTwo, TwoDisks, TwoLeave}
 use Rattle.pr_core.specs.declared.states.PrState.{PrState}
 use Rattle.pr_core.specs.Keepers.{KeeperState}
 use Rattle.volume_core.specs.declared.changes.Change.{Change}
 use Rattle.volume_core.specs.Medium.{turn_met_fault}
-use Rattle.gate_journal.specs.Side.{Heading}
-use Rattle.cartridge.specs.Contents.{Contents, changes_in}
+use Rattle.cartridge.specs.Contents.{Contents, Start, changes_since}
 use Rattle.cartridge.specs.State.{ClosedCartridge, OpenCartridge}
-use Rattle.accepting.specs.Core.{CanAcknowledge, Core, CoreStep, IsCore}
-use Rattle.accepting.specs.Device.{one_disk}
-use Rattle.accepting.specs.Events as Events
-use Rattle.accepting.specs.Events.{IsEvent, ShowsCore}
-use Rattle.accepting.specs.Laws.{CrashesKeepAcknowledged, KeptBegins, StepsKeepCores}
+use Rattle.accepting.specs.Core.{CanAcknowledge, Core, IsCore}
+use Rattle.accepting.specs.Device.{two_disks}
+use Rattle.accepting.specs.Events.{GivesAcknowledged, IsEvent, ShowsCore}
+use Rattle.accepting.specs.Laws.{CrashesKeepAcknowledged, StepsKeepCores}
 use Rattle.tape_buffer.specs.declared.holding.Holding.{Holding}
 use Rattle.tape_buffer.specs.declared.holding.Holding.TheVariants.{Open, Closed, Between}
-use Rattle.tape_buffer.specs.Rules.{GivesChanges, medium_rules}
+use Rattle.tape_buffer.specs.Rules.{medium_rules}
 use Rattle.tape_buffer.specs.Moves.{HonestOn, MediumMoves, MovesOn, buffer_below, medium_core, medium_moves_nowhere, medium_moves_on}
-use Rattle.tape_buffer.specs.State.{BufferState, core_held, disk_in, found_core, found_in, state_held, state_of, torn_in}
+use Rattle.tape_buffer.specs.State.{BufferState, core_held, disks_in, found_core, found_in, state_held, state_of, torn_in}
 use Rattle.drive_core.specs.declared.bays.Bay.{Bay}
 use Rattle.drive_core.specs.declared.bays.Bay.TheVariants.{Empty, Unloaded, Loaded}
 use Rattle.drive_core.specs.State.{DriveState, IsBayPositioned, machine_of, medium_in}
 use Rattle.drive_core.specs.Relations.{Made}
 use Rattle.drive_core.specs.Execute.{AdvancesIn, HonestIn, is_device_fault}
 use Rattle.drive_core.specs.Synchronize.{NothingPending}
-use Rattle.bays.specs.Cartridges.{GivesWhatWasAcknowledged, IsKnown, KeepsIn, StopsKeepChanges}
+use Rattle.bays.specs.Cartridges.{IsKnown, KeepsIn, StopsKeepChanges}
 use Rattle.bays.specs.Doings.{Commanded, Does, Doing, DoesAll, Turned}
 
 module _ {D : Type 0} (state : D → DiskState) (is_disk : (disk : D) → (state disk).honest → IsDisk (state disk)) where
@@ -93,14 +91,15 @@ module _ {D : Type 0} (state : D → DiskState) (is_disk : (disk : D) → (state
       → CanAcknowledge (core_held state (Open c) pending)
   safe_open c pending works none = (
     (works, refl),
-    ap length (sym (ap (λ (l : List Change). changes_in c.contents ++ l) none ∙ append-nil (changes_in c.contents))),
+    ap length
+        (sym (ap (λ (l : List Change). changes_since c.contents ++ l) none ∙ append-nil (changes_since c.contents))),
   )
 
   safe_found : (found : Option Contents) (torn : List Change) → torn ≡ [] → CanAcknowledge (found_core found torn)
   safe_found None torn none = ((refl, refl), refl)
   safe_found (Some contents) torn none = (
     (refl, refl),
-    ap length (sym (ap (λ (l : List Change). changes_in contents ++ l) none ∙ append-nil (changes_in contents))),
+    ap length (sym (ap (λ (l : List Change). changes_since contents ++ l) none ∙ append-nil (changes_since contents))),
   )
 
   -- where it is awake it is open
@@ -135,39 +134,23 @@ module _ {D : Type 0} (state : D → DiskState) (is_disk : (disk : D) → (state
         subst (λ (x : BufferState D). CanAcknowledge (medium_core state x)) e
         (safe_parked m.held m.pending on (nothing.1 h))
 
-  module _ (crash : CrashesKeepAcknowledged medium_rules (one_disk state)) (cores : StepsKeepCores medium_rules)
-      (begins : KeptBegins medium_rules) where
-    -- what all is carried out from never changes, so what was acknowledged begins what is given
-    gives_acknowledged : (old : Core Heading Change) (steps : List (CoreStep Change)) (image : List ℕ)
-        → Events.GivesAcknowledged medium_rules old steps image → GivesWhatWasAcknowledged old steps image
-    gives_acknowledged old steps image given =
-        let is = begins (λ base base' items never. never) old.base given.between.base old.accepted
-        (take given.kept given.between.accepted) given.acknowledged in
-        record {
-          count = given.count;
-          between = given.between;
-          leads = given.leads;
-          kept = given.kept;
-          acknowledged = is.1;
-          gives =
-              subst (λ (heading : Heading). GivesChanges heading (take given.kept given.between.accepted) image) is.0
-              given.gives;
-        }
-
-    -- what is acknowledged over one disk is kept over the next
-    keep_on : (x y z : Option D) (first second third : Core Heading Change) (made more : List Change) (disk : D)
-        → x ≡ Some disk → (state disk).honest → IsCore first → Each (state disk) (ShowsCore medium_rules first)
+  module _ (crash : CrashesKeepAcknowledged medium_rules (two_disks state)) (cores : StepsKeepCores medium_rules) where
+    -- what is acknowledged over two disks is kept over the next
+    keep_on : (x y z : Option (TwoDisks D)) (first second third : Core Start Change) (made more : List Change)
+        (disks : TwoDisks D)
+        → x ≡ Some disks → AreHonest state disks → IsCore first → EachOfTwo state disks (ShowsCore medium_rules first)
         → MovesOn state x y first second made → MovesOn state y z second third more → CanAcknowledge second
-        → (before : D) × (y ≡ Some before) × (after : D) × (z ≡ Some after)
-        × (event : IsEvent medium_rules (one_disk state) before after second third more)
-        × LeavesOnly (state before) (state after) (GivesWhatWasAcknowledged second event.steps)
-    keep_on None y z first second third made more disk is honest core shows one two safe = absurd (cc)
-    keep_on (Some x) None z first second third made more disk is honest core shows one two safe = absurd one
-    keep_on (Some x) (Some y) None first second third made more disk is honest core shows one two safe = absurd two
-    keep_on (Some x) (Some y) (Some z) first second third made more disk is honest core shows one two safe =
-        let same : x ≡ disk = cc in
-        let honest_x : (state x).honest = subst (λ (d : D). (state d).honest) (sym same) honest in
-        let shows_x = subst (λ (d : D). Each (state d) (ShowsCore medium_rules first)) (sym same) shows in
+        → (before : TwoDisks D) × (y ≡ Some before) × (after : TwoDisks D) × (z ≡ Some after)
+        × (event : IsEvent medium_rules (two_disks state) before after second third more)
+        × TwoLeave state before after (GivesAcknowledged medium_rules second event.steps)
+    keep_on None y z first second third made more disks is honest core shows one two safe = absurd (cc)
+    keep_on (Some x) None z first second third made more disks is honest core shows one two safe = absurd one
+    keep_on (Some x) (Some y) None first second third made more disks is honest core shows one two safe = absurd two
+    keep_on (Some x) (Some y) (Some z) first second third made more disks is honest core shows one two safe =
+        let same : x ≡ disks = cc in
+        let honest_x : AreHonest state x = subst (AreHonest state) (sym same) honest in
+        let shows_x =
+        subst (λ (d : TwoDisks D). EachOfTwo state d (ShowsCore medium_rules first)) (sym same) shows in
         let goes = one.goes honest_x shows_x in
         let kept = cores first second goes.0.steps core goes.0.leads in
         let found = crash y z second third more (one.keeps.stays_honest honest_x) kept.0 safe goes.1 two in (
@@ -176,8 +159,7 @@ module _ {D : Type 0} (state : D → DiskState) (is_disk : (disk : D) → (state
           z,
           refl,
           found.0,
-          weakened (state y) (state z) (Events.GivesAcknowledged medium_rules second found.0.steps)
-              (GivesWhatWasAcknowledged second found.0.steps) found.1 (gives_acknowledged second found.0.steps),
+          found.1,
         )
 
     pub keep_media : (a b c : Option (BufferState D)) (medium : BufferState D) (made more : List Change)
@@ -190,15 +172,15 @@ module _ {D : Type 0} (state : D → DiskState) (is_disk : (disk : D) → (state
     keep_media (Some a) (Some b) (Some c) medium made more is known one two safe =
         let same : a ≡ medium = cc in
         let known_a = subst (IsKnown state) (sym same) known in
-        let found = keep_on (disk_in a.held) (disk_in b.held) (disk_in c.held) (medium_core state a)
+        let found = keep_on (disks_in a.held) (disks_in b.held) (disks_in c.held) (medium_core state a)
         (medium_core state b)
-        (medium_core state c) made more known_a.disk known_a.disk_is known_a.honest known_a.core known_a.shows one two
-        (safe b refl) in
+        (medium_core state c) made more known_a.disks known_a.disks_are known_a.honest known_a.core known_a.shows one
+        two (safe b refl) in
         record {
           before = found.0;
-          disk_before = found.1;
+          disks_before = found.1;
           after = found.2;
-          disk_after = found.3;
+          disks_after = found.3;
           all_safe = safe b refl;
           event = found.4;
           moments = found.5;
@@ -211,7 +193,7 @@ module _ {D : Type 0} (state : D → DiskState) (is_disk : (disk : D) → (state
       honest_in (Some a) medium is known =
           let same : a ≡ medium = cc in
           let known_a = subst (IsKnown state) (sym same) known in
-          subst (HonestOn state) (sym known_a.disk_is) known_a.honest
+          subst (HonestOn state) (sym known_a.disks_are) known_a.honest
 
       pub stops_keep_changes : StopsKeepChanges state kept keeps
       stops_keep_changes old acked new medium request reply doings made at known answers sure told nothing on doing =

@@ -5,8 +5,8 @@ use Rattle.tape_disk.specs.Disk.{DiskState, IsDisk}
 use Rattle.scsi_sense.specs.declared.replies.Reply.{Reply}
 use Rattle.volume_core.specs.declared.changes.Change.{Change}
 use Rattle.accepting.specs.Core.{CanAcknowledge}
-use Rattle.accepting.specs.Device.{one_disk}
-use Rattle.accepting.specs.Laws.{CrashesKeepAcknowledged, KeptBegins, StepsKeepCores}
+use Rattle.accepting.specs.Device.{two_disks}
+use Rattle.accepting.specs.Laws.{CrashesKeepAcknowledged, StepsKeepCores}
 use Rattle.tape_buffer.specs.Rules.{medium_rules}
 use Rattle.tape_buffer.specs.Moves.{medium_core}
 use Rattle.tape_buffer.specs.State.{BufferState}
@@ -157,8 +157,7 @@ module _ {D : Type 0} (state : D → DiskState) (is_disk : (disk : D) → (state
       (moved_on state is_disk (cartridge_at old place) (cartridge_at mid at) (cartridge_at new after) first rest here
       (moved_with_all mid new at after deeds rest later.0 later.1 others))
 
-  module _ (crash : CrashesKeepAcknowledged medium_rules (one_disk state)) (cores : StepsKeepCores medium_rules)
-      (begins : KeptBegins medium_rules) where
+  module _ (crash : CrashesKeepAcknowledged medium_rules (two_disks state)) (cores : StepsKeepCores medium_rules) where
     pub stops_keep_what_is_moved : StopsKeepWhatIsMoved state
     stops_keep_what_is_moved old acked new number after medium request reply deeds changes at known answers sure told
         goes =
@@ -175,16 +174,16 @@ module _ {D : Type 0} (state : D → DiskState) (is_disk : (disk : D) → (state
         let later = still_there (cartridge_at old number) (cartridge_at acked number) taken.made.changes medium at
         first in
         let safe = answers.safe sure told
-        (honest_in state is_disk crash cores begins store_kept (store_below state) (medium_in answers.bay.bay) medium
+        (honest_in state is_disk crash cores store_kept (store_below state) (medium_in answers.bay.bay) medium
         inside known) in
-        keep_media state is_disk crash cores begins (cartridge_at old number) (cartridge_at acked number)
+        keep_media state is_disk crash cores (cartridge_at old number) (cartridge_at acked number)
         (cartridge_at new after) medium taken.made.changes changes at known first
         (moved_with_all acked new number after deeds changes later.0 later.1 goes)
         (λ left there. subst (λ (m : Option (BufferState D)). IsSafeIn state m) (sym is ∙ there) safe)
 
     pub keeps_what_is_safe : KeepsWhatIsSafe state
     keeps_what_is_safe old new place after medium deeds changes at known safe goes =
-        keep_media state is_disk crash cores begins (cartridge_at old place) (cartridge_at old place)
+        keep_media state is_disk crash cores (cartridge_at old place) (cartridge_at old place)
         (cartridge_at new after) medium [] changes at known
         (unmoved (cartridge_at old place) (cartridge_at old place) refl)
         (moved_with_all old new place after deeds changes medium at goes)

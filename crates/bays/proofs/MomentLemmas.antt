@@ -2,6 +2,7 @@
 use Rattle.std.proofs.Common.{◌≡◌, ap, inl, inr, ℕ, List, [], Option, None, Some, Result, Ok, Err, refl, sym, subst}
 use Rattle.tape_disk.specs.Disk.{DiskState, Each, IsDisk}
 use Rattle.tape_disk.specs.Moments.{LeavesOnly, no_call}
+use Rattle.tape_disk.specs.TwoDisks.{TwoDisks}
 use Rattle.scsi_sense.specs.declared.replies.Reply.{Reply}
 use Rattle.pr_core.specs.declared.states.PrState.{PrState}
 use Rattle.volume_core.specs.declared.changes.Change.{Change}
@@ -10,7 +11,7 @@ use Rattle.volume_core.specs.declared.media.MediumError.TheVariants as errors
 use Rattle.volume_core.specs.declared.media.Turn.{Turn}
 use Rattle.volume_core.specs.Medium.{turn_met_fault}
 use Rattle.vtl_base.specs.declared.faults.NoMemory.{NoMemory}
-use Rattle.gate_journal.specs.Side.{Heading}
+use Rattle.cartridge.specs.Contents.{Start}
 use Rattle.accepting.specs.Core.{CanAcknowledge, Core}
 use Rattle.accepting.specs.Device.{one_disk, one_is_device}
 use Rattle.accepting.specs.Events.{core_moves_nowhere}
@@ -18,7 +19,7 @@ use Rattle.aptpl_store.specs.Contents.{ShowsStates}
 use Rattle.aptpl_store.specs.Kept.{StoreMoves, core_of, store_below, store_kept, store_rules}
 use Rattle.aptpl_store.specs.State.{OpenStore}
 use Rattle.tape_buffer.specs.Moves.{MovesOn, ShowsOn, buffer_below, medium_core}
-use Rattle.tape_buffer.specs.State.{BufferState, disk_in, state_of}
+use Rattle.tape_buffer.specs.State.{BufferState, disks_in, state_of}
 use Rattle.drive_core.specs.declared.bays.Bay.{Bay}
 use Rattle.drive_core.specs.declared.bays.Bay.TheVariants.{Empty, Unloaded, Loaded}
 use Rattle.drive_core.specs.Data.{AnswersLent}
@@ -37,7 +38,7 @@ use Rattle.bays.proofs.CartridgeLemmas.{Moved, moved_by, moved_nowhere}
 use Rattle.bays.proofs.StoreCoreLemmas.{to_core}
 
 module _ {D : Type 0} (state : D → DiskState) (is_disk : (disk : D) → (state disk).honest → IsDisk (state disk)) where
-  event_on : (x y : Option D) (a b : Core Heading Change) (made : List Change) → ShowsOn state x a
+  event_on : (x y : Option (TwoDisks D)) (a b : Core Start Change) (made : List Change) → ShowsOn state x a
       → MovesOn state x y a b made → EventOn state x y a b made
   event_on (Some x) (Some y) a b made shows moves = λ honest. moves.goes honest (shows honest)
   event_on None None a b made shows moves = moves
@@ -48,7 +49,8 @@ module _ {D : Type 0} (state : D → DiskState) (is_disk : (disk : D) → (state
   pub event_in : (old new : Option (BufferState D)) (made : List Change) → KeepsCartridgeIn state old
       → Moved state is_disk old new made → EventIn state old new made
   event_in (Some old) (Some new) made kept moved =
-      λ sure volume is. event_on (disk_in old.held) (disk_in new.held) (medium_core state old) (medium_core state new)
+      λ sure volume is. event_on (disks_in old.held) (disks_in new.held) (medium_core state old)
+      (medium_core state new)
       made (kept.shows sure volume is) moved
   event_in None None made kept moved = moved
   event_in None (Some new) made kept moved = moved

@@ -1,13 +1,14 @@
 -- What a run of orders over a library keeps.
 use Rattle.std.proofs.Common.{◌≡◌, ◌≢◌, ◌⊎◌, ◌++◌, ◌∙◌, inl, inr, ℕ, Bool, true, List, [], ◌∷◌, Option, Some, Result, Ok, Err, flat_map, refl, sym, ap, subst}
 use Rattle.tape_disk.specs.Disk.{DiskState}
+use Rattle.tape_disk.specs.TwoDisks.{AreHonest, TwoDisks}
 use Rattle.scsi_sense.specs.declared.replies.Reply.{Reply}
 use Rattle.volume_core.specs.declared.changes.Change.{Change}
 use Rattle.volume_core.specs.Volume.{Part}
 use Rattle.tape_buffer.specs.Moves.{ShowsOn, medium_core}
 use Rattle.tape_buffer.specs.declared.holding.Holding.{Holding}
 use Rattle.tape_buffer.specs.declared.holding.Holding.TheVariants.{Open, Closed, Between}
-use Rattle.tape_buffer.specs.State.{BufferState, awake_is_read, disk_in, state_held, state_of}
+use Rattle.tape_buffer.specs.State.{BufferState, awake_is_read, disks_in, state_held, state_of}
 use Rattle.cartridge.specs.Contents.{volume_made}
 use Rattle.cartridge.specs.State.{ClosedCartridge, OpenCartridge}
 use Rattle.aptpl_store.specs.Kept.{store_kept}
@@ -93,18 +94,19 @@ module _ {D : Type 0} (state : D → DiskState) where
   stored_in (Closed cartridge) pending awake = absurd (cc)
   stored_in Between pending awake = absurd (cc)
 
-  -- what is kept of a cartridge that is awake, on an honest disk, is known
-  known_of : (medium : BufferState D) (disk : D) → KeepsCartridge state medium → disk_in medium.held ≡ Some disk
-      → (state disk).honest → (state_of state medium).awake ≡ true → IsKnown state medium
-  known_of medium disk kept disk_is honest awake =
+  -- what is kept of a cartridge that is awake, on honest disks, is known
+  known_of : (medium : BufferState D) (disks : TwoDisks D) → KeepsCartridge state medium
+      → disks_in medium.held ≡ Some disks → AreHonest state disks → (state_of state medium).awake ≡ true
+      → IsKnown state medium
+  known_of medium disks kept disks_are honest awake =
       let stored = stored_in medium.held medium.pending awake in
       record {
-        disk = disk;
-        disk_is = disk_is;
+        disks = disks;
+        disks_are = disks_are;
         honest = honest;
         core = kept.core;
         shows =
-            subst (λ (d : Option D). ShowsOn state d (medium_core state medium)) disk_is
+            subst (λ (d : Option (TwoDisks D)). ShowsOn state d (medium_core state medium)) disks_are
             (kept.shows (inl (awake_is_read state medium awake)) stored.0 stored.1) honest;
       }
 
@@ -113,7 +115,7 @@ module _ {D : Type 0} (state : D → DiskState) where
         → AnswersOrder state old order reply mid → AnswersOrders state mid orders replies new
         → KeptSince state old order reply mid orders replies new
     since old mid new (Command line) reply orders replies one others =
-        λ bay medium disk is loaded disk_is honest synchronizing told.
+        λ bay medium disks is loaded disks_are honest synchronizing told.
         let same : one.bay ≡ bay = found_same one.bay bay (sym one.is ∙ is) in
         let at : one.bay.bay ≡ Loaded medium = ap (λ (b : BayState D). b.bay) same ∙ loaded in
         let there : medium_in one.bay.bay ≡ Some medium = ap medium_in at in
@@ -127,7 +129,7 @@ module _ {D : Type 0} (state : D → DiskState) where
           goes.2,
           moved old mid new line.drive goes.0 medium (line_request line) reply (deeds_of orders replies) goes.1
               (in_bay line.drive one.bay old one.number_is one.is ∙ there)
-              (known_of medium disk kept disk_is honest on.awake) one
+              (known_of medium disks kept disks_are honest on.awake) one
               (subst (λ (b : BayState D). IsSynchronizing (machine_of (state_of state) store_kept b) line.cdb)
               (sym same) synchronizing)
               told goes.2,

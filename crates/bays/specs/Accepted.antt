@@ -10,7 +10,7 @@ use Rattle.pr_core.specs.Orders.{effect_of}
 use Rattle.pr_core.specs.Sets.{nexuses}
 use Rattle.pr_core.specs.States.{empty_state, power_loss}
 use Rattle.gate_journal.specs.Side.{Heading}
-use Rattle.accepting.specs.Core.{Ack, AllStepTo, Core, CoreStep, IsCore, IsPrefix, Rules}
+use Rattle.accepting.specs.Core.{Ack, AllStepTo, Core, CoreStep, IsCore, IsKept, IsPrefix, NoneRebases, Rules}
 use Rattle.aptpl_store.specs.Contents.{OpensAs}
 
 -- what changes the reservations of a drive: an order of a host, or a loss of power (SPC-4, PERSISTENT RESERVE OUT,
@@ -96,3 +96,23 @@ module _ (rules : Rules) where
       → flat_map (λ event. event) events ≡ before ++ (Ack ∷ after) ++ rest
       → IsCore first → AllStepTo rules first before acked → AllStepTo rules acked (Ack ∷ after) last
       → IsPrefix acked.accepted last.accepted
+
+  -- What was accepted in a core is kept in one that these steps lead to, carried out from wherever all is then. Where
+  -- no step changes that, it is what it was, and what was accepted begins what is accepted then (own).
+  pub record KeepsThrough
+      (old : Core rules.Base rules.Item) (steps : List (CoreStep rules.Item)) (new : Core rules.Base rules.Item)
+      : Type 0 where
+    pub kept : IsKept rules old.base old.accepted new.base new.accepted
+    pub base : NoneRebases steps → new.base ≡ old.base
+    pub first : NoneRebases steps → IsPrefix old.accepted new.accepted
+
+  -- For every list of events, and of changes of what all is carried out from, each a list of steps: what was accepted
+  -- at an acknowledgement, in whichever event it stands, is kept so at any moment behind it, inside an event too,
+  -- whatever stops come between (own).
+  abbrev pub StopsKeepThrough : Type 0
+  StopsKeepThrough =
+      (first acked last : Core rules.Base rules.Item) (events : List (List (CoreStep rules.Item)))
+      (before after rest : List (CoreStep rules.Item))
+      → flat_map (λ event. event) events ≡ before ++ (Ack ∷ after) ++ rest
+      → IsCore first → AllStepTo rules first before acked → AllStepTo rules acked (Ack ∷ after) last
+      → KeepsThrough acked after last

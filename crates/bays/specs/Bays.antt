@@ -1,19 +1,21 @@
--- What the type of a drive keeps of its two disks, and what each of its calls leaves there at every moment inside it.
+-- What the type of a drive keeps of the disks of its cartridge and of its store, and what each of its calls leaves
+-- there at every moment inside it.
 use Rattle.std.specs.Prelude.{◌≡◌, ◌⊎◌, ℕ, List, [], false, Option, None, Some, option_map, Result, Ok, Err}
 use Rattle.tape_disk.specs.Disk.{DiskState, Each}
 use Rattle.tape_disk.specs.Moments.{LeavesOnly}
+use Rattle.tape_disk.specs.TwoDisks.{AreHonest, EachOfTwo, TwoDisks}
 use Rattle.scsi_sense.specs.declared.replies.Reply.{Reply}
 use Rattle.pr_core.specs.declared.states.PrState.{PrState}
 use Rattle.pr_core.specs.States.{empty_state}
 use Rattle.volume_core.specs.Volume.{Part}
 use Rattle.volume_core.specs.declared.changes.Change.{Change}
-use Rattle.gate_journal.specs.Side.{Heading}
+use Rattle.cartridge.specs.Contents.{Start}
 use Rattle.accepting.specs.Core.{CanAcknowledge, Core, IsCore}
-use Rattle.accepting.specs.Device.{one_disk}
+use Rattle.accepting.specs.Device.{one_disk, two_disks}
 use Rattle.accepting.specs.Events.{IsEvent, ShowsCore}
 use Rattle.tape_buffer.specs.Moves.{IsSafeOrPending, ShowsOn, buffer_below, medium_core}
 use Rattle.tape_buffer.specs.Rules.{medium_rules}
-use Rattle.tape_buffer.specs.State.{BufferState, IsSettledIn, disk_in, state_of}
+use Rattle.tape_buffer.specs.State.{BufferState, IsSettledIn, disks_in, state_of}
 use Rattle.aptpl_store.specs.Contents.{ShowsStates}
 use Rattle.aptpl_store.specs.Kept.{core_of, store_below, store_kept, store_rules}
 use Rattle.aptpl_store.specs.State.{OpenStore}
@@ -33,13 +35,13 @@ module _ {D : Type 0} (state : D → DiskState) where
 
   -- What is kept of a cartridge: what is safe is stored, and what is stored was accepted; while its device works and
   -- nothing was stopped, all that is stored is safe and the rest is pending; and of one that was opened or is settled,
-  -- whose side gives a volume, each image that a crash now may leave gives what is safe, or what is stored (own).
+  -- and gives a volume, each pair of images that a crash now may leave gives what is safe, or what is stored (own).
   pub record KeepsCartridge (medium : BufferState D) : Type 0 where
     pub core : IsCore (medium_core state medium)
     pub whole : IsSafeOrPending (medium_core state medium) medium.pending
     pub shows :
         IsOpenedOrSettled medium → (volume : List Part) → (state_of state medium).stored ≡ Some volume
-        → ShowsOn state (disk_in medium.held) (medium_core state medium)
+        → ShowsOn state (disks_in medium.held) (medium_core state medium)
 
   -- the same of the cartridge in a drive, where there is one (own)
   abbrev pub KeepsCartridgeIn : Option (BufferState D) → Type 0
@@ -60,20 +62,23 @@ module _ {D : Type 0} (state : D → DiskState) where
       → bay.keeper.torn ≡ option_map (pr_after bay.reservations) failed → (state bay.keeper.disk).honest
       → Each (state bay.keeper.disk) (ShowsCore order_rules (orders_core bay.keeper.heading events failed))
 
-  -- From one core to the other, over an honest disk, just these were accepted by the steps of one event: at each moment
-  -- since, a crash leaves what is safe or stored once some of the steps were made; and now, what is in the end (own).
-  abbrev pub EventOn : Option D → Option D → Core Heading Change → Core Heading Change → List Change → Type 0
-  EventOn (Some disk) (Some disk') old new made =
-      (state disk).honest
-      → IsEvent medium_rules (one_disk state) disk disk' old new made × Each (state disk') (ShowsCore medium_rules new)
+  -- From one core to the other, over two honest disks, just these were accepted by the steps of one event: at each
+  -- moment since, a crash leaves what is safe or stored once some of the steps were made; and now, what is in the end
+  -- (own).
+  abbrev pub EventOn :
+      Option (TwoDisks D) → Option (TwoDisks D) → Core Start Change → Core Start Change → List Change → Type 0
+  EventOn (Some disks) (Some disks') old new made =
+      AreHonest state disks
+      → IsEvent medium_rules (two_disks state) disks disks' old new made
+      × EachOfTwo state disks' (ShowsCore medium_rules new)
   EventOn None None old new made = made ≡ []
   EventOn _ _ old new made = ⊥
 
-  -- the same from one medium, which was opened or is settled and whose side gave a volume, to a later one (own)
+  -- the same from one medium, which was opened or is settled and gave a volume, to a later one (own)
   abbrev pub EventIn : Option (BufferState D) → Option (BufferState D) → List Change → Type 0
   EventIn (Some old) (Some new) made =
       IsOpenedOrSettled old → (volume : List Part) → (state_of state old).stored ≡ Some volume
-      → EventOn (disk_in old.held) (disk_in new.held) (medium_core state old) (medium_core state new) made
+      → EventOn (disks_in old.held) (disks_in new.held) (medium_core state old) (medium_core state new) made
   EventIn None None made = made ≡ []
   EventIn _ _ made = ⊥
 

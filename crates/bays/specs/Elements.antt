@@ -5,7 +5,7 @@ use Rattle.drive_core.specs.State.{DriveState, medium_in}
 use Rattle.tape_buffer.specs.State.{BufferState}
 use Rattle.aptpl_store.specs.State.{OpenStore}
 
--- a drive in buffered mode over a cartridge on a disk, and over a store of its reservations (own)
+-- a drive in buffered mode over a cartridge on two disks, and over a store of its reservations (own)
 abbrev pub BayState : Type 0 → Type 0
 BayState D = DriveState (BufferState D) (OpenStore D)
 

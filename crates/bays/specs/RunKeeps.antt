@@ -1,11 +1,12 @@
 -- What a run of orders over a library keeps, at each moment of it, of what was accepted on the way.
 use Rattle.std.specs.Prelude.{◌≡◌, ℕ, List, [], ◌∷◌, Some}
 use Rattle.tape_disk.specs.Disk.{DiskState}
+use Rattle.tape_disk.specs.TwoDisks.{AreHonest, TwoDisks}
 use Rattle.scsi_sense.specs.declared.replies.Reply.{Reply}
 use Rattle.volume_core.specs.declared.changes.Change.{Change}
 use Rattle.accepting.specs.Core.{CanAcknowledge}
 use Rattle.tape_buffer.specs.Moves.{medium_core}
-use Rattle.tape_buffer.specs.State.{BufferState, disk_in, state_of}
+use Rattle.tape_buffer.specs.State.{BufferState, disks_in, state_of}
 use Rattle.aptpl_store.specs.Kept.{store_kept}
 use Rattle.drive_core.specs.declared.bays.Bay.TheVariants.{Loaded}
 use Rattle.drive_core.specs.State.{machine_of}
@@ -35,12 +36,12 @@ module _ {D : Type 0} (state : D → DiskState) where
       × KeepsIn state (cartridge_at old place) (cartridge_at new after) changes
 
   -- An order was answered, and then these. If it was a synchronizing command that was acknowledged, of a drive with a
-  -- cartridge loaded whose disk is honest, what that had accepted is kept while these are answered (own).
+  -- cartridge loaded whose disks are honest, what that had accepted is kept while these are answered (own).
   abbrev pub KeptSince : HeldState D → Order → Reply → HeldState D → List Order → List Reply → HeldState D → Type 0
   KeptSince old (Command line) reply mid orders replies new =
-      (bay : BayState D) (medium : BufferState D) (disk : D)
-      → bay_at old.bays line.drive ≡ Some bay → bay.bay ≡ Loaded medium → disk_in medium.held ≡ Some disk
-      → (state disk).honest
+      (bay : BayState D) (medium : BufferState D) (disks : TwoDisks D)
+      → bay_at old.bays line.drive ≡ Some bay → bay.bay ≡ Loaded medium → disks_in medium.held ≡ Some disks
+      → AreHonest state disks
       → IsSynchronizing (machine_of (state_of state) store_kept bay) line.cdb → Acknowledges reply
       → KeptWhile mid line.drive orders replies new
   KeptSince old (Carry from to) reply mid orders replies new = Unit {0}

@@ -38,8 +38,8 @@ pub struct NotOn<D: Disk> {
     pub store: AptplStore<D>,
 }
 
-/// A drive in buffered mode over a cartridge on a disk, with a store of its reservations on another disk. The type
-/// keeps what a stop may leave of the two.
+/// A drive in buffered mode over a cartridge on two disks, with a store of its reservations on a disk of its own. The
+/// type keeps what a stop may leave of cartridge and store.
 #[derive(Drop)]
 pub struct Bay<D: Disk> {
     drive: Drive<Buffered<D>, AptplStore<D>>,

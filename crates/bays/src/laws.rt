@@ -1,23 +1,26 @@
 //! Laws of what is left of a drive. Each is a function whose contract is the law.
 ghost use Rattle.tape_buffer.specs.Rules.{medium_rules};
-ghost use Rattle.bays.specs.Accepted.{StopsKeepAccepted, order_rules};
+ghost use Rattle.bays.specs.Accepted.{StopsKeepAccepted, StopsKeepThrough, order_rules};
 
 pub mod cartridges;
 pub mod reservations;
 
 use crate::bays::Bay;
-use accepting::laws::{what_is_kept_begins, what_was_acknowledged_is_kept};
+use accepting::laws::{
+    what_is_kept_begins, what_was_acknowledged_begins, what_was_acknowledged_is_kept,
+};
 use tape_buffer::Buffered;
 use tape_disk::Disk;
 
 /// For every list of events, of the changes of a cartridge and of the orders of a drive's reservations: what was
-/// accepted at an acknowledgement begins all that is accepted later, whatever stops come between.
+/// accepted at an acknowledgement begins all that is accepted later, whatever stops come between. Of a cartridge also
+/// where what all is carried out from changes between two events: then what was accepted is kept in that.
 pub fn stop_keeps<D: Disk>()
-    ensures changes { StopsKeepAccepted medium_rules }
+    ensures changes { StopsKeepThrough medium_rules }
     ensures orders { StopsKeepAccepted order_rules }
 {
     what_was_acknowledged_is_kept::<Buffered<D>>();
-    what_is_kept_begins::<Buffered<D>>();
+    what_was_acknowledged_begins::<Buffered<D>>();
     what_was_acknowledged_is_kept::<Bay<D>>();
     what_is_kept_begins::<Bay<D>>();
 }

@@ -30,7 +30,7 @@ impl<D: Disk> Model for Parked<D> {
 }
 
 impl<D: Disk> Parked<D> {
-    /// A closed cartridge. Over a disk that was only taken for a cartridge it is unread: nothing is known of it until a
+    /// A closed cartridge. Over disks that were only taken for a cartridge it is unread: nothing is known of it until a
     /// drive opens it.
     pub fn of(alloc: Global, shelved: Shelved<D>) -> Parked<D>
         ensures { result ≡ closed_buffer shelved }

@@ -26,7 +26,8 @@ pub const GOOD: Answer = (Status::Good, 0, 0, 0);
 
 pub const READY: &'static [u8] = &[0; 6];
 
-/// A new cartridge of this barcode and 4,096 bytes, on a disk whose call of this number fails. Its creation makes five.
+/// A new cartridge of this barcode and 4,096 bytes, whose first disk fails at the call of this number. Its creation
+/// makes five.
 fn cartridge(alloc: Global, barcode: &[u8], fails: u64) -> Result<Shelved<Once>, Fail>
     ensures { IfOk result (λ shelved. shelved.known ≡ true) }
 {
@@ -34,7 +35,8 @@ fn cartridge(alloc: Global, barcode: &[u8], fails: u64) -> Result<Shelved<Once>,
         return Err(Fail::from("no barcode"));
     };
     let disk = OnceDisk::new(MemDisk::new(alloc), fails);
-    match Cartridge::create(alloc, disk, &barcode, &[4_096]) {
+    let second = OnceDisk::new(MemDisk::new(alloc), NEVER);
+    match Cartridge::create(alloc, disk, second, &barcode, &[4_096]) {
         Ok(shelved) => Ok(shelved),
         Err(_) => Err(Fail::from("no cartridge")),
     }
@@ -111,7 +113,7 @@ fn put<D: Disk + Drop>(held: &mut Held<D>, address: u32, cartridge: Parked<D>) -
     }
 }
 
-/// Places a new cartridge of this barcode, on a disk whose call of this number fails.
+/// Places a new cartridge of this barcode, whose first disk fails at the call of this number.
 pub fn place(
     alloc: Global,
     held: &mut Held<Once>,
@@ -130,7 +132,7 @@ fn fill(alloc: Global, held: &mut Held<Once>, fails: u64) -> Result<(), Fail> {
     add_drive(alloc, held, 2)
 }
 
-/// Drives 1 and 2, and in slot 1001 a new cartridge T00001L6 on a disk whose call of this number fails.
+/// Drives 1 and 2, and in slot 1001 a new cartridge T00001L6 whose first disk fails at the call of this number.
 pub fn library(alloc: Global, fails: u64) -> Result<Held<Once>, Fail> {
     let mut held = Held::new(alloc)?;
     fill(alloc, &mut held, fails)?;

@@ -2,7 +2,7 @@
 use crate::drives::{Tape, switched_on};
 use crate::work::{TEST_UNIT_READY, Timed, writes};
 use cartridge::Cartridge;
-use file_disk::{FileDisk, create};
+use file_disk::{FileDisk, create, open};
 use std::time::Instant;
 use vtl_base::limits::MAX_CAPACITY;
 use vtl_base::{Barcode, Nexus};
@@ -15,12 +15,23 @@ const BLOCKS_A_MARK: u32 = 256;
 // WRITE of 262,144 bytes.
 const WRITE_BLOCK: [u8; 6] = [0x0a, 0, 4, 0, 0, 0];
 
-// A drive with an empty cartridge in a new file.
+// The disk in a cartridge's second file, which is made where it is missing.
+fn second_disk(rt: &HostRuntime, path: &str) -> Option<FileDisk> {
+    let path = format!(in rt.alloc(); "{path}.2").ok()?;
+    match create(rt, path.as_str()) {
+        Ok(disk) => Some(disk),
+        Err(_) => open(rt, path.as_str()).ok(),
+    }
+}
+
+// A drive with an empty cartridge in a new file, and a second one beside it.
 fn new_drive(rt: &HostRuntime, path: &str) -> Option<Tape<FileDisk>> {
     let barcode = Barcode::parse(b"T00001L6").ok()?;
-    let disk = create(rt, path).ok()?;
-    let shelved = Cartridge::create(rt.alloc(), disk, &barcode, &[MAX_CAPACITY]).ok()?;
-    switched_on(rt.alloc(), shelved.into_disk())
+    let first = create(rt, path).ok()?;
+    let second = second_disk(rt, path)?;
+    let shelved = Cartridge::create(rt.alloc(), first, second, &barcode, &[MAX_CAPACITY]).ok()?;
+    let (first, second) = shelved.into_disks();
+    switched_on(rt.alloc(), first, second)
 }
 
 // Whether all these blocks and the last mark were taken.
@@ -43,7 +54,7 @@ fn timed(rt: &HostRuntime, drive: &mut Tape<FileDisk>, count: u32) -> Option<Tim
 }
 
 /// Buffered writes of 262,144 bytes to a new cartridge in this file, which must not exist, with a filemark behind each
-/// 256 of them and one at the end: how many bytes were written.
+/// 256 of them and one at the end: how many bytes were written. Its second file has `.2` added to the name.
 pub fn appended(rt: &HostRuntime, path: &str, count: u32) -> Option<Timed> {
     let mut drive = new_drive(rt, path)?;
     timed(rt, &mut drive, count)

@@ -29,7 +29,7 @@ pub type Timed = (u128, u64);
 // A drive with an empty cartridge in memory, and a host that took its power on.
 fn new_drive(alloc: Global) -> Option<(Tape<MemDisk>, Nexus)> {
     let disk = MemDisk::from_bytes(alloc, &SIDE).ok()?;
-    let mut drive = switched_on(alloc, disk)?;
+    let mut drive = switched_on(alloc, disk, MemDisk::new(alloc))?;
     let host = Nexus::new(1)?;
     let _ = drive.execute(host, &TEST_UNIT_READY, &[]);
     Some((drive, host))

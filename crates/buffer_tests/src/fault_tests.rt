@@ -1,4 +1,4 @@
-//! A fault at each call of the disk: in a turn, in a storing and in a loading.
+//! A fault at each call of either disk: in a turn, in a storing and in a loading.
 use crate::drives::Tape;
 use crate::samples::{
     CHANGED, EMPTY, END, ERASE, FAILED, GOOD, INQUIRED, INQUIRY, LATE_ERROR, LOAD, LOCATE_0, MARK,
@@ -75,18 +75,23 @@ static CASES: &'static [Case<'static>] = &[
     (TWO_STAND, ERASE, NONE, GOOD, b"ab", b""),
 ];
 
-// A drive with an empty tape, of whose disk the call after so many fails. Four calls switch it on, and four store
-// what stands before a case's command.
+// More calls than a test makes.
+const NEVER: u64 = 1_000;
+
+// A drive with a tape, of whose disks the call after so many of the first fails, and after so many of the second. Six
+// calls of the first and one of the second switch it on; four of the first store what stands before a case's command.
 fn failing(
     rt: &impl Abort,
     alloc: Global,
     side: &[u8],
-    calls: u64,
+    first: u64,
+    second: u64,
 ) -> Result<Tape<OnceDisk<MemDisk>>, Fail> {
     greeted(
         rt,
         alloc,
-        OnceDisk::new(MemDisk::from_bytes(alloc, side)?, calls),
+        OnceDisk::new(MemDisk::from_bytes(alloc, side)?, first),
+        OnceDisk::new(MemDisk::new(alloc), second),
     )
 }
 
@@ -120,10 +125,10 @@ fn passes<D: Disk + Drop>(rt: &impl Abort, drive: &mut Tape<D>, case: &Case) {
 // nothing, so the frame is there where the last one failed; the call behind them is none of the case's.
 fn storing(rt: &impl Abort, alloc: Global, case: &Case, calls: u64) -> Result<(), Fail> {
     let (_, _, _, _, without, with) = *case;
-    let mut drive = failing(rt, alloc, EMPTY, calls)?;
+    let mut drive = failing(rt, alloc, EMPTY, calls, NEVER)?;
     match calls {
-        12 => passes(rt, &mut drive, case),
-        11 => fails(rt, &mut drive, case, with),
+        14 => passes(rt, &mut drive, case),
+        13 => fails(rt, &mut drive, case, with),
         _ => fails(rt, &mut drive, case, without),
     }
     Ok(())
@@ -132,7 +137,7 @@ fn storing(rt: &impl Abort, alloc: Global, case: &Case, calls: u64) -> Result<()
 #[test]
 fn a_fault_at_each_call_of_a_storing(rt: HostRuntime) -> Result<(), Fail> {
     for case in CASES {
-        for calls in 8..13 {
+        for calls in 10..15 {
             storing(&rt, rt.alloc(), case, calls)?;
         }
     }
@@ -187,8 +192,8 @@ fn turn_fails<D: Disk + Drop>(rt: &impl Abort, drive: &mut Tape<D>, told: &[Row]
 }
 
 fn turns(rt: &impl Abort, alloc: Global, calls: u64, told: &[Row]) -> Result<(), Fail> {
-    let mut drive = failing(rt, alloc, EMPTY, calls)?;
-    let holds: &[u8] = if calls == 11 { b"ab" } else { b"a" };
+    let mut drive = failing(rt, alloc, EMPTY, calls, NEVER)?;
+    let holds: &[u8] = if calls == 13 { b"ab" } else { b"a" };
     turn_fails(rt, &mut drive, told, holds);
     Ok(())
 }
@@ -196,7 +201,7 @@ fn turns(rt: &impl Abort, alloc: Global, calls: u64, told: &[Row]) -> Result<(),
 #[test]
 fn a_fault_at_each_call_of_a_turn(rt: HostRuntime) -> Result<(), Fail> {
     let alloc = rt.alloc();
-    for calls in 8..12 {
+    for calls in 10..14 {
         turns(&rt, alloc, calls, TOLD_ONCE)?;
         turns(&rt, alloc, calls, TOLD_TO_A_READ)?;
         turns(&rt, alloc, calls, TOLD_AS_DATA)?;
@@ -231,9 +236,15 @@ static READ_AGAIN: &'static [Row<'static>] = &[
     (1, LOAD, NONE, GOOD),
 ];
 
-// A side with one block, of whose disk the call after so many fails: the tape answers so, and has its block then.
-fn loading(rt: &impl Abort, alloc: Global, calls: u64, rows: &[Row]) -> Result<(), Fail> {
-    let mut drive = failing(rt, alloc, ONE, calls)?;
+// A side with one block, of whose disks a call fails: the tape answers so, and has its block then.
+fn loading(
+    rt: &impl Abort,
+    alloc: Global,
+    first: u64,
+    second: u64,
+    rows: &[Row],
+) -> Result<(), Fail> {
+    let mut drive = failing(rt, alloc, ONE, first, second)?;
     asks(rt, &mut drive, rows);
     reads(rt, &mut drive, b"a");
     Ok(())
@@ -242,14 +253,22 @@ fn loading(rt: &impl Abort, alloc: Global, calls: u64, rows: &[Row]) -> Result<(
 #[test]
 fn a_fault_at_each_call_of_a_loading(rt: HostRuntime) -> Result<(), Fail> {
     let alloc = rt.alloc();
-    // A sync, two reads of the header, two of gates and one of the body.
-    for calls in 0..6 {
-        loading(&rt, alloc, calls, LOADED_LATE)?;
+    // A sync and a read that choose; a sync, two reads of the header, two of gates and one of the body.
+    for calls in 0..8 {
+        loading(&rt, alloc, calls, NEVER, LOADED_LATE)?;
     }
-    for calls in 6..12 {
-        loading(&rt, alloc, calls, LOADED_AGAIN)?;
+    for calls in 8..16 {
+        loading(&rt, alloc, calls, NEVER, LOADED_AGAIN)?;
     }
-    loading(&rt, alloc, 6, READ_AGAIN)
+    loading(&rt, alloc, 8, NEVER, READ_AGAIN)
+}
+
+#[test]
+fn a_fault_of_the_second_disk_in_a_loading(rt: HostRuntime) -> Result<(), Fail> {
+    let alloc = rt.alloc();
+    // A sync each time.
+    loading(&rt, alloc, NEVER, 0, LOADED_LATE)?;
+    loading(&rt, alloc, NEVER, 1, LOADED_AGAIN)
 }
 
 // A side that is refused stands in the drive unloaded, and LOAD tells so; UNLOAD leaves it.
@@ -274,7 +293,7 @@ fn changed(alloc: Global, place: usize, value: u8) -> Result<MemDisk, Fail> {
 }
 
 fn refused(rt: &impl Abort, alloc: Global, disk: MemDisk) -> Result<(), Fail> {
-    let mut drive = greeted(rt, alloc, disk)?;
+    let mut drive = greeted(rt, alloc, disk, MemDisk::new(alloc))?;
     asks(rt, &mut drive, UNREADABLE);
     Ok(())
 }

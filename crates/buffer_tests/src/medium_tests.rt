@@ -15,7 +15,7 @@ use vtl_base::Bytes;
 // A parked medium over the cartridge of these bytes.
 fn parked(alloc: Global, side: &[u8]) -> Result<Buffered<MemDisk>, Fail> {
     let disk = MemDisk::from_bytes(alloc, side)?;
-    Ok(Buffered::parked(alloc, Shelved::of(disk)))
+    Ok(Buffered::parked(alloc, Shelved::of(disk, MemDisk::new(alloc))))
 }
 
 // A block of this size behind the first objects. A medium that is awake stays as it is.

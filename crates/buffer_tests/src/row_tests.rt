@@ -188,7 +188,12 @@ fn left(rt: &impl Abort, alloc: Global, drive: &Tape<MemDisk>, wanted: &[u8]) ->
 // Steps from an empty tape, and what a crash leaves behind them.
 fn course(rt: &impl Abort, alloc: Global, steps: &[Step], wanted: &[u8]) -> Result<(), Fail> {
     for way in WAYS {
-        let mut drive = greeted(rt, alloc, MemDisk::from_bytes(alloc, EMPTY)?)?;
+        let mut drive = greeted(
+            rt,
+            alloc,
+            MemDisk::from_bytes(alloc, EMPTY)?,
+            MemDisk::new(alloc),
+        )?;
         goes(rt, alloc, &mut drive, *way, steps);
         left(rt, alloc, &drive, wanted)?;
     }
@@ -228,7 +233,12 @@ fn an_unbuffered_write_is_stored_at_once(rt: HostRuntime) -> Result<(), Fail> {
 // Steps from an empty tape.
 fn goes_alone(rt: &impl Abort, alloc: Global, steps: &[Step]) -> Result<(), Fail> {
     for way in WAYS {
-        let mut drive = greeted(rt, alloc, MemDisk::from_bytes(alloc, EMPTY)?)?;
+        let mut drive = greeted(
+            rt,
+            alloc,
+            MemDisk::from_bytes(alloc, EMPTY)?,
+            MemDisk::new(alloc),
+        )?;
         goes(rt, alloc, &mut drive, *way, steps);
     }
     Ok(())

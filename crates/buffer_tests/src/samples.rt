@@ -1,4 +1,4 @@
-//! A drive over a cartridge on a disk, and what tests ask of it.
+//! A drive over a cartridge on two disks, and what tests ask of it.
 use crate::drives::{Tape, switched_on};
 use assertions::assert_equal;
 use cartridge::{Cartridge, Shelved};
@@ -184,9 +184,14 @@ static GREETINGS: &'static [Row<'static>] = &[
     (2, TEST_UNIT_READY, NONE, POWERED_ON),
 ];
 
-/// A drive with the cartridge that a disk holds. Hosts 1 and 2 took their power on.
-pub fn greeted<D: Disk + Drop>(rt: &impl Abort, alloc: Global, disk: D) -> Result<Tape<D>, Fail> {
-    let Some(mut drive) = switched_on(alloc, disk) else {
+/// A drive with the cartridge that two disks hold. Hosts 1 and 2 took their power on.
+pub fn greeted<D: Disk + Drop>(
+    rt: &impl Abort,
+    alloc: Global,
+    first: D,
+    second: D,
+) -> Result<Tape<D>, Fail> {
+    let Some(mut drive) = switched_on(alloc, first, second) else {
         return Err(Fail::from("not switched on"));
     };
     asks(rt, &mut drive, GREETINGS);
@@ -226,7 +231,7 @@ pub fn reads<D: Disk + Drop>(rt: &impl Abort, drive: &mut Tape<D>, objects: &[u8
     ask(rt, drive, (1, READ_1, NONE, END), objects.len());
 }
 
-/// The syncs of a drive's disk.
+/// The syncs of the disk of a drive on which the side lies that counts.
 pub fn syncs(drive: &Tape<MemDisk>) -> u64 {
     match drive.medium() {
         Some(medium) => medium.disk().syncs(),
@@ -260,9 +265,9 @@ fn found_in<D: Disk>(alloc: Global, cartridge: &mut Cartridge<D>) -> Result<Vec<
     Ok(text)
 }
 
-/// What the cartridge on a disk holds.
+/// What the cartridge on a disk holds, beside an empty one.
 pub fn found(alloc: Global, disk: MemDisk) -> Result<Vec<u8>, Fail> {
-    match Cartridge::open(alloc, Shelved::of(disk)) {
+    match Cartridge::open(alloc, Shelved::of(disk, MemDisk::new(alloc))) {
         Ok(mut cartridge) => found_in(alloc, &mut cartridge),
         Err(_) => Err(Fail::from("no cartridge")),
     }

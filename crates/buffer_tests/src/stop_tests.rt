@@ -12,6 +12,9 @@ use std::test::Fail;
 use tape_disk::{FuseDisk, MemDisk};
 use vtl_base::NoMemory;
 
+// More calls than a test makes.
+const NEVER: u64 = 1_000;
+
 // Three blocks are written and stored; then one is written in the place of the second.
 struct Rewriting;
 
@@ -39,7 +42,8 @@ fn reached(alloc: Global, drive: &Tape<FuseDisk<MemDisk>>) -> MemDisk {
 
 impl Run for Rewriting {
     fn run(&self, alloc: Global, disk: FuseDisk<MemDisk>) -> (MemDisk, bool) {
-        let Some(mut drive) = switched_on(alloc, disk) else {
+        let second = FuseDisk::new(MemDisk::new(alloc), NEVER);
+        let Some(mut drive) = switched_on(alloc, disk, second) else {
             return (MemDisk::new(alloc), false);
         };
         let ended = answered(&mut drive, REWRITING);
@@ -47,21 +51,21 @@ impl Run for Rewriting {
     }
 }
 
-// What the tape may hold after so many calls. Four calls open it, four store the three blocks, and
+// What the tape may hold after so many calls. Six calls open it, four store the three blocks, and
 // four the block in the middle.
 fn may_be_found(calls: u64) -> (&'static [u8], &'static [u8]) {
     match calls {
-        0..=4 => (b"", b""),
-        5..=7 => (b"", b"abc"),
-        8 => (b"abc", b"abc"),
-        9..=11 => (b"abc", b"ax"),
+        0..=6 => (b"", b""),
+        7..=9 => (b"", b"abc"),
+        10 => (b"abc", b"abc"),
+        11..=13 => (b"abc", b"ax"),
         _ => (b"ax", b"ax"),
     }
 }
 
 fn is_right(rt: &impl Abort, alloc: Global, stop: Stop) -> Result<(), Fail> {
     let Stop { calls, ended, disk } = stop;
-    assert_equal!(rt; ended, calls == 12);
+    assert_equal!(rt; ended, calls == 14);
     let (old, new) = may_be_found(calls);
     let left = found(alloc, disk)?;
     let left = left.as_slice();
@@ -77,8 +81,8 @@ fn stops_of(alloc: Global) -> Result<Vec<Stop>, NoMemory> {
 #[test]
 fn a_stop_never_leaves_a_cut_without_its_block(rt: HostRuntime) -> Result<(), Fail> {
     let stops = stops_of(rt.alloc())?;
-    // Before each of 12 calls and behind them all, nine crashes.
-    assert_equal!(rt; stops.len(), 117);
+    // Before each of 14 calls and behind them all, nine crashes.
+    assert_equal!(rt; stops.len(), 135);
     for stop in stops {
         is_right(&rt, rt.alloc(), stop)?;
     }

@@ -8,8 +8,8 @@ use Rattle.bays.specs.Elements.{BayState, bay_at}
 use Rattle.bays.specs.Finish.{TurnsAt}
 
 module _ {D : Type 0} (state : D → DiskState) where
-  -- what the type of a drive keeps: what a crash now may leave of its two disks, and that its position is on what is
-  -- loaded (own)
+  -- what the type of a drive keeps: what a crash now may leave of its disks, its cartridge's and its store's, and that
+  -- its position is on what is loaded (own)
   pub record KeepsDrive (bay : BayState D) : Type 0 where
     pub disks : KeepsBoth state bay
     pub positioned : IsBayPositioned (state_of state) bay.bay bay.position
@@ -19,7 +19,8 @@ module _ {D : Type 0} (state : D → DiskState) where
   KeepsAt None = Unit {0}
   KeepsAt (Some bay) = KeepsDrive bay
 
-  -- what the type of a cartridge in a slot keeps: that it is closed, and what a crash now may leave of its disk (own)
+  -- what the type of a cartridge in a slot keeps: that it is closed, and what a crash now may leave of its two disks
+  -- (own)
   pub record KeepsShelved (medium : BufferState D) : Type 0 where
     pub closed : (state_of state medium).awake ≡ false
     pub kept : KeepsCartridge state medium

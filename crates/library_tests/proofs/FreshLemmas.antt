@@ -1,11 +1,16 @@
 -- Rows of drives that have accepted no change.
-use Rattle.std.proofs.Common.{◌≡◌, ◌≤◌, ◌<◌, ◌+◌, ◌∙◌, ℕ, List, length, get_or, take, sum_by, Option, None, Some, ap, sym, subst, arith}
+use Rattle.std.proofs.Common.{◌≡◌, ◌≤◌, ◌<◌, ◌+◌, ◌∙◌, ℕ, List, length, get_or, take, sum_by, Option, None, Some, Fits, w64, ap, sym, subst, arith}
 use Rattle.std.proofs.lemmas.List.{get_or_default, take_more}
 use Rattle.std.proofs.lemmas.List.Elements.{All-push}
 use Rattle.std.proofs.lemmas.List.Sums.{sum_by_more}
 use Rattle.std.specs.List.{All}
 use Rattle.bays.specs.Elements.{BayState}
 use Rattle.library.specs.Counts.{AcceptedNone, one_if_there}
+
+-- a count of places of sixteen, and one more
+pub counts_fit : (at count more one all : ℕ) → count ≤ at → at < all → all ≡ 16 → more ≡ one → one ≤ 1
+    → Fits w64 (count + more)
+counts_fit at count more one all few within sixteen is most = omega arith
 
 module _ {D : Type 0} where
   -- of the places of a row up to one so many have a drive, and none of these has accepted a change

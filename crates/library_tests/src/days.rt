@@ -180,8 +180,8 @@ pub fn spend_well<D: Disk + Drop + Send, R: Threads + Wait + Abort + Clock + Syn
     Ok(())
 }
 
-/// The same with cartridges 1 and 2 in drives 1 and 2. This call of the disk of cartridge 1 fails, and a sync of it
-/// that is to last waits until so much is freed.
+/// The same with cartridges 1 and 2 in drives 1 and 2. This call of the first disk of cartridge 1 fails, and a sync of
+/// it that is to last waits until so much is freed.
 pub fn spend_loaded<R: Threads + Wait + Abort + Clock + Sync>(
     rt: &R,
     alloc: Global,

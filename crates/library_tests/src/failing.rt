@@ -97,13 +97,13 @@ static LOADED_AGAIN: Day = Day {
     end: Ok((1, 0)),
 };
 
-// The creation of a cartridge makes five calls of its disk, and its opening four. A turn makes four more: a write, a
-// sync, the write of the gate, and a sync.
+// The creation of a cartridge makes five calls of its first disk, and its opening six. A turn makes four more: a write,
+// a sync, the write of the gate, and a sync.
 #[test]
 fn a_turn_in_which_the_device_fails(rt: HostRuntime) -> Result<(), Fail> {
-    for fails in 9..13u64 {
+    for fails in 11..15u64 {
         spend_loaded(&rt, rt.alloc(), fails, 0, &FAILS)?;
         spend_loaded(&rt, rt.alloc(), fails, 0, &LOADED_AGAIN)?;
     }
-    spend_loaded(&rt, rt.alloc(), 13, 0, &STORES)
+    spend_loaded(&rt, rt.alloc(), 15, 0, &STORES)
 }

@@ -28,18 +28,25 @@ pub struct Sample<D: Disk> {
     pub slots: Slots<Parked<D>>,
 }
 
-// A new cartridge of 16,777,216 bytes, whose barcode has this number. Its creation makes five calls of its disk.
-fn cartridge<D: Disk + Drop>(alloc: Global, number: u8, disk: D) -> Result<Parked<D>, Fail> {
+// A new cartridge of 16,777,216 bytes on these two disks, whose barcode has this number. Its creation makes five calls
+// of the first.
+fn cartridge<D: Disk + Drop>(alloc: Global, number: u8, disks: (D, D)) -> Result<Parked<D>, Fail> {
+    let (first, second) = disks;
     let mut barcode = *b"T00000L6";
     barcode[4] = b'0' + number / 10 % 10;
     barcode[5] = b'0' + number % 10;
     let Ok(barcode) = Barcode::parse(&barcode) else {
         return Err(Fail::from("no barcode"));
     };
-    match Cartridge::create(alloc, disk, &barcode, &[16_777_216]) {
+    match Cartridge::create(alloc, first, second, &barcode, &[16_777_216]) {
         Ok(shelved) => Ok(Parked::of(alloc, shelved)),
         Err(_) => Err(Fail::from("no cartridge")),
     }
+}
+
+// This disk, and a second one, which is empty.
+fn beside(alloc: Global, first: TestDisk) -> (TestDisk, TestDisk) {
+    (first, disk(alloc))
 }
 
 // The new store of a drive, on this disk.
@@ -78,16 +85,16 @@ fn bay<D: Disk + Drop>(
     switched_on(alloc, store, cartridge)
 }
 
-// Adds a drive of this number, with a new cartridge of it.
+// Adds a drive of this number, with a new cartridge of it on these two disks.
 fn add_loaded<D: Disk + Drop>(
     rt: &impl Abort,
     alloc: Global,
     sample: &mut Sample<D>,
     number: u8,
     store: D,
-    side: D,
+    disks: (D, D),
 ) -> Result<(), Fail> {
-    let cartridge = cartridge(alloc, number, side)?;
+    let cartridge = cartridge(alloc, number, disks)?;
     let bay = bay(rt, alloc, number, store, Some(cartridge))?;
     sample.bays.push(Some(bay))?;
     Ok(())
@@ -106,14 +113,14 @@ fn add_empty<D: Disk + Drop>(
     Ok(())
 }
 
-// Puts a new cartridge of this number into the slot behind 1000 others.
+// Puts a new cartridge of this number, on these two disks, into the slot behind 1000 others.
 fn shelve<D: Disk + Drop>(
     alloc: Global,
     sample: &mut Sample<D>,
     number: u8,
-    side: D,
+    disks: (D, D),
 ) -> Result<(), Fail> {
-    let cartridge = cartridge(alloc, number, side)?;
+    let cartridge = cartridge(alloc, number, disks)?;
     match sample.slots.place(1000 + u32::from(number), cartridge) {
         Ok(()) => Ok(()),
         Err(_) => Err(Fail::from("not placed")),
@@ -128,8 +135,8 @@ fn fill<D: Disk + Drop>(sample: &mut Sample<D>) -> Result<(), Fail> {
     Ok(())
 }
 
-/// So many drives, in each a new cartridge of its number. The disk of cartridge 1 fails at this call, and its syncs may
-/// last.
+/// So many drives, in each a new cartridge of its number. The first disk of cartridge 1 fails at this call, and its
+/// syncs may last.
 pub fn loaded(
     rt: &impl Abort,
     alloc: Global,
@@ -141,17 +148,18 @@ pub fn loaded(
         bays: Vec::new(alloc),
         slots: Slots::new(alloc)?,
     };
-    let first = staged_disk(alloc, fails, stage)?;
+    let first = beside(alloc, staged_disk(alloc, fails, stage)?);
     add_loaded(rt, alloc, &mut sample, 1, disk(alloc), first)?;
     for place in 1..drives {
         let number = place + 1;
-        add_loaded(rt, alloc, &mut sample, number, disk(alloc), disk(alloc))?;
+        let disks = beside(alloc, disk(alloc));
+        add_loaded(rt, alloc, &mut sample, number, disk(alloc), disks)?;
     }
     fill(&mut sample)?;
     Ok(sample)
 }
 
-/// So many drives, in each a new cartridge of its number, on disks whose syncs may last.
+/// So many drives, in each a new cartridge of its number. The syncs of their first disks may last.
 pub fn staged(
     rt: &impl Abort,
     alloc: Global,
@@ -163,8 +171,8 @@ pub fn staged(
         slots: Slots::new(alloc)?,
     };
     for place in 0..drives {
-        let side = staged_disk(alloc, NEVER, stage)?;
-        add_loaded(rt, alloc, &mut sample, place + 1, disk(alloc), side)?;
+        let disks = beside(alloc, staged_disk(alloc, NEVER, stage)?);
+        add_loaded(rt, alloc, &mut sample, place + 1, disk(alloc), disks)?;
     }
     fill(&mut sample)?;
     Ok(sample)
@@ -181,11 +189,11 @@ pub fn freed_by_first(
         bays: Vec::new(alloc),
         slots: Slots::new(alloc)?,
     };
-    let first = freeing_disk(alloc, stage)?;
+    let first = beside(alloc, freeing_disk(alloc, stage)?);
     add_loaded(rt, alloc, &mut sample, 1, disk(alloc), first)?;
     for place in 1..16u8 {
-        let side = staged_disk(alloc, NEVER, stage)?;
-        add_loaded(rt, alloc, &mut sample, place + 1, disk(alloc), side)?;
+        let disks = beside(alloc, staged_disk(alloc, NEVER, stage)?);
+        add_loaded(rt, alloc, &mut sample, place + 1, disk(alloc), disks)?;
     }
     Ok(sample)
 }
@@ -200,7 +208,7 @@ pub fn shelved(rt: &impl Abort, alloc: Global) -> Result<Sample<TestDisk>, Fail>
         add_empty(rt, alloc, &mut sample, place + 1, disk(alloc))?;
     }
     for place in 0..3u8 {
-        shelve(alloc, &mut sample, place + 1, disk(alloc))?;
+        shelve(alloc, &mut sample, place + 1, beside(alloc, disk(alloc)))?;
     }
     fill(&mut sample)?;
     Ok(sample)

@@ -8,6 +8,7 @@ use std::alloc::Global;
 use std::fmt::Debug;
 use std::process::Abort;
 use std::test::Fail;
+use tape_disk::MemDisk;
 
 /// What is found once a drive is switched on: the blocks of its tape, of one byte each; and what READ KEYS and READ
 /// RESERVATION give.
@@ -46,7 +47,8 @@ fn shows<D: TestDisk, S: TestDrive<D>>(drive: &mut S, left: Left) -> bool {
 /// A drive over these disks, of which no call fails.
 pub fn restarted<D: TestDisk, S: TestDrive<D>>(alloc: Global, disks: Disks) -> Result<S, Fail> {
     let Disks { tape, store } = disks;
-    match S::switched_on(alloc, D::over(tape, NEVER), D::over(store, NEVER)) {
+    let second = D::over(MemDisk::new(alloc), NEVER);
+    match S::switched_on(alloc, D::over(tape, NEVER), second, D::over(store, NEVER)) {
         Ok(drive) => Ok(drive),
         Err(_) => Err(Fail::from("not switched on")),
     }

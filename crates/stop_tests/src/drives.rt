@@ -46,11 +46,11 @@ impl TestDisk for OnceDisk<MemDisk> {
     }
 }
 
-/// A drive over a cartridge on a disk, with a store of its reservations on another. The tests know no more of it.
+/// A drive over a cartridge on two disks, with a store of its reservations on a third. The tests know no more of it.
 pub trait TestDrive<D: Disk>: Drop {
-    /// One that was just switched on, with what its disks hold: the cartridge's and the store's. Where it is not
-    /// switched on they come back.
-    fn switched_on(alloc: Global, tape: D, store: D) -> Result<Self, (Option<D>, D)>;
+    /// One that was just switched on, with what its disks hold: the cartridge's two and the store's. Where it is not
+    /// switched on the cartridge's first comes back, and the store's.
+    fn switched_on(alloc: Global, tape: D, second: D, store: D) -> Result<Self, (Option<D>, D)>;
 
     /// Answers a command of a host.
     fn answer(&mut self, host: Nexus, cdb: &[u8], sent: &[u8]) -> Reply;
@@ -58,17 +58,20 @@ pub trait TestDrive<D: Disk>: Drop {
     /// A flusher's turn.
     fn take_turn(&mut self) -> Turn;
 
-    /// The disk of its cartridge.
+    /// The disk of its cartridge that counts.
     fn tape(&self) -> Option<&D>;
 
     /// The disk of its store.
     fn store(&self) -> &D;
 }
 
-// The disk of a closed cartridge, where there is one.
+// The first disk of a closed cartridge, where there is one.
 fn tape_of<D: Disk + Drop>(cartridge: Option<Parked<D>>) -> Option<D> {
     match cartridge {
-        Some(cartridge) => Some(cartridge.into_shelved().into_disk()),
+        Some(cartridge) => {
+            let (first, _second) = cartridge.into_shelved().into_disks();
+            Some(first)
+        }
         None => None,
     }
 }
@@ -77,12 +80,13 @@ fn tape_of<D: Disk + Drop>(cartridge: Option<Parked<D>>) -> Option<D> {
 fn bay_over<D: Disk + Drop>(
     alloc: Global,
     tape: D,
+    second: D,
     store: AptplStore<D>,
     left: Reservations,
 ) -> Result<Bay<D>, (Option<D>, D)>
     requires { left ≡ left_of (store_kept store).saved }
 {
-    let cartridge = Parked::of(alloc, Shelved::of(tape));
+    let cartridge = Parked::of(alloc, Shelved::of(tape, second));
     match Bay::power_on(alloc, store, left, Some(cartridge)) {
         Ok(bay) => Ok(bay),
         Err(NotOn { cartridge, store }) => Err((tape_of(cartridge), store.close())),
@@ -90,9 +94,9 @@ fn bay_over<D: Disk + Drop>(
 }
 
 impl<D: Disk + Drop> TestDrive<D> for Bay<D> {
-    fn switched_on(alloc: Global, tape: D, store: D) -> Result<Bay<D>, (Option<D>, D)> {
+    fn switched_on(alloc: Global, tape: D, second: D, store: D) -> Result<Bay<D>, (Option<D>, D)> {
         match AptplStore::open(alloc, store) {
-            Ok((store, left)) => bay_over(alloc, tape, store, left),
+            Ok((store, left)) => bay_over(alloc, tape, second, store, left),
             Err(refused) => Err((Some(tape), refused.disk)),
         }
     }
@@ -117,7 +121,7 @@ impl<D: Disk + Drop> TestDrive<D> for Bay<D> {
     }
 }
 
-/// Two disks in memory: a cartridge's and a store's.
+/// Two disks in memory: a cartridge's first and a store's. Its second disk is empty, and stays so.
 #[derive(Drop)]
 pub struct Disks {
     pub tape: MemDisk,

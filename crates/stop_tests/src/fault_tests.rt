@@ -1,9 +1,8 @@
 //! A fault at each call of each disk.
 use crate::crashes::{Left, are_left, has, restarted};
-use crate::drives::{Disks, NEVER, TestDisk, TestDrive, reached};
+use crate::drives::{Disks, TestDisk, TestDrive, reached};
 use crate::fault_tables::{Again, Deed, Failed, Fault, READINGS, SAVES, STORINGS};
 use crate::samples::{NONE, POWERED_ON, READY, Wanted, ask, asks, reads};
-use crate::stop_tables::Which;
 use assertions::{assert_equal, assert_holds};
 use bays::Bay;
 use std::alloc::Global;
@@ -21,13 +20,11 @@ fn failing<D: TestDisk, S: TestDrive<D>>(
     fault: &Fault,
     calls: u64,
 ) -> Result<S, Fail> {
-    let (of_tape, of_store) = match fault.which {
-        Which::Tape => (calls, NEVER),
-        Which::Store => (NEVER, calls),
-    };
+    let (of_tape, of_second, of_store) = fault.which.calls(calls);
     let tape = D::over(MemDisk::from_bytes(alloc, fault.tape)?, of_tape);
+    let second = D::over(MemDisk::new(alloc), of_second);
     let store = D::over(MemDisk::from_bytes(alloc, fault.store)?, of_store);
-    match S::switched_on(alloc, tape, store) {
+    match S::switched_on(alloc, tape, second, store) {
         Ok(drive) => Ok(drive),
         Err(_) => Err(Fail::from("not switched on")),
     }

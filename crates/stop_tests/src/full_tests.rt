@@ -152,8 +152,9 @@ static FULL: &'static [Step] = &[
 
 fn switched_on<S: TestDrive<LongDisk>>(alloc: Global) -> Result<S, Fail> {
     let tape = LongDisk::tape(alloc)?;
+    let second = LongDisk::of(alloc, NONE)?;
     let store = LongDisk::of(alloc, NEW_STORE)?;
-    match S::switched_on(alloc, tape, store) {
+    match S::switched_on(alloc, tape, second, store) {
         Ok(drive) => Ok(drive),
         Err(_) => Err(Fail::from("not switched on")),
     }

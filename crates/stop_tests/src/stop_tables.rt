@@ -1,5 +1,6 @@
 //! What a drive is asked, what it answers where a disk stops, and what a crash then leaves.
 use crate::crashes::{Left, NOTHING, REGISTERED, RESERVED};
+use crate::drives::NEVER;
 use crate::samples::{
     A_NEW, A_TAPE, A_WITHOUT_APTPL, AB_TAPE, BY_A, FAILED, GOOD, HELD_BY_A, HELD_STORE, KEY_A,
     LEFT_STORE, LOAD, LOCATE_1, NEW_STORE, NEW_TAPE, NONE, NOT_PRESENT, POWERED_ON, READ_ERROR,
@@ -7,11 +8,23 @@ use crate::samples::{
     WRITE_OUT, Wanted,
 };
 
-/// Which disk stops: the cartridge's or the store's.
+/// Which disk stops: the cartridge's first or its second, or the store's.
 #[derive(Clone, Copy, Debug)]
 pub enum Which {
     Tape,
+    Second,
     Store,
+}
+
+impl Which {
+    /// How many calls of each pass, of the first, the second and the store's, where so many of this one do.
+    pub fn calls(self, calls: u64) -> (u64, u64, u64) {
+        match self {
+            Which::Tape => (calls, NEVER, NEVER),
+            Which::Second => (NEVER, calls, NEVER),
+            Which::Store => (NEVER, NEVER, calls),
+        }
+    }
 }
 
 /// Where a run ends.
@@ -32,7 +45,7 @@ pub type Moment = (u64, End, &'static [Left]);
 /// What is on a disk, and the place in it of a gate that was then opened and not synced.
 pub type Side = (&'static [u8], Option<u64>);
 
-/// A run over two disks, the cartridge's and the store's, of which one stops.
+/// A run over three disks, the cartridge's two and the store's, of which one stops.
 pub struct Run {
     pub what: &'static str,
     pub tape: Side,
@@ -85,9 +98,10 @@ const LOADING: &'static [Row<'static>] = &[
 
 const EMPTY: Left = (b"", NOTHING);
 
-/// To open a new side takes a sync, two reads of its heading and one of its gate; each frame takes two reads more. To
-/// store takes a write behind the closed gate, a sync, the write of the gate, and a sync: before the gate is written
-/// no crash leaves the frame, and behind the last sync each does.
+/// To open a new store takes a sync, two reads of its heading and one of its gate; each frame takes two reads more. To
+/// open a cartridge takes as much of the disk that counts, and before that, to find which one does, a sync of each of
+/// the two and a read of how the first begins. To store takes a write behind the closed gate, a sync, the write of the
+/// gate, and a sync: before the gate is written no crash leaves the frame, and behind the last sync each does.
 pub static RUNS: &'static [Run] = &[
     Run {
         what: "a block over two",
@@ -96,20 +110,31 @@ pub static RUNS: &'static [Run] = &[
         rows: REWRITING,
         which: Which::Tape,
         moments: &[
-            (3, End::At(1, NOT_PRESENT), &[EMPTY]),
-            (4, End::At(4, WRITE_ERROR), &[EMPTY]),
-            (5, End::At(4, WRITE_ERROR), &[EMPTY]),
+            (5, End::At(1, NOT_PRESENT), &[EMPTY]),
             (6, End::At(4, WRITE_ERROR), &[EMPTY]),
-            (7, End::At(4, WRITE_ERROR), &[EMPTY, (b"abc", NOTHING)]),
-            (8, End::At(7, WRITE_ERROR), &[(b"abc", NOTHING)]),
-            (9, End::At(7, WRITE_ERROR), &[(b"abc", NOTHING)]),
+            (7, End::At(4, WRITE_ERROR), &[EMPTY]),
+            (8, End::At(4, WRITE_ERROR), &[EMPTY]),
+            (9, End::At(4, WRITE_ERROR), &[EMPTY, (b"abc", NOTHING)]),
             (10, End::At(7, WRITE_ERROR), &[(b"abc", NOTHING)]),
+            (11, End::At(7, WRITE_ERROR), &[(b"abc", NOTHING)]),
+            (12, End::At(7, WRITE_ERROR), &[(b"abc", NOTHING)]),
             (
-                11,
+                13,
                 End::At(7, WRITE_ERROR),
                 &[(b"abc", NOTHING), (b"ax", NOTHING)],
             ),
-            (12, End::Whole, &[(b"ax", NOTHING)]),
+            (14, End::Whole, &[(b"ax", NOTHING)]),
+        ],
+    },
+    Run {
+        what: "a block over two, beside the second disk",
+        tape: (NEW_TAPE, None),
+        store: (NEW_STORE, None),
+        rows: REWRITING,
+        which: Which::Second,
+        moments: &[
+            (0, End::At(1, NOT_PRESENT), &[EMPTY]),
+            (1, End::Whole, &[(b"ax", NOTHING)]),
         ],
     },
     Run {
@@ -130,8 +155,8 @@ pub static RUNS: &'static [Run] = &[
         rows: RESERVING,
         which: Which::Tape,
         moments: &[
-            (3, End::At(3, NOT_PRESENT), &[(b"", RESERVED)]),
-            (4, End::Whole, &[(b"", RESERVED)]),
+            (5, End::At(3, NOT_PRESENT), &[(b"", RESERVED)]),
+            (6, End::Whole, &[(b"", RESERVED)]),
         ],
     },
     Run {
@@ -164,8 +189,8 @@ pub static RUNS: &'static [Run] = &[
         rows: LEAVING,
         which: Which::Tape,
         moments: &[
-            (3, End::At(4, NOT_PRESENT), &[EMPTY]),
-            (4, End::Whole, &[EMPTY]),
+            (5, End::At(4, NOT_PRESENT), &[EMPTY]),
+            (6, End::Whole, &[EMPTY]),
         ],
     },
     Run {
@@ -190,9 +215,21 @@ pub static RUNS: &'static [Run] = &[
         rows: LOADING,
         which: Which::Tape,
         moments: &[
-            (7, End::At(1, NOT_PRESENT), &[(b"ab", RESERVED)]),
-            (15, End::At(3, READ_ERROR), &[(b"ab", RESERVED)]),
-            (16, End::Whole, &[(b"ab", RESERVED)]),
+            (9, End::At(1, NOT_PRESENT), &[(b"ab", RESERVED)]),
+            (19, End::At(3, READ_ERROR), &[(b"ab", RESERVED)]),
+            (20, End::Whole, &[(b"ab", RESERVED)]),
+        ],
+    },
+    Run {
+        what: "the opening of a cartridge, and its loading, beside the second disk",
+        tape: (AB_TAPE, None),
+        store: (HELD_STORE, None),
+        rows: LOADING,
+        which: Which::Second,
+        moments: &[
+            (0, End::At(1, NOT_PRESENT), &[(b"ab", RESERVED)]),
+            (1, End::At(3, READ_ERROR), &[(b"ab", RESERVED)]),
+            (2, End::Whole, &[(b"ab", RESERVED)]),
         ],
     },
     Run {
@@ -218,8 +255,8 @@ pub static RUNS: &'static [Run] = &[
                 End::At(1, NOT_PRESENT),
                 &[(b"a", RESERVED), (b"ab", RESERVED)],
             ),
-            (7, End::At(1, NOT_PRESENT), &[(b"ab", RESERVED)]),
-            (8, End::Whole, &[(b"ab", RESERVED)]),
+            (9, End::At(1, NOT_PRESENT), &[(b"ab", RESERVED)]),
+            (10, End::Whole, &[(b"ab", RESERVED)]),
         ],
     },
     Run {

@@ -2,7 +2,7 @@
 use crate::crashes::are_left;
 use crate::drives::{Disks, NEVER, TestDisk, TestDrive, below, reached};
 use crate::samples::{GOOD, Row, ask};
-use crate::stop_tables::{End, RUNS, Run, Side, Which};
+use crate::stop_tables::{End, RUNS, Run, Side};
 use assertions::{assert_equal, assert_holds};
 use bays::Bay;
 use std::alloc::Global;
@@ -51,13 +51,14 @@ fn run_over<D: TestDisk, S: TestDrive<D>>(
     rt: &impl Abort,
     alloc: Global,
     tape: D,
+    second: D,
     store: D,
     rows: &[Row],
     end: End,
     at: (&str, u64),
 ) -> Result<Disks, Fail> {
     let is_off = matches!(end, End::NotOn);
-    match S::switched_on(alloc, tape, store) {
+    match S::switched_on(alloc, tape, second, store) {
         Ok(mut drive) => {
             assert_holds!(rt; !is_off; at);
             asks_to(rt, &mut drive, rows, end, at);
@@ -78,13 +79,20 @@ fn stops<D: TestDisk, S: TestDrive<D>>(
     end: End,
     calls: u64,
 ) -> Result<Disks, Fail> {
-    let (of_tape, of_store) = match run.which {
-        Which::Tape => (calls, NEVER),
-        Which::Store => (NEVER, calls),
-    };
+    let (of_tape, of_second, of_store) = run.which.calls(calls);
     let tape = D::over(disk_of(alloc, run.tape)?, of_tape);
+    let second = D::over(MemDisk::new(alloc), of_second);
     let store = D::over(disk_of(alloc, run.store)?, of_store);
-    run_over::<D, S>(rt, alloc, tape, store, run.rows, end, (run.what, calls))
+    run_over::<D, S>(
+        rt,
+        alloc,
+        tape,
+        second,
+        store,
+        run.rows,
+        end,
+        (run.what, calls),
+    )
 }
 
 // The run is stopped before each of its calls, and once behind them all, which is no stop.

@@ -7,7 +7,6 @@ use Rattle.std.proofs.lemmas.List.Sums.{sum_by-append, sum_by-take-le}
 use Rattle.std.proofs.lemmas.Option.{slice_get_within}
 use Rattle.vtl_base.specs.Below.{Advances, advances_on}
 use Rattle.tape_disk.specs.Disk.{DiskState, IsDisk}
-use Rattle.gate_journal.specs.Side.{Heading}
 use Rattle.volume_core.specs.declared.changes.Change.{Change}
 use Rattle.volume_core.specs.declared.changes.Change.TheVariants.{Put, Marks, Erase}
 use Rattle.volume_core.specs.declared.changes.Refusal.TheVariants.{PastEnd, NoRoom, TooLong}
@@ -16,10 +15,11 @@ use Rattle.volume_core.specs.Medium.{Accepts, MediumState, Works, frame_size, vo
 use Rattle.volume_core.specs.Stores.{Stores, after_append, stores_on}
 use Rattle.volume_core.specs.Plain.{moves_on_by_changes}
 use Rattle.record_index.specs.Records.{spell_all}
-use Rattle.cartridge.specs.Contents.{IsContents, changes_in, changes_of, volume_made}
+use Rattle.cartridge.specs.Contents.{Start, changes_of, changes_since, start_of, volume_made}
+use Rattle.cartridge.specs.Extending.{volume_since}
 use Rattle.cartridge.specs.State.{OpenCartridge}
 use Rattle.accepting.specs.Core.{Core, with_item}
-use Rattle.accepting.specs.Device.{one_disk, one_is_device}
+use Rattle.accepting.specs.Device.{two_disks, two_is_device}
 use Rattle.accepting.specs.Events.{CoreMoves}
 use Rattle.accepting.specs.Kinds.{moves_accepting}
 use Rattle.tape_buffer.specs.Limits.{FitsBuffer, block_bytes}
@@ -28,6 +28,7 @@ use Rattle.tape_buffer.specs.Rules.{applies_behind, is_unrefused, medium_rules}
 use Rattle.tape_buffer.specs.State.{IsPendingOver, IsReservedFor, open_buffer, open_core, open_state}
 use Rattle.tape_buffer.proofs.CoreLemmas.{open_is_core}
 use Rattle.tape_buffer.proofs.PendingLemmas.{records_of}
+use Rattle.tape_buffer.proofs.TwoLemmas.{are_disks}
 
 -- what may be pending is short
 pub spelled_short : (changes : List Change) → FitsBuffer changes → length (spell_all changes) ≤ 4194944
@@ -195,9 +196,9 @@ module _ {D : Type 0} (c m c' : OpenCartridge D) (pending between pending' : Lis
         })
 
     pub advances_more : IsPendingOver m between → refusal_of (volume_of (open_state m between)) change ≡ None
-        → IsContents m.contents → m.failed ≡ false → pending' ≡ between ++ change ∷ []
+        → m.failed ≡ false → pending' ≡ between ++ change ∷ []
         → Advances (buffer_below state) (open_buffer c pending) (change ∷ []) false (open_buffer c' pending')
-    advances_more over none contents works is =
+    advances_more over none works is =
         subst (λ (p : OpenCartridge D × List Change).
         Advances (buffer_below state) (open_buffer c pending) (change ∷ []) false (open_buffer p.0 p.1))
         (λ i. ((sym same) i, (sym is) i))
@@ -206,11 +207,11 @@ module _ {D : Type 0} (c m c' : OpenCartridge D) (pending between pending' : Lis
         (change ∷ []) false advances
         (record {
           moved =
-              subst (λ (new : Core Heading Change).
-              CoreMoves medium_rules (one_disk state) m.disk m.disk (open_core m between) new (change ∷ []))
+              subst (λ (new : Core Start Change).
+              CoreMoves medium_rules (two_disks state) m.disks m.disks (open_core m between) new (change ∷ []))
               (sym with_change)
-              (moves_accepting medium_rules (one_disk state) (one_is_device state) m.disk (open_core m between)
-              change (is_disk m.disk) (open_is_core m between over.torn) works refl (applies contents none));
+              (moves_accepting medium_rules (two_disks state) (two_is_device state) m.disks (open_core m between)
+              change (are_disks state is_disk m.disks) (open_is_core m between over.torn) works refl (applies none));
           counted = refl;
           honesty = (λ h. h, λ h. h);
           hand = (λ h. h, λ h. h);
@@ -219,19 +220,19 @@ module _ {D : Type 0} (c m c' : OpenCartridge D) (pending between pending' : Lis
         with_change : open_core m (between ++ change ∷ []) ≡ with_item change (open_core m between)
         with_change =
             λ i. record {
-              base = m.contents.heading;
-              accepted = (sym (append_assoc (changes_in m.contents) between (change ∷ []))) i;
-              stored = length (changes_in m.contents) + length (changes_of m.torn);
-              safe = length (changes_in m.contents);
+              base = start_of m.contents;
+              accepted = (sym (append_assoc (changes_since m.contents) between (change ∷ []))) i;
+              stored = length (changes_since m.contents) + length (changes_of m.torn);
+              safe = length (changes_since m.contents);
               fault = m.failed;
               stuck = false;
               recovering = false;
             }
 
-        applies : IsContents m.contents → refusal_of (volume_of (open_state m between)) change ≡ None
-            → IsTrue (applies_behind m.contents.heading (changes_in m.contents ++ between) change)
-        applies contents none =
+        applies : refusal_of (volume_of (open_state m between)) change ≡ None
+            → IsTrue (applies_behind (start_of m.contents) (changes_since m.contents ++ between) change)
+        applies none =
             ap is_unrefused
             (ap (λ (v : List Part). refusal_of v change)
-            (ap (λ (v : List Part). after v (changes_in m.contents ++ between)) (sym contents.base)
-            ∙ after_append m.contents.base (changes_in m.contents) between) ∙ none)
+            (after_append (start_of m.contents).volume (changes_since m.contents) between
+            ∙ ap (λ (v : List Part). after v between) (sym (volume_since m.contents))) ∙ none)

@@ -8,21 +8,22 @@ use Rattle.tape_disk.specs.Disk.{DiskState, IsDisk}
 use Rattle.volume_core.specs.declared.changes.Change.{Change}
 use Rattle.volume_core.specs.Medium.{IsParkedFrom, Settles, frame_size}
 use Rattle.volume_core.specs.Stores.{Stores}
-use Rattle.cartridge.specs.Contents.{changes_in, changes_of}
+use Rattle.cartridge.specs.Contents.{Start, changes_of, changes_since, start_of}
 use Rattle.cartridge.specs.State.{ClosedCartridge, OpenCartridge}
 use Rattle.accepting.specs.Core.{Core, stopped}
-use Rattle.accepting.specs.Device.{one_disk, one_is_device}
+use Rattle.accepting.specs.Device.{two_disks, two_is_device}
 use Rattle.accepting.specs.Events.{CoreMoves}
 use Rattle.accepting.specs.Kinds.{moves_stopping}
 use Rattle.tape_buffer.specs.Moves.{buffer_below, medium_moves_on}
 use Rattle.tape_buffer.specs.Rules.{medium_rules}
 use Rattle.tape_buffer.specs.State.{closed_buffer, closed_state, found_core, open_buffer, open_core, open_state}
 use Rattle.tape_buffer.proofs.CoreLemmas.{open_is_core, stored_front}
+use Rattle.tape_buffer.proofs.TwoLemmas.{are_disks}
 
 module _ {D : Type 0} (state : D → DiskState) (is_disk : (disk : D) → (state disk).honest → IsDisk (state disk)) where
   -- a closed cartridge of these parts
   abbrev shelved_of : OpenCartridge D → ClosedCartridge D
-  shelved_of c = record { disk = c.disk; known = true; contents = c.contents; torn = c.torn }
+  shelved_of c = record { disks = c.disks; known = true; contents = c.contents; torn = c.torn }
 
   module _ (c : OpenCartridge D) (pending : List Change) (torn : (c.torn ≡ []) ⊎ (c.torn ≡ pending ∷ [])) where
     -- it is stopped, and what may be stored is kept
@@ -30,10 +31,10 @@ module _ {D : Type 0} (state : D → DiskState) (is_disk : (disk : D) → (state
         ≡ stopped (open_core c pending).stored (open_core c pending)
     shelved_core =
         λ i. record {
-          base = c.contents.heading;
+          base = start_of c.contents;
           accepted = (sym (stored_front c pending torn)) i;
-          stored = length (changes_in c.contents) + length (changes_of c.torn);
-          safe = length (changes_in c.contents);
+          stored = length (changes_since c.contents) + length (changes_of c.torn);
+          safe = length (changes_since c.contents);
           fault = false;
           stuck = false;
           recovering = true;
@@ -47,7 +48,7 @@ module _ {D : Type 0} (state : D → DiskState) (is_disk : (disk : D) → (state
     may_stop (inl none) =
         inr (inr (omega (
           arith,
-          length-append (changes_in c.contents) pending,
+          length-append (changes_since c.contents) pending,
           ap (λ (l : List Change). length l) none,
         )))
 
@@ -60,11 +61,11 @@ module _ {D : Type 0} (state : D → DiskState) (is_disk : (disk : D) → (state
         (sym is)
         (record {
           moved =
-              subst (λ (new : Core _ Change). CoreMoves medium_rules (one_disk state) c.disk c.disk
+              subst (λ (new : Core Start Change). CoreMoves medium_rules (two_disks state) c.disks c.disks
               (open_core c pending) new [])
               (sym shelved_core)
-              (moves_stopping medium_rules (one_disk state) (one_is_device state) c.disk (open_core c pending)
-              (is_disk c.disk) (open_is_core c pending torn) (may_stop at_rest));
+              (moves_stopping medium_rules (two_disks state) (two_is_device state) c.disks (open_core c pending)
+              (are_disks state is_disk c.disks) (open_is_core c pending torn) (may_stop at_rest));
           counted = refl;
           honesty = (λ h. h, λ h. h);
           hand = (λ h. h, λ h. h);

@@ -1,60 +1,57 @@
 -- What was accepted, stored and safe, before and after each call over an open cartridge.
 use Rattle.std.specs.Prelude.{◌≡◌, ◌⊎◌, ◌+◌, ◌++◌, ◌≤◌, ◌<◌, ℕ, List, [], ◌∷◌, true, false, length, take, refl}
 use Rattle.std.proofs.Common.{inl, inr, sym, ◌∙◌, ap, subst, arith, ⊎_elim, length-append}
-use Rattle.std.proofs.lemmas.Grind.{flat_map-append}
 use Rattle.std.proofs.lemmas.List.{append-nil, take_at, take_all}
 use Rattle.vtl_base.specs.Below.{Advances, advances_nowhere}
-use Rattle.tape_disk.specs.Disk.{DiskState, Each, IsDisk, Keeps}
-use Rattle.tape_disk.specs.Moments.{LeavesOnly, weakened}
+use Rattle.vtl_base.specs.declared.faults.DevFault.{DevFault}
+use Rattle.tape_disk.specs.Disk.{DiskState, IsDisk}
+use Rattle.tape_disk.specs.TwoDisks.{AreHonest, EachOfTwo, Images, KeepsDisks, TwoLeave, failures_of, two_weakened}
 use Rattle.volume_core.specs.declared.changes.Change.{Change}
-use Rattle.gate_journal.specs.Answers.{NoneFailed}
-use Rattle.gate_journal.specs.Side.{Heading}
+use Rattle.gate_journal.specs.Heads.{base_of}
 use Rattle.cartridge.specs.Answers.{HasBroken, HasStored}
-use Rattle.cartridge.specs.Contents.{Contents, GivesContents, IsContents, ShowsContents, changes_in, changes_of, contents_from, with_frames}
-use Rattle.cartridge.specs.Extending.{changes_more}
+use Rattle.cartridge.specs.Contents.{Contents, GivesContents, IsContents, ShowsContents, Start, changes_of, changes_since, start_of, with_frames}
+use Rattle.cartridge.specs.Disks.{IsFaultOfTwo, NoneOfTwo}
+use Rattle.cartridge.specs.Extending.{since_with, start_with}
 use Rattle.cartridge.specs.State.{OpenCartridge}
 use Rattle.accepting.specs.Core.{Core, IsCore, broken_in, settled}
-use Rattle.accepting.specs.Device.{one_disk, one_is_device, one_keeps}
+use Rattle.accepting.specs.Device.{two_disks, two_is_device, two_keep}
 use Rattle.accepting.specs.Events.{CoreMoves, ShowsCore}
 use Rattle.accepting.specs.Kinds.{GivesSoMany, moves_failing, moves_storing}
 use Rattle.tape_buffer.specs.Rules.{GivesChanges, medium_rules}
 use Rattle.tape_buffer.specs.Moves.{buffer_below, medium_moves_nowhere}
 use Rattle.tape_buffer.specs.State.{BufferState, open_buffer, open_core}
+use Rattle.tape_buffer.proofs.TwoLemmas.{are_disks, none_failed, one_failed, stay_honest, were_honest}
 
 -- the changes of one frame
 one_frame : (changes : List Change) → changes_of (changes ∷ []) ≡ changes
 one_frame changes = append-nil changes
 
--- contents are those of their heading and frames
-rebuilt : (contents : Contents) → IsContents contents → contents ≡ contents_from contents.heading contents.frames
-rebuilt contents is =
-    λ i. record { heading = contents.heading; base = is.base i; frames = contents.frames }
+-- of one frame more these changes come last
+since_more : (contents : Contents) (changes : List Change) → base_of contents.head ≤ length contents.frames
+    → changes_since (with_frames contents (changes ∷ [])) ≡ changes_since contents ++ changes
+since_more contents changes copied =
+    since_with contents (changes ∷ []) copied
+    ∙ ap (λ (l : List Change). changes_since contents ++ l) (one_frame changes)
 
 -- what gives contents gives their changes
-pub gives_changes : (contents : Contents) (image : List ℕ) → GivesContents contents image
-    → GivesChanges contents.heading (changes_in contents) image
-gives_changes contents image gives = (
-  contents.frames,
-  subst (λ (c : Contents). GivesContents c image) (rebuilt contents gives.0) gives,
-  refl,
-)
+pub gives_changes : (contents : Contents) (images : Images) → GivesContents contents images
+    → GivesChanges (start_of contents) (changes_since contents) images
+gives_changes contents images gives = (contents, gives, refl, refl)
 
 -- what gives contents with frames more gives their changes and those
-pub gives_more : (contents : Contents) (torn : List (List Change)) (image : List ℕ)
-    → GivesContents (with_frames contents torn) image
-    → GivesChanges contents.heading (changes_in contents ++ changes_of torn) image
-gives_more contents torn image gives =
-    subst (λ (l : List Change). GivesChanges contents.heading l image)
-    (flat_map-append (λ (frame : List Change). frame) contents.frames torn)
-    (gives_changes (with_frames contents torn) image gives)
+pub gives_more : (contents : Contents) (torn : List (List Change)) (images : Images)
+    → base_of contents.head ≤ length contents.frames → GivesContents (with_frames contents torn) images
+    → GivesChanges (start_of contents) (changes_since contents ++ changes_of torn) images
+gives_more contents torn images copied gives =
+    (with_frames contents torn, gives, start_with contents torn copied, since_with contents torn copied)
 
-gives_as : (heading : Heading) (xs ys : List Change) (image : List ℕ) → xs ≡ ys
-    → GivesChanges heading xs image → GivesChanges heading ys image
-gives_as heading xs ys image same gives = subst (λ (l : List Change). GivesChanges heading l image) same gives
+gives_as : (start : Start) (xs ys : List Change) (images : Images) → xs ≡ ys
+    → GivesChanges start xs images → GivesChanges start ys images
+gives_as start xs ys images same gives = subst (λ (l : List Change). GivesChanges start l images) same gives
 
 module _ {D : Type 0} (c : OpenCartridge D) (pending : List Change) where
   abbrev stored_changes : List Change
-  stored_changes = changes_in c.contents
+  stored_changes = changes_since c.contents
 
   front : take (length stored_changes) (stored_changes ++ pending) ≡ stored_changes
   front = take_at stored_changes pending (length stored_changes) refl
@@ -93,56 +90,58 @@ module _ {D : Type 0} (c : OpenCartridge D) (pending : List Change) where
       }
 
   -- what the side shows is what is safe, or what is stored
-  pub open_shows : (c.torn ≡ []) ⊎ (c.torn ≡ pending ∷ []) → (image : List ℕ)
-      → ShowsContents c.contents c.torn image → ShowsCore medium_rules (open_core c pending) image
-  open_shows torn image =
+  pub open_shows : (c.torn ≡ []) ⊎ (c.torn ≡ pending ∷ []) → base_of c.contents.head ≤ length c.contents.frames
+      → (image : Images) → ShowsContents c.contents c.torn image → ShowsCore medium_rules (open_core c pending) image
+  open_shows torn copied image =
       ⊎_elim
-      (λ g. inl (gives_as c.contents.heading stored_changes (take (length stored_changes) (stored_changes ++ pending))
+      (λ g. inl (gives_as (start_of c.contents) stored_changes
+      (take (length stored_changes) (stored_changes ++ pending))
       image (sym front) (gives_changes c.contents image g)))
-      (λ g. inr (gives_as c.contents.heading (stored_changes ++ changes_of c.torn)
+      (λ g. inr (gives_as (start_of c.contents) (stored_changes ++ changes_of c.torn)
       (take (length stored_changes + length (changes_of c.torn)) (stored_changes ++ pending)) image
-      (sym (stored_front torn)) (gives_more c.contents c.torn image g)))
+      (sym (stored_front torn)) (gives_more c.contents c.torn image copied g)))
 
   -- where it works nothing is under way
   at_rest : c.torn ≡ [] → length (changes_of c.torn) ≡ 0
   at_rest none = ap (λ (t : List (List Change)). length (changes_of t)) none
 
   -- the images of a storing, with or without what is pending
-  so_many : c.torn ≡ [] → (image : List ℕ) → ShowsContents c.contents (pending ∷ []) image
+  so_many : c.torn ≡ [] → base_of c.contents.head ≤ length c.contents.frames → (image : Images)
+      → ShowsContents c.contents (pending ∷ []) image
       → GivesSoMany medium_rules (open_core c pending) (length pending) image
-  so_many none image =
+  so_many none copied image =
       ⊎_elim
-      (λ g. inl (gives_as c.contents.heading stored_changes
+      (λ g. inl (gives_as (start_of c.contents) stored_changes
       (take (length stored_changes + length (changes_of c.torn)) (stored_changes ++ pending)) image
       (sym (stored_front (inl none) ∙ ap (λ (t : List (List Change)). stored_changes ++ changes_of t) none
       ∙ append-nil stored_changes)) (gives_changes c.contents image g)))
-      (λ g. inr (gives_as c.contents.heading (stored_changes ++ changes_of (pending ∷ []))
+      (λ g. inr (gives_as (start_of c.contents) (stored_changes ++ changes_of (pending ∷ []))
       (take (length stored_changes + length (changes_of c.torn) + length pending) (stored_changes ++ pending)) image
       (ap (λ (l : List Change). stored_changes ++ l) (one_frame pending) ∙ sym whole
       ∙ ap (λ (n : ℕ). take n (stored_changes ++ pending)) (omega (arith, at_rest none)))
-      (gives_more c.contents (pending ∷ []) image g)))
+      (gives_more c.contents (pending ∷ []) image copied g)))
 
   module _ (c' : OpenCartridge D) where
     -- all that was pending is stored and safe
-    stored_core : c.torn ≡ [] → HasStored c pending c' → open_core c' [] ≡ settled (length pending)
-        (open_core c pending)
-    stored_core none stored =
-        let more : changes_in c'.contents ≡ stored_changes ++ pending =
-        ap changes_in stored.contents ∙ changes_more c.contents pending in
-        let accepted : changes_in c'.contents ++ [] ≡ stored_changes ++ pending = append-nil (changes_in c'.contents) ∙
-        more in
-        let long : length (changes_in c'.contents) ≡ length stored_changes + length pending =
+    stored_core : c.torn ≡ [] → base_of c.contents.head ≤ length c.contents.frames → HasStored c pending c'
+        → open_core c' [] ≡ settled (length pending) (open_core c pending)
+    stored_core none copied stored =
+        let more : changes_since c'.contents ≡ stored_changes ++ pending =
+        ap changes_since stored.contents ∙ since_more c.contents pending copied in
+        let accepted : changes_since c'.contents ++ [] ≡ stored_changes ++ pending =
+        append-nil (changes_since c'.contents) ∙ more in
+        let long : length (changes_since c'.contents) ≡ length stored_changes + length pending =
         ap length more ∙ length-append stored_changes pending in
         let rest : length (changes_of c'.torn) ≡ 0 =
         ap (λ (t : List (List Change)). length (changes_of t)) (stored.torn ∙ none) in
-        let all : length (changes_in c'.contents) + length (changes_of c'.torn)
+        let all : length (changes_since c'.contents) + length (changes_of c'.torn)
         ≡ length stored_changes + length (changes_of c.torn) + length pending =
         omega (arith, long, rest, at_rest none) in
-        let sure : length (changes_in c'.contents)
+        let sure : length (changes_since c'.contents)
         ≡ length stored_changes + length (changes_of c.torn) + length pending = omega (arith, long, at_rest none) in
         let fault : c'.failed ≡ c.failed = stored.is_fine ∙ sym stored.was_fine in
         λ i. record {
-          base = (ap (λ (k : Contents). k.heading) stored.contents) i;
+          base = (ap start_of stored.contents ∙ start_with c.contents (pending ∷ []) copied) i;
           accepted = accepted i;
           stored = all i;
           safe = sure i;
@@ -155,38 +154,38 @@ module _ {D : Type 0} (c : OpenCartridge D) (pending : List Change) where
     broken_core : c.torn ≡ [] → HasBroken c pending c'
         → open_core c' pending ≡ broken_in (length pending) (open_core c pending)
     broken_core none broken =
-        let all : length (changes_in c'.contents) + length (changes_of c'.torn)
+        let all : length (changes_since c'.contents) + length (changes_of c'.torn)
         ≡ length stored_changes + length (changes_of c.torn) + length pending =
         omega (
           arith,
-          ap (λ (k : Contents). length (changes_in k)) broken.contents,
+          ap (λ (k : Contents). length (changes_since k)) broken.contents,
           ap (λ (t : List (List Change)). length (changes_of t)) broken.torn,
           ap length (one_frame pending),
           at_rest none,
         ) in
         λ i. record {
-          base = (ap (λ (k : Contents). k.heading) broken.contents) i;
-          accepted = (ap (λ (k : Contents). changes_in k ++ pending) broken.contents) i;
+          base = (ap start_of broken.contents) i;
+          accepted = (ap (λ (k : Contents). changes_since k ++ pending) broken.contents) i;
           stored = all i;
-          safe = (ap (λ (k : Contents). length (changes_in k)) broken.contents) i;
+          safe = (ap (λ (k : Contents). length (changes_since k)) broken.contents) i;
           fault = broken.failed i;
           stuck = false;
           recovering = false;
         }
 
   module _ (state : D → DiskState) (is_disk : (disk : D) → (state disk).honest → IsDisk (state disk))
-      (c' : OpenCartridge D) (none : c.torn ≡ []) (works : c.failed ≡ false)
-      (keeps : Keeps (state c.disk) (state c'.disk))
-      (moments : (state c.disk).honest →
-      LeavesOnly (state c.disk) (state c'.disk) (ShowsContents c.contents (pending ∷ []))) where
-    abbrev old_core : Core Heading Change
+      (c' : OpenCartridge D) (none : c.torn ≡ []) (works : c.failed ≡ false) (is : IsContents c.contents)
+      (keeps : KeepsDisks state c.disks c'.disks)
+      (moments : AreHonest state c.disks →
+      TwoLeave state c.disks c'.disks (ShowsContents c.contents (pending ∷ []))) where
+    abbrev old_core : Core Start Change
     old_core = open_core c pending
 
-    leaves : (state c.disk).honest →
-        LeavesOnly (state c.disk) (state c'.disk) (GivesSoMany medium_rules old_core (length pending))
+    leaves : AreHonest state c.disks →
+        TwoLeave state c.disks c'.disks (GivesSoMany medium_rules old_core (length pending))
     leaves honest =
-        weakened (state c.disk) (state c'.disk) (ShowsContents c.contents (pending ∷ []))
-        (GivesSoMany medium_rules old_core (length pending)) (moments honest) (so_many none)
+        two_weakened state c.disks c'.disks (ShowsContents c.contents (pending ∷ []))
+        (GivesSoMany medium_rules old_core (length pending)) (moments honest) (so_many none is.copied)
 
     same : old_core.safe ≡ old_core.stored
     same = omega (arith, at_rest none)
@@ -195,55 +194,57 @@ module _ {D : Type 0} (c : OpenCartridge D) (pending : List Change) where
     fits = omega (arith, at_rest none, length-append stored_changes pending)
 
     pub moves_stored : HasStored c pending c'
-        → ((state c.disk).honest → Each (state c'.disk) (GivesContents c'.contents))
-        → CoreMoves medium_rules (one_disk state) c.disk c'.disk old_core (open_core c' []) []
+        → (AreHonest state c.disks → EachOfTwo state c'.disks (GivesContents c'.contents))
+        → CoreMoves medium_rules (two_disks state) c.disks c'.disks old_core (open_core c' []) []
     moves_stored stored sure =
-        subst (λ (new : Core Heading Change).
-        CoreMoves medium_rules (one_disk state) c.disk c'.disk old_core new [])
-        (sym (stored_core c' none stored))
-        (moves_storing medium_rules (one_disk state) (one_is_device state) c.disk c'.disk old_core
-        (length pending) (one_keeps state c.disk c'.disk keeps) (works, refl) same fits leaves
-        (λ honest image left.
-        subst (λ (heading : Heading). GivesChanges heading
-        (take (length stored_changes + length (changes_of c.torn) + length pending) (stored_changes ++ pending)) image)
-        (ap (λ (k : Contents). k.heading) stored.contents)
-        (gives_as c'.contents.heading (changes_in c'.contents)
-        (take (length stored_changes + length (changes_of c.torn) + length pending) (stored_changes ++ pending)) image
-        (ap changes_in stored.contents ∙ changes_more c.contents pending ∙ sym whole
+        subst (λ (new : Core Start Change).
+        CoreMoves medium_rules (two_disks state) c.disks c'.disks old_core new [])
+        (sym (stored_core c' none is.copied stored))
+        (moves_storing medium_rules (two_disks state) (two_is_device state) c.disks c'.disks old_core
+        (length pending) (two_keep state c.disks c'.disks keeps) (works, refl) same fits leaves
+        (λ honest images left.
+        subst (λ (start : Start). GivesChanges start
+        (take (length stored_changes + length (changes_of c.torn) + length pending) (stored_changes ++ pending)) images)
+        (ap start_of stored.contents ∙ start_with c.contents (pending ∷ []) is.copied)
+        (gives_as (start_of c'.contents) (changes_since c'.contents)
+        (take (length stored_changes + length (changes_of c.torn) + length pending) (stored_changes ++ pending)) images
+        (ap changes_since stored.contents ∙ since_more c.contents pending is.copied ∙ sym whole
         ∙ ap (λ (n : ℕ). take n (stored_changes ++ pending)) (omega (arith, at_rest none)))
-        (gives_changes c'.contents image (sure honest image left)))))
+        (gives_changes c'.contents images (sure honest images left)))))
 
-    pub moves_broken : HasBroken c pending c' → (state c.disk).failures < (state c'.disk).failures
-        → CoreMoves medium_rules (one_disk state) c.disk c'.disk old_core (open_core c' pending) []
+    pub moves_broken : HasBroken c pending c' → failures_of state c.disks < failures_of state c'.disks
+        → CoreMoves medium_rules (two_disks state) c.disks c'.disks old_core (open_core c' pending) []
     moves_broken broken rose =
-        subst (λ (new : Core Heading Change).
-        CoreMoves medium_rules (one_disk state) c.disk c'.disk old_core new [])
+        subst (λ (new : Core Start Change).
+        CoreMoves medium_rules (two_disks state) c.disks c'.disks old_core new [])
         (sym (broken_core c' none broken))
-        (moves_failing medium_rules (one_disk state) (one_is_device state) c.disk c'.disk old_core
-        (length pending) (is_disk c'.disk) (one_keeps state c.disk c'.disk keeps) rose (works, refl) same fits leaves)
+        (moves_failing medium_rules (two_disks state) (two_is_device state) c.disks c'.disks old_core
+        (length pending) (are_disks state is_disk c'.disks) (two_keep state c.disks c'.disks keeps) rose (works, refl)
+        same fits leaves)
 
     pub advances_stored : (changes pending' : List Change) → changes ≡ pending → pending' ≡ []
-        → HasStored c changes c' × NoneFailed (state c.disk) (state c'.disk)
-        → ((state c.disk).honest → Each (state c'.disk) (GivesContents c'.contents))
+        → HasStored c changes c' × NoneOfTwo state c.disks c'.disks
+        → (AreHonest state c.disks → EachOfTwo state c'.disks (GivesContents c'.contents))
         → Advances (buffer_below state) (open_buffer c pending) [] false (open_buffer c' pending')
     advances_stored changes pending' same_changes empty done sure =
         subst (λ (l : List Change). Advances (buffer_below state) (open_buffer c pending) [] false (open_buffer c' l))
         (sym empty)
         (record {
           moved = moves_stored (subst (λ (l : List Change). HasStored c l c') same_changes done.0) sure;
-          counted = done.1;
-          honesty = (keeps.stays_honest, keeps.was_honest);
+          counted = none_failed state c.disks c'.disks done.1;
+          honesty = (stay_honest state c.disks c'.disks keeps, were_honest state c.disks c'.disks keeps);
           hand = (λ h. h, λ h. h);
         })
 
     pub advances_broken : (changes : List Change) → changes ≡ pending → HasBroken c changes c'
-        → (state c.disk).failures < (state c'.disk).failures
+        → (fault : DevFault) → IsFaultOfTwo state fault c.disks c'.disks
         → Advances (buffer_below state) (open_buffer c pending) [] true (open_buffer c' pending)
-    advances_broken changes same_changes broken rose =
+    advances_broken changes same_changes broken fault failed =
+        let rose = one_failed state c.disks c'.disks fault failed in
         record {
           moved = moves_broken (subst (λ (l : List Change). HasBroken c l c') same_changes broken) rose;
           counted = rose;
-          honesty = (keeps.stays_honest, keeps.was_honest);
+          honesty = (stay_honest state c.disks c'.disks keeps, were_honest state c.disks c'.disks keeps);
           hand = (λ h. h, λ h. h);
         }
 

@@ -5,17 +5,17 @@ use Rattle.std.proofs.lemmas.Bool.{and_parts, leb-true}
 use Rattle.std.proofs.lemmas.Option.{get_or_from_slice_get, slice_get_within}
 use Rattle.vtl_base.specs.Below.{Advances}
 use Rattle.vtl_base.specs.declared.limits.TheConstants.{MAX_BLOCK}
-use Rattle.tape_disk.specs.Disk.{DiskState, Each, IsDisk, Keeps}
-use Rattle.tape_disk.specs.Moments.{LeavesOnly}
-use Rattle.gate_journal.specs.Crash.{Unwritten}
+use Rattle.tape_disk.specs.Disk.{DiskState, IsDisk}
+use Rattle.tape_disk.specs.TwoDisks.{AreHonest, EachOfTwo, KeepsDisks, TwoLeave, failures_of}
 use Rattle.volume_core.specs.declared.changes.Change.{Change}
 use Rattle.volume_core.specs.declared.changes.Change.TheVariants.{Put}
 use Rattle.volume_core.specs.declared.media.MediumError.{MediumError}
 use Rattle.volume_core.specs.declared.media.MediumError.TheVariants.{Refused, NoMemory, SideFull, Device, Failed, Unreadable}
 use Rattle.volume_core.specs.Volume.{AllApply, Part, after, block_at, changed}
 use Rattle.volume_core.specs.Medium.{met_fault}
+use Rattle.cartridge.specs.Disks.{UnwrittenTwo}
 use Rattle.cartridge.specs.State.{OpenCartridge}
-use Rattle.accepting.specs.Device.{one_disk, one_is_device, one_keeps, one_rests}
+use Rattle.accepting.specs.Device.{two_disks, two_is_device, two_keep, two_rest}
 use Rattle.accepting.specs.Events.{ShowsCore}
 use Rattle.accepting.specs.Kinds.{moves_faulting, moves_resting}
 use Rattle.tape_buffer.specs.Inner.Fetching.{IsCopied, IsFetched, IsPut}
@@ -23,6 +23,7 @@ use Rattle.tape_buffer.specs.Moves.{buffer_below}
 use Rattle.tape_buffer.specs.Rules.{medium_rules}
 use Rattle.tape_buffer.specs.State.{open_buffer, open_core}
 use Rattle.tape_buffer.proofs.AddingLemmas.{well_formed}
+use Rattle.tape_buffer.proofs.TwoLemmas.{are_disks, stay_honest, were_honest}
 
 -- the block of a change that applies is no longer than a block
 pub short_block : (volume : List Part) (changes : List Change) (i part kept : ℕ) (block : List ℕ)
@@ -101,55 +102,56 @@ module _ (volume : List Part) (pending : List Change) (part at i : ℕ) (all : A
         (subst (λ (c : Change). IsCopied c capacity result bytes) is_put copied))
 
 -- memory ran out for its cause
-pub fetched_lack : (memory : Type 0) (failed : Bool) (old new : DiskState) (result : Result Unit MediumError)
-    → IsFetched result memory failed old new → result ≡ Err NoMemory → memory
-fetched_lack memory failed old new result told none =
-    (subst (λ (r : Result Unit MediumError). IsFetched r memory failed old new) none told).2
+pub fetched_lack : (memory : Type 0) (failed : Bool) (before now : ℕ) (result : Result Unit MediumError)
+    → IsFetched result memory failed before now → result ≡ Err NoMemory → memory
+fetched_lack memory failed before now result told none =
+    (subst (λ (r : Result Unit MediumError). IsFetched r memory failed before now) none told).2
 
 module _ {D : Type 0} (state : D → DiskState) (is_disk : (disk : D) → (state disk).honest → IsDisk (state disk))
     (c c' : OpenCartridge D) (pending : List Change) (works : c.failed ≡ false)
-    (same : c' ≡ record c { disk = c'.disk; failed = c'.failed }) (keeps : Keeps (state c.disk) (state c'.disk))
-    (quiet : (state c.disk).honest → Unwritten (state c.disk) (state c'.disk)) where
+    (same : c' ≡ record c { disks = c'.disks; failed = c'.failed }) (keeps : KeepsDisks state c.disks c'.disks)
+    (quiet : AreHonest state c.disks → UnwrittenTwo state c.disks c'.disks) where
   -- each moment shows what was shown before
-  rests_so : (state c.disk).honest → Each (state c.disk) (ShowsCore medium_rules (open_core c pending))
-      → LeavesOnly (state c.disk) (state c'.disk) (ShowsCore medium_rules (open_core c pending))
+  rests_so : AreHonest state c.disks → EachOfTwo state c.disks (ShowsCore medium_rules (open_core c pending))
+      → TwoLeave state c.disks c'.disks (ShowsCore medium_rules (open_core c pending))
   rests_so honest =
-      one_rests state c.disk c'.disk (ShowsCore medium_rules (open_core c pending)) (quiet honest).moments
+      two_rest state c.disks c'.disks (ShowsCore medium_rules (open_core c pending)) (quiet honest).moments
 
   -- nothing failed
-  fetched_well : c'.failed ≡ false → (state c'.disk).failures ≡ (state c.disk).failures
+  fetched_well : c'.failed ≡ false → failures_of state c'.disks ≡ failures_of state c.disks
       → Advances (buffer_below state) (open_buffer c pending) [] false (open_buffer c' pending)
   fetched_well fine counted =
       subst (λ (k : OpenCartridge D). Advances (buffer_below state) (open_buffer c pending) [] false
       (open_buffer k pending))
-      (sym (same ∙ (λ i. record c { disk = c'.disk; failed = (fine ∙ sym works) i })))
+      (sym (same ∙ (λ i. record c { disks = c'.disks; failed = (fine ∙ sym works) i })))
       (record {
         moved =
-            moves_resting medium_rules (one_disk state) (one_is_device state) c.disk c'.disk
-            (open_core c pending) (is_disk c'.disk) (one_keeps state c.disk c'.disk keeps) rests_so;
+            moves_resting medium_rules (two_disks state) (two_is_device state) c.disks c'.disks
+            (open_core c pending) (are_disks state is_disk c'.disks) (two_keep state c.disks c'.disks keeps) rests_so;
         counted = counted;
-        honesty = (keeps.stays_honest, keeps.was_honest);
+        honesty = (stay_honest state c.disks c'.disks keeps, were_honest state c.disks c'.disks keeps);
         hand = (λ h. h, λ h. h);
       })
 
   -- the disk failed
-  fetched_badly : c'.failed ≡ true → (state c.disk).failures < (state c'.disk).failures
+  fetched_badly : c'.failed ≡ true → failures_of state c.disks < failures_of state c'.disks
       → Advances (buffer_below state) (open_buffer c pending) [] true (open_buffer c' pending)
   fetched_badly failed counted =
       subst (λ (k : OpenCartridge D). Advances (buffer_below state) (open_buffer c pending) [] true
       (open_buffer k pending))
-      (sym (same ∙ (λ i. record c { disk = c'.disk; failed = failed i })))
+      (sym (same ∙ (λ i. record c { disks = c'.disks; failed = failed i })))
       (record {
         moved =
-            moves_faulting medium_rules (one_disk state) (one_is_device state) c.disk c'.disk
-            (open_core c pending) (is_disk c'.disk) (one_keeps state c.disk c'.disk keeps) counted rests_so;
+            moves_faulting medium_rules (two_disks state) (two_is_device state) c.disks c'.disks
+            (open_core c pending) (are_disks state is_disk c'.disks) (two_keep state c.disks c'.disks keeps) counted
+            rests_so;
         counted = counted;
-        honesty = (keeps.stays_honest, keeps.was_honest);
+        honesty = (stay_honest state c.disks c'.disks keeps, were_honest state c.disks c'.disks keeps);
         hand = (λ h. h, λ h. h);
       })
 
   pub fetched : (memory : Type 0) (result : Result Unit MediumError)
-      → IsFetched result memory c'.failed (state c.disk) (state c'.disk)
+      → IsFetched result memory c'.failed (failures_of state c.disks) (failures_of state c'.disks)
       → Advances (buffer_below state) (open_buffer c pending) [] (met_fault result) (open_buffer c' pending)
   fetched memory (Ok done) told = fetched_well told.0 told.1
   fetched memory (Err NoMemory) told = fetched_well told.0 told.1

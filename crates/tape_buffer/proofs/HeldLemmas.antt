@@ -1,12 +1,14 @@
 -- What is known of a cartridge that is held, open or closed.
-use Rattle.std.specs.Prelude.{◌≡◌, ◌⊎◌, ◌+◌, ◌++◌, ℕ, List, [], Bool, true, false, not, Option, None, Some, length, option_map, if◌then◌else◌, refl}
+use Rattle.std.specs.Prelude.{◌≡◌, ◌⊎◌, ◌+◌, ◌++◌, ◌≤◌, ℕ, List, [], Bool, true, false, not, Option, None, Some, length, option_map, if◌then◌else◌, refl}
 use Rattle.std.proofs.Common.{inl, inr, sym, ◌∙◌, ap, subst, arith, ⊎_elim, length-append}
 use Rattle.std.proofs.lemmas.List.{take_at, take_all}
-use Rattle.tape_disk.specs.Disk.{DiskState, Each, IsDisk}
+use Rattle.tape_disk.specs.Disk.{DiskState, IsDisk}
+use Rattle.tape_disk.specs.TwoDisks.{AreHonest, EachOfTwo, Images, seen_of_two}
 use Rattle.volume_core.specs.declared.changes.Change.{Change}
 use Rattle.volume_core.specs.Volume.{Part, capacity_of}
 use Rattle.volume_core.specs.Medium.{volume_of}
-use Rattle.cartridge.specs.Contents.{Contents, GivesContents, ShowsContents, changes_in, changes_of, volume_made}
+use Rattle.gate_journal.specs.Heads.{base_of}
+use Rattle.cartridge.specs.Contents.{Contents, GivesContents, IsContents, ShowsContents, changes_of, changes_since, start_of, volume_made}
 use Rattle.cartridge.specs.ContentsOn.{contents_on, contents_on_gives}
 use Rattle.cartridge.specs.State.{ClosedCartridge, OpenCartridge}
 use Rattle.accepting.specs.Core.{IsCore}
@@ -16,7 +18,7 @@ use Rattle.tape_buffer.specs.declared.holding.Holding.TheVariants.{Open, Closed,
 use Rattle.tape_buffer.specs.Invariants.{IsHeld}
 use Rattle.tape_buffer.specs.Moves.{IsSafeOrPending, ShowsOn}
 use Rattle.tape_buffer.specs.Rules.{GivesChanges, medium_rules}
-use Rattle.tape_buffer.specs.State.{IsPendingOver, IsSettledIn, IsSettledOn, closed_state, core_held, disk_in, found_core, found_in, state_held, torn_in}
+use Rattle.tape_buffer.specs.State.{IsPendingOver, IsSettledIn, IsSettledOn, closed_state, core_held, disks_in, found_core, found_in, state_held, torn_in}
 use Rattle.tape_buffer.proofs.VolumeLemmas.{stays_so}
 use Rattle.tape_buffer.proofs.CoreLemmas.{gives_changes, gives_more, open_is_core, open_shows}
 
@@ -24,7 +26,7 @@ use Rattle.tape_buffer.proofs.CoreLemmas.{gives_changes, gives_more, open_is_cor
 pub found_is_core : (found : Option Contents) (torn : List Change) → IsCore (found_core found torn)
 found_is_core None torn = record { safe = omega arith; stored = omega arith }
 found_is_core (Some contents) torn =
-    record { safe = omega arith; stored = omega (arith, length-append (changes_in contents) torn) }
+    record { safe = omega arith; stored = omega (arith, length-append (changes_since contents) torn) }
 
 -- a closed cartridge is one that was stopped
 pub found_stopped : (found : Option Contents) (torn : List Change) → (found_core found torn).recovering ≡ true
@@ -32,51 +34,55 @@ found_stopped None torn = refl
 found_stopped (Some contents) torn = refl
 
 -- what shows contents shows their core
-pub found_shows : (contents : Contents) (torn : List (List Change)) (image : List ℕ) → ShowsContents contents torn image
-    → ShowsCore medium_rules (found_core (Some contents) (changes_of torn)) image
-found_shows contents torn image =
+pub found_shows : (contents : Contents) (torn : List (List Change)) → base_of contents.head ≤ length contents.frames
+    → (images : Images) → ShowsContents contents torn images
+    → ShowsCore medium_rules (found_core (Some contents) (changes_of torn)) images
+found_shows contents torn copied images =
     ⊎_elim
-    (λ g. inl (subst (λ (l : List Change). GivesChanges contents.heading l image)
-    (sym (take_at (changes_in contents) (changes_of torn) (length (changes_in contents)) refl))
-    (gives_changes contents image g)))
-    (λ g. inr (subst (λ (l : List Change). GivesChanges contents.heading l image)
-    (sym (take_all (length (changes_in contents) + length (changes_of torn)) (changes_in contents ++ changes_of torn)
-    (omega (arith, length-append (changes_in contents) (changes_of torn)))))
-    (gives_more contents torn image g)))
+    (λ g. inl (subst (λ (l : List Change). GivesChanges (start_of contents) l images)
+    (sym (take_at (changes_since contents) (changes_of torn) (length (changes_since contents)) refl))
+    (gives_changes contents images g)))
+    (λ g. inr (subst (λ (l : List Change). GivesChanges (start_of contents) l images)
+    (sym (take_all (length (changes_since contents) + length (changes_of torn))
+    (changes_since contents ++ changes_of torn)
+    (omega (arith, length-append (changes_since contents) (changes_of torn)))))
+    (gives_more contents torn images copied g)))
 
 module _ {D : Type 0} (state : D → DiskState) (is_disk : (disk : D) → (state disk).honest → IsDisk (state disk)) where
   -- a closed cartridge whose side gives a volume shows its core
   closed_shows : (c : ClosedCartridge D) → IsSettledOn state c
-      → (c.known ≡ true → (state c.disk).honest → Each (state c.disk) (ShowsContents c.contents c.torn))
+      → (c.known ≡ true → IsContents c.contents)
+      → (c.known ≡ true → AreHonest state c.disks → EachOfTwo state c.disks (ShowsContents c.contents c.torn))
       → (volume : List Part) → (closed_state state c).stored ≡ Some volume
-      → (state c.disk).honest → Each (state c.disk)
+      → AreHonest state c.disks → EachOfTwo state c.disks
       (ShowsCore medium_rules (found_core (found_in state c) (torn_in state c)))
-  closed_shows c settled known volume gives honest image left = by c.known refl
+  closed_shows c settled is_known known volume gives honest images left = by c.known refl
     where
-      unknown : (found : Option Contents) → contents_on (state c.disk).seen ≡ found → option_map volume_made found ≡
-          Some volume
-          → image ≡ (state c.disk).seen → ShowsCore medium_rules (found_core found []) image
+      unknown : (found : Option Contents) → contents_on (seen_of_two state c.disks) ≡ found
+          → option_map volume_made found ≡ Some volume
+          → images ≡ seen_of_two state c.disks → ShowsCore medium_rules (found_core found []) images
       unknown None none some seen = absurd (cc)
       unknown (Some contents) is some seen =
-          found_shows contents [] image
-          (inl (subst (λ (x : List ℕ). GivesContents contents x) (sym seen)
-          (contents_on_gives (state c.disk).seen contents is)))
+          let gives = contents_on_gives (seen_of_two state c.disks) contents is in
+          found_shows contents [] gives.0.copied images
+          (inl (subst (λ (x : Images). GivesContents contents x) (sym seen) gives))
 
       by : (k : Bool) → c.known ≡ k
-          → ShowsCore medium_rules (found_core (found_in state c) (torn_in state c)) image
+          → ShowsCore medium_rules (found_core (found_in state c) (torn_in state c)) images
       by true is =
           subst (λ (k : Bool). ShowsCore medium_rules
-          (found_core (if k then Some c.contents else contents_on (state c.disk).seen)
-          (if k then changes_of c.torn else [])) image) (sym is)
-          (found_shows c.contents c.torn image (known is honest image left))
+          (found_core (if k then Some c.contents else contents_on (seen_of_two state c.disks))
+          (if k then changes_of c.torn else [])) images) (sym is)
+          (found_shows c.contents c.torn (is_known is).copied images (known is honest images left))
       by false is =
           subst (λ (k : Bool). ShowsCore medium_rules
-          (found_core (if k then Some c.contents else contents_on (state c.disk).seen)
-          (if k then changes_of c.torn else [])) image) (sym is)
-          (unknown (contents_on (state c.disk).seen) refl
-          (subst (λ (k : Bool). option_map volume_made (if k then Some c.contents else contents_on (state c.disk).seen)
+          (found_core (if k then Some c.contents else contents_on (seen_of_two state c.disks))
+          (if k then changes_of c.torn else [])) images) (sym is)
+          (unknown (contents_on (seen_of_two state c.disks)) refl
+          (subst (λ (k : Bool). option_map volume_made
+          (if k then Some c.contents else contents_on (seen_of_two state c.disks))
           ≡ Some volume) is gives)
-          (settled is honest image left))
+          (settled is honest images left))
 
   -- a closed cartridge that was opened before is settled, as one that is known to be
   settled_where : (c : ClosedCartridge D) → ((closed_state state c).unread ≡ false) ⊎ IsSettledOn state c
@@ -96,29 +102,31 @@ module _ {D : Type 0} (state : D → DiskState) (is_disk : (disk : D) → (state
         by Between over = absurd over
 
     pub shows_open : (c : OpenCartridge D) → held ≡ Open c
-        → ((state c.disk).honest → Each (state c.disk) (ShowsContents c.contents c.torn))
+        → IsContents c.contents
+        → (AreHonest state c.disks → EachOfTwo state c.disks (ShowsContents c.contents c.torn))
         → ((state_held state held pending).unread ≡ false) ⊎ IsSettledIn state held
         → (volume : List Part) → (state_held state held pending).stored ≡ Some volume
-        → ShowsOn state (disk_in held) (core_held state held pending)
-    shows_open c same shows sure volume some =
+        → ShowsOn state (disks_in held) (core_held state held pending)
+    shows_open c same contents shows sure volume some =
         let over = subst (λ (h : Holding (OpenCartridge D) (ClosedCartridge D)). IsHeld h pending) same is in
         subst (λ (h : Holding (OpenCartridge D) (ClosedCartridge D)).
-        ShowsOn state (disk_in h) (core_held state h pending)) (sym same)
-        (λ honest image left. open_shows c pending over.torn image (shows honest image left))
+        ShowsOn state (disks_in h) (core_held state h pending)) (sym same)
+        (λ honest images left. open_shows c pending over.torn contents.copied images (shows honest images left))
 
     pub shows_closed : (c : ClosedCartridge D) → held ≡ Closed c
-        → (c.known ≡ true → (state c.disk).honest → Each (state c.disk) (ShowsContents c.contents c.torn))
+        → (c.known ≡ true → IsContents c.contents)
+        → (c.known ≡ true → AreHonest state c.disks → EachOfTwo state c.disks (ShowsContents c.contents c.torn))
         → ((state_held state held pending).unread ≡ false) ⊎ IsSettledIn state held
         → (volume : List Part) → (state_held state held pending).stored ≡ Some volume
-        → ShowsOn state (disk_in held) (core_held state held pending)
-    shows_closed c same shows sure volume some =
+        → ShowsOn state (disks_in held) (core_held state held pending)
+    shows_closed c same contents shows sure volume some =
         let settled = settled_where c (subst (λ (h : Holding (OpenCartridge D) (ClosedCartridge D)).
         ((state_held state h pending).unread ≡ false) ⊎ IsSettledIn state h) same sure) in
         let gives = subst (λ (h : Holding (OpenCartridge D) (ClosedCartridge D)).
         (state_held state h pending).stored ≡ Some volume) same some in
         subst (λ (h : Holding (OpenCartridge D) (ClosedCartridge D)).
-        ShowsOn state (disk_in h) (core_held state h pending)) (sym same)
-        (closed_shows c settled shows volume gives)
+        ShowsOn state (disks_in h) (core_held state h pending)) (sym same)
+        (closed_shows c settled contents shows volume gives)
 
 -- the partitions and capacities of a medium that is open are its cartridge's
 module _ {D : Type 0} (state : D → DiskState) (held : Holding (OpenCartridge D) (ClosedCartridge D))
@@ -149,7 +157,7 @@ module _ {D : Type 0} (state : D → DiskState) (held : Holding (OpenCartridge D
       (λ works going. (
         omega (arith, ap (λ (t : List (List Change)). length (changes_of t)) (at_rest works)),
         ap (λ (l : List Change). l ++ pending)
-            (sym (take_at (changes_in c.contents) pending (length (changes_in c.contents)) refl)),
+            (sym (take_at (changes_since c.contents) pending (length (changes_since c.contents)) refl)),
       ))
 
   pub whole_closed : (c : ClosedCartridge D) → held ≡ Closed c → IsSafeOrPending (core_held state held pending) pending

@@ -1,3 +1,4 @@
+pub mod TwoLemmas
 pub mod AddingLemmas
 pub mod ClosingLemmas
 pub mod CoreLemmas

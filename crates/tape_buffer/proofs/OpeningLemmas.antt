@@ -1,26 +1,29 @@
 -- A closed cartridge is opened: what its side gave is found, and made sure.
 use Rattle.std.specs.Prelude.{◌≡◌, ◌⊎◌, ◌+◌, ◌++◌, ◌≤◌, ℕ, List, [], ◌∷◌, Bool, true, false, Some, length, take, sum_by, option_map, refl}
 use Rattle.std.specs.List.{All, flat_map}
-use Rattle.std.proofs.Common.{inl, inr, sym, ◌∙◌, ap, subst, arith, ⊎_elim, length-append, append_assoc}
+use Rattle.std.proofs.Common.{inl, inr, sym, ◌∙◌, ap, subst, arith, ⊎_elim, length-append}
 use Rattle.std.proofs.lemmas.Grind.{flat_map-append}
 use Rattle.std.proofs.lemmas.List.{append-nil, map-append, length-take-le}
 use Rattle.std.proofs.lemmas.List.Elements.{All-head, All-tail}
 use Rattle.std.proofs.lemmas.List.Sums.{sum_by-append}
 use Rattle.vtl_base.specs.Below.{Advances}
-use Rattle.tape_disk.specs.Disk.{DiskState, IsDisk, Keeps, Only}
-use Rattle.tape_disk.specs.Moments.{LeavesOnly}
+use Rattle.tape_disk.specs.Disk.{DiskState, IsDisk}
+use Rattle.tape_disk.specs.TwoDisks.{AreHonest, Images, KeepsDisks, MayLeave, TwoLeave, seen_of_two}
 use Rattle.volume_core.specs.declared.changes.Change.{Change}
 use Rattle.volume_core.specs.Volume.{after}
 use Rattle.volume_core.specs.Medium.{Opens, frame_size}
 use Rattle.volume_core.specs.Stores.{after_append}
-use Rattle.gate_journal.specs.Side.{Heading, IsBody, frame, spell, spell_heading}
+use Rattle.gate_journal.specs.Heads.{Head, spell_side_head}
+use Rattle.gate_journal.specs.Side.{IsBody, frame}
 use Rattle.gate_journal.specs.State.{room_behind}
+use Rattle.side_pairs.specs.Pairs.{gate_behind}
 use Rattle.record_index.specs.Records.{spell_all}
-use Rattle.cartridge.specs.Contents.{Contents, GivesContents, ShowsContents, bodies_of, changes_in, changes_of, contents_from, volume_made, with_frames}
+use Rattle.cartridge.specs.Contents.{Contents, GivesContents, ShowsContents, Start, bodies_of, changes_in, changes_of, changes_since, start_of, volume_made, with_frames}
 use Rattle.cartridge.specs.ContentsOn.{contents_on_is}
+use Rattle.cartridge.specs.Disks.{NoneOfTwo, OnlyOfTwo}
 use Rattle.cartridge.specs.State.{ClosedCartridge, OpenCartridge}
 use Rattle.accepting.specs.Core.{Core, IsCore, recovered}
-use Rattle.accepting.specs.Device.{one_disk, one_is_device, one_keeps, one_rests}
+use Rattle.accepting.specs.Device.{two_disks, two_is_device, two_keep, two_rest}
 use Rattle.accepting.specs.Events.{ShowsCore}
 use Rattle.accepting.specs.Kinds.{moves_recovering}
 use Rattle.tape_buffer.specs.Moves.{buffer_below}
@@ -29,26 +32,26 @@ use Rattle.tape_buffer.specs.State.{IsPendingOver, closed_buffer, closed_state, 
 use Rattle.tape_buffer.proofs.CoreLemmas.{gives_changes}
 use Rattle.tape_buffer.proofs.HeldLemmas.{found_is_core, found_stopped}
 use Rattle.tape_buffer.proofs.RoomLemmas.{one_frame_fits}
+use Rattle.tape_buffer.proofs.TwoLemmas.{none_failed, read_now, stay_honest, were_honest}
 
--- an image gives one cartridge's contents at most
+-- a pair of images gives one cartridge's contents at most
 abbrev GivesOne : Type 0
-GivesOne = (image : List ℕ) (a b : Contents) → GivesContents a image → GivesContents b image → a ≡ b
+GivesOne = (images : Images) (a b : Contents) → GivesContents a images → GivesContents b images → a ≡ b
 
 -- of a closed cartridge that is opened
-module _ (one : GivesOne) (old : Core Heading Change) (is : IsCore old) (found : Contents) (seen : List ℕ)
+module _ (one : GivesOne) (old : Core Start Change) (is : IsCore old) (found : Contents) (seen : Images)
     (gives : GivesContents found seen) where
   -- what was accepted is found, as far as it was safe, or stored
   found_as : (kept : ℕ) → GivesChanges old.base (take kept old.accepted) seen
-      → (found.heading ≡ old.base) × (changes_in found ≡ take kept old.accepted)
+      → (start_of found ≡ old.base) × (changes_since found ≡ take kept old.accepted)
   found_as kept given =
-      let same : found ≡ contents_from old.base given.0 = one seen found (contents_from old.base given.0) gives given.1
-      in
-      (ap (λ (k : Contents). k.heading) same, ap changes_in same ∙ given.2)
+      let same : found ≡ given.0 = one seen found given.0 gives given.1 in
+      (ap start_of same ∙ given.2, ap changes_since same ∙ given.3)
 
   -- where it was shown
   recovers : ShowsCore medium_rules old seen
       → (kept : ℕ) × ((kept ≡ old.safe) ⊎ (kept ≡ old.stored)) × (kept ≤ length old.accepted)
-      × (found.heading ≡ old.base) × (changes_in found ≡ take kept old.accepted)
+      × (start_of found ≡ old.base) × (changes_since found ≡ take kept old.accepted)
   recovers (inl g) =
       let as_found = found_as old.safe g in
       (old.safe, inl refl, omega (arith, is.safe, is.stored), as_found.0, as_found.1)
@@ -58,24 +61,24 @@ module _ (one : GivesOne) (old : Core Heading Change) (is : IsCore old) (found :
 
 module _ {D : Type 0} (state : D → DiskState) (is_disk : (disk : D) → (state disk).honest → IsDisk (state disk))
     (one : GivesOne) (old : ClosedCartridge D) (c : OpenCartridge D)
-    (keeps : Keeps (state old.disk) (state c.disk))
+    (keeps : KeepsDisks state old.disks c.disks)
     (works : c.failed ≡ false) (none : c.torn ≡ [])
-    (gives : (state old.disk).honest →
-    GivesContents c.contents (state old.disk).seen × Only (state old.disk).seen (state c.disk).may_leave) where
-  abbrev old_core : Core Heading Change
+    (gives : AreHonest state old.disks →
+    GivesContents c.contents (seen_of_two state old.disks) × OnlyOfTwo state old.disks c.disks) where
+  abbrev old_core : Core Start Change
   old_core = found_core (found_in state old) (torn_in state old)
 
-  opened_core : (kept : ℕ) → kept ≤ length old_core.accepted → c.contents.heading ≡ old_core.base
-      → changes_in c.contents ≡ take kept old_core.accepted → open_core c [] ≡ recovered kept old_core
-  opened_core kept fits heading changes =
-      let long : length (changes_in c.contents) ≡ kept =
+  opened_core : (kept : ℕ) → kept ≤ length old_core.accepted → start_of c.contents ≡ old_core.base
+      → changes_since c.contents ≡ take kept old_core.accepted → open_core c [] ≡ recovered kept old_core
+  opened_core kept fits start changes =
+      let long : length (changes_since c.contents) ≡ kept =
       ap length changes ∙ length-take-le kept old_core.accepted fits in
-      let stored : length (changes_in c.contents) + length (changes_of c.torn) ≡ kept =
+      let stored : length (changes_since c.contents) + length (changes_of c.torn) ≡ kept =
       omega (arith, long, ap (λ (t : List (List Change)). length (changes_of t)) none) in
-      let accepted : changes_in c.contents ++ [] ≡ take kept old_core.accepted =
-      append-nil (changes_in c.contents) ∙ changes in
+      let accepted : changes_since c.contents ++ [] ≡ take kept old_core.accepted =
+      append-nil (changes_since c.contents) ∙ changes in
       λ i. record {
-        base = heading i;
+        base = start i;
         accepted = accepted i;
         stored = stored i;
         safe = long i;
@@ -84,32 +87,32 @@ module _ {D : Type 0} (state : D → DiskState) (is_disk : (disk : D) → (state
         recovering = false;
       }
 
-  pub advances_opened : ((state old.disk).honest → LeavesOnly (state old.disk) (state c.disk)
-      (state old.disk).may_leave)
-      → (state c.disk).failures ≡ (state old.disk).failures
+  pub advances_opened : (AreHonest state old.disks → TwoLeave state old.disks c.disks (MayLeave state old.disks))
+      → NoneOfTwo state old.disks c.disks
       → Advances (buffer_below state) (closed_buffer old) [] false (open_buffer c [])
   advances_opened moments same =
       record {
         moved =
-            moves_recovering medium_rules (one_disk state) (one_is_device state) old.disk c.disk old_core
-            (open_core c []) (one_keeps state old.disk c.disk keeps)
+            moves_recovering medium_rules (two_disks state) (two_is_device state) old.disks c.disks old_core
+            (open_core c []) (two_keep state old.disks c.disks keeps)
             (found_stopped (found_in state old) (torn_in state old))
-            (λ honest. one_rests state old.disk c.disk (ShowsCore medium_rules old_core) (moments honest))
+            (λ honest. two_rest state old.disks c.disks (ShowsCore medium_rules old_core) (moments honest))
             (λ honest shows.
             let given = gives honest in
             let back = recovers one old_core (found_is_core (found_in state old) (torn_in state old)) c.contents
-            (state old.disk).seen given.0 (shows (state old.disk).seen (is_disk old.disk honest).reads) in (
+            (seen_of_two state old.disks) given.0 (shows (seen_of_two state old.disks)
+            (read_now state is_disk old.disks honest)) in (
               back.0,
               back.1,
               opened_core back.0 back.2 back.3 back.4,
-              λ image left.
-                  subst (λ (x : List ℕ). GivesChanges old_core.base (take back.0 old_core.accepted) x)
-                  (sym (given.1 image left))
-                  (subst (λ (p : Heading × List Change). GivesChanges p.0 p.1 (state old.disk).seen)
-                  (λ i. (back.3 i, back.4 i)) (gives_changes c.contents (state old.disk).seen given.0)),
+              λ images left.
+                  subst (λ (x : Images). GivesChanges old_core.base (take back.0 old_core.accepted) x)
+                  (sym (given.1 images left))
+                  (subst (λ (p : Start × List Change). GivesChanges p.0 p.1 (seen_of_two state old.disks))
+                  (λ i. (back.3 i, back.4 i)) (gives_changes c.contents (seen_of_two state old.disks) given.0)),
             ));
-        counted = same;
-        honesty = (keeps.stays_honest, keeps.was_honest);
+        counted = none_failed state old.disks c.disks same;
+        honesty = (stay_honest state old.disks c.disks keeps, were_honest state old.disks c.disks keeps);
         hand = (λ h. h, λ h. h);
       }
 
@@ -142,14 +145,27 @@ frames_short (changes ∷ torn) all =
     some_changes [] some = absurd (omega (arith, some))
     some_changes (change ∷ changes) some = omega arith
 
+-- bytes with more in two parts are longer by the second one
+longer_by : (head one more : List ℕ) → length (head ++ (one ++ more)) ≡ length (head ++ one) + length more
+longer_by head one more =
+    omega (
+      arith,
+      length-append head (one ++ more),
+      length-append one more,
+      length-append head one,
+    )
+
 -- a side with bodies more is longer by their frames
-longer : (heading : Heading) (bodies more : List (List ℕ))
-    → length (spell heading (bodies ++ more)) ≡ length (spell heading bodies) + length (flat_map frame more)
-longer heading bodies more =
-    ap length
-    (ap (λ (l : List ℕ). spell_heading heading ++ l) (flat_map-append frame bodies more)
-    ∙ sym (append_assoc (spell_heading heading) (flat_map frame bodies) (flat_map frame more)))
-    ∙ length-append (spell heading bodies) (flat_map frame more)
+longer : (head : Head) (bodies more : List (List ℕ))
+    → gate_behind head (bodies ++ more) ≡ gate_behind head bodies + length (flat_map frame more)
+longer head bodies more =
+    by (length (spell_side_head head ++ flat_map frame (bodies ++ more)))
+    (length (spell_side_head head ++ flat_map frame bodies)) (length (flat_map frame more))
+    (ap (λ (l : List ℕ). length (spell_side_head head ++ l)) (flat_map-append frame bodies more)
+    ∙ longer_by (spell_side_head head) (flat_map frame bodies) (flat_map frame more))
+  where
+    by : (a b m : ℕ) → a ≡ b + m → 10 + a ≡ 10 + b + m
+    by a b m is = omega (arith, is)
 
 -- what is longer by so much has so much less room at most
 less_room : (short long more : ℕ) → long ≡ short + more → room_behind short ≤ room_behind long + more
@@ -159,10 +175,10 @@ less_room short long more is = omega (arith, is)
 room_with : (contents : Contents) (torn : List (List Change)) → All IsBody (bodies_of torn)
     → room_of contents ≤ room_of (with_frames contents torn) + sum_by frame_size (changes_of torn)
 room_with contents torn all =
-    let less = less_room (length (spell contents.heading (bodies_of contents.frames)))
-    (length (spell contents.heading (bodies_of (contents.frames ++ torn)))) (length (flat_map frame (bodies_of torn)))
-    (ap (λ (b : List (List ℕ)). length (spell contents.heading b)) (map-append spell_all contents.frames torn)
-    ∙ longer contents.heading (bodies_of contents.frames) (bodies_of torn)) in
+    let less = less_room (gate_behind contents.head (bodies_of contents.frames))
+    (gate_behind contents.head (bodies_of (contents.frames ++ torn))) (length (flat_map frame (bodies_of torn)))
+    (ap (λ (b : List (List ℕ)). gate_behind contents.head b) (map-append spell_all contents.frames torn)
+    ∙ longer contents.head (bodies_of contents.frames) (bodies_of torn)) in
     at_most (room_of contents) (room_of (with_frames contents torn)) (length (flat_map frame (bodies_of torn)))
     (sum_by frame_size (changes_of torn)) less (frames_short torn all)
   where
@@ -176,7 +192,7 @@ last_part (body ∷ bodies) more all = last_part bodies more (All-tail IsBody bo
 
 -- What is found on a side that showed contents: these, or these with the frame that was under way. Its room is less by
 -- that frame at most.
-module _ (one : GivesOne) (contents : Contents) (torn : List (List Change)) (found : Contents) (seen : List ℕ)
+module _ (one : GivesOne) (contents : Contents) (torn : List (List Change)) (found : Contents) (seen : Images)
     (gives : GivesContents found seen) where
   volume_from : ShowsContents contents torn seen
       → (volume_made found ≡ volume_made contents)
@@ -194,12 +210,12 @@ module _ (one : GivesOne) (contents : Contents) (torn : List (List Change)) (fou
         ap room_of (one seen found (with_frames contents torn) gives g),
         room_with contents torn
             (last_part (bodies_of contents.frames) (bodies_of torn)
-            (subst (All IsBody) (map-append spell_all contents.frames torn) g.1.0.holds)),
+            (subst (All IsBody) (map-append spell_all contents.frames torn) g.1.0.each)),
       )
 
 module _ {D : Type 0} (state : D → DiskState) (one : GivesOne) (old : ClosedCartridge D) (c : OpenCartridge D)
-    (known : old.known ≡ true → ShowsContents old.contents old.torn (state old.disk).seen)
-    (gives : GivesContents c.contents (state old.disk).seen) (room : c.room ≡ room_of c.contents) where
+    (known : old.known ≡ true → ShowsContents old.contents old.torn (seen_of_two state old.disks))
+    (gives : GivesContents c.contents (seen_of_two state old.disks)) (room : c.room ≡ room_of c.contents) where
   opens_known : old.known ≡ true → Opens (closed_state state (record old { known = true })) (open_state c [])
   opens_known is =
       let shows = known is in
@@ -207,15 +223,20 @@ module _ {D : Type 0} (state : D → DiskState) (one : GivesOne) (old : ClosedCa
         first = λ unread. cc;
         volume =
             ⊎_elim (λ same. inl (ap Some same)) (λ more. inr (ap Some more))
-            (volume_from one old.contents old.torn c.contents (state old.disk).seen gives shows);
+            (volume_from one old.contents old.torn c.contents (seen_of_two state old.disks) gives shows);
         readable = λ none. absurd (cc);
         room_is =
-            omega (arith, room, room_from one old.contents old.torn c.contents (state old.disk).seen gives shows);
+            omega (
+              arith,
+              room,
+              room_from one old.contents old.torn c.contents (seen_of_two state old.disks) gives
+                  shows,
+            );
       }
 
   opens_unknown : Opens (closed_state state (record old { known = false })) (open_state c [])
   opens_unknown =
-      let is = contents_on_is (state old.disk).seen c.contents gives in
+      let is = contents_on_is (seen_of_two state old.disks) c.contents gives in
       record {
         volume = inl (sym (ap (option_map volume_made) is));
         first = λ unread. sym (ap (option_map volume_made) is);

@@ -1,103 +1,101 @@
--- What a contract sees below a buffered medium: the disk, and by which steps it went on.
+-- What a contract sees below a buffered medium: its two disks, and by which steps it went on.
 use Rattle.std.specs.Prelude.{◌≡◌, ◌++◌, ℕ, List, [], Option, None, Some, false, take, refl}
 use Rattle.std.proofs.Common.{◌∙◌}
 use Rattle.vtl_base.specs.Below.{Below}
-use Rattle.tape_disk.specs.Disk.{DiskState, IsDisk, Each}
-use Rattle.tape_disk.specs.Moments.{LeavesOnly, no_call}
+use Rattle.tape_disk.specs.Disk.{DiskState, IsDisk}
+use Rattle.tape_disk.specs.TwoDisks.{AreHonest, EachOfTwo, MayLeave, TwoDisks, TwoLeave, failures_of, two_rest_still}
 use Rattle.volume_core.specs.declared.changes.Change.{Change}
-use Rattle.gate_journal.specs.Side.{Heading}
+use Rattle.cartridge.specs.Contents.{Start}
 use Rattle.accepting.specs.Core.{Core}
-use Rattle.accepting.specs.Device.{one_disk, one_is_device}
+use Rattle.accepting.specs.Device.{two_disks, two_is_device}
 use Rattle.accepting.specs.Events.{CoreMoves, ShowsCore, core_moves_nowhere, core_moves_on}
 use Rattle.tape_buffer.specs.Rules.{medium_rules}
-use Rattle.tape_buffer.specs.State.{BufferState, core_held, disk_in}
+use Rattle.tape_buffer.specs.State.{BufferState, core_held, disks_in}
 
 -- while the device works and nothing was stopped, all that is stored is safe, and what was accepted beside it is
 -- pending (own)
-abbrev pub IsSafeOrPending : Core Heading Change → List Change → Type 0
+abbrev pub IsSafeOrPending : Core Start Change → List Change → Type 0
 IsSafeOrPending core pending =
     core.fault ≡ false → core.recovering ≡ false
     → (core.safe ≡ core.stored) × (core.accepted ≡ take core.safe core.accepted ++ pending)
 
 module _ {D : Type 0} (state : D → DiskState) where
   -- what a medium has accepted, and how much of it is stored and safe (own)
-  abbrev pub medium_core : BufferState D → Core Heading Change
+  abbrev pub medium_core : BufferState D → Core Start Change
   medium_core buffer = core_held state buffer.held buffer.pending
 
-  -- how often the disk failed (own)
-  abbrev pub failures_on : Option D → ℕ
+  -- how often a disk of the two failed (own)
+  abbrev pub failures_on : Option (TwoDisks D) → ℕ
   failures_on None = 0
-  failures_on (Some disk) = (state disk).failures
+  failures_on (Some disks) = failures_of state disks
 
-  -- the disk keeps to what a disk promises (own)
-  abbrev pub HonestOn : Option D → Type 0
+  -- both disks keep to what a disk promises (own)
+  abbrev pub HonestOn : Option (TwoDisks D) → Type 0
   HonestOn None = Unit {0}
-  HonestOn (Some disk) = (state disk).honest
+  HonestOn (Some disks) = AreHonest state disks
 
   -- from one core to the other just these were accepted, over these disks (own)
-  abbrev pub MovesOn : Option D → Option D → Core Heading Change → Core Heading Change → List Change → Type 0
-  MovesOn (Some disk) (Some disk') old new made = CoreMoves medium_rules (one_disk state) disk disk' old new made
+  abbrev pub MovesOn :
+      Option (TwoDisks D) → Option (TwoDisks D) → Core Start Change → Core Start Change → List Change → Type 0
+  MovesOn (Some disks) (Some disks') old new made = CoreMoves medium_rules (two_disks state) disks disks' old new made
   MovesOn None None old new made = made ≡ []
   MovesOn _ _ old new made = ⊥
 
   -- from one medium to the other just these were accepted (own)
   abbrev pub MediumMoves : BufferState D → List Change → BufferState D → Type 0
-  MediumMoves old made new = MovesOn (disk_in old.held) (disk_in new.held) (medium_core old) (medium_core new) made
+  MediumMoves old made new = MovesOn (disks_in old.held) (disks_in new.held) (medium_core old) (medium_core new) made
 
-  -- what is seen below a buffered medium: the failures and the honesty of its disk, and its steps (own)
+  -- what is seen below a buffered medium: the failures and the honesty of its disks, and its steps (own)
   abbrev pub buffer_below : Below (BufferState D) Change
   buffer_below =
       record {
-        failures = λ buffer. failures_on (disk_in buffer.held);
-        honest = λ buffer. HonestOn (disk_in buffer.held);
+        failures = λ buffer. failures_on (disks_in buffer.held);
+        honest = λ buffer. HonestOn (disks_in buffer.held);
         at_hand = λ buffer. Unit {0};
         moves = MediumMoves;
       }
 
-  -- each image that a crash now may leave gives what is safe, or what is stored (own)
-  abbrev pub ShowsOn : Option D → Core Heading Change → Type 0
+  -- each pair of images that a crash now may leave gives what is safe, or what is stored (own)
+  abbrev pub ShowsOn : Option (TwoDisks D) → Core Start Change → Type 0
   ShowsOn None core = Unit {0}
-  ShowsOn (Some disk) core = (state disk).honest → Each (state disk) (ShowsCore medium_rules core)
+  ShowsOn (Some disks) core = AreHonest state disks → EachOfTwo state disks (ShowsCore medium_rules core)
 
-  -- over the same disk: at each moment of it a crash leaves what it might have left before (own)
-  abbrev pub LeavesAloneOn : Option D → Option D → Type 0
-  LeavesAloneOn (Some disk) (Some disk') =
-      (state disk).honest → LeavesOnly (state disk) (state disk') (state disk).may_leave
+  -- over the same two disks: at each moment of them a crash leaves what it might have left before (own)
+  abbrev pub LeavesAloneOn : Option (TwoDisks D) → Option (TwoDisks D) → Type 0
+  LeavesAloneOn (Some disks) (Some disks') = AreHonest state disks → TwoLeave state disks disks' (MayLeave state disks)
   LeavesAloneOn None None = Unit {0}
   LeavesAloneOn _ _ = ⊥
 
   -- from one medium to the other nothing was written (own)
   abbrev pub LeavesAlone : BufferState D → BufferState D → Type 0
-  LeavesAlone old new = LeavesAloneOn (disk_in old.held) (disk_in new.held)
+  LeavesAlone old new = LeavesAloneOn (disks_in old.held) (disks_in new.held)
 
   -- nothing done writes nothing
-  pub leaves_alone_nowhere : ((disk : D) → (state disk).honest → IsDisk (state disk))
-      → (buffer : BufferState D) → LeavesAlone buffer buffer
-  leaves_alone_nowhere is_disk buffer = by (disk_in buffer.held)
+  pub leaves_alone_nowhere : (buffer : BufferState D) → LeavesAlone buffer buffer
+  leaves_alone_nowhere buffer = by (disks_in buffer.held)
     where
-      by : (disk : Option D) → LeavesAloneOn disk disk
+      by : (disks : Option (TwoDisks D)) → LeavesAloneOn disks disks
       by None = tt
-      by (Some disk) =
-          λ honest. no_call (state disk) (state disk).may_leave (is_disk disk honest) (λ image left. left)
+      by (Some disks) = λ honest. two_rest_still state disks (MayLeave state disks) (λ images left. left)
 
   -- nothing done is the empty list
   pub medium_moves_nowhere : ((disk : D) → (state disk).honest → IsDisk (state disk))
       → (buffer : BufferState D) → MediumMoves buffer [] buffer
-  medium_moves_nowhere is_disk buffer = by (disk_in buffer.held)
+  medium_moves_nowhere is_disk buffer = by (disks_in buffer.held)
     where
-      by : (disk : Option D) → MovesOn disk disk (medium_core buffer) (medium_core buffer) []
+      by : (disks : Option (TwoDisks D)) → MovesOn disks disks (medium_core buffer) (medium_core buffer) []
       by None = refl
-      by (Some disk) =
-          core_moves_nowhere medium_rules (one_disk state) (one_is_device state) disk (medium_core buffer)
-          (is_disk disk)
+      by (Some disks) =
+          core_moves_nowhere medium_rules (two_disks state) (two_is_device state) disks (medium_core buffer)
+          (λ honest. (is_disk disks.first honest.0, is_disk disks.second honest.1))
 
   -- two in a row append what they accept
   pub medium_moves_on : (a b c : BufferState D) (first second : List Change)
       → MediumMoves a first b → MediumMoves b second c → MediumMoves a (first ++ second) c
-  medium_moves_on a b c first second = by (disk_in a.held) (disk_in b.held) (disk_in c.held)
+  medium_moves_on a b c first second = by (disks_in a.held) (disks_in b.held) (disks_in c.held)
     where
-      by : (x y z : Option D) → MovesOn x y (medium_core a) (medium_core b) first → MovesOn y z (medium_core b)
-          (medium_core c) second
+      by : (x y z : Option (TwoDisks D)) → MovesOn x y (medium_core a) (medium_core b) first
+          → MovesOn y z (medium_core b) (medium_core c) second
           → MovesOn x z (medium_core a) (medium_core c) (first ++ second)
       by None None None one two = (λ i. one i ++ second) ∙ two
       by None None (Some z) one two = absurd two
@@ -105,5 +103,5 @@ module _ {D : Type 0} (state : D → DiskState) where
       by (Some x) None z one two = absurd one
       by (Some x) (Some y) None one two = absurd two
       by (Some x) (Some y) (Some z) one two =
-          core_moves_on medium_rules (one_disk state) (one_is_device state) x y z (medium_core a)
+          core_moves_on medium_rules (two_disks state) (two_is_device state) x y z (medium_core a)
           (medium_core b) (medium_core c) first second one two

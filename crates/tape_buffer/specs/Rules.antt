@@ -1,10 +1,10 @@
--- What a buffered medium accepts, and what an image of its cartridge gives.
-use Rattle.std.specs.Prelude.{◌≡◌, ℕ, Bool, true, false, List, Option, None, Some}
+-- What a buffered medium accepts, and what the images of its cartridge's two disks give.
+use Rattle.std.specs.Prelude.{◌≡◌, ◌+◌, Bool, true, false, List, Option, None, Some}
 use Rattle.volume_core.specs.declared.changes.Change.{Change}
 use Rattle.volume_core.specs.declared.changes.Refusal.{Refusal}
-use Rattle.volume_core.specs.Volume.{after, empty_volume, refusal_of}
-use Rattle.gate_journal.specs.Side.{Heading}
-use Rattle.cartridge.specs.Contents.{GivesContents, changes_of, contents_from}
+use Rattle.volume_core.specs.Volume.{after, refusal_of}
+use Rattle.tape_disk.specs.TwoDisks.{Images}
+use Rattle.cartridge.specs.Contents.{Contents, GivesContents, Start, changes_since, start_of}
 use Rattle.accepting.specs.Core.{Rules}
 
 -- nothing refuses it (own)
@@ -12,25 +12,32 @@ abbrev pub is_unrefused : Option Refusal → Bool
 is_unrefused None = true
 is_unrefused (Some cause) = false
 
--- the change applies to what these make of the empty volume of the heading (own)
-abbrev pub applies_behind : Heading → List Change → Change → Bool
-applies_behind heading changes change =
-    is_unrefused (refusal_of (after (empty_volume heading.capacities) changes) change)
+-- the change applies to what these make of the volume that all is carried out from (own)
+abbrev pub applies_behind : Start → List Change → Change → Bool
+applies_behind start changes change = is_unrefused (refusal_of (after start.volume changes) change)
 
--- what is found on the image is a cartridge's side with this heading, whose frames spell just these changes, in order
--- (own)
-abbrev pub GivesChanges : Heading → List Change → List ℕ → Type 0
-GivesChanges heading changes image =
-    (frames : List (List Change)) × GivesContents (contents_from heading frames) image × (changes_of frames ≡ changes)
+-- what is found on the two images is a cartridge that begins from there, and whose changes since are just these, in
+-- order (own)
+abbrev pub GivesChanges : Start → List Change → Images → Type 0
+GivesChanges start changes images =
+    (contents : Contents) × GivesContents contents images × (start_of contents ≡ start)
+    × (changes_since contents ≡ changes)
 
--- A cartridge accepts changes that apply to what stands before them, from the empty volume of its heading on, and an
--- image gives the changes that its side spells; what all is carried out from never changes (own).
+-- These, carried out from the first, go into the second, as in a reclaim: the heading stays, the epoch is one more, and
+-- the volume is what they make of it (own).
+pub record GoesInto (start : Start) (changes : List Change) (next : Start) : Type 0 where
+  pub heading : next.heading ≡ start.heading
+  pub epoch : next.epoch ≡ start.epoch + 1
+  pub volume : next.volume ≡ after start.volume changes
+
+-- A cartridge accepts changes that apply to what stands before them, from the volume on that it had when it was made or
+-- last reclaimed, and images give the changes since then; by a reclaim all of them go into that volume (own).
 abbrev pub medium_rules : Rules
 medium_rules = record {
-  Base = Heading;
+  Base = Start;
   Item = Change;
-  Image = List ℕ;
+  Image = Images;
   applies = applies_behind;
   gives = GivesChanges;
-  rebases = λ heading changes other. ⊥;
+  rebases = GoesInto;
 }

@@ -1,16 +1,18 @@
 -- What contracts see of a buffered medium.
 use Rattle.std.specs.Prelude.{◌≡◌, ◌⊎◌, ◌+◌, ◌++◌, ◌≤◌, ℕ, List, [], ◌∷◌, Option, None, Some, true, false, not, length, sum_by, slice_index_or, if◌then◌else◌, option_map, refl}
-use Rattle.tape_disk.specs.Disk.{DiskState, Only}
+use Rattle.tape_disk.specs.Disk.{DiskState}
+use Rattle.tape_disk.specs.TwoDisks.{AreHonest, TwoDisks, seen_of_two}
 use Rattle.volume_core.specs.declared.changes.Change.{Change}
 use Rattle.volume_core.specs.Volume.{AllApply}
 use Rattle.volume_core.specs.Medium.{MediumState, frame_size}
 use Rattle.gate_journal.specs.declared.header.SideKind.TheVariants.{Store}
-use Rattle.gate_journal.specs.Side.{Heading, spell}
 use Rattle.gate_journal.specs.State.{room_behind}
+use Rattle.side_pairs.specs.Pairs.{gate_behind}
 use Rattle.record_index.specs.Records.{spell_all}
 use Rattle.cartridge.specs.Answers.{entries_of}
-use Rattle.cartridge.specs.Contents.{Contents, bodies_of, changes_in, changes_of, volume_made}
+use Rattle.cartridge.specs.Contents.{Contents, Start, bodies_of, changes_of, changes_since, start_of, volume_made}
 use Rattle.cartridge.specs.ContentsOn.{contents_on}
+use Rattle.cartridge.specs.Disks.{OnlyOfTwo, disk_at}
 use Rattle.cartridge.specs.State.{ClosedCartridge, OpenCartridge, Reserved}
 use Rattle.accepting.specs.Core.{Core}
 use Rattle.tape_buffer.specs.declared.holding.Holding.{Holding}
@@ -21,30 +23,30 @@ pub record BufferState (D : Type 0) : Type 0 where
   pub held : Holding (OpenCartridge D) (ClosedCartridge D)
   pub pending : List Change
 
--- the room that is left on a side with these contents (own)
+-- the room that is left on the side that counts, with these contents (own)
 abbrev pub room_of : Contents → ℕ
-room_of contents = room_behind (length (spell contents.heading (bodies_of contents.frames)))
+room_of contents = room_behind (gate_behind contents.head (bodies_of contents.frames))
 
--- the room that is left on a side that may give contents; none where it gives none (own)
+-- the room that is left on a cartridge that may give contents; none where it gives none (own)
 abbrev pub room_found : Option Contents → ℕ
 room_found None = 0
 room_found (Some contents) = room_of contents
 
--- the heading of no side (own)
-abbrev pub no_heading : Heading
-no_heading = record { kind = Store; name = []; capacities = [] }
+-- what no cartridge begins from (own)
+abbrev pub no_start : Start
+no_start = record { heading = record { kind = Store; name = []; capacities = [] }; epoch = 0; volume = [] }
 
 -- a closed cartridge that may give these contents, or these with the frame that was under way: stopped, and what it
 -- then gives is found when it is opened (own)
-abbrev pub found_core : Option Contents → List Change → Core Heading Change
+abbrev pub found_core : Option Contents → List Change → Core Start Change
 found_core None torn =
-    record { base = no_heading; accepted = []; stored = 0; safe = 0; fault = false; stuck = false; recovering = true }
+    record { base = no_start; accepted = []; stored = 0; safe = 0; fault = false; stuck = false; recovering = true }
 found_core (Some contents) torn =
     record {
-      base = contents.heading;
-      accepted = changes_in contents ++ torn;
-      stored = length (changes_in contents) + length torn;
-      safe = length (changes_in contents);
+      base = start_of contents;
+      accepted = changes_since contents ++ torn;
+      stored = length (changes_since contents) + length torn;
+      safe = length (changes_since contents);
       fault = false;
       stuck = false;
       recovering = true;
@@ -65,10 +67,16 @@ module _ {D : Type 0} where
   abbrev pub closed_buffer : ClosedCartridge D → BufferState D
   closed_buffer cartridge = record { held = Closed cartridge; pending = [] }
 
-  -- the disk of a cartridge that is held (own)
+  -- the two disks of a cartridge that is held (own)
+  abbrev pub disks_in : Holding (OpenCartridge D) (ClosedCartridge D) → Option (TwoDisks D)
+  disks_in (Open cartridge) = Some cartridge.disks
+  disks_in (Closed cartridge) = Some cartridge.disks
+  disks_in Between = None
+
+  -- the disk of a cartridge that is shown: that of the side that counts, and of a closed one the first (own)
   abbrev pub disk_in : Holding (OpenCartridge D) (ClosedCartridge D) → Option D
-  disk_in (Open cartridge) = Some cartridge.disk
-  disk_in (Closed cartridge) = Some cartridge.disk
+  disk_in (Open cartridge) = Some (disk_at cartridge.contents.which cartridge.disks)
+  disk_in (Closed cartridge) = Some cartridge.disks.first
   disk_in Between = None
 
   -- an open cartridge, and what is pending over it, to a drive (own)
@@ -84,15 +92,15 @@ module _ {D : Type 0} where
         unread = false;
       }
 
-  -- what was accepted by an open cartridge and what is pending over it: what its side holds is safe, and a frame under
-  -- way when the disk failed is stored (own)
-  abbrev pub open_core : OpenCartridge D → List Change → Core Heading Change
+  -- what was accepted by an open cartridge since it was made or last reclaimed, and what is pending over it: what its
+  -- side holds is safe, and a frame under way when the disk failed is stored (own)
+  abbrev pub open_core : OpenCartridge D → List Change → Core Start Change
   open_core cartridge pending =
       record {
-        base = cartridge.contents.heading;
-        accepted = changes_in cartridge.contents ++ pending;
-        stored = length (changes_in cartridge.contents) + length (changes_of cartridge.torn);
-        safe = length (changes_in cartridge.contents);
+        base = start_of cartridge.contents;
+        accepted = changes_since cartridge.contents ++ pending;
+        stored = length (changes_since cartridge.contents) + length (changes_of cartridge.torn);
+        safe = length (changes_since cartridge.contents);
         fault = cartridge.failed;
         stuck = false;
         recovering = false;
@@ -107,11 +115,10 @@ module _ {D : Type 0} where
     pub reserved : IsReservedFor cartridge.reserved pending
 
   module _ (state : D → DiskState) where
-    -- the contents that the side of a closed cartridge gives: those that are known, or what a read of the disk gives
-    -- (own)
+    -- the contents that a closed cartridge gives: those that are known, or what a read of its two disks gives (own)
     abbrev pub found_in : ClosedCartridge D → Option Contents
     found_in cartridge =
-        if cartridge.known then Some cartridge.contents else contents_on (state cartridge.disk).seen
+        if cartridge.known then Some cartridge.contents else contents_on (seen_of_two state cartridge.disks)
 
     -- the changes of the frame that was under way in a closed cartridge when its disk failed (own)
     abbrev pub torn_in : ClosedCartridge D → List Change
@@ -153,7 +160,7 @@ module _ {D : Type 0} where
         by Between awake = refl
 
     -- what a buffered medium has accepted, and how much of it is stored and safe (own)
-    abbrev pub core_held : Holding (OpenCartridge D) (ClosedCartridge D) → List Change → Core Heading Change
+    abbrev pub core_held : Holding (OpenCartridge D) (ClosedCartridge D) → List Change → Core Start Change
     core_held (Open cartridge) pending = open_core cartridge pending
     core_held (Closed cartridge) pending = found_core (found_in cartridge) (torn_in cartridge)
     core_held Between pending = found_core None []
@@ -161,8 +168,8 @@ module _ {D : Type 0} where
     -- nothing else may be left by a crash than what a read gives, where nothing is known of a closed cartridge (own)
     abbrev pub IsSettledOn : ClosedCartridge D → Type 0
     IsSettledOn cartridge =
-        cartridge.known ≡ false → (state cartridge.disk).honest →
-        Only (state cartridge.disk).seen (state cartridge.disk).may_leave
+        cartridge.known ≡ false → AreHonest state cartridge.disks →
+        OnlyOfTwo state cartridge.disks cartridge.disks
 
     -- the same of a cartridge that is held; one that is open was settled (own)
     abbrev pub IsSettledIn : Holding (OpenCartridge D) (ClosedCartridge D) → Type 0

@@ -57,8 +57,6 @@ pub(crate) fn accept_over<D: Disk>(
         Ok(()) => {}
         Err(error) => return Err(NotAccepted { error, change }),
     }
-    // Asked for the proof's sake: what it holds is a cartridge's contents.
-    cartridge.known();
     match add_over(cartridge, pending, change) {
         Ok(()) => Ok(()),
         Err(change) => {

@@ -4,7 +4,7 @@ ghost use Rattle.volume_core.specs.Volume.{Part};
 ghost use Rattle.accepting.specs.Core.{IsCore};
 ghost use Rattle.tape_buffer.specs.Limits.{FitsBuffer};
 ghost use Rattle.tape_buffer.specs.Rules.{medium_rules};
-ghost use Rattle.tape_buffer.specs.State.{IsSettledIn, closed_buffer, disk_in, state_of};
+ghost use Rattle.tape_buffer.specs.State.{IsSettledIn, closed_buffer, disk_in, disks_in, state_of};
 ghost use Rattle.tape_buffer.specs.Moves.{IsSafeOrPending, ShowsOn, medium_core};
 ghost use Rattle.tape_buffer.specs.declared.holding.Holding.TheVariants as Holdings;
 
@@ -16,8 +16,8 @@ use std::alloc::Global;
 use std::marker::Model;
 use tape_disk::Disk;
 
-/// A medium over a cartridge on a disk, open or parked. What it accepts waits in memory until it is stored, all of it
-/// as one frame: at the latest when it is asked to, before the 65th change, and before the blocks that wait would
+/// A medium over a cartridge on two disks, open or parked. What it accepts waits in memory until it is stored, all of
+/// it as one frame: at the latest when it is asked to, before the 65th change, and before the blocks that wait would
 /// pass 4,194,304 bytes. After a device fault it takes nothing until it was parked and woken.
 #[derive(Drop)]
 pub struct Buffered<D: Disk> {
@@ -38,18 +38,18 @@ impl<D: Disk> Model for Buffered<D> {
 }
 
 impl<D: Disk> Accepting for Buffered<D> {
-    ghost use Rattle.accepting.specs.Device.{one_disk, one_is_device};
+    ghost use Rattle.accepting.specs.Device.{two_disks, two_is_device};
     ghost use Rattle.tape_buffer.specs.Rules.{medium_rules};
 
     ghost rules = { medium_rules };
 
-    ghost device = { one_disk D.state };
+    ghost device = { two_disks D.state };
 
-    ghost is_device = { one_is_device D.state };
+    ghost is_device = { two_is_device D.state };
 }
 
 impl<D: Disk> Buffered<D> {
-    /// A parked medium over a closed cartridge. Over a disk that was only taken for a cartridge it is unread: nothing
+    /// A parked medium over a closed cartridge. Over disks that were only taken for a cartridge it is unread: nothing
     /// is known of it until it is woken.
     pub fn parked(alloc: Global, shelved: Shelved<D>) -> Buffered<D>
         ensures { result ≡ closed_buffer shelved }
@@ -75,7 +75,7 @@ impl<D: Disk> Buffered<D> {
     }
 
     /// What is safe is stored, and what is stored was accepted; while it is open and has not failed,
-    /// all that is stored is safe, and the rest is pending. Each image that a crash now may leave
+    /// all that is stored is safe, and the rest is pending. Each pair of images that a crash now may leave
     /// gives what is safe, or what is stored; of a parked medium where its side gives a volume, and where it was opened
     /// before, or a crash leaves just what a read gives.
     pub fn known(&self)
@@ -84,7 +84,7 @@ impl<D: Disk> Buffered<D> {
         ensures fits { FitsBuffer self.now.pending }
         ensures shows { ((state_of D.state self.now).unread ≡ false) ⊎ IsSettledIn D.state self.now.held →
             (volume : List Part) → (state_of D.state self.now).stored ≡ Some volume →
-            ShowsOn D.state (disk_in self.now.held) (medium_core D.state self.now) }
+            ShowsOn D.state (disks_in self.now.held) (medium_core D.state self.now) }
     {
         self.pending.within();
         match &self.held {
@@ -94,7 +94,7 @@ impl<D: Disk> Buffered<D> {
         }
     }
 
-    /// The disk, to be looked at.
+    /// The disk of the side that counts, to be looked at; of a parked medium the first disk.
     pub fn disk(&self) -> &D
         ensures { disk_in self.now.held ≡ Some result.now }
     {

@@ -1,6 +1,7 @@
 //! A medium is parked, and opened again.
 ghost use Rattle.std.specs.Prelude.{◌≡◌, ◌≢◌, ◌⊎◌, [], IfOk, IfErr, Ok, Err, true, false};
 ghost use Rattle.vtl_base.specs.Below.{Advances};
+ghost use Rattle.tape_disk.specs.TwoDisks.{AreHonest};
 ghost use Rattle.volume_core.specs.declared.media.MediumError.TheVariants as Errors;
 ghost use Rattle.volume_core.specs.Medium.{Parks, Wakes, met_fault};
 ghost use Rattle.volume_core.specs.Stores.{Stores};
@@ -11,7 +12,7 @@ ghost use Rattle.tape_buffer.specs.Inner.Waking.{wake_error_of};
 
 use crate::pending::Pending;
 use crate::storing::settle_over;
-use cartridge::laws::an_image_gives_one_volume;
+use cartridge::laws::a_pair_gives_one_volume;
 use cartridge::{Cartridge, CartridgeError, NotOpened, Shelved};
 use std::alloc::Global;
 use tape_disk::Disk;
@@ -26,12 +27,12 @@ pub(crate) fn park_over<D: Disk>(
     requires { IsPendingOver cartridge pending.old }
     ensures ok { IfOk result (λ shelved. (pending.new ≡ []) × (shelved.known ≡ true)
         × ParksInFrames cartridge.failed (Ok tt) cartridge.contents.frames pending.old shelved.contents.frames
-        × Parks (D.state cartridge.disk).honest (open_state cartridge pending.old) (Ok tt)
+        × Parks (AreHonest D.state cartridge.disks) (open_state cartridge pending.old) (Ok tt)
         (closed_state D.state shelved)
         × Advances (buffer_below D.state) (open_buffer cartridge pending.old) [] false (closed_buffer shelved)) }
     ensures err { IfErr result (λ broken. IsPendingOver broken pending.new
         × (broken.contents.frames ≡ cartridge.contents.frames)
-        × Parks (D.state cartridge.disk).honest (open_state cartridge pending.old) (Err Errors.Device)
+        × Parks (AreHonest D.state cartridge.disks) (open_state cartridge pending.old) (Err Errors.Device)
         (open_state broken pending.new)
         × Stores (open_state cartridge pending.old) [] (open_state broken pending.new)
         × Advances (buffer_below D.state) (open_buffer cartridge pending.old) [] true
@@ -55,7 +56,7 @@ fn shelve_over<D: Disk>(cartridge: Cartridge<D>, pending: &mut Pending) -> Shelv
     ensures empty { pending.new ≡ [] }
     ensures known { result.known ≡ true }
     ensures frames { result.contents.frames ≡ cartridge.contents.frames }
-    ensures parks { Parks (D.state cartridge.disk).honest (open_state cartridge pending.old) (Ok tt)
+    ensures parks { Parks (AreHonest D.state cartridge.disks) (open_state cartridge pending.old) (Ok tt)
         (closed_state D.state result) }
     ensures advances { Advances (buffer_below D.state) (open_buffer cartridge pending.old) [] false
         (closed_buffer result) }
@@ -72,18 +73,18 @@ pub(crate) fn wake_closed<D: Disk>(
     shelved: Shelved<D>,
 ) -> Result<Cartridge<D>, (MediumError, Shelved<D>)>
     ensures ok { IfOk result (λ cartridge. IsPendingOver cartridge []
-        × Wakes (D.state shelved.disk).honest (closed_state D.state shelved) (Ok tt) (open_state cartridge [])
+        × Wakes (AreHonest D.state shelved.disks) (closed_state D.state shelved) (Ok tt) (open_state cartridge [])
         × Advances (buffer_below D.state) (closed_buffer shelved) [] false (open_buffer cartridge [])
         × LeavesAlone D.state (closed_buffer shelved) (open_buffer cartridge [])) }
     ensures err { IfErr result (λ back. (back.0 ≢ Errors.Device → IsSettledOn D.state back.1)
-        × Wakes (D.state shelved.disk).honest (closed_state D.state shelved) (Err back.0)
+        × Wakes (AreHonest D.state shelved.disks) (closed_state D.state shelved) (Err back.0)
         (closed_state D.state back.1)
         × Advances (buffer_below D.state) (closed_buffer shelved) [] (met_fault (Err back.0))
         (closed_buffer back.1)
         × LeavesAlone D.state (closed_buffer shelved) (closed_buffer back.1)) }
 {
-    // Asked for the proof's sake: an image gives one cartridge's contents at most.
-    an_image_gives_one_volume();
+    // Asked for the proof's sake: a pair of images gives one cartridge's contents at most.
+    a_pair_gives_one_volume();
     shelved.known();
     match Cartridge::open(alloc, shelved) {
         Ok(cartridge) => {

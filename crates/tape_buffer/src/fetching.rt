@@ -1,7 +1,7 @@
 //! A block is read: from what is pending, or from the disk.
 ghost use Rattle.std.specs.Prelude.{◌≡◌, ◌<◌, ◌≤◌, [], Some, Err, OnOk, IfSome, length, vec_capacity, false};
-ghost use Rattle.tape_disk.specs.Disk.{Keeps};
-ghost use Rattle.gate_journal.specs.Crash.{Unwritten};
+ghost use Rattle.tape_disk.specs.TwoDisks.{AreHonest, KeepsDisks, failures_of};
+ghost use Rattle.cartridge.specs.Disks.{UnwrittenTwo};
 ghost use Rattle.tape_buffer.specs.Inner.Fetching.{IsCopied, IsFetched, IsPut};
 ghost use Rattle.vtl_base.specs.Below.{Advances};
 ghost use Rattle.vtl_base.specs.declared.limits.TheConstants.{MAX_BLOCK};
@@ -33,7 +33,7 @@ pub(crate) fn fetch_over<D: Disk>(
     requires held { IsPendingOver cartridge.old pending.now }
     requires block { kind_at (after (volume_made cartridge.old.contents) pending.now) part at ≡ Some Kinds.Block }
     ensures held { IsPendingOver cartridge.new pending.now }
-    ensures bytes { (D.state cartridge.old.disk).honest → OnOk result
+    ensures bytes { AreHonest D.state cartridge.old.disks → OnOk result
         (block_at (after (volume_made cartridge.old.contents) pending.now) part at ≡ Some into.new.items) }
     ensures bound { OnOk result (length into.new.items ≤ MAX_BLOCK) }
     ensures answer { Fetches (open_state cartridge.old pending.now) result (open_state cartridge.new pending.now) }
@@ -85,20 +85,20 @@ fn fetch_stored<D: Disk>(
 ) -> Result<(), MediumError>
     requires works { cartridge.old.failed ≡ false }
     requires block { kind_at (volume_made cartridge.old.contents) part at ≡ Some Kinds.Block }
-    ensures disk { Keeps (D.state cartridge.old.disk) (D.state cartridge.new.disk) }
+    ensures disks { KeepsDisks D.state cartridge.old.disks cartridge.new.disks }
     ensures same { cartridge.new ≡ record cartridge.old {
-      disk = cartridge.new.disk;
+      disks = cartridge.new.disks;
       failed = cartridge.new.failed;
     } }
     ensures answer { IsFetched result
         (IfSome (block_at (volume_made cartridge.old.contents) part at)
         (λ block. vec_capacity into.old < length block))
-        cartridge.new.failed (D.state cartridge.old.disk) (D.state cartridge.new.disk) }
-    ensures bytes { (D.state cartridge.old.disk).honest → OnOk result
+        cartridge.new.failed (failures_of D.state cartridge.old.disks) (failures_of D.state cartridge.new.disks) }
+    ensures bytes { AreHonest D.state cartridge.old.disks → OnOk result
         (block_at (volume_made cartridge.old.contents) part at ≡ Some into.new.items) }
     ensures bound { OnOk result (length into.new.items ≤ MAX_BLOCK) }
-    ensures unwritten { (D.state cartridge.old.disk).honest →
-        Unwritten (D.state cartridge.old.disk) (D.state cartridge.new.disk) }
+    ensures unwritten { AreHonest D.state cartridge.old.disks →
+        UnwrittenTwo D.state cartridge.old.disks cartridge.new.disks }
 {
     match cartridge.fetch(part, at, into) {
         Ok(()) => Ok(()),

@@ -1,4 +1,4 @@
-//! Buffered mode: a medium over a cartridge on a disk. What it accepts waits in memory, and is stored as one frame.
+//! Buffered mode: a medium over a cartridge on two disks. What it accepts waits in memory, and is stored as one frame.
 #![tactic(auto)]
 
 mod adding;

@@ -4,7 +4,7 @@ ghost use Rattle.vtl_base.specs.Below.{Advances};
 ghost use Rattle.volume_core.specs.declared.media.MediumError.TheVariants as Errors;
 ghost use Rattle.volume_core.specs.Medium.{Accepts, Parks, Settles, Turns, Wakes, accept_answer, accepted_by, met_fault, turn_met_fault};
 ghost use Rattle.volume_core.specs.Stores.{Stores};
-ghost use Rattle.tape_buffer.specs.State.{IsSettledIn, disk_in, state_of};
+ghost use Rattle.tape_buffer.specs.State.{IsSettledIn, disks_in, state_of};
 ghost use Rattle.tape_buffer.specs.Frames.{AcceptsInFrames, IsOneFrame, IsOneFrameIn, ParksInFrames, frames_in};
 ghost use Rattle.tape_buffer.specs.Moves.{HonestOn, LeavesAlone, buffer_below};
 
@@ -89,7 +89,7 @@ impl<D: Disk> Medium for Buffered<D> {
     // The trait's clauses, and that all that is pending is stored as one frame, or nothing of one that has failed.
     fn park(&mut self) -> Result<(), MediumError>
         requires { (state_of D.state self.old).awake ≡ true }
-        ensures answer { Parks (HonestOn D.state (disk_in self.old.held)) (state_of D.state self.old) result
+        ensures answer { Parks (HonestOn D.state (disks_in self.old.held)) (state_of D.state self.old) result
             (state_of D.state self.new) }
         ensures frame { ParksInFrames (state_of D.state self.old).failed result (frames_in self.old)
             self.old.pending (frames_in self.new) }

@@ -2,9 +2,7 @@
 ghost use Rattle.bays.specs.Cartridges.{StopsKeepChanges};
 ghost use Rattle.bays.specs.Journeys.{KeepsWhatIsSafe, StopsKeepWhatIsMoved};
 
-use accepting::laws::{
-    a_crash_leaves_what_was_acknowledged, steps_keep_cores, what_is_kept_begins,
-};
+use accepting::laws::{a_crash_leaves_what_was_acknowledged, steps_keep_cores};
 use pr_core::Keeper;
 use tape_buffer::Buffered;
 use tape_disk::Disk;
@@ -17,7 +15,6 @@ pub fn a_stop_keeps_acknowledged_changes<D: Disk, K: Keeper>()
 {
     a_crash_leaves_what_was_acknowledged::<Buffered<D>>();
     steps_keep_cores::<Buffered<D>>();
-    what_is_kept_begins::<Buffered<D>>();
 }
 
 /// The same of a cartridge that is moved: once a synchronizing command was acknowledged, a stop at any moment of
@@ -30,5 +27,4 @@ pub fn a_stop_keeps_acknowledged_changes_of_what_is_moved<D: Disk>()
 {
     a_crash_leaves_what_was_acknowledged::<Buffered<D>>();
     steps_keep_cores::<Buffered<D>>();
-    what_is_kept_begins::<Buffered<D>>();
 }

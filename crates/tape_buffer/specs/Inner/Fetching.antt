@@ -1,7 +1,5 @@
 -- How a block is read, from a change or from the disk.
 use Rattle.std.specs.Prelude.{◌≡◌, ◌<◌, ℕ, List, length, Bool, true, false, Result, Ok, Err}
-use Rattle.tape_disk.specs.Disk.{DiskState}
-use Rattle.gate_journal.specs.Answers.{NoneFailed}
 use Rattle.volume_core.specs.declared.changes.Change.{Change}
 use Rattle.volume_core.specs.declared.changes.Change.TheVariants.{Put}
 use Rattle.volume_core.specs.declared.media.MediumError.{MediumError}
@@ -19,9 +17,10 @@ IsCopied (Put part at block) capacity (Ok done) bytes = bytes ≡ block
 IsCopied (Put part at block) capacity (Err NoMemory) bytes = capacity < length block
 IsCopied _ capacity _ bytes = ⊥
 
--- a block was read from the disk, memory ran out, for this cause, or the disk failed (own)
-abbrev pub IsFetched : Result Unit MediumError → Type 0 → Bool → DiskState → DiskState → Type 0
-IsFetched (Ok done) memory failed old new = (failed ≡ false) × NoneFailed old new
-IsFetched (Err NoMemory) memory failed old new = (failed ≡ false) × NoneFailed old new × memory
-IsFetched (Err Device) memory failed old new = (failed ≡ true) × (old.failures < new.failures)
-IsFetched (Err _) memory failed old new = ⊥
+-- a block was read from a disk, memory ran out, for this cause, or the disk failed; so many calls had failed before,
+-- and so many now (own)
+abbrev pub IsFetched : Result Unit MediumError → Type 0 → Bool → ℕ → ℕ → Type 0
+IsFetched (Ok done) memory failed before now = (failed ≡ false) × (now ≡ before)
+IsFetched (Err NoMemory) memory failed before now = (failed ≡ false) × (now ≡ before) × memory
+IsFetched (Err Device) memory failed before now = (failed ≡ true) × (before < now)
+IsFetched (Err _) memory failed before now = ⊥

@@ -1,16 +1,16 @@
-use Rattle.std.proofs.Common.{◌∙◌, ap, sym, arith, List, Option, sum_by, subst}
+use Rattle.std.proofs.Common.{◌∙◌, ap, sym, arith, length, List, Option, sum_by, subst}
 use Rattle.std.proofs.lemmas.List.{take_all}
 use Rattle.std.specs.List.{All}
 use Rattle.bays.specs.Elements.{BayState}
 use Rattle.library.specs.Counts.{AcceptedNone, one_if_there}
-use Rattle.library_tests.proofs.FreshLemmas.{at_most_one, one_more}
+use Rattle.library_tests.proofs.FreshLemmas.{at_most_one, counts_fit, one_more}
 use Rattle.library_tests.proofs.opening.count_fresh.Goals as goal
 
 pub overflow_add-count : goal.overflow_add-count
 overflow_add-count g c =
-    let most = at_most_one c.bay-item.result in
-    let few = c.loop-bay.invariant.few in
-    omega (arith, few, c.in_ok-more.ensures.count, most, c.loop-bay-test.true, c.loop-bay.auto.bay-index-end)
+    counts_fit c.loop-bay.bay-index c.loop-bay.count c.in_ok-more.more (one_if_there c.bay-item.result)
+    (length c.args.bays.now) c.loop-bay.invariant.few c.loop-bay-test.true c.if-bays-ne16.false
+    c.in_ok-more.ensures.count (at_most_one c.bay-item.result)
 
 pub loop-bay-preserved : goal.loop-bay-preserved
 loop-bay-preserved g c =

@@ -48,8 +48,7 @@ returns-in-Ok-add_over-clause-advances g c =
     c.in-Ok.ensures.stores c.in-Ok-add_over.ensures.same g.D.Disk.state g.met.D.Disk.is_disk
     c.in-Ok.ensures.advances c.in-Ok.ensures.held
     (ap (λ (v : List Part). refusal_of v c.args.change) c.in-Ok.ensures.answer.volume_is ∙ unrefused g c)
-    c.known.ensures.contents c.in-Ok.ensures.answer.works
-    c.in-Ok-add_over.ensures.ok
+    c.in-Ok.ensures.answer.works c.in-Ok-add_over.ensures.ok
 
 pub returns-in-Ok-add_over-clause-frames : goal.returns-in-Ok-add_over-clause-frames
 returns-in-Ok-add_over-clause-frames g c = (

@@ -1,4 +1,5 @@
 use Rattle.std.proofs.Common.{◌∙◌}
+use Rattle.tape_disk.specs.TwoDisks.{AreHonest}
 use Rattle.tape_buffer.proofs.ClosingLemmas.{advances_after, parks_after}
 use Rattle.tape_buffer.proofs.closing.park_over.Goals as goal
 
@@ -11,8 +12,8 @@ returns-in-Ok-clause-ok g c =
       shelved.ensures.known,
       rw stored.answer.0 (shelved.ensures.frames ∙ stored.frame),
       parks_after disk g.met.D.Disk.is_disk c.args.cartridge c.settle_over.new.cartridge c.args.pending.now
-          c.settle_over.new.pending (disk c.args.cartridge.disk).honest
-          (disk c.settle_over.new.cartridge.disk).honest shelved.result stored.advances.honesty.0 stored.answer
+          c.settle_over.new.pending (AreHonest disk c.args.cartridge.disks)
+          (AreHonest disk c.settle_over.new.cartridge.disks) shelved.result stored.advances.honesty.0 stored.answer
           stored.stores
           shelved.ensures.parks,
       advances_after disk g.met.D.Disk.is_disk c.args.cartridge c.settle_over.new.cartridge c.args.pending.now

@@ -4,11 +4,13 @@ use Rattle.vtl_base.specs.Below.{Advances}
 use Rattle.volume_core.specs.declared.media.MediumError.{MediumError}
 use Rattle.volume_core.specs.declared.media.MediumError.TheVariants as Media
 use Rattle.volume_core.specs.Medium.{WakesFrom, met_fault}
+use Rattle.tape_disk.specs.TwoDisks.{AreHonest, seen_of_two}
 use Rattle.cartridge.specs.State.{ClosedCartridge}
 use Rattle.tape_buffer.specs.Inner.Waking.{wake_error_of}
 use Rattle.tape_buffer.specs.Moves.{LeavesAlone, buffer_below}
 use Rattle.tape_buffer.specs.State.{IsSettledOn, closed_buffer, closed_state}
 use Rattle.tape_buffer.proofs.OpeningLemmas.{advances_opened, nothing_over, opens}
+use Rattle.tape_buffer.proofs.TwoLemmas.{read_now, stay_honest}
 use Rattle.tape_buffer.proofs.WakingLemmas.{stays_closed}
 use Rattle.tape_buffer.proofs.closing.wake_closed.Goals as goal
 
@@ -16,17 +18,18 @@ pub returns-in-Ok-clause-ok : goal.returns-in-Ok-clause-ok
 returns-in-Ok-clause-ok g c =
     let disk = g.D.Disk.state in
     let told = c.in-Ok.ensures in
-    let one = c.an_image_gives_one_volume.ensures.contents in
+    let one = c.a_pair_gives_one_volume.ensures.contents in
     let old = c.args.shelved in
     let new = c.in-Ok.cartridge in (
       nothing_over new told.ok.1,
       (
         record { awake = refl; works = told.ok.0; nothing_pending = refl; read = refl },
         λ honest. opens disk one old new
-            (λ known. c.known.ensures known honest (disk old.disk).seen (g.met.D.Disk.is_disk old.disk honest).reads)
-            (told.gives honest).0 (c.known-in-Ok.ensures.room (told.disk.stays_honest honest)),
+            (λ known. c.known.ensures.shows known honest (seen_of_two disk old.disks)
+            (read_now disk g.met.D.Disk.is_disk old.disks honest))
+            (told.gives honest).0 (c.known-in-Ok.ensures.room (stay_honest disk old.disks new.disks told.disks honest)),
       ),
-      advances_opened disk g.met.D.Disk.is_disk one old new told.disk told.ok.0 told.ok.1 told.gives told.any_moment
+      advances_opened disk g.met.D.Disk.is_disk one old new told.disks told.ok.0 told.ok.1 told.gives told.any_moment
           told.ok.2,
       told.any_moment,
     )
@@ -35,19 +38,19 @@ pub returns-in-Err-clause-err : goal.returns-in-Err-clause-err
 returns-in-Err-clause-err g c =
     let disk = g.D.Disk.state in
     let told = c.in-Err.ensures in
-    let laws = c.an_image_gives_one_volume.ensures in
+    let laws = c.a_pair_gives_one_volume.ensures in
     let old = c.args.shelved in
     let new = c.in-Err.refused.shelved in
-    let stays = stays_closed disk g.met.D.Disk.is_disk old new.disk told.disk told.any_moment
-    (record { ours = laws.ours; whole = laws.whole; bad = laws.bad }) c.known.ensures c.in-Err.refused.error
+    let stays = stays_closed disk g.met.D.Disk.is_disk old new.disks told.disks told.any_moment
+    (record { ours = laws.ours; whole = laws.whole; bad = laws.bad }) c.known.ensures.shows c.in-Err.refused.error
     told.refused in
     subst (λ (error : MediumError). (error ≢ Media.Device → IsSettledOn disk new)
-    × WakesFrom (disk old.disk).honest false (closed_state disk old) (Err error) (closed_state disk new)
+    × WakesFrom (AreHonest disk old.disks) false (closed_state disk old) (Err error) (closed_state disk new)
     × Advances (buffer_below disk) (closed_buffer old) [] (met_fault (Err error)) (closed_buffer new)
     × LeavesAlone disk (closed_buffer old) (closed_buffer new))
     (sym c.wake_error.ensures)
     (subst (λ (s : ClosedCartridge _). (wake_error_of c.in-Err.refused.error ≢ Media.Device → IsSettledOn disk s)
-    × WakesFrom (disk old.disk).honest false (closed_state disk old) (Err (wake_error_of c.in-Err.refused.error))
+    × WakesFrom (AreHonest disk old.disks) false (closed_state disk old) (Err (wake_error_of c.in-Err.refused.error))
     (closed_state disk s)
     × Advances (buffer_below disk) (closed_buffer old) [] (met_fault (Err (wake_error_of c.in-Err.refused.error)))
     (closed_buffer s)

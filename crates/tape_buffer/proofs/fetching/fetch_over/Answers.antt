@@ -6,6 +6,7 @@ use Rattle.volume_core.specs.declared.changes.Change.{Change}
 use Rattle.volume_core.specs.Volume.{block_at, block_in, kind_in}
 use Rattle.record_index.specs.declared.places.Placed.{Placed}
 use Rattle.record_index.specs.Places.{blank, filled}
+use Rattle.tape_disk.specs.TwoDisks.{failures_of}
 use Rattle.cartridge.specs.Contents.{volume_made}
 use Rattle.tape_buffer.specs.Moves.{buffer_below}
 use Rattle.tape_buffer.specs.State.{open_buffer}
@@ -45,13 +46,14 @@ returns-then-at-front-clause-memory g c = λ none.
     (sym (ap block_in same))
     (fetched_lack
     (IfSome (block_at volume c.args.part c.args.at) (λ block. vec_capacity c.args.into.now < length block))
-    c.fetch_stored.new.cartridge.failed (g.D.Disk.state c.args.cartridge.now.disk)
-    (g.D.Disk.state c.fetch_stored.new.cartridge.disk) c.fetch_stored.result c.fetch_stored.ensures.answer none)
+    c.fetch_stored.new.cartridge.failed (failures_of g.D.Disk.state c.args.cartridge.now.disks)
+    (failures_of g.D.Disk.state c.fetch_stored.new.cartridge.disks) c.fetch_stored.result
+    c.fetch_stored.ensures.answer none)
 
 pub returns-then-at-front-clause-advances : goal.returns-then-at-front-clause-advances
 returns-then-at-front-clause-advances g c =
     fetched g.D.Disk.state g.met.D.Disk.is_disk c.args.cartridge.now c.fetch_stored.new.cartridge c.args.pending.now
-    (sym c.has_failed.ensures ∙ c.if-has_failed.false) c.fetch_stored.ensures.same c.fetch_stored.ensures.disk
+    (sym c.has_failed.ensures ∙ c.if-has_failed.false) c.fetch_stored.ensures.same c.fetch_stored.ensures.disks
     c.fetch_stored.ensures.unwritten
     (IfSome (block_at (volume_made c.args.cartridge.now.contents) c.args.part c.args.at)
     (λ block. vec_capacity c.args.into.now < length block))

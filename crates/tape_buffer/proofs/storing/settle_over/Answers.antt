@@ -1,5 +1,5 @@
 use Rattle.std.proofs.Common.{List, [], ◌∷◌, length, ap, arith, subst}
-use Rattle.tape_disk.specs.Moments.{LeavesOnly}
+use Rattle.tape_disk.specs.TwoDisks.{TwoLeave}
 use Rattle.volume_core.specs.declared.changes.Change.{Change}
 use Rattle.record_index.specs.Records.{spell_all}
 use Rattle.cartridge.specs.Contents.{ShowsContents}
@@ -54,9 +54,9 @@ returns-in-Ok-clause-advances g c =
     let told = c.in-Ok.ensures in
     let works = told.answer.0.was_fine in
     advances_stored c.args.cartridge.now c.args.pending.now g.D.Disk.state g.met.D.Disk.is_disk c.store.new.self
-    (c.known.ensures.at_rest works) works told.disk
-    (λ honest. subst (λ (l : List Change). LeavesOnly (g.D.Disk.state c.args.cartridge.now.disk)
-    (g.D.Disk.state c.store.new.self.disk) (ShowsContents c.args.cartridge.now.contents (l ∷ []))) c.as_slice.ensures
+    (c.known.ensures.at_rest works) works c.known.ensures.contents told.disks.keeps
+    (λ honest. subst (λ (l : List Change). TwoLeave g.D.Disk.state c.args.cartridge.now.disks
+    c.store.new.self.disks (ShowsContents c.args.cartridge.now.contents (l ∷ []))) c.as_slice.ensures
     (told.any_moment honest works))
     c.as_slice.result.now c.clear.new.self c.as_slice.ensures c.clear.ensures told.answer told.sure
 
@@ -66,8 +66,8 @@ returns-in-Err-Device-clause-advances g c =
     let answer = (rw c.in-Err-Device.field-0-is at told.answer) in
     let works = answer.0.was_fine in
     advances_broken c.args.cartridge.now c.args.pending.now g.D.Disk.state g.met.D.Disk.is_disk c.store.new.self
-    (c.known.ensures.at_rest works) works told.disk
-    (λ honest. subst (λ (l : List Change). LeavesOnly (g.D.Disk.state c.args.cartridge.now.disk)
-    (g.D.Disk.state c.store.new.self.disk) (ShowsContents c.args.cartridge.now.contents (l ∷ []))) c.as_slice.ensures
+    (c.known.ensures.at_rest works) works c.known.ensures.contents told.disks.keeps
+    (λ honest. subst (λ (l : List Change). TwoLeave g.D.Disk.state c.args.cartridge.now.disks
+    c.store.new.self.disks (ShowsContents c.args.cartridge.now.contents (l ∷ []))) c.as_slice.ensures
     (told.any_moment honest works))
-    c.as_slice.result.now c.as_slice.ensures answer.0 answer.1.cause
+    c.as_slice.result.now c.as_slice.ensures answer.0 c.in-Err-Device.field-0-0 answer.1

@@ -4,4 +4,4 @@ use Rattle.bays.proofs.laws.cartridges.a_stop_keeps_acknowledged_changes.Goals a
 pub returns : goal.returns
 returns g c =
     stops_keep_changes g.D.Disk.state g.met.D.Disk.is_disk c.a_crash_leaves_what_was_acknowledged.ensures
-    c.steps_keep_cores.ensures c.what_is_kept_begins.ensures g.K.Keeper.kept g.K.Keeper.below
+    c.steps_keep_cores.ensures g.K.Keeper.kept g.K.Keeper.below

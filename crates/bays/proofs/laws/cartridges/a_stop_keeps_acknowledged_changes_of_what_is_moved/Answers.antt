@@ -5,8 +5,8 @@ pub returns : goal.returns
 returns g c = record {
   acknowledged =
       stops_keep_what_is_moved g.D.Disk.state g.met.D.Disk.is_disk c.a_crash_leaves_what_was_acknowledged.ensures
-      c.steps_keep_cores.ensures c.what_is_kept_begins.ensures;
+      c.steps_keep_cores.ensures;
   safe =
       keeps_what_is_safe g.D.Disk.state g.met.D.Disk.is_disk c.a_crash_leaves_what_was_acknowledged.ensures
-      c.steps_keep_cores.ensures c.what_is_kept_begins.ensures;
+      c.steps_keep_cores.ensures;
 }

@@ -5,13 +5,13 @@ pub returns-in-Open-clause-shows : goal.returns-in-Open-clause-shows
 returns-in-Open-clause-shows g c =
     rw (← c.self.view_is)
     (shows_open g.D.Disk.state g.met.D.Disk.is_disk c.self.inside.held c.self.inside.pending c.self.invariant
-    c.in-Open.cartridge c.in-Open.is c.known.ensures.shows)
+    c.in-Open.cartridge c.in-Open.is c.known.ensures.contents c.known.ensures.shows)
 
 pub returns-in-Closed-clause-shows : goal.returns-in-Closed-clause-shows
 returns-in-Closed-clause-shows g c =
     rw (← c.self.view_is)
     (shows_closed g.D.Disk.state g.met.D.Disk.is_disk c.self.inside.held c.self.inside.pending c.self.invariant
-    c.in-Closed.shelved c.in-Closed.is c.known-in-Closed.ensures)
+    c.in-Closed.shelved c.in-Closed.is c.known-in-Closed.ensures.contents c.known-in-Closed.ensures.shows)
 
 pub returns-in-Open-clause-whole : goal.returns-in-Open-clause-whole
 returns-in-Open-clause-whole g c =

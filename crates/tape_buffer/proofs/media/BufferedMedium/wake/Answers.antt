@@ -10,7 +10,7 @@ returns-in-Open-clause-advances g c = rests g.D.Disk.state g.met.D.Disk.is_disk 
 
 pub returns-then-has_failed-clause-alone : goal.returns-then-has_failed-clause-alone
 returns-then-has_failed-clause-alone g c =
-    leaves_alone_nowhere g.D.Disk.state g.met.D.Disk.is_disk c.args.self.now
+    leaves_alone_nowhere g.D.Disk.state c.args.self.now
 
 pub returns-in-Open-clause-alone : goal.returns-in-Open-clause-alone
-returns-in-Open-clause-alone g c = leaves_alone_nowhere g.D.Disk.state g.met.D.Disk.is_disk c.args.self.now
+returns-in-Open-clause-alone g c = leaves_alone_nowhere g.D.Disk.state c.args.self.now
