@@ -1,12 +1,14 @@
 -- What is taken breaks no rule.
 use Rattle.std.proofs.Common.{◌≡◌, ◌⊎◌, ◌+◌, ◌<◌, ℕ, zero, suc, true, false, Option, Some, None, List, [], ◌∷◌, ◌++◌, length, get_or, map, MatchOption, inl, inr, arith, refl, sym, ap, subst, ◌∙◌, append_assoc}
+use Rattle.std.proofs.lemmas.Grind.{flat_map-append}
 use Rattle.std.proofs.lemmas.List.{map-append}
-use Rattle.std.proofs.lemmas.List.Elements.{All-contains, Contains-append_right}
+use Rattle.std.proofs.lemmas.List.Elements.{All-contains, Contains-append_left, Contains-append_right}
 use Rattle.std.specs.List.{Contains}
 use Rattle.toml.specs.Data.{Data, array, table, Members, as_table}
 use Rattle.toml.specs.View.{items_of}
 use Rattle.vtl_config.specs.Configs.{EntriesAt, AreDrives, AreCartridges, IsAtHome, BrokenAt, IsConfig, ConfigBreaks, other_key, no_list, at_drive, at_cartridge}
-use Rattle.vtl_config.specs.Entries.{address_of, numbers_of, drive_files, barcodes_of, cartridge_files, homes_of, IsDrive, IsDriveTable, IsCartridge, IsCartridgeTable, Paired, AreDistinct}
+use Rattle.vtl_config.specs.Entries.{address_of, numbers_of, drive_files, barcodes_of, both_files, homes_of, IsDrive, IsDriveTable, IsCartridge, IsCartridgeTable, Paired, AreDistinct}
+use Rattle.vtl_config.specs.FileNames.{second_name, both_names, Meets}
 use Rattle.vtl_config.specs.Inner.Found.{FitsCartridgeTable}
 use Rattle.vtl_config.specs.Keys.{top_keys}
 use Rattle.vtl_config.specs.Laws.{NothingIsBroken}
@@ -49,7 +51,9 @@ cartridge_right drives before entry b f c h fits rule (cartridge_alone (misfits 
 cartridge_right drives before entry b f c h fits rule (double_barcode other told there has) =
     fits.new_barcode (rw (same_text _ _ _ fits.is_table.barcode_value there) has)
 cartridge_right drives before entry b f c h fits rule (double_file other told there has) =
-    fits.new_file (rw (same_text _ _ _ fits.is_table.file_value there) has)
+    fits.new_files
+    (subst (λ (file : List ℕ). Meets (both_names file) (drive_files drives ++ both_files before))
+    (same_text _ _ _ there fits.is_table.file_value) has)
 cartridge_right drives before entry b f c h fits rule (double_home other told there has) =
     fits.new_home (rw (same_whole _ _ _ fits.is_table.home_value there) has)
 cartridge_right drives before entry b f c h fits rule (no_such_drive other told there range none) =
@@ -93,6 +97,27 @@ no_drive_broken entries drives place rule are broken =
     files)))
     rule broken.broken
 
+-- both names behind others are none of them
+names_go :
+    (xs : List (List ℕ)) (file second : List ℕ) → second ≡ second_name file → ¬ Contains xs file
+    → ¬ Contains xs second → (x : List ℕ) (k : ℕ) → k < 2 → get_or (both_names file) k x ≡ x → Contains xs x → ⊥
+names_go xs file second named first other x zero below here has =
+    first (subst (λ (t : List ℕ). Contains xs t) (sym here) has)
+names_go xs file second named first other x (suc zero) below here has =
+    other (subst (λ (t : List ℕ). Contains xs t) (sym here ∙ sym named) has)
+names_go xs file second named first other x (suc (suc k)) below here has = absurd (omega arith)
+
+distinct_names :
+    (xs : List (List ℕ)) (file second : List ℕ) (ys : List (List ℕ)) → second ≡ second_name file
+    → AreDistinct (xs ++ file ∷ second ∷ ys) → ¬ Meets (both_names file) xs
+distinct_names xs file second ys named distinct =
+    let moved : AreDistinct ((xs ++ file ∷ []) ++ second ∷ ys) =
+    subst (λ (zs : List (List ℕ)). AreDistinct zs) (sym (append_assoc xs (file ∷ []) (second ∷ ys))) distinct in
+    let first = distinct_split xs file (second ∷ ys) distinct in
+    let other : ¬ Contains xs second =
+    (λ has. distinct_split (xs ++ file ∷ []) second ys moved (Contains-append_left xs (file ∷ []) second has)) in
+    (λ meets. names_go xs file second named first other meets.0 meets.1.0 meets.1.1 meets.1.2 meets.2)
+
 no_cartridge_broken :
     (drives others : List DriveEntry) (entries : List Data) (cartridges : List CartridgeEntry) (place : Place)
     (rule : Rule) → SameDrives others drives → AreCartridges drives entries cartridges
@@ -108,14 +133,15 @@ no_cartridge_broken drives others entries cartridges place rule one are broken =
     (ap barcodes_of split.all
     ∙ map-append (λ (c : CartridgeEntry). c.barcode) split.before (split.entry ∷ split.behind)) are.barcodes in
     let files : AreDistinct
-    ((drive_files drives ++ cartridge_files split.before)
-    ++ split.entry.file ∷ cartridge_files split.behind) =
+    ((drive_files drives ++ both_files split.before)
+    ++ split.entry.file ∷ split.entry.second_file ∷ both_files split.behind) =
     subst (λ (fs : List (List ℕ)). AreDistinct fs)
     (ap (λ (fs : List (List ℕ)). drive_files drives ++ fs)
-    (ap cartridge_files split.all
-    ∙ map-append (λ (c : CartridgeEntry). c.file) split.before (split.entry ∷ split.behind))
-    ∙ sym (append_assoc (drive_files drives) (cartridge_files split.before)
-    (split.entry.file ∷ cartridge_files split.behind)))
+    (ap both_files split.all
+    ∙ flat_map-append (λ (c : CartridgeEntry). c.file ∷ c.second_file ∷ []) split.before
+    (split.entry ∷ split.behind))
+    ∙ sym (append_assoc (drive_files drives) (both_files split.before)
+    (split.entry.file ∷ split.entry.second_file ∷ both_files split.behind)))
     are.files in
     let homes_are : homes_of cartridges ≡ homes_of split.before ++ address_of split.entry.home ∷ homes_of split.behind =
     ap homes_of split.all
@@ -137,10 +163,10 @@ no_cartridge_broken drives others entries cartridges place rule one are broken =
       new_barcode =
           rw same.barcodes
           (distinct_split (barcodes_of split.before) split.entry.barcode (barcodes_of split.behind) barcodes);
-      new_file =
+      new_files =
           rw (one.files, same.files)
-          (distinct_split (drive_files drives ++ cartridge_files split.before) split.entry.file
-          (cartridge_files split.behind) files);
+          (distinct_names (drive_files drives ++ both_files split.before) split.entry.file split.entry.second_file
+          (both_files split.behind) here.3 files);
       new_home =
           rw same.homes
           (distinct_split (homes_of split.before) (address_of split.entry.home) (homes_of split.behind) homes);

@@ -1,14 +1,17 @@
 -- One more entry, and the first that is wrong.
-use Rattle.std.proofs.Common.{◌≡◌, ℕ, ◌+◌, ◌<◌, Some, List, [], ◌∷◌, ◌++◌, length, get_or, take, map, refl, ap, sym, ◌∙◌, arith, append_assoc}
+use Rattle.std.proofs.Common.{◌≡◌, ◌≢◌, ℕ, ◌+◌, ◌<◌, Some, List, [], ◌∷◌, ◌++◌, length, get_or, take, map, inl, inr, refl, ap, sym, subst, ◌∙◌, arith, append_assoc}
+use Rattle.std.proofs.lemmas.Grind.{flat_map-append}
 use Rattle.std.proofs.lemmas.List.{map-append}
-use Rattle.std.proofs.lemmas.List.Elements.{All-push}
+use Rattle.std.proofs.lemmas.List.Elements.{All-push, Contains-push_cases}
+use Rattle.std.specs.List.{Contains}
 use Rattle.std.specs.Prelude.{IsUtf8}
 use Rattle.toml.specs.Data.{Data, string, integer, float, boolean, datetime, array, table, Members}
 use Rattle.toml.specs.Parse.{parse_document}
 use Rattle.toml.specs.View.{view}
 use Rattle.toml.specs.declared.value.Value.{Value}
 use Rattle.vtl_config.specs.Configs.{EntriesAt, AreDrives, AreCartridges, IsAtHome, BrokenAt, at_drive, at_cartridge, its_document, RefusesText}
-use Rattle.vtl_config.specs.Entries.{address_of, numbers_of, drive_files, barcodes_of, cartridge_files, homes_of, IsDrive, IsCartridge}
+use Rattle.vtl_config.specs.Entries.{address_of, numbers_of, drive_files, barcodes_of, both_files, homes_of, IsDrive, IsCartridge, AreDistinct}
+use Rattle.vtl_config.specs.FileNames.{second_name, both_names}
 use Rattle.vtl_config.specs.Rules.{EntryBreaks}
 use Rattle.vtl_config.specs.Inner.Found.{FitsDrive, FitsDriveTable, FitsCartridge, FitsCartridgeTable, DrivesRefused, CartridgesRefused, TableRefused}
 use Rattle.vtl_config.specs.declared.entries.CartridgeEntry.{CartridgeEntry}
@@ -18,6 +21,7 @@ use Rattle.vtl_config.specs.declared.rules.ConfigError.{ConfigError}
 use Rattle.vtl_config.specs.declared.rules.ConfigError.TheVariants.{Refused, NoMemory}
 use Rattle.vtl_config.specs.declared.rules.Place.{Place}
 use Rattle.vtl_config.specs.declared.rules.Rule.{Rule}
+use Rattle.vtl_config.proofs.DoubleLemmas.{second_differs}
 use Rattle.vtl_config.proofs.ListLemmas.{each_push, distinct_push, split_here, length_taken}
 
 -- an entry that breaks a rule, behind those that are right
@@ -83,29 +87,47 @@ fits_cartridge_table drives before (datetime x) barcode file capacities home fit
 fits_cartridge_table drives before (array x) barcode file capacities home fits = absurd fits
 fits_cartridge_table drives before (table x) barcode file capacities home fits = (x, refl, fits)
 
+-- two more that are not there yet
+distinct_both :
+    (xs : List (List ℕ)) (x y : List ℕ) → AreDistinct xs → ¬ Contains xs x → ¬ Contains xs y → x ≢ y
+    → AreDistinct (xs ++ x ∷ y ∷ [])
+distinct_both xs x y distinct new_x new_y other =
+    let one = distinct_push xs x distinct new_x in
+    let two : AreDistinct ((xs ++ x ∷ []) ++ y ∷ []) =
+    distinct_push (xs ++ x ∷ []) y one
+    (λ has. elim (Contains-push_cases xs x y has) [
+      | inl before ↦ new_y before
+      | inr same ↦ other same
+    ]) in
+    subst (λ (zs : List (List ℕ)). AreDistinct zs) (append_assoc xs (x ∷ []) (y ∷ [])) two
+
 -- one cartridge more
 pub cartridges_push :
     (drives : List DriveEntry) (entries : List Data) (cartridges : List CartridgeEntry) (value : Data)
     (cartridge : CartridgeEntry) → AreCartridges drives entries cartridges
     → FitsCartridge drives cartridges value cartridge.barcode cartridge.file cartridge.capacities
-    (address_of cartridge.home)
+    (address_of cartridge.home) → cartridge.second_file ≡ second_name cartridge.file
     → AreCartridges drives (entries ++ value ∷ []) (cartridges ++ cartridge ∷ [])
-cartridges_push drives entries cartridges value cartridge are fits =
+cartridges_push drives entries cartridges value cartridge are fits named =
     let found =
     fits_cartridge_table drives cartridges value cartridge.barcode cartridge.file
     cartridge.capacities (address_of cartridge.home) fits in
-    let here : IsCartridge value cartridge = rw found.1 found.2.is_table in record {
+    let here : IsCartridge value cartridge = rw found.1 (found.2.is_table, named) in
+    let all = drive_files drives ++ both_files cartridges in
+    record {
       each = each_push IsCartridge entries cartridges value cartridge are.each here;
       barcodes =
           rw (map-append (λ (c : CartridgeEntry). c.barcode) cartridges (cartridge ∷ []))
           (distinct_push (barcodes_of cartridges) cartridge.barcode are.barcodes found.2.new_barcode);
       files =
           rw (
-            map-append (λ (c : CartridgeEntry). c.file) cartridges (cartridge ∷ []),
-            ← append_assoc (drive_files drives) (cartridge_files cartridges) (cartridge.file ∷ []),
+            flat_map-append (λ (c : CartridgeEntry). c.file ∷ c.second_file ∷ []) cartridges (cartridge ∷ []),
+            ← append_assoc (drive_files drives) (both_files cartridges) (cartridge.file ∷ cartridge.second_file ∷ []),
           )
-          (distinct_push (drive_files drives ++ cartridge_files cartridges) cartridge.file are.files
-          found.2.new_file);
+          (distinct_both all cartridge.file cartridge.second_file are.files
+          (λ has. found.2.new_files (cartridge.file, (0, omega arith, refl), has))
+          (λ has. found.2.new_files (cartridge.second_file, (1, omega arith, sym named), has))
+          (λ same. second_differs cartridge.file (same ∙ named)));
       homes =
           rw (map-append (λ (c : CartridgeEntry). address_of c.home) cartridges (cartridge ∷ []))
           (distinct_push (homes_of cartridges) (address_of cartridge.home) are.homes found.2.new_home);

@@ -1,6 +1,7 @@
 pub mod KeyLemmas
 pub mod ValueLemmas
 pub mod ListLemmas
+pub mod DoubleLemmas
 pub mod CapacityLemmas
 pub mod EntryLemmas
 pub mod SameLemmas

@@ -6,10 +6,10 @@ use Rattle.std.proofs.lemmas.List.Elements.{Contains-push_cases}
 use Rattle.std.specs.List.{Contains, list_any}
 use Rattle.vtl_config.specs.Entries.{Paired, AreDistinct}
 
-contains_first : {A : Type 0} (y : A) (ys : List A) (x : A) → y ≡ x → Contains (y ∷ ys) x
+pub contains_first : {A : Type 0} (y : A) (ys : List A) (x : A) → y ≡ x → Contains (y ∷ ys) x
 contains_first y ys x e = (0, omega arith, e)
 
-contains_later : {A : Type 0} (y : A) (ys : List A) (x : A) → Contains ys x → Contains (y ∷ ys) x
+pub contains_later : {A : Type 0} (y : A) (ys : List A) (x : A) → Contains ys x → Contains (y ∷ ys) x
 contains_later y ys x has = (suc has.0, omega (arith, has.1), has.2)
 
 -- a test of each entry that is true only where it has x finds x

@@ -6,7 +6,8 @@ use Rattle.std.specs.List.{Contains}
 use Rattle.toml.specs.Data.{Data, string, integer, float, boolean, datetime, array, table, Members}
 use Rattle.toml.specs.View.{items_of}
 use Rattle.vtl_config.specs.Configs.{EntriesAt}
-use Rattle.vtl_config.specs.Entries.{address_of, numbers_of, drive_files, barcodes_of, cartridge_files, homes_of, IsDrive, IsDriveTable, IsCartridge, IsCartridgeTable, Paired, AreDistinct}
+use Rattle.vtl_config.specs.Entries.{address_of, numbers_of, drive_files, barcodes_of, both_files, homes_of, IsDrive, IsDriveTable, IsCartridge, IsCartridgeTable, Paired, AreDistinct}
+use Rattle.vtl_config.specs.FileNames.{second_name}
 use Rattle.vtl_config.specs.Values.{value_at, whole}
 use Rattle.vtl_config.specs.declared.entries.CartridgeEntry.{CartridgeEntry}
 use Rattle.vtl_config.specs.declared.entries.DriveEntry.{DriveEntry}
@@ -95,15 +96,15 @@ is_drive_table (table x) drive is = (x, refl, is)
 pub is_cartridge_table :
     (value : Data) (cartridge : CartridgeEntry) → IsCartridge value cartridge
     → (entry : Members) × (value ≡ table entry)
-    × IsCartridgeTable entry cartridge.barcode cartridge.file cartridge.capacities
-    (address_of cartridge.home)
+    × IsCartridgeTable entry cartridge.barcode cartridge.file cartridge.capacities (address_of cartridge.home)
+    × (cartridge.second_file ≡ second_name cartridge.file)
 is_cartridge_table (string x) cartridge is = absurd is
 is_cartridge_table (integer x) cartridge is = absurd is
 is_cartridge_table (float x) cartridge is = absurd is
 is_cartridge_table (boolean x) cartridge is = absurd is
 is_cartridge_table (datetime x) cartridge is = absurd is
 is_cartridge_table (array x) cartridge is = absurd is
-is_cartridge_table (table x) cartridge is = (x, refl, is)
+is_cartridge_table (table x) cartridge is = (x, refl, is.0, is.1)
 
 -- one value is one text, and one whole number
 pub same_text : (found : Option Data) (s t : List ℕ) → found ≡ Some (string s) → found ≡ Some (string t) → s ≡ t
@@ -153,12 +154,12 @@ drives_same (v ∷ vs) (x ∷ xs) (y ∷ ys) left right =
 -- entries are of the same cartridges
 pub record SameCartridges (xs ys : List CartridgeEntry) : Type 0 where
   pub barcodes : barcodes_of xs ≡ barcodes_of ys
-  pub files : cartridge_files xs ≡ cartridge_files ys
+  pub files : both_files xs ≡ both_files ys
   pub homes : homes_of xs ≡ homes_of ys
 
 cartridge_same :
     (value : Data) (x y : CartridgeEntry) → IsCartridge value x → IsCartridge value y
-    → (x.barcode ≡ y.barcode) × (x.file ≡ y.file)
+    → (x.barcode ≡ y.barcode) × (x.file ≡ y.file) × (x.second_file ≡ y.second_file)
     × (address_of x.home ≡ address_of y.home)
 cartridge_same value x y left right =
     let l = is_cartridge_table value x left in
@@ -167,9 +168,11 @@ cartridge_same value x y left right =
     let moved : IsCartridgeTable r.0 x.barcode x.file x.capacities (address_of x.home) =
     subst
     (λ (m : Members). IsCartridgeTable m x.barcode x.file x.capacities (address_of x.home))
-    one l.2 in (
+    one l.2 in
+    let file = same_text _ _ _ moved.file_value r.2.file_value in (
       same_text _ _ _ moved.barcode_value r.2.barcode_value,
-      same_text _ _ _ moved.file_value r.2.file_value,
+      file,
+      l.3 ∙ (ap second_name file ∙ sym r.3),
       same_whole _ _ _ moved.home_value r.2.home_value,
     )
 
@@ -185,6 +188,6 @@ cartridges_same (v ∷ vs) (x ∷ xs) (y ∷ ys) left right =
     let here = cartridge_same v x y left.0 right.0 in
     let more = cartridges_same vs xs ys left.1 right.1 in record {
       barcodes = rw (here.0, more.barcodes) refl;
-      files = rw (here.1, more.files) refl;
-      homes = rw (here.2, more.homes) refl;
+      files = rw (here.1, here.2, more.files) refl;
+      homes = rw (here.3, more.homes) refl;
     }

@@ -4,7 +4,7 @@ use Rattle.std.specs.List.{Contains, All}
 use Rattle.toml.specs.Data.{Data, array, Members}
 use Rattle.toml.specs.Parse.{parse_document}
 use Rattle.toml.specs.View.{items_of}
-use Rattle.vtl_config.specs.Entries.{numbers_of, drive_files, barcodes_of, cartridge_files, homes_of, IsDrive, IsCartridge, Paired, AreDistinct}
+use Rattle.vtl_config.specs.Entries.{numbers_of, drive_files, barcodes_of, both_files, homes_of, IsDrive, IsCartridge, Paired, AreDistinct}
 use Rattle.vtl_config.specs.Keys.{top_keys, has_only}
 use Rattle.vtl_config.specs.Rules.{DriveTableBreaks, CartridgeTableBreaks, EntryBreaks}
 use Rattle.vtl_config.specs.Values.{value_at, IsDriveNumber, kind_of_key, is_of_kind}
@@ -35,13 +35,13 @@ pub record AreDrives (entries : List Data) (drives : List DriveEntry) : Type 0 w
   pub numbers : AreDistinct (numbers_of drives)
   pub files : AreDistinct (drive_files drives)
 
--- What reading the cartridges makes sure of, in a library of these drives: each is what its entry says, no barcode,
--- file or home is double, and each home that is a drive is listed (own).
+-- What reading the cartridges makes sure of, in a library of these drives: each is what its entry says, no barcode or
+-- home is double, nor a file, both files of each cartridge counted, and each home that is a drive is listed (own).
 pub record AreCartridges (drives : List DriveEntry) (entries : List Data) (cartridges : List CartridgeEntry) :
     Type 0 where
   pub each : Paired IsCartridge entries cartridges
   pub barcodes : AreDistinct (barcodes_of cartridges)
-  pub files : AreDistinct (drive_files drives ++ cartridge_files cartridges)
+  pub files : AreDistinct (drive_files drives ++ both_files cartridges)
   pub homes : AreDistinct (homes_of cartridges)
   pub listed : All (IsAtHome (numbers_of drives)) (homes_of cartridges)
 

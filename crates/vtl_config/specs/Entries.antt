@@ -1,10 +1,11 @@
 -- What a configuration has, and what its text says of it.
 use Rattle.std.specs.Prelude.{◌≡◌, ℕ, true, Some, List, [], ◌∷◌, map, ⊤}
-use Rattle.std.specs.List.{Contains}
+use Rattle.std.specs.List.{Contains, flat_map}
 use Rattle.toml.specs.Data.{Data, string, array, table, Members}
 use Rattle.toml.specs.View.{items_of}
 use Rattle.vtl_base.specs.Barcode.{IsBarcode}
 use Rattle.vtl_config.specs.Capacities.{AreCapacities}
+use Rattle.vtl_config.specs.FileNames.{second_name}
 use Rattle.vtl_config.specs.Keys.{drive_keys, cartridge_keys, has_only}
 use Rattle.vtl_config.specs.Values.{value_at, whole, IsAddress, IsDriveNumber}
 use Rattle.vtl_config.specs.declared.entries.Address.{Address}
@@ -30,9 +31,17 @@ drive_files drives = map (λ drive. drive.reservations) drives
 abbrev pub barcodes_of : List CartridgeEntry → List (List ℕ)
 barcodes_of cartridges = map (λ cartridge. cartridge.barcode) cartridges
 
--- the files of cartridges
+-- the first files of cartridges
 abbrev pub cartridge_files : List CartridgeEntry → List (List ℕ)
 cartridge_files cartridges = map (λ cartridge. cartridge.file) cartridges
+
+-- the second files of cartridges
+abbrev pub second_files : List CartridgeEntry → List (List ℕ)
+second_files cartridges = map (λ cartridge. cartridge.second_file) cartridges
+
+-- both files of each cartridge, in order
+abbrev pub both_files : List CartridgeEntry → List (List ℕ)
+both_files cartridges = flat_map (λ cartridge. cartridge.file ∷ cartridge.second_file ∷ []) cartridges
 
 -- the homes of cartridges
 abbrev pub homes_of : List CartridgeEntry → List ℕ
@@ -61,11 +70,11 @@ abbrev pub IsDrive : Data → DriveEntry → Type 0
 IsDrive (table entry) drive = IsDriveTable entry drive.number drive.reservations
 IsDrive _ drive = ⊥
 
--- the value is a cartridge's table
+-- the value is a cartridge's table; its second file is named after the first (own)
 abbrev pub IsCartridge : Data → CartridgeEntry → Type 0
 IsCartridge (table entry) cartridge =
-    IsCartridgeTable entry cartridge.barcode cartridge.file cartridge.capacities
-    (address_of cartridge.home)
+    IsCartridgeTable entry cartridge.barcode cartridge.file cartridge.capacities (address_of cartridge.home)
+    × (cartridge.second_file ≡ second_name cartridge.file)
 IsCartridge _ cartridge = ⊥
 
 -- R holds of each of the values and its entry, in order, and there are as many

@@ -1,6 +1,7 @@
 pub mod Keys
 pub mod Values
 pub mod Capacities
+pub mod FileNames
 pub mod Entries
 pub mod Rules
 pub mod Configs

@@ -2,7 +2,8 @@
 use Rattle.std.specs.Prelude.{◌≡◌, ℕ, false, Some, None, List, ◌++◌}
 use Rattle.std.specs.List.{Contains}
 use Rattle.toml.specs.Data.{Data, string, table, Members, as_table}
-use Rattle.vtl_config.specs.Entries.{numbers_of, drive_files, barcodes_of, cartridge_files, homes_of}
+use Rattle.vtl_config.specs.Entries.{numbers_of, drive_files, barcodes_of, both_files, homes_of}
+use Rattle.vtl_config.specs.FileNames.{both_names, Meets}
 use Rattle.vtl_config.specs.Keys.{drive_keys, cartridge_keys, has_only}
 use Rattle.vtl_config.specs.Values.{value_at, whole, IsDriveNumber, Misfits}
 use Rattle.vtl_config.specs.declared.entries.DriveEntry.{DriveEntry}
@@ -27,7 +28,9 @@ pub data DriveTableBreaks (before : List DriveEntry) (entry : Members) (rule : R
       (file : List ℕ) → rule ≡ Double Reservations → value_at Reservations entry ≡ Some (string file)
       → Contains (drive_files before) file → DriveTableBreaks before entry rule
 
--- The rule that a cartridge's table breaks in a library of these drives, behind these cartridges (own).
+-- The rule that a cartridge's table breaks in a library of these drives, behind these cartridges. A file is double
+-- where one of the cartridge's two names is that of a drive's file, or of one of the two files of a cartridge before
+-- (own).
 pub data CartridgeTableBreaks (drives : List DriveEntry) (before : List CartridgeEntry) (entry : Members)
     (rule : Rule) : Type 0 where
   cartridge_alone : TableBreaks cartridge_keys entry rule → CartridgeTableBreaks drives before entry rule
@@ -36,7 +39,8 @@ pub data CartridgeTableBreaks (drives : List DriveEntry) (before : List Cartridg
       → Contains (barcodes_of before) barcode → CartridgeTableBreaks drives before entry rule
   double_file :
       (file : List ℕ) → rule ≡ Double File → value_at File entry ≡ Some (string file)
-      → Contains (drive_files drives ++ cartridge_files before) file → CartridgeTableBreaks drives before entry rule
+      → Meets (both_names file) (drive_files drives ++ both_files before) → CartridgeTableBreaks drives before entry
+      rule
   double_home :
       (home : ℕ) → rule ≡ Double Home → value_at Home entry ≡ Some (whole home)
       → Contains (homes_of before) home → CartridgeTableBreaks drives before entry rule

@@ -10,9 +10,10 @@ ghost use Rattle.vtl_config.specs.Configs.{AreCartridges, IsAtHome};
 ghost use Rattle.vtl_config.specs.Inner.Found.{FitsCartridgeTable, FitsCartridge, CartridgesRefused};
 
 use crate::capacities::{Capacities, capacities_at};
-use crate::doubles::{has_barcode, has_cartridge_file, has_drive_file, has_home, has_number};
+use crate::double_files::{meets_cartridge_files, meets_drive_files, meets_second_files};
+use crate::doubles::{has_barcode, has_home, has_number};
 use crate::entries::{Address, CartridgeEntry, DriveEntry};
-use crate::file_names::FileName;
+use crate::file_names::{FileName, second_file};
 use crate::keys::{Key, has_only};
 use crate::rules::{ConfigError, Place, Rule};
 use crate::values::{barcode_at, home_at, text_at};
@@ -88,10 +89,13 @@ fn cartridge_in<'a>(
     if has_barcode(before, &found.barcode) {
         return Err(Rule::Double(Key::Barcode));
     }
-    if has_drive_file(drives, found.file) {
+    if meets_drive_files(drives, found.file) {
         return Err(Rule::Double(Key::File));
     }
-    if has_cartridge_file(before, found.file) {
+    if meets_cartridge_files(before, found.file) {
+        return Err(Rule::Double(Key::File));
+    }
+    if meets_second_files(before, found.file) {
         return Err(Rule::Double(Key::File));
     }
     if has_home(before, found.home) {
@@ -140,9 +144,11 @@ pub(crate) fn read_cartridges(
             }
         };
         let file = String::from_str(alloc, found.file)?;
+        let second = second_file(alloc, found.file)?;
         cartridges.push(CartridgeEntry {
             barcode: found.barcode,
             file: FileName::of(file),
+            second_file: FileName::of(second),
             capacities: found.capacities,
             home: found.home,
         })?;

@@ -2,7 +2,7 @@
 ghost use Rattle.std.specs.Prelude.{◌≡◌, ◌==◌, ◌↔◌, IsTrue};
 ghost use Rattle.std.specs.List.{Contains, list_any};
 ghost use Rattle.std.specs.Str.{bytes_eq};
-ghost use Rattle.vtl_config.specs.Entries.{address_of, numbers_of, drive_files, barcodes_of, cartridge_files, homes_of};
+ghost use Rattle.vtl_config.specs.Entries.{address_of, numbers_of, drive_files, barcodes_of, homes_of};
 
 use crate::entries::{Address, CartridgeEntry, DriveEntry};
 use vtl_base::{Barcode, DriveNo};
@@ -61,26 +61,6 @@ pub(crate) fn has_barcode(cartridges: &[CartridgeEntry], barcode: &Barcode) -> b
     ensures { IsTrue result ↔ Contains (barcodes_of cartridges.now) barcode.now }
 {
     any_has_barcode(cartridges, barcode)
-}
-
-fn is_cartridge_file_of(cartridge: &CartridgeEntry, file: &str) -> bool
-    ensures { result ≡ bytes_eq cartridge.now.file file.now }
-{
-    cartridge.file.as_str() == file
-}
-
-fn any_has_cartridge_file(cartridges: &[CartridgeEntry], file: &str) -> bool
-    ensures { result ≡ list_any (λ cartridge. bytes_eq cartridge.file file.now) cartridges.now }
-{
-    cartridges
-        .iter()
-        .any(|cartridge| is_cartridge_file_of(cartridge, file))
-}
-
-pub(crate) fn has_cartridge_file(cartridges: &[CartridgeEntry], file: &str) -> bool
-    ensures { IsTrue result ↔ Contains (cartridge_files cartridges.now) file.now }
-{
-    any_has_cartridge_file(cartridges, file)
 }
 
 fn is_home_of(cartridge: &CartridgeEntry, home: Address) -> bool

@@ -30,8 +30,10 @@ impl Address {
 pub struct CartridgeEntry {
     /// Its name.
     pub barcode: Barcode,
-    /// The name of its file, as it stands.
+    /// The name of its first file, as it stands.
     pub file: FileName,
+    /// The name of its second file: that of the first with `.2` added.
+    pub second_file: FileName,
     /// The capacities of its partitions, in bytes.
     pub capacities: Capacities,
     /// Where it is at power on.

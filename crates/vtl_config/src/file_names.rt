@@ -1,11 +1,16 @@
 //! The names of the files of a configuration.
-ghost use Rattle.std.specs.Prelude.{◌≡◌, string_bytes};
+ghost use Rattle.std.specs.Prelude.{◌≡◌, IfOk, string_bytes};
+ghost use Rattle.vtl_config.specs.FileNames.{second_name};
 
+use std::alloc::{AllocError, Global};
 use std::marker::Model;
 
+// What is added to the name of a cartridge's first file.
+pub(crate) const SECOND: &str = ".2";
+
 /// The name of a file, as a configuration has it (own). Only the reading of a configuration makes one, once for each
-/// entry, and it is not copied. Who makes or opens the file gives the name up for a `UsedName`: so what is given a
-/// configuration makes or opens each of its files once at most. To a contract it is its bytes.
+/// file of an entry, and it is not copied. Who makes or opens the file gives the name up for a `UsedName`: so what
+/// is given a configuration makes or opens each of its files once at most. To a contract it is its bytes.
 #[derive(Drop, Debug)]
 pub struct FileName {
     text: String,
@@ -64,4 +69,13 @@ impl UsedName {
     {
         self.text.as_str()
     }
+}
+
+/// The name of the second file of a cartridge, by that of its first: `.2` is added.
+pub fn second_file(alloc: Global, file: &str) -> Result<String, AllocError>
+    ensures { IfOk result (λ name. string_bytes name ≡ second_name file.now) }
+{
+    let mut name = String::from_str(alloc, file)?;
+    name.push_str(SECOND)?;
+    Ok(name)
 }

@@ -3,6 +3,7 @@
 
 mod capacities;
 mod cartridge_entries;
+mod double_files;
 mod doubles;
 mod drive_entries;
 pub mod entries;
@@ -15,7 +16,7 @@ mod values;
 
 pub use capacities::Capacities;
 pub use entries::{Address, CartridgeEntry, Config, DriveEntry};
-pub use file_names::{FileName, UsedName};
+pub use file_names::{FileName, UsedName, second_file};
 pub use keys::Key;
 pub use reading::read_config;
 pub use rules::{ConfigError, Place, Rule};

@@ -31,7 +31,8 @@ pub enum Rule {
     OtherKind(Key),
     /// The value of the key is outside its limits.
     OutOfRange(Key),
-    /// The value of the key stands at an entry before.
+    /// The value of the key stands at an entry before. A cartridge has two files: one of their names is that of a
+    /// file of an entry before.
     Double(Key),
     /// The home is a drive that is not listed.
     NoSuchDrive,

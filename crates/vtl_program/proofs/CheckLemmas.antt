@@ -1,74 +1,70 @@
--- A side that is opened as a cartridge, and then as a store.
-use Rattle.std.proofs.Common.{◌≡◌, inl, inr, ℕ, List, [], ◌++◌, get_or, refl, sym, ap, ◌∙◌, subst, arith, Result, Ok, Err, IfOk}
+-- Two disks that are opened as a cartridge, and then the first as a store.
+use Rattle.std.proofs.Common.{◌≡◌, inl, inr, ⊎_elim, ℕ, ◌+◌, ◌<◌, List, refl, sym, ap, ◌∙◌, subst, arith, Result, Ok, Err, IfOk, IfErr}
+use Rattle.vtl_base.specs.declared.faults.DevFault.{DevFault}
 use Rattle.tape_disk.specs.Disk.{DiskState, IsDisk, Keeps, Only}
+use Rattle.tape_disk.specs.Moments as Moments
+use Rattle.tape_disk.specs.Moments.{LeavesOnly}
+use Rattle.tape_disk.specs.TwoDisks.{AreHonest, EachOfTwo, Images, KeepsDisks, MayLeave, TwoDisks, TwoLeave, failures_of, two_in_sequence, seen_of_two}
 use Rattle.gate_journal.specs.declared.header.SideKind.{SideKind}
-use Rattle.gate_journal.specs.declared.header.SideKind.TheVariants.{Cartridge, Store}
-use Rattle.gate_journal.specs.Side.{BeginsAs, Heading, IsName, IsNotOurs, mark, spell}
+use Rattle.gate_journal.specs.declared.header.SideKind.TheVariants.{Store}
+use Rattle.gate_journal.specs.Answers.{IsFault, NoneFailed}
+use Rattle.gate_journal.specs.Side.{Heading, IsName}
 use Rattle.cartridge.specs.declared.error.CartridgeError.{CartridgeError}
 use Rattle.cartridge.specs.declared.error.CartridgeError.TheVariants.{NotOurs, Damaged, BadRecord, SideFull, Device, Failed, NoMemory}
 use Rattle.cartridge.specs.Answers.{IsNotOpened}
 use Rattle.cartridge.specs.Contents.{IsNoCartridge}
+use Rattle.cartridge.specs.Disks.{IsFaultOfTwo, NoneOfTwo, OnlyOfTwo}
 use Rattle.aptpl_store.specs.declared.error.StoreError.{StoreError}
 use Rattle.aptpl_store.specs.declared.error.StoreError.TheVariants as store
 use Rattle.aptpl_store.specs.Answers.{IsStoreNotOpened}
-use Rattle.aptpl_store.specs.Contents.{GivesStates, IsNoStore, latest}
+use Rattle.aptpl_store.specs.Contents.{GivesStates, latest}
 use Rattle.pr_core.specs.declared.states.PrState.{PrState}
 use Rattle.pr_core.specs.States.{power_loss}
 use Rattle.vtl_program.specs.declared.programs.VtlFault.{VtlFault}
-use Rattle.vtl_program.specs.SideText.{SideText, TellsStates, bad_record_line, damaged_line, not_a_side_line}
+use Rattle.vtl_program.specs.declared.programs.VtlFault.TheVariants as faults
+use Rattle.vtl_program.specs.SideText.{IsNotTold, IsStoreNotTold, SideText, TellsStates, bad_record_line, damaged_line, not_a_side_line}
 
--- the fifth byte of a side is the fourth letter of its kind
-letter : (kind : SideKind) (name capacities rest : List ℕ)
-    → get_or (spell (record { kind = kind; name = name; capacities = capacities }) [] ++ rest) 4 0
-    ≡ get_or (mark kind) 3 0
-letter Cartridge name capacities rest = refl
-letter Store name capacities rest = refl
-
-letter_of : (kind : SideKind) (image : List ℕ) → BeginsAs kind image → get_or image 4 0 ≡ get_or (mark kind) 3 0
-letter_of kind image (heading, rest, is, of_kind, spelled) =
-    ap (λ (l : List ℕ). get_or l 4 0) spelled ∙ letter heading.kind heading.name heading.capacities rest
-    ∙ ap (λ (k : SideKind). get_or (mark k) 3 0) of_kind
-
-one_kind : (image : List ℕ) → BeginsAs Cartridge image → BeginsAs Store image → ⊥
-one_kind image one other =
-    let letters : 67 ≡ 82 = sym (letter_of Cartridge image one) ∙ letter_of Store image other in
-    omega (arith, letters)
-
--- what is no cartridge's side and no store's is no side
-pub no_side : (image : List ℕ) → IsNoCartridge image → IsNoStore image → IsNotOurs image
-no_side image (inl none) other = none
-no_side image (inr other) (inl none) = none
-no_side image (inr other) (inr one) = absurd (one_kind image one other)
-
--- the lines that a refusal of an opening as a cartridge has; what is no cartridge's is opened as a store
+-- the lines that a refusal of an opening as a cartridge has; where no side counts the first disk is opened as a store
 abbrev pub TellsRefusal : CartridgeError → Result (List ℕ) VtlFault → Type 0
 TellsRefusal NotOurs lines = ⊥
 TellsRefusal (Damaged at) lines = IfOk lines (λ text. text ≡ damaged_line at)
 TellsRefusal (BadRecord at) lines = IfOk lines (λ text. text ≡ bad_record_line at)
-TellsRefusal (Device fault) lines = IfOk lines (λ text. ⊥)
-TellsRefusal NoMemory lines = IfOk lines (λ text. ⊥)
+TellsRefusal (Device fault) lines = lines ≡ Err faults.Device
+TellsRefusal NoMemory lines = lines ≡ Err faults.NoMemory
 TellsRefusal SideFull lines = Unit {0}
 TellsRefusal Failed lines = Unit {0}
 
--- they are those of the side that was refused
-pub refusal_told : (error : CartridgeError) (lines : Result (List ℕ) VtlFault) (old new : DiskState)
-    → IsNotOpened error old new → TellsRefusal error lines
-    → IfOk lines (λ text. old.honest → SideText old.seen text × Only old.seen new.may_leave)
-refusal_told NotOurs lines old new why is = absurd is
-refusal_told (Damaged at) (Ok text) old new why is = λ honest.
-    (inr (inr (inr (inl (at, (why.1 honest).0.1, is)))), (why.1 honest).1)
-refusal_told (BadRecord at) (Ok text) old new why is = λ honest.
-    (inr (inr (inr (inr (at, inl (why.1 honest).0, is)))), (why.1 honest).1)
-refusal_told (Device fault) (Ok text) old new why is = absurd is
-refusal_told NoMemory (Ok text) old new why is = absurd is
-refusal_told SideFull (Ok text) old new why is = absurd why
-refusal_told Failed (Ok text) old new why is = absurd why
-refusal_told (Damaged at) (Err fault) old new why is = tt
-refusal_told (BadRecord at) (Err fault) old new why is = tt
-refusal_told (Device other) (Err fault) old new why is = tt
-refusal_told NoMemory (Err fault) old new why is = tt
-refusal_told SideFull (Err fault) old new why is = tt
-refusal_told Failed (Err fault) old new why is = tt
+module _ {D : Type 0} (state : D → DiskState) (old new : TwoDisks D) where
+  -- they are those of the side that was refused
+  pub refusal_told : (error : CartridgeError) (lines : Result (List ℕ) VtlFault)
+      → IsNotOpened state error old new → TellsRefusal error lines
+      → IfOk lines (λ text. AreHonest state old → SideText (seen_of_two state old) text × OnlyOfTwo state old new)
+  refusal_told NotOurs lines why is = absurd is
+  refusal_told (Damaged at) (Ok text) why is = λ honest.
+      (inr (inr (inr (inl (at, inl (why.1 honest).0, is)))), (why.1 honest).1)
+  refusal_told (BadRecord at) (Ok text) why is = λ honest.
+      (inr (inr (inr (inr (at, inl (why.1 honest).0, is)))), (why.1 honest).1)
+  refusal_told (Device fault) (Ok text) why is = cc
+  refusal_told NoMemory (Ok text) why is = cc
+  refusal_told SideFull (Ok text) why is = absurd why
+  refusal_told Failed (Ok text) why is = absurd why
+  refusal_told (Damaged at) (Err fault) why is = tt
+  refusal_told (BadRecord at) (Err fault) why is = tt
+  refusal_told (Device other) (Err fault) why is = tt
+  refusal_told NoMemory (Err fault) why is = tt
+  refusal_told SideFull (Err fault) why is = tt
+  refusal_told Failed (Err fault) why is = tt
+
+  -- a fault of one of them is a failure more of both
+  pub fault_counted : (fault : DevFault) → IsFaultOfTwo state fault old new
+      → failures_of state old < failures_of state new
+  fault_counted fault why =
+      ⊎_elim
+      (λ (one : IsFault fault (state old.first) (state new.first) × NoneFailed (state old.second) (state new.second)).
+      omega (arith, one.0.cause, one.1))
+      (λ (other : NoneFailed (state old.first) (state new.first) × IsFault fault (state old.second) (state new.second)).
+      omega (arith, other.0, other.1.cause))
+      why
 
 -- the line that a refusal of an opening as a store has
 abbrev pub TellsStoreRefusal : StoreError → Result (List ℕ) VtlFault → Type 0
@@ -78,16 +74,16 @@ TellsStoreRefusal (store.BadRecord at) lines = IfOk lines (λ text. text ≡ bad
 TellsStoreRefusal (store.Device fault) lines = IfOk lines (λ text. ⊥)
 TellsStoreRefusal store.NoMemory lines = IfOk lines (λ text. ⊥)
 
--- it is that of the side that was refused, where this is no cartridge's
+-- it is that of the first image, where beside the second one no side counts
 pub store_refusal_told : (error : StoreError) (lines : Result (List ℕ) VtlFault) (old new : DiskState)
     → IsStoreNotOpened error old new → TellsStoreRefusal error lines
-    → IfOk lines (λ text. old.honest → IsNoCartridge old.seen
-    → SideText old.seen text × Only old.seen new.may_leave)
-store_refusal_told store.NotOurs (Ok text) old new why is = λ honest none.
-    (inr (inr (inl (no_side old.seen none (why.1 honest).0, is))), (why.1 honest).1)
-store_refusal_told (store.Damaged at) (Ok text) old new why is = λ honest none.
-    (inr (inr (inr (inl (at, (why.1 honest).0.1, is)))), (why.1 honest).1)
-store_refusal_told (store.BadRecord at) (Ok text) old new why is = λ honest none.
+    → IfOk lines (λ text. old.honest → (two : List ℕ) → IsNoCartridge (old.seen, two)
+    → SideText (old.seen, two) text × Only old.seen new.may_leave)
+store_refusal_told store.NotOurs (Ok text) old new why is = λ honest two none.
+    (inr (inr (inl (none, (why.1 honest).0, is))), (why.1 honest).1)
+store_refusal_told (store.Damaged at) (Ok text) old new why is = λ honest two none.
+    (inr (inr (inr (inl (at, inr (why.1 honest).0, is)))), (why.1 honest).1)
+store_refusal_told (store.BadRecord at) (Ok text) old new why is = λ honest two none.
     (inr (inr (inr (inr (at, inr (why.1 honest).0, is)))), (why.1 honest).1)
 store_refusal_told (store.Device fault) (Ok text) old new why is = absurd is
 store_refusal_told store.NoMemory (Ok text) old new why is = absurd is
@@ -97,7 +93,7 @@ store_refusal_told (store.BadRecord at) (Err fault) old new why is = tt
 store_refusal_told (store.Device other) (Err fault) old new why is = tt
 store_refusal_told store.NoMemory (Err fault) old new why is = tt
 
--- the line of a store that was opened is that of the side
+-- the line of a store that was opened is that of the first image
 pub store_told : {E : Type 0} (heading : Heading) (states : List PrState) (left : PrState)
     (lines : Result (List ℕ) VtlFault) (text : Result (List ℕ) E) (old new : DiskState)
     → IfOk lines (λ found. text ≡ Ok found)
@@ -105,29 +101,85 @@ pub store_told : {E : Type 0} (heading : Heading) (states : List PrState) (left 
     → TellsStates heading states found)
     → left ≡ power_loss (latest states)
     → (old.honest → GivesStates heading states old.seen × Only old.seen new.may_leave)
-    → IfOk lines (λ found. old.honest → IsNoCartridge old.seen
-    → SideText old.seen found × Only old.seen new.may_leave)
+    → IfOk lines (λ found. old.honest → (two : List ℕ) → IsNoCartridge (old.seen, two)
+    → SideText (old.seen, two) found × Only old.seen new.may_leave)
 store_told heading states left (Err fault) text old new is tells left_is gives = tt
-store_told {E} heading states left (Ok found) text old new is tells left_is gives = λ honest none.
+store_told {E} heading states left (Ok found) text old new is tells left_is gives = λ honest two none.
     let given = (gives honest).0 in
     let named : IsName Store heading.name =
-    subst (λ (kind : SideKind). IsName kind heading.name) given.0 given.2.0.begins.name in
+    subst (λ (kind : SideKind). IsName kind heading.name) given.0 given.2.0.begins.head.heading.name in
     let told : TellsStates heading states found =
     subst (λ (r : Result (List ℕ) E). IfOk r (λ found. IsName Store heading.name → left ≡ power_loss (latest states)
     → TellsStates heading states found)) is tells named left_is in
     (inr (inl (heading, states, given, told)), (gives honest).1)
 
--- a side that is no cartridge's is looked at once more
-module _ (old mid new : DiskState) (why : IsNotOpened NotOurs old mid) (keeps : Keeps old mid)
-    (is_disk : mid.honest → IsDisk mid) where
-  same_bytes : old.honest → mid.seen ≡ old.seen
-  same_bytes honest = (why.1 honest).1 mid.seen (is_disk (keeps.stays_honest honest)).reads
+-- The first of two disks of which no side counts is looked at once more, while the second one rests.
+module _ {D : Type 0} (state : D → DiskState) (old mid new : TwoDisks D)
+    (why : IsNotOpened state NotOurs old mid) (keeps : KeepsDisks state old mid)
+    (is_disk : (disk : D) → (state disk).honest → IsDisk (state disk)) (rests : new.second ≡ mid.second) where
+  mid_honest : AreHonest state old → AreHonest state mid
+  mid_honest honest = (keeps.0.stays_honest honest.0, keeps.1.stays_honest honest.1)
+
+  same_bytes : AreHonest state old → seen_of_two state mid ≡ seen_of_two state old
+  same_bytes honest =
+      let held = mid_honest honest in
+      (why.1 honest).1 (seen_of_two state mid) ((is_disk mid.first held.0).reads, (is_disk mid.second held.1).reads)
+
+  only_one : AreHonest state old → Only (state mid.first).seen (state new.first).may_leave → OnlyOfTwo state old new
+  only_one honest only images left =
+      let held = mid_honest honest in
+      let first : images.0 ≡ (state mid.first).seen = only images.0 left.0 in
+      let second : (state mid.second).may_leave images.1 =
+      subst (λ (disk : D). (state disk).may_leave images.1) rests left.1 in
+      subst (λ (one : List ℕ). (one, images.1) ≡ seen_of_two state old) (sym first)
+      ((why.1 honest).1 ((state mid.first).seen, images.1) ((is_disk mid.first held.0).reads, second))
 
   pub told_again : (lines : Result (List ℕ) VtlFault)
-      → IfOk lines (λ text. mid.honest → IsNoCartridge mid.seen → SideText mid.seen text × Only mid.seen new.may_leave)
-      → IfOk lines (λ text. old.honest → SideText old.seen text × Only old.seen new.may_leave)
+      → IfOk lines (λ text. (state mid.first).honest → (two : List ℕ) → IsNoCartridge ((state mid.first).seen, two)
+      → SideText ((state mid.first).seen, two) text × Only (state mid.first).seen (state new.first).may_leave)
+      → IfOk lines (λ text. AreHonest state old → SideText (seen_of_two state old) text × OnlyOfTwo state old new)
   told_again (Err fault) tells = tt
   told_again (Ok text) tells = λ honest.
-      subst (λ (image : List ℕ). SideText image text × Only image new.may_leave) (same_bytes honest)
-      (tells (keeps.stays_honest honest)
-      (subst (λ (image : List ℕ). IsNoCartridge image) (sym (same_bytes honest)) (why.1 honest).0))
+      let none : IsNoCartridge (seen_of_two state mid) =
+      subst (λ (images : Images). IsNoCartridge images) (sym (same_bytes honest)) (why.1 honest).0 in
+      let told = tells (mid_honest honest).0 (state mid.second).seen none in (
+        subst (λ (images : Images). SideText images text) (same_bytes honest) told.0,
+        only_one honest told.1,
+      )
+
+  pub none_again : NoneFailed (state mid.first) (state new.first) → NoneOfTwo state old new
+  none_again none = (
+    none ∙ why.0.0,
+    ap (λ (disk : D). (state disk).failures) rests ∙ why.0.1,
+  )
+
+  pub cause_again : (lines : Result (List ℕ) VtlFault)
+      → IfErr lines (λ fault. IsStoreNotTold fault (state mid.first) (state new.first))
+      → IfErr lines (λ fault. IsNotTold state fault old new)
+  cause_again (Ok text) cause = tt
+  cause_again (Err faults.Device) cause =
+      let second : (state new.second).failures ≡ (state old.second).failures =
+      ap (λ (disk : D). (state disk).failures) rests ∙ why.0.1 in
+      omega (arith, cause, why.0.0, second)
+  cause_again (Err faults.NoMemory) cause =
+      (none_again cause.0, λ honest. only_one honest (cause.1 (mid_honest honest).0))
+  cause_again (Err faults.Words) cause = absurd cause
+  cause_again (Err faults.Config) cause = absurd cause
+  cause_again (Err (faults.Script line)) cause = absurd cause
+
+  pub moments_again : AreHonest state old → TwoLeave state old mid (MayLeave state old)
+      → LeavesOnly (state mid.first) (state new.first) (state mid.first).may_leave
+      → TwoLeave state old new (MayLeave state old)
+  moments_again honest first leaves =
+      let held = mid_honest honest in
+      let each : EachOfTwo state mid (MayLeave state old) = (λ images left.
+      subst (λ (one : Images). MayLeave state old one) (sym ((why.1 honest).1 images left))
+      ((is_disk old.first honest.0).reads, (is_disk old.second honest.1).reads)) in
+      let moves = Moments.weakened (state mid.first) (state new.first) (state mid.first).may_leave
+      (λ one. (two : List ℕ) → (state mid.second).may_leave two → MayLeave state old (one, two)) leaves
+      (λ one may two other. each (one, two) (may, other)) in
+      two_in_sequence state old mid new (MayLeave state old) first (1, (mid, (refl, each), inl (rests, moves)))
+
+-- what holds of two pairs of disks holds of what they are
+pub moved : {T : Type 0} (P : T → T → Type 0) (a b c d : T) → a ≡ b → c ≡ d → P b d → P a c
+moved {T} P a b c d e f holds = subst (λ (x : T). P x c) (sym e) (subst (λ (y : T). P b y) (sym f) holds)

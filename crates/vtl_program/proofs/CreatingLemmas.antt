@@ -8,13 +8,12 @@ use Rattle.file_disk.specs.declared.error.FileError.{FileError}
 use Rattle.vtl_program.specs.declared.creating.Fate.{Fate}
 use Rattle.vtl_program.specs.declared.programs.VtlFault.{VtlFault}
 use Rattle.vtl_program.specs.declared.programs.VtlFault.TheVariants.{Words, Config, Script, Device, NoMemory}
-use Rattle.vtl_program.specs.Creating.{FailsAt, IsMadeOrKept, IsNotMade, IsNotOut, SideFile, TellsAll, TellsFiles, TellsSome, fate_line, label_of}
+use Rattle.vtl_program.specs.Creating.{FailsAt, IsMadeOrKept, IsNotMade, IsNotOut, MakeAnswers, SideFile, TellsAll, TellsFiles, TellsSome, fate_line, label_of}
 
-module _ {D : Type 0} (state : D → DiskState) (makes : List ℕ → Result D FileError → Type 0)
-    (leaves takes_away : List ℕ → D → Type 0) where
+module _ {D : Type 0} (state : D → DiskState) (made : MakeAnswers D) where
   all_on : (first second : List SideFile) (a b : List ℕ)
-      → TellsAll state makes leaves takes_away first a → TellsAll state makes leaves takes_away second b
-      → TellsAll state makes leaves takes_away (first ++ second) (a ++ b)
+      → TellsAll state made first a → TellsAll state made second b
+      → TellsAll state made (first ++ second) (a ++ b)
   all_on [] second a b told more = rw told more
   all_on (file ∷ first) second a b told more = (
     told.0,
@@ -27,8 +26,8 @@ module _ {D : Type 0} (state : D → DiskState) (makes : List ℕ → Result D F
   )
 
   some_on : (first second : List SideFile) (fault : VtlFault) (a b : List ℕ)
-      → TellsAll state makes leaves takes_away first a → TellsSome state makes leaves takes_away second fault b
-      → TellsSome state makes leaves takes_away (first ++ second) fault (a ++ b)
+      → TellsAll state made first a → TellsSome state made second fault b
+      → TellsSome state made (first ++ second) fault (a ++ b)
   some_on first second fault a b told more = record {
     before = first ++ more.before;
     file = more.file;
@@ -43,8 +42,8 @@ module _ {D : Type 0} (state : D → DiskState) (makes : List ℕ → Result D F
   }
 
   some_of : (first second : List SideFile) (fault : VtlFault) (a : List ℕ)
-      → TellsSome state makes leaves takes_away first fault a
-      → TellsSome state makes leaves takes_away (first ++ second) fault a
+      → TellsSome state made first fault a
+      → TellsSome state made (first ++ second) fault a
   some_of first second fault a so = record {
     before = so.before;
     file = so.file;
@@ -58,13 +57,13 @@ module _ {D : Type 0} (state : D → DiskState) (makes : List ℕ → Result D F
     is = so.is;
   }
 
-  pub files_none : (known : Option (List ℕ)) → TellsFiles state makes leaves takes_away [] known known (Ok tt)
+  pub files_none : (known : Option (List ℕ)) → TellsFiles state made [] known known (Ok tt)
   files_none known = ([], refl, Appends-nil known)
 
   pub files_on : (first second : List SideFile) (before mid now : Option (List ℕ))
-      (result : Result (Unit {0}) VtlFault) → TellsFiles state makes leaves takes_away first before mid (Ok tt)
-      → TellsFiles state makes leaves takes_away second mid now result
-      → TellsFiles state makes leaves takes_away (first ++ second) before now result
+      (result : Result (Unit {0}) VtlFault) → TellsFiles state made first before mid (Ok tt)
+      → TellsFiles state made second mid now result
+      → TellsFiles state made (first ++ second) before now result
   files_on first second before mid now (Ok done) told more = (
     told.0 ++ more.0,
     all_on first second told.0 more.0 told.1 more.1,
@@ -77,14 +76,14 @@ module _ {D : Type 0} (state : D → DiskState) (makes : List ℕ → Result D F
   )
 
   pub files_of : (first second : List SideFile) (before now : Option (List ℕ)) (fault : VtlFault)
-      → TellsFiles state makes leaves takes_away first before now (Err fault)
-      → TellsFiles state makes leaves takes_away (first ++ second) before now (Err fault)
+      → TellsFiles state made first before now (Err fault)
+      → TellsFiles state made (first ++ second) before now (Err fault)
   files_of first second before now fault told = (told.0, some_of first second fault told.0 told.1, told.2)
 
   -- a fault came at a file, with this much of its line written
   part_told : (file : SideFile) (before now : Option (List ℕ)) (fault : VtlFault) (part : List ℕ)
-      → FailsAt state makes leaves takes_away file fault part → Appends before now part
-      → TellsFiles state makes leaves takes_away (file ∷ []) before now (Err fault)
+      → FailsAt state made file fault part → Appends before now part
+      → TellsFiles state made (file ∷ []) before now (Err fault)
   part_told file before now fault part fails written = (
     part,
     record {
@@ -103,10 +102,10 @@ module _ {D : Type 0} (state : D → DiskState) (makes : List ℕ → Result D F
 
   -- what became of a file was told, or its line is not out
   pub file_result : (file : SideFile) (fate : Fate) (before now : Option (List ℕ))
-      (result : Result (Unit {0}) VtlFault) → IsMadeOrKept state makes leaves file fate
+      (result : Result (Unit {0}) VtlFault) → IsMadeOrKept state made file fate
       → OnOk result (Appends before now (fate_line (label_of file) fate))
       → IfErr result (IsNotOut (fate_line (label_of file) fate) before now)
-      → TellsFiles state makes leaves takes_away (file ∷ []) before now result
+      → TellsFiles state made (file ∷ []) before now result
   file_result file fate before now (Ok done) became written out = (
     fate_line (label_of file) fate,
     (fate, became, ([], sym (append-nil (fate_line (label_of file) fate)), refl)),
@@ -123,30 +122,30 @@ module _ {D : Type 0} (state : D → DiskState) (makes : List ℕ → Result D F
 
   -- a file was not made
   pub none_made : (file : SideFile) (known : Option (List ℕ)) (fault : VtlFault)
-      → IsNotMade state makes takes_away file fault
-      → TellsFiles state makes leaves takes_away (file ∷ []) known known (Err fault)
+      → IsNotMade state made file fault
+      → TellsFiles state made (file ∷ []) known known (Err fault)
   none_made file known fault why = part_told file known known fault [] (inl (why, refl)) (Appends-nil known)
 
   -- memory ran out before the line of a file
   pub none_told : (file : SideFile) (fate : Fate) (known : Option (List ℕ))
-      → IsMadeOrKept state makes leaves file fate
-      → TellsFiles state makes leaves takes_away (file ∷ []) known known (Err NoMemory)
+      → IsMadeOrKept state made file fate
+      → TellsFiles state made (file ∷ []) known known (Err NoMemory)
   none_told file fate known became =
       part_told file known known NoMemory [] (inr (fate, became, inl (refl, refl))) (Appends-nil known)
 
   -- the files of the first of some entries, one more, and all
   module _ {A : Type 0} (file : A → SideFile) (taken : List A) where
     pub files_more : (entry : A) (before mid now : Option (List ℕ)) (result : Result (Unit {0}) VtlFault)
-        → TellsFiles state makes leaves takes_away (map file taken) before mid (Ok tt)
-        → TellsFiles state makes leaves takes_away (file entry ∷ []) mid now result
-        → TellsFiles state makes leaves takes_away (map file (taken ++ entry ∷ [])) before now result
+        → TellsFiles state made (map file taken) before mid (Ok tt)
+        → TellsFiles state made (file entry ∷ []) mid now result
+        → TellsFiles state made (map file (taken ++ entry ∷ [])) before now result
     files_more entry before mid now result told more =
         rw (map-append file taken (entry ∷ []))
         (files_on (map file taken) (file entry ∷ []) before mid now result told more)
 
     pub files_first : (entries behind : List A) (before now : Option (List ℕ)) (fault : VtlFault)
         → entries ≡ taken ++ behind
-        → TellsFiles state makes leaves takes_away (map file taken) before now (Err fault)
-        → TellsFiles state makes leaves takes_away (map file entries) before now (Err fault)
+        → TellsFiles state made (map file taken) before now (Err fault)
+        → TellsFiles state made (map file entries) before now (Err fault)
     files_first entries behind before now fault are told =
         rw (are, map-append file taken behind) (files_of (map file taken) (map file behind) before now fault told)

@@ -4,6 +4,7 @@ mod CreatingLemmas
 mod DistinctLemmas
 pub mod OneTextLemmas
 mod OrdersLemmas
+mod ReclaimLemmas
 mod RunningLemmas
 pub mod SideTextLemmas
 mod SidesLemmas

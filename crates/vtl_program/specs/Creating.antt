@@ -6,8 +6,10 @@ use Rattle.tape_disk.specs.Disk.{DiskState, Each}
 use Rattle.file_disk.specs.declared.error.FileError.{FileError}
 use Rattle.file_disk.specs.declared.error.FileError.TheVariants.{Exists}
 use Rattle.gate_journal.specs.Answers.{NoneFailed}
-use Rattle.gate_journal.specs.Side.{CLOSED, spell}
-use Rattle.cartridge.specs.Contents.{GivesContents, contents_from, heading_with}
+use Rattle.tape_disk.specs.TwoDisks.{EachOfTwo, TwoDisks}
+use Rattle.gate_journal.specs.Side.{CLOSED, Heading, plain, spell}
+use Rattle.side_pairs.specs.declared.which.Which.TheVariants.{First}
+use Rattle.cartridge.specs.Contents.{Contents, GivesContents, contents_from, heading_with, plain_head}
 use Rattle.aptpl_store.specs.Contents.{GivesStates, heading_for}
 use Rattle.vtl_script.specs.Text.{AppendsPart}
 use Rattle.vtl_config.specs.declared.entries.CartridgeEntry.{CartridgeEntry}
@@ -32,29 +34,36 @@ abbrev pub label_of : SideFile → List ℕ
 label_of (CartridgeFile entry) = entry.barcode
 label_of (StoreFile entry) = codes "DRIVE" ++ decimal entry.number
 
--- the name of a file, as the configuration says it (own)
+-- the name of a file, of a cartridge that of its first one, as the configuration says it (own)
 abbrev pub path_of : SideFile → List ℕ
 path_of (CartridgeFile entry) = entry.file
 path_of (StoreFile entry) = entry.reservations
 
--- an image is a new side of this file: a cartridge of its barcode and its capacities with no object, or the store of
--- its drive, where nothing was saved (own)
-abbrev pub IsNewSide : SideFile → List ℕ → Type 0
-IsNewSide (CartridgeFile entry) image =
-    GivesContents (contents_from (heading_with entry.barcode entry.capacities) []) image
-IsNewSide (StoreFile entry) image = GivesStates (heading_for entry.number) [] image
+-- the bytes of a new side with this heading: the heading, a closed gate, and nothing behind (own)
+abbrev pub new_bytes : Heading → List ℕ
+new_bytes heading = spell (plain heading) [] ++ CLOSED ∷ []
 
--- the bytes of a new side of this file: its heading, a closed gate, and nothing behind (own)
-abbrev pub new_bytes : SideFile → List ℕ
-new_bytes (CartridgeFile entry) = spell (heading_with entry.barcode entry.capacities) [] ++ CLOSED ∷ []
-new_bytes (StoreFile entry) = spell (heading_for entry.number) [] ++ CLOSED ∷ []
+-- what a new cartridge of an entry holds: its first side counts, with its barcode and its capacities, and has no object
+-- (own)
+abbrev pub new_contents : CartridgeEntry → Contents
+new_contents entry = contents_from First (plain_head (heading_with entry.barcode entry.capacities)) []
 
--- a disk was made a new side of this file: no call of it failed, it has just its bytes, and whatever crash comes it has
--- a new side (own)
-pub record HasNewSide (file : SideFile) (old new : DiskState) : Type 0 where
+-- a disk was made the store of an entry's drive, where nothing was saved: no call of it failed, it has just its bytes,
+-- and whatever crash comes it has this store (own)
+pub record HasNewStore (entry : DriveEntry) (old new : DiskState) : Type 0 where
   pub none_failed : NoneFailed old new
-  pub bytes : old.honest → new.seen ≡ new_bytes file
-  pub sure : old.honest → Each new (IsNewSide file)
+  pub bytes : old.honest → new.seen ≡ new_bytes (heading_for entry.number)
+  pub sure : old.honest → Each new (GivesStates (heading_for entry.number) [])
+
+-- two disks were made a new cartridge of an entry: no call of the first one failed, and it has just its bytes; the
+-- second one was not touched; and whatever crash comes they give this cartridge (own)
+pub record HasNewPair {D : Type 0} (state : D → DiskState) (entry : CartridgeEntry) (old new : TwoDisks D) :
+    Type 0 where
+  pub rests : new.second ≡ old.second
+  pub none_failed : NoneFailed (state old.first) (state new.first)
+  pub bytes : (state old.first).honest
+      → (state new.first).seen ≡ new_bytes (heading_with entry.barcode entry.capacities)
+  pub sure : (state old.first).honest → EachOfTwo state new (GivesContents (new_contents entry))
 
 -- the word for what became of a file (own)
 abbrev pub fate_word : Fate → List ℕ
@@ -81,53 +90,104 @@ IsNewFile makes name (Ok None) = makes name (Err Exists)
 IsNewFile makes name (Err fault) =
     (fault ≡ Faults.Device) × ((error : FileError) × (error ≢ Exists) × makes name (Err error))
 
-module _ {D : Type 0} (state : D → DiskState) (makes : List ℕ → Result D FileError → Type 0) where
-  -- what became of a file: it was made, and the disk that was handed back was made a new side; or there is one of its
-  -- name (own)
-  abbrev pub IsMadeOrKept : (List ℕ → D → Type 0) → SideFile → Fate → Type 0
-  IsMadeOrKept leaves file Created =
-      (disk : D) × makes (path_of file) (Ok disk)
-      × ((last : D) × leaves (path_of file) last × HasNewSide file (state disk) (state last))
-  IsMadeOrKept leaves file Kept = makes (path_of file) (Err Exists)
+-- The answers that the calls of a creation may have, by the names of files, and the disks that are handed back (own).
+pub record MakeAnswers (D : Type 0) : Type 1 where
+  -- a missing file is made, and its disk is handed back, with the file or to have it taken away
+  pub makes : List ℕ → Result D FileError → Type 0
+  pub leaves : List ℕ → D → Type 0
+  pub takes_away : List ℕ → D → Type 0
+  -- a second file is opened, or made with no bytes where it is missing, and its disk is handed back
+  pub opens_second : List ℕ → Result D FileError → Type 0
+  pub closes_second : List ℕ → D → Type 0
 
-  -- why a missing file was not made: the system refused it; or a call of its disk failed, or memory ran out and none
-  -- did, and the file of the disk that was handed back is taken away (own)
-  abbrev pub IsNotMade : (List ℕ → D → Type 0) → SideFile → VtlFault → Type 0
-  IsNotMade takes_away file Faults.Device =
-      ((error : FileError) × (error ≢ Exists) × makes (path_of file) (Err error))
-      ⊎ ((disk : D) × makes (path_of file) (Ok disk)
-      × ((last : D) × takes_away (path_of file) last × ((state disk).failures < (state last).failures)))
-  IsNotMade takes_away file Faults.NoMemory =
-      (disk : D) × makes (path_of file) (Ok disk)
-      × ((last : D) × takes_away (path_of file) last × ((state last).failures ≡ (state disk).failures))
-  IsNotMade takes_away file Faults.Words = ⊥
-  IsNotMade takes_away file Faults.Config = ⊥
-  IsNotMade takes_away file (Faults.Script line) = ⊥
+-- the answers of these calls (own)
+abbrev pub makes_of : {D : Type 0} → (List ℕ → Result D FileError → Type 0) → (leaves takes_away : List ℕ → D → Type 0)
+    → (opens_second : List ℕ → Result D FileError → Type 0) → (closes_second : List ℕ → D → Type 0) → MakeAnswers D
+makes_of makes leaves takes_away opens_second closes_second = record {
+  makes = makes;
+  leaves = leaves;
+  takes_away = takes_away;
+  opens_second = opens_second;
+  closes_second = closes_second;
+}
 
-module _ {D : Type 0} (state : D → DiskState) (makes : List ℕ → Result D FileError → Type 0)
-    (leaves takes_away : List ℕ → D → Type 0) where
+module _ {D : Type 0} (state : D → DiskState) (files : MakeAnswers D) where
+  -- a cartridge was made: its first file, and on it and the second one a new cartridge; both disks were handed back
+  -- (own)
+  abbrev pub IsMadePair : CartridgeEntry → Type 0
+  IsMadePair entry =
+      (first second : D) × files.makes entry.file (Ok first) × files.opens_second entry.second_file (Ok second)
+      × ((last : TwoDisks D) × files.leaves entry.file last.first × files.closes_second entry.second_file last.second
+      × HasNewPair state entry (record { first = first; second = second }) last)
+
+  -- what became of a file: it was made, and what was handed back is a new side; or there is one of its name (own)
+  abbrev pub IsMadeOrKept : SideFile → Fate → Type 0
+  IsMadeOrKept (CartridgeFile entry) Created = IsMadePair entry
+  IsMadeOrKept (StoreFile entry) Created =
+      (disk : D) × files.makes entry.reservations (Ok disk)
+      × ((last : D) × files.leaves entry.reservations last × HasNewStore entry (state disk) (state last))
+  IsMadeOrKept file Kept = files.makes (path_of file) (Err Exists)
+
+  -- a missing file was not made, since the system refused it (own)
+  abbrev pub IsRefusedFile : List ℕ → Type 0
+  IsRefusedFile name = (error : FileError) × (error ≢ Exists) × files.makes name (Err error)
+
+  -- a new file was made, and its disk was handed back so, to have it taken away (own)
+  abbrev pub IsTakenAway : List ℕ → (D → D → Type 0) → Type 0
+  IsTakenAway name ends =
+      (disk : D) × files.makes name (Ok disk) × ((last : D) × files.takes_away name last × ends disk last)
+
+  -- the second file was not opened, or it was, and its disk was handed back as it was opened (own)
+  abbrev pub IsSecondRefused : List ℕ → Type 0
+  IsSecondRefused name = (error : FileError) × files.opens_second name (Err error)
+
+  -- the second file was opened, and its disk was closed again (own)
+  abbrev pub IsSecondLeft : List ℕ → Type 0
+  IsSecondLeft name = (second : D) × files.opens_second name (Ok second) × files.closes_second name second
+
+  -- why a missing file was not made: the system refused it, or the second one; or a call of its disk failed, or memory
+  -- ran out and none did; and a file that was made is taken away (own)
+  abbrev pub IsNotMade : SideFile → VtlFault → Type 0
+  IsNotMade (CartridgeFile entry) Faults.Device =
+      IsRefusedFile entry.file
+      ⊎ ((IsTakenAway entry.file (λ disk last. last ≡ disk) × IsSecondRefused entry.second_file)
+      ⊎ (IsTakenAway entry.file (λ disk last. (state disk).failures < (state last).failures) × IsSecondLeft
+      entry.second_file))
+  IsNotMade (StoreFile entry) Faults.Device =
+      IsRefusedFile entry.reservations
+      ⊎ IsTakenAway entry.reservations (λ disk last. (state disk).failures < (state last).failures)
+  IsNotMade (CartridgeFile entry) Faults.NoMemory =
+      IsTakenAway entry.file (λ disk last. (state last).failures ≡ (state disk).failures) × IsSecondLeft
+      entry.second_file
+  IsNotMade (StoreFile entry) Faults.NoMemory =
+      IsTakenAway entry.reservations (λ disk last. (state last).failures ≡ (state disk).failures)
+  IsNotMade file Faults.Words = ⊥
+  IsNotMade file Faults.Config = ⊥
+  IsNotMade file (Faults.Script line) = ⊥
+
+module _ {D : Type 0} (state : D → DiskState) (files : MakeAnswers D) where
   -- a fault came at a file, with this much of its line written: it was not made; or memory ran out before its line; or
   -- the writer failed in it (own)
   abbrev pub FailsAt : SideFile → VtlFault → List ℕ → Type 0
   FailsAt file fault part =
-      (IsNotMade state makes takes_away file fault × (part ≡ []))
-      ⊎ ((fate : Fate) × IsMadeOrKept state makes leaves file fate
+      (IsNotMade state files file fault × (part ≡ []))
+      ⊎ ((fate : Fate) × IsMadeOrKept state files file fate
       × (((fault ≡ Faults.NoMemory) × (part ≡ []))
       ⊎ ((fault ≡ Faults.Device) × StartsWith (fate_line (label_of file) fate) part)))
 
   -- the text has a line for each of these files, in order: what became of it (own)
   abbrev pub TellsAll : List SideFile → List ℕ → Type 0
   TellsAll [] text = text ≡ []
-  TellsAll (file ∷ files) text =
-      (fate : Fate) × IsMadeOrKept state makes leaves file fate
-      × ((rest : List ℕ) × (text ≡ fate_line (label_of file) fate ++ rest) × TellsAll files rest)
+  TellsAll (file ∷ behind) text =
+      (fate : Fate) × IsMadeOrKept state files file fate
+      × ((rest : List ℕ) × (text ≡ fate_line (label_of file) fate ++ rest) × TellsAll behind rest)
 
   -- the text has a line for each of the first of these files, in order, and at the next one this fault came (own)
-  pub record TellsSome (files : List SideFile) (fault : VtlFault) (text : List ℕ) : Type 0 where
+  pub record TellsSome (all : List SideFile) (fault : VtlFault) (text : List ℕ) : Type 0 where
     pub before : List SideFile
     pub file : SideFile
     pub behind : List SideFile
-    pub are : files ≡ before ++ file ∷ behind
+    pub are : all ≡ before ++ file ∷ behind
     pub lines : List ℕ
     pub told : TellsAll before lines
     pub part : List ℕ
@@ -136,5 +196,5 @@ module _ {D : Type 0} (state : D → DiskState) (makes : List ℕ → Result D F
 
   -- what is made and told of these files: of all, or up to the one at which a fault came (own)
   abbrev pub TellsFiles : List SideFile → Option (List ℕ) → Option (List ℕ) → Result (Unit {0}) VtlFault → Type 0
-  TellsFiles files before now (Ok done) = (text : List ℕ) × TellsAll files text × Appends before now text
-  TellsFiles files before now (Err fault) = (text : List ℕ) × TellsSome files fault text × Appends before now text
+  TellsFiles all before now (Ok done) = (text : List ℕ) × TellsAll all text × Appends before now text
+  TellsFiles all before now (Err fault) = (text : List ℕ) × TellsSome all fault text × Appends before now text

@@ -21,12 +21,15 @@ pub record FileAnswers (D : Type 0) : Type 1 where
   -- a file is opened to be read, and its disk is handed back
   pub opens_to_read : List ℕ → Result D FileError → Type 0
   pub closes : List ℕ → D → Type 0
-  -- a file is opened to be changed, and its disk is handed back: alone, where no side is found on it; in a library; or
-  -- in one whose drives were not all switched on
+  -- a file is opened to be changed, and its disk is handed back: alone; in a library; or in one whose drives were not
+  -- all switched on
   pub opens : List ℕ → Result D FileError → Type 0
   pub hands_back : List ℕ → D → Type 0
   pub closes_all : HeldState D → Type 0
   pub gives_up : NotStartedState D → Type 0
+  -- the second file of a cartridge is opened, or made with no bytes where it is missing, and its disk is handed back
+  pub opens_second : List ℕ → Result D FileError → Type 0
+  pub closes_second : List ℕ → D → Type 0
   -- a missing file is made, and its disk is handed back, with the file or to have it taken away
   pub makes : List ℕ → Result D FileError → Type 0
   pub leaves : List ℕ → D → Type 0
@@ -37,20 +40,24 @@ abbrev pub answers_of : {D : Type 0} → (List ℕ → Result (Vec ℕ Global) E
     → (opens_to_read : List ℕ → Result D FileError → Type 0) → (closes : List ℕ → D → Type 0)
     → (opens : List ℕ → Result D FileError → Type 0) → (hands_back : List ℕ → D → Type 0)
     → (closes_all : HeldState D → Type 0) → (gives_up : NotStartedState D → Type 0)
+    → (opens_second : List ℕ → Result D FileError → Type 0) → (closes_second : List ℕ → D → Type 0)
     → (makes : List ℕ → Result D FileError → Type 0) → (leaves takes_away : List ℕ → D → Type 0)
     → FileAnswers D
-answers_of reads opens_to_read closes opens hands_back closes_all gives_up makes leaves takes_away = record {
-  reads = reads;
-  opens_to_read = opens_to_read;
-  closes = closes;
-  opens = opens;
-  hands_back = hands_back;
-  closes_all = closes_all;
-  gives_up = gives_up;
-  makes = makes;
-  leaves = leaves;
-  takes_away = takes_away;
-}
+answers_of reads opens_to_read closes opens hands_back closes_all gives_up opens_second closes_second makes leaves
+    takes_away = record {
+      reads = reads;
+      opens_to_read = opens_to_read;
+      closes = closes;
+      opens = opens;
+      hands_back = hands_back;
+      closes_all = closes_all;
+      gives_up = gives_up;
+      opens_second = opens_second;
+      closes_second = closes_second;
+      makes = makes;
+      leaves = leaves;
+      takes_away = takes_away;
+    }
 
 -- the configuration that the file of a name says; or there is none, since the file is not read, its text is refused, or
 -- memory runs out (own)

@@ -5,9 +5,11 @@ pub mod Faults
 pub mod Files
 pub mod Fresh
 pub mod Inner
+pub mod Opened
 pub mod Orders
 pub mod Pace
 pub mod Program
+pub mod Reclaims
 pub mod SideText
 pub mod Sides
 pub mod Starting

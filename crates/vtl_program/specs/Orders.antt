@@ -8,7 +8,7 @@ use Rattle.file_disk.specs.declared.error.FileError.{FileError}
 use Rattle.bays.specs.Elements.{HeldState}
 use Rattle.vtl_script.specs.Text.{AppendsPart}
 use Rattle.vtl_config.specs.declared.entries.Config.{Config}
-use Rattle.vtl_words.specs.Orders.{Asked, Asks, RefusesWords, check, create, run, texts_of}
+use Rattle.vtl_words.specs.Orders.{Asked, Asks, RefusesWords, check, create, reclaim, run, texts_of}
 use Rattle.vtl_words.specs.declared.orders.WordsError.{WordsError}
 use Rattle.vtl_words.specs.declared.orders.WordsError.TheVariants.{Help, Refused, NoMemory}
 use Rattle.vtl_program.specs.declared.programs.Ended.{Ended}
@@ -16,11 +16,12 @@ use Rattle.vtl_program.specs.declared.programs.Verdict.{Verdict}
 use Rattle.vtl_program.specs.declared.programs.Verdict.TheVariants.{Done}
 use Rattle.vtl_program.specs.declared.programs.VtlFault.{VtlFault}
 use Rattle.vtl_program.specs.declared.programs.VtlFault.TheVariants as Faults
-use Rattle.vtl_program.specs.Checks.{LooksAt, TellsLines}
-use Rattle.vtl_program.specs.Creating.{TellsFiles, files_of}
+use Rattle.vtl_program.specs.Checks.{ChecksOrder}
+use Rattle.vtl_program.specs.Creating.{MakeAnswers, TellsFiles, files_of, makes_of}
 use Rattle.vtl_program.specs.Faults.{IsFailure}
 use Rattle.vtl_program.specs.Files.{FileAnswers, ReadsConfig}
 use Rattle.vtl_program.specs.Program.{EndsProgram, IsIdle, RunsFrom}
+use Rattle.vtl_program.specs.Reclaims.{ReclaimsNamed}
 use Rattle.vtl_program.specs.Sides.{SidesGiven, file_sides, memory_state, new_sides, takes_any}
 use Rattle.vtl_program.specs.Starting.{IsBuiltIn, IsNotStarted, IsStarted}
 use Rattle.vtl_program.specs.Unfinished.{NotStartedState}
@@ -86,33 +87,28 @@ module _ {D : Type 0} (state : D → DiskState) where
         (config : Result Config VtlFault) × ReadsConfig reads name config
         × RunsNamed state sides closes_all gives_up config left left' before now outcome
 
-  module _ (makes : List ℕ → Result D FileError → Type 0) (leaves takes_away : List ℕ → D → Type 0) where
+  module _ (made : MakeAnswers D) where
     -- the missing files of a configuration are made, and each is told of; where there is no configuration, nothing is
     -- written (own)
     abbrev pub CreatesNamed :
         Result Config VtlFault → (before now : Option (List ℕ)) → Result (Unit {0}) VtlFault → Type 0
-    CreatesNamed (Ok config) before now outcome =
-        TellsFiles state makes leaves takes_away (files_of config) before now outcome
+    CreatesNamed (Ok config) before now outcome = TellsFiles state made (files_of config) before now outcome
     CreatesNamed (Err fault) before now outcome = (outcome ≡ Err fault) × Keeps before now
 
   -- what `vtl create` does, by the configuration that a file says (own)
-  abbrev pub CreatesOrder : (List ℕ → Result (Vec ℕ Global) Error → Type 0)
-      → (List ℕ → Result D FileError → Type 0) → (leaves takes_away : List ℕ → D → Type 0) → List ℕ
+  abbrev pub CreatesOrder : (List ℕ → Result (Vec ℕ Global) Error → Type 0) → MakeAnswers D → List ℕ
       → (before now : Option (List ℕ)) → Result (Unit {0}) VtlFault → Type 0
-  CreatesOrder reads makes leaves takes_away name before now outcome =
+  CreatesOrder reads made name before now outcome =
       (config : Result Config VtlFault) × ReadsConfig reads name config
-      × CreatesNamed makes leaves takes_away config before now outcome
+      × CreatesNamed made config before now outcome
 
-  -- what `vtl check` does: the disk of the file is looked at and handed back, and the side on it is told; or the file
-  -- is not opened, and nothing is written (own)
-  abbrev pub ChecksOrder : (List ℕ → Result D FileError → Type 0) → (List ℕ → D → Type 0) → List ℕ
-      → (before now : Option (List ℕ)) → Result Verdict VtlFault → Type 0
-  ChecksOrder opens_to_read closes name before now result =
-      (((error : FileError) × opens_to_read name (Err error)) × (result ≡ Err Faults.Device) × Keeps before now)
-      ⊎ ((disk : D) × opens_to_read name (Ok disk)
-      × ((last : D) × closes name last
-      × ((lines : Result (List ℕ) VtlFault) × LooksAt (state disk) (state last) lines
-      × TellsLines lines before now result)))
+  -- what `vtl reclaim` does, by the configuration that a file says (own)
+  abbrev pub ReclaimsOrder : (List ℕ → Result (Vec ℕ Global) Error → Type 0)
+      → (opens opens_second : List ℕ → Result D FileError → Type 0) → (hands_back closes_second : List ℕ → D → Type 0)
+      → (name barcode : List ℕ) → (before now : Option (List ℕ)) → Result Verdict VtlFault → Type 0
+  ReclaimsOrder reads opens opens_second hands_back closes_second name barcode before now result =
+      (config : Result Config VtlFault) × ReadsConfig reads name config
+      × ReclaimsNamed state opens opens_second hands_back closes_second barcode config before now result
 
 -- it is done, or a fault came (own)
 abbrev pub verdict_from : Result (Unit {0}) VtlFault → Result Verdict VtlFault
@@ -124,15 +120,22 @@ module _ {D : Type 0} (state : D → DiskState) (files : FileAnswers D) where
   abbrev pub DoesOrder : Asked → (left left' before now : Option (List ℕ)) → Result Verdict VtlFault → Type 0
   DoesOrder (run memory config) left left' before now result =
       (outcome : Result (Unit {0}) VtlFault)
-      × RunsOrder state files.reads (file_sides state files.opens files.hands_back) files.closes_all files.gives_up
+      × RunsOrder state files.reads (file_sides state files.opens files.opens_second files.hands_back)
+      files.closes_all files.gives_up
       memory config left left' before now outcome
       × (result ≡ verdict_from outcome)
   DoesOrder (create config) left left' before now result =
       (outcome : Result (Unit {0}) VtlFault)
-      × CreatesOrder state files.reads files.makes files.leaves files.takes_away config before now outcome
+      × CreatesOrder state files.reads
+      (makes_of files.makes files.leaves files.takes_away files.opens_second files.closes_second) config before now
+      outcome
       × (result ≡ verdict_from outcome) × Keeps left left'
   DoesOrder (check file) left left' before now result =
       ChecksOrder state files.opens_to_read files.closes file before now result × Keeps left left'
+  DoesOrder (reclaim config barcode) left left' before now result =
+      ReclaimsOrder state files.reads files.opens files.opens_second files.hands_back files.closes_second config barcode
+      before now result
+      × Keeps left left'
 
 -- what is done where words give no order: help is written; or a fault is answered, and nothing is written (own)
 abbrev pub AnswersWords : WordsError → Option (List ℕ) → Option (List ℕ) → Result Verdict VtlFault → Type 0

@@ -67,7 +67,8 @@ RunsFrom {D} state closes_all (Ok old) left left' before now outcome =
 RunsFrom state closes_all (Err fault) left left' before now outcome =
     (outcome ≡ Err fault) × IsIdle left left' before now
 
--- the status where nothing failed: 0, or 1 where the file that was checked is refused (own)
+-- the status where nothing failed: 0, or 1 where the file that was checked is refused, or a cartridge is not reclaimed
+-- (own)
 abbrev pub verdict_status : Verdict → ℕ
 verdict_status Done = 0
 verdict_status Refused = 1

@@ -4,17 +4,20 @@ use Rattle.std.specs.List.{All, range_with_len}
 use Rattle.vtl_base.specs.Barcode.{IsBarcode}
 use Rattle.volume_core.specs.Volume.{Part, objects_of, used_of}
 use Rattle.tape_disk.specs.Disk.{DiskState, Only}
+use Rattle.tape_disk.specs.TwoDisks.{AreHonest, Images, TwoDisks, failures_of}
 use Rattle.gate_journal.specs.Answers.{NoneFailed}
-use Rattle.gate_journal.specs.Side.{Heading, IsDamagedAt, IsNotOurs, padded}
+use Rattle.gate_journal.specs.declared.header.SideKind.TheVariants.{Store}
+use Rattle.gate_journal.specs.Side.{Heading, IsDamagedOf, padded}
 use Rattle.pr_core.specs.declared.states.PrState.{PrState}
 use Rattle.pr_core.specs.Sets.{nexuses}
 use Rattle.pr_core.specs.States.{is_registered, power_loss}
-use Rattle.cartridge.specs.Contents.{Contents, GivesContents, IsBadFrameAt, volume_made}
-use Rattle.aptpl_store.specs.Contents.{GivesStates, IsBadStateAt, latest}
+use Rattle.cartridge.specs.Contents.{Contents, GivesContents, IsBadFrameAt, IsDamagedPairAt, IsNoCartridge, volume_made}
+use Rattle.cartridge.specs.Disks.{NoneOfTwo, OnlyOfTwo}
+use Rattle.aptpl_store.specs.Contents.{GivesStates, IsBadStateAt, IsNoStore, latest}
 use Rattle.vtl_program.specs.declared.programs.VtlFault.{VtlFault}
 use Rattle.vtl_program.specs.declared.programs.VtlFault.TheVariants.{Words, Config, Script, Device, NoMemory}
 
--- the line of a cartridge: its barcode, how many partitions and frames its side has (own)
+-- the line of a cartridge: its barcode, how many partitions and frames the side of it that counts has (own)
 abbrev pub cartridge_line : List ℕ → ℕ → ℕ → List ℕ
 cartridge_line barcode partitions frames =
     codes "cartridge " ++ barcode ++ codes " partitions " ++ decimal partitions ++ codes " frames " ++ decimal frames
@@ -30,11 +33,11 @@ partition_line volume number =
 abbrev pub partition_lines : List Part → List ℕ
 partition_lines volume = flat_map (partition_line volume) (range_with_len 0 (length volume))
 
--- the lines of a side that gives a cartridge's contents: that of the cartridge, and of each partition (own)
+-- the lines of a pair that gives a cartridge's contents: that of the cartridge, and of each partition (own)
 pub record TellsContents (contents : Contents) (text : List ℕ) : Type 0 where
   pub barcode : List ℕ
   pub is_barcode : IsBarcode barcode
-  pub named : contents.heading.name ≡ padded barcode
+  pub named : contents.head.heading.name ≡ padded barcode
   pub lines :
       text ≡ cartridge_line barcode (length (volume_made contents)) (length contents.frames)
       ++ partition_lines (volume_made contents)
@@ -57,7 +60,7 @@ pub record TellsStates (heading : Heading) (states : List PrState) (text : List 
   pub named : heading.name ≡ padded name
   pub line : text ≡ store_line name (length states) (registrations_in (power_loss (latest states)))
 
--- the line of an image that is no side: it begins with no header, of a cartridge or of a store (own)
+-- the line of a pair that is no side: as a cartridge none of it counts, and the first image is no store (own)
 abbrev pub not_a_side_line : List ℕ
 not_a_side_line = codes "not a side" ++ 10 ∷ []
 
@@ -70,23 +73,34 @@ damaged_line at = codes "damaged at " ++ decimal at ++ 10 ∷ []
 abbrev pub bad_record_line : ℕ → List ℕ
 bad_record_line at = codes "bad record at " ++ decimal at ++ 10 ∷ []
 
--- What `vtl check` prints of the side on an image: the lines of the cartridge whose contents it gives; that of the
--- store whose states it gives; or one line: that it is no side, the gate of its first frame that is not whole, or that
--- of its first frame that spells no changes that apply, on a store's side no state (own).
-abbrev pub SideText : List ℕ → List ℕ → Type 0
-SideText image text =
-    ((contents : Contents) × GivesContents contents image × TellsContents contents text)
-    ⊎ (((heading : Heading) × (states : List PrState) × GivesStates heading states image
+-- What `vtl check` prints of the images of two files: the lines of the cartridge whose contents they give; that of the
+-- store whose states the first one gives, whatever the second one is; or one line: that they are no side; the gate of
+-- the first frame that is not whole, of the side that counts or of the store; or the gate of the first frame that
+-- spells no changes that apply, on a store's side no state (own).
+abbrev pub SideText : Images → List ℕ → Type 0
+SideText images text =
+    ((contents : Contents) × GivesContents contents images × TellsContents contents text)
+    ⊎ (((heading : Heading) × (states : List PrState) × GivesStates heading states images.0
     × TellsStates heading states text)
-    ⊎ ((IsNotOurs image × (text ≡ not_a_side_line))
-    ⊎ (((at : ℕ) × IsDamagedAt image at × (text ≡ damaged_line at))
-    ⊎ ((at : ℕ) × (IsBadFrameAt image at ⊎ IsBadStateAt image at) × (text ≡ bad_record_line at)))))
+    ⊎ ((IsNoCartridge images × IsNoStore images.0 × (text ≡ not_a_side_line))
+    ⊎ (((at : ℕ) × (IsDamagedPairAt images at ⊎ IsDamagedOf Store images.0 at) × (text ≡ damaged_line at))
+    ⊎ ((at : ℕ) × (IsBadFrameAt images at ⊎ IsBadStateAt images.0 at) × (text ≡ bad_record_line at)))))
 
--- why the lines of a side are not told: a call of the disk failed; or memory ran out, and none did, and what stands on
+-- why the line of a store is not told: a call of its disk failed; or memory ran out, and none did, and what stands on
 -- the disk is sure (own)
-abbrev pub IsNotTold : VtlFault → DiskState → DiskState → Type 0
-IsNotTold Device old new = old.failures < new.failures
-IsNotTold NoMemory old new = NoneFailed old new × (old.honest → Only old.seen new.may_leave)
-IsNotTold Words old new = ⊥
-IsNotTold Config old new = ⊥
-IsNotTold (Script line) old new = ⊥
+abbrev pub IsStoreNotTold : VtlFault → DiskState → DiskState → Type 0
+IsStoreNotTold Device old new = old.failures < new.failures
+IsStoreNotTold NoMemory old new = NoneFailed old new × (old.honest → Only old.seen new.may_leave)
+IsStoreNotTold Words old new = ⊥
+IsStoreNotTold Config old new = ⊥
+IsStoreNotTold (Script line) old new = ⊥
+
+module _ {D : Type 0} (state : D → DiskState) where
+  -- why the lines of two disks are not told: a call of one of them failed; or memory ran out, and none did, and what
+  -- stands on them is sure (own)
+  abbrev pub IsNotTold : VtlFault → TwoDisks D → TwoDisks D → Type 0
+  IsNotTold Device old new = failures_of state old < failures_of state new
+  IsNotTold NoMemory old new = NoneOfTwo state old new × (AreHonest state old → OnlyOfTwo state old new)
+  IsNotTold Words old new = ⊥
+  IsNotTold Config old new = ⊥
+  IsNotTold (Script line) old new = ⊥

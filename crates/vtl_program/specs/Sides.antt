@@ -7,7 +7,8 @@ use Rattle.tape_disk.specs.MemDisk.{mem_failures, mem_log}
 use Rattle.tape_disk.specs.declared.memory.MemDisk.{MemDisk}
 use Rattle.file_disk.specs.declared.error.FileError.{FileError}
 use Rattle.gate_journal.specs.Answers.{NoneFailed}
-use Rattle.cartridge.specs.Contents.{contents_from, heading_with}
+use Rattle.side_pairs.specs.declared.which.Which.TheVariants.{First}
+use Rattle.cartridge.specs.Contents.{contents_from, heading_with, plain_head}
 use Rattle.cartridge.specs.State.{ClosedCartridge}
 use Rattle.tape_buffer.specs.State.{BufferState, closed_buffer}
 use Rattle.aptpl_store.specs.Answers.{IsStoreNotOpened}
@@ -17,6 +18,7 @@ use Rattle.aptpl_store.specs.declared.error.StoreError.{StoreError}
 use Rattle.vtl_config.specs.declared.entries.CartridgeEntry.{CartridgeEntry}
 use Rattle.vtl_config.specs.declared.entries.DriveEntry.{DriveEntry}
 use Rattle.vtl_program.specs.Faults.{fault_of_store}
+use Rattle.vtl_program.specs.Opened.{AreNotOpened}
 use Rattle.vtl_program.specs.declared.programs.VtlFault.{VtlFault}
 use Rattle.vtl_program.specs.declared.programs.VtlFault.TheVariants.{Device, NoMemory}
 
@@ -34,15 +36,15 @@ module _ {D : Type 0} where
     pub closed : cartridge ≡ closed_buffer shelved
     pub known : shelved.known ≡ true
     pub torn : shelved.torn ≡ []
-    pub contents : shelved.contents ≡ contents_from (heading_with barcode capacities) []
+    pub contents : shelved.contents ≡ contents_from First (plain_head (heading_with barcode capacities)) []
 
-  -- a closed cartridge over this disk, as the disk was opened: no call of it was made since, and nothing is known of
-  -- what it gives (own)
-  pub record IsUnreadOver (disk : D) (cartridge : BufferState D) : Type 0 where
+  -- a closed cartridge over these two disks, as they were opened: no call of them was made since, and nothing is known
+  -- of what they give (own)
+  pub record IsUnreadOver (first second : D) (cartridge : BufferState D) : Type 0 where
     pub shelved : ClosedCartridge D
     pub closed : cartridge ≡ closed_buffer shelved
     pub unread : shelved.known ≡ false
-    pub same : shelved.disk ≡ disk
+    pub same : shelved.disks ≡ record { first = first; second = second }
 
   -- a store of a drive that works, with no save under way (own)
   abbrev pub IsFoundStore : OpenStore D → Type 0
@@ -77,17 +79,18 @@ module _ {D : Type 0} where
           → (state last).seen ≡ (state disk).seen
       pub any_moment : (state disk).honest → LeavesOnly (state disk) (state last) (state disk).may_leave
 
-    module _ (opens : List ℕ → Result D FileError → Type 0) (hands_back : List ℕ → D → Type 0) where
+    module _ (opens opens_second : List ℕ → Result D FileError → Type 0) (hands_back : List ℕ → D → Type 0) where
       -- the sides that files hold, by what an opening of a file may answer and which disks may be handed back: a
-      -- cartridge over the disk that the opening of its entry's file gave, as it was opened, or a store that was found
-      -- on such a disk; or the file was not opened, or the disk gives no store, and it was handed back for this file
-      -- (own)
+      -- cartridge over the disks that the openings of its entry's two files gave, as they were opened, or a store that
+      -- was found on such a disk; or a file was not opened, or the disk gives no store, and it was handed back for this
+      -- file (own)
       abbrev pub file_sides : SidesGiven D
       file_sides = record {
         gives_cartridge = λ entry cartridge.
-            (disk : D) × opens entry.file (Ok disk) × IsUnreadOver disk cartridge;
+            (first second : D) × opens entry.file (Ok first) × opens_second entry.second_file (Ok second)
+            × IsUnreadOver first second cartridge;
         refuses_cartridge = λ entry fault.
-            (fault ≡ Device) × ((error : FileError) × opens entry.file (Err error));
+            AreNotOpened opens opens_second hands_back entry.file entry.second_file fault;
         gives_store = λ entry store.
             (disk : D) × opens entry.reservations (Ok disk) × IsStoreOn disk store;
         refuses_store = λ entry fault.

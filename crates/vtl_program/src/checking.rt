@@ -1,15 +1,19 @@
 //! What a side holds, told by its lines.
 ghost use Rattle.std.specs.Prelude.{◌≡◌, ◌≢◌, ◌<◌, ◌++◌, ◌==◌, ℕ, List, IfOk, IfErr, IfSome, MatchResult, OnOk, Ok, filter, is_some, length, position, string_bytes};
 ghost use Rattle.std.specs.List.{All};
-ghost use Rattle.tape_disk.specs.Disk.{Keeps, Only};
-ghost use Rattle.tape_disk.specs.Moments.{LeavesOnly};
-ghost use Rattle.gate_journal.specs.Answers.{NoneFailed};
 ghost use Rattle.gate_journal.specs.declared.header.SideKind.TheVariants as Kinds;
 ghost use Rattle.gate_journal.specs.Side.{IsName, padded};
-ghost use Rattle.cartridge.specs.Contents.{IsNoCartridge, volume_made};
+ghost use Rattle.cartridge.specs.Contents.{volume_made};
 ghost use Rattle.pr_core.specs.States.{power_loss};
 ghost use Rattle.aptpl_store.specs.Contents.{latest};
-ghost use Rattle.vtl_program.specs.SideText.{IsNotTold, SideText, TellsContents, TellsStates, bad_record_line, cartridge_line, damaged_line, partition_lines, registrations_in, store_line};
+ghost use Rattle.tape_disk.specs.Disk.{Keeps, Only};
+ghost use Rattle.tape_disk.specs.Moments.{LeavesOnly};
+ghost use Rattle.tape_disk.specs.TwoDisks.{AreHonest, KeepsDisks, MayLeave, TwoLeave, seen_of_two};
+ghost use Rattle.gate_journal.specs.Answers.{NoneFailed};
+ghost use Rattle.cartridge.specs.Contents.{IsNoCartridge};
+ghost use Rattle.cartridge.specs.Disks.{NoneOfTwo, OnlyOfTwo};
+ghost use Rattle.vtl_program.specs.Checks.{both, disks_checked};
+ghost use Rattle.vtl_program.specs.SideText.{IsNotTold, IsStoreNotTold, SideText, TellsContents, TellsStates, bad_record_line, cartridge_line, damaged_line, partition_lines, registrations_in, store_line};
 
 use crate::programs::VtlFault;
 use aptpl_store::{AptplStore, StoreError, StoreRefused};
@@ -19,13 +23,15 @@ use std::alloc::{AllocError, Global};
 use tape_disk::Disk;
 use vtl_base::{Bytes, NoMemory};
 
-/// The lines that tell of a side, and the disk on which it stands.
+/// The lines that tell of two disks, and the disks.
 #[derive(Drop)]
 pub struct Checked<D> {
     /// The lines, each with its line feed, or why they are not told: `Device` or `NoMemory`.
     pub lines: Result<Bytes, VtlFault>,
-    /// The disk that was handed in.
-    pub disk: D,
+    /// The first disk that was handed in.
+    pub first: D,
+    /// The second one.
+    pub second: D,
 }
 
 // Where the first space of a name stands.
@@ -85,7 +91,7 @@ fn add_partitions<D: Disk>(
 
 // The lines of an open cartridge.
 fn contents_text<D: Disk>(alloc: Global, cartridge: &Cartridge<D>) -> Result<Bytes, NoMemory>
-    ensures { IfOk result (λ text. IsName Kinds.Cartridge cartridge.now.contents.heading.name
+    ensures { IfOk result (λ text. IsName Kinds.Cartridge cartridge.now.contents.head.heading.name
         → TellsContents cartridge.now.contents text) }
 {
     let mut text = Vec::new(alloc);
@@ -150,7 +156,7 @@ fn states_text<D: Disk>(
 }
 
 // A text, where there was memory for it.
-fn told(text: Result<Bytes, NoMemory>) -> Result<Bytes, VtlFault>
+pub(crate) fn told(text: Result<Bytes, NoMemory>) -> Result<Bytes, VtlFault>
     ensures ok { IfOk result (λ lines. text ≡ Ok lines) }
     ensures err { IfErr result (λ fault. fault ≡ VtlFault.NoMemory) }
 {
@@ -158,7 +164,7 @@ fn told(text: Result<Bytes, NoMemory>) -> Result<Bytes, VtlFault>
 }
 
 // A line, where there was memory for it.
-fn line_text(line: Result<String, AllocError>) -> Result<Bytes, VtlFault>
+pub(crate) fn line_text(line: Result<String, AllocError>) -> Result<Bytes, VtlFault>
     ensures ok { IfOk result (λ text. MatchResult line (λ known. text ≡ string_bytes known) (λ e. ⊥)) }
     ensures err { IfErr result (λ fault. fault ≡ VtlFault.NoMemory) }
 {
@@ -169,7 +175,7 @@ fn line_text(line: Result<String, AllocError>) -> Result<Bytes, VtlFault>
 }
 
 // The line of a side with a frame that is not whole.
-fn damaged_text(alloc: Global, at: u64) -> Result<Bytes, VtlFault>
+pub(crate) fn damaged_text(alloc: Global, at: u64) -> Result<Bytes, VtlFault>
     ensures ok { IfOk result (λ text. text ≡ damaged_line at) }
     ensures err { IfErr result (λ fault. fault ≡ VtlFault.NoMemory) }
 {
@@ -177,30 +183,36 @@ fn damaged_text(alloc: Global, at: u64) -> Result<Bytes, VtlFault>
 }
 
 // The line of a side with a bad frame.
-fn bad_record_text(alloc: Global, at: u64) -> Result<Bytes, VtlFault>
+pub(crate) fn bad_record_text(alloc: Global, at: u64) -> Result<Bytes, VtlFault>
     ensures ok { IfOk result (λ text. text ≡ bad_record_line at) }
     ensures err { IfErr result (λ fault. fault ≡ VtlFault.NoMemory) }
 {
     line_text(format!(in alloc; "bad record at {at}\n"))
 }
 
-// The lines of a side that is no cartridge's: of a store, or why it gives no states.
-fn check_store<D: Disk>(alloc: Global, disk: D) -> Checked<D>
-    ensures disk { Keeps (D.state disk) (D.state result.disk) }
-    ensures ok { OnOk result.lines (NoneFailed (D.state disk) (D.state result.disk)) }
-    ensures text { IfOk result.lines (λ text. (D.state disk).honest →
-        IsNoCartridge (D.state disk).seen → SideText (D.state disk).seen text
-        × Only (D.state disk).seen (D.state result.disk).may_leave) }
+// The lines of two disks of which no side counts as a cartridge's: of a store on the first, or why it gives no states.
+// The second one rests.
+fn check_store<D: Disk>(alloc: Global, first: D, second: D) -> Checked<D>
+    ensures disk { Keeps (D.state first) (D.state result.first) }
+    ensures rests { result.second ≡ second }
+    ensures ok { OnOk result.lines (NoneFailed (D.state first) (D.state result.first)) }
+    ensures text { IfOk result.lines (λ text. (D.state first).honest → (two : List ℕ) →
+        IsNoCartridge ((D.state first).seen, two) → SideText ((D.state first).seen, two) text
+        × Only (D.state first).seen (D.state result.first).may_leave) }
     ensures cause { IfErr result.lines (λ fault.
-        IsNotTold fault (D.state disk) (D.state result.disk)) }
-    ensures any_moment { (D.state disk).honest →
-        LeavesOnly (D.state disk) (D.state result.disk) (D.state disk).may_leave }
+        IsStoreNotTold fault (D.state first) (D.state result.first)) }
+    ensures any_moment { (D.state first).honest →
+        LeavesOnly (D.state first) (D.state result.first) (D.state first).may_leave }
 {
-    match AptplStore::open(alloc, disk) {
+    match AptplStore::open(alloc, first) {
         Ok((store, left)) => {
             let lines = told(states_text(alloc, &store, &left));
-            let disk = store.close();
-            Checked { lines, disk }
+            let first = store.close();
+            Checked {
+                lines,
+                first,
+                second,
+            }
         }
         Err(refused) => {
             let StoreRefused { error, disk } = refused;
@@ -211,44 +223,56 @@ fn check_store<D: Disk>(alloc: Global, disk: D) -> Checked<D>
                 StoreError::Device(_) => Err(VtlFault::Device),
                 StoreError::NoMemory => Err(VtlFault::NoMemory),
             };
-            Checked { lines, disk }
+            Checked {
+                lines,
+                first: disk,
+                second,
+            }
         }
     }
 }
 
 /// The lines of `vtl check`: of a cartridge its barcode and its partitions, of a store of reservations its
 /// name, its frames and how many are registered after a loss of power, else why the side gives neither. It
-/// opens the cartridge, and what is no cartridge as a store; each opening begins with a sync and writes
-/// nothing. After an `Err` the disk stands for what it stood for.
-pub fn check_side<D: Disk>(alloc: Global, disk: D) -> Checked<D>
-    ensures disk { Keeps (D.state disk) (D.state result.disk) }
-    ensures ok { OnOk result.lines (NoneFailed (D.state disk) (D.state result.disk)) }
-    ensures text { IfOk result.lines (λ text. (D.state disk).honest →
-        SideText (D.state disk).seen text
-        × Only (D.state disk).seen (D.state result.disk).may_leave) }
+/// opens both disks as a cartridge; where no side of it counts, the first one as a store. Each opening begins
+/// with a sync and writes nothing. After an `Err` the disks stand for what they stood for.
+pub fn check_side<D: Disk>(alloc: Global, first: D, second: D) -> Checked<D>
+    ensures disks { KeepsDisks D.state (both first second) (disks_checked result) }
+    ensures ok { OnOk result.lines (NoneOfTwo D.state (both first second) (disks_checked result)) }
+    ensures text { IfOk result.lines (λ text. AreHonest D.state (both first second) →
+        SideText (seen_of_two D.state (both first second)) text
+        × OnlyOfTwo D.state (both first second) (disks_checked result)) }
     ensures cause { IfErr result.lines (λ fault.
-        IsNotTold fault (D.state disk) (D.state result.disk)) }
-    ensures any_moment { (D.state disk).honest →
-        LeavesOnly (D.state disk) (D.state result.disk) (D.state disk).may_leave }
+        IsNotTold D.state fault (both first second) (disks_checked result)) }
+    ensures any_moment { AreHonest D.state (both first second) →
+        TwoLeave D.state (both first second) (disks_checked result) (MayLeave D.state (both first second)) }
 {
-    match Cartridge::open(alloc, Shelved::of(disk)) {
+    match Cartridge::open(alloc, Shelved::of(first, second)) {
         Ok(cartridge) => {
             let lines = told(contents_text(alloc, &cartridge));
-            let disk = cartridge.shelve().into_disk();
-            Checked { lines, disk }
+            let (first, second) = cartridge.shelve().into_disks();
+            Checked {
+                lines,
+                first,
+                second,
+            }
         }
         Err(refused) => {
             let NotOpened { error, shelved } = refused;
-            let disk = shelved.into_disk();
+            let (first, second) = shelved.into_disks();
             let lines = match error {
-                CartridgeError::NotOurs => return check_store(alloc, disk),
+                CartridgeError::NotOurs => return check_store(alloc, first, second),
                 CartridgeError::Damaged { at } => damaged_text(alloc, at),
                 CartridgeError::BadRecord { at } => bad_record_text(alloc, at),
                 CartridgeError::Device(_) => Err(VtlFault::Device),
                 CartridgeError::NoMemory => Err(VtlFault::NoMemory),
                 CartridgeError::SideFull | CartridgeError::Failed => unreachable!(),
             };
-            Checked { lines, disk }
+            Checked {
+                lines,
+                first,
+                second,
+            }
         }
     }
 }

@@ -2,9 +2,9 @@
 ghost use Rattle.std.specs.Prelude.{◌≡◌, ◌++◌, ◌∷◌, [], IsTrue, IfOk, IfErr, OnOk, map, codes, decimal, string_bytes};
 ghost use Rattle.std.specs.Io.KnownBytes.{Appends};
 ghost use Rattle.volume_core.specs.Volume.{are_capacities};
-ghost use Rattle.vtl_program.specs.Creating.{CartridgeFile, IsMadeOrKept, IsNewFile, IsNotMade, IsNotOut, StoreFile, TellsFiles, fate_line, fate_word, files_of};
+ghost use Rattle.vtl_program.specs.Creating.{CartridgeFile, IsMadeOrKept, IsNewFile, IsNotMade, IsNotOut, StoreFile, TellsFiles, fate_line, fate_word, files_of, makes_of};
 
-use crate::files::MakeFiles;
+use crate::files::{MakeFiles, SecondFiles};
 use crate::programs::VtlFault;
 use crate::writing::tell;
 use aptpl_store::{AptplStore, StoreError, StoreRefused};
@@ -48,33 +48,51 @@ pub(crate) fn slice_of(capacities: &Capacities) -> &[u64]
     capacities.as_slice()
 }
 
-// Makes the file of a cartridge, where it is missing: what became of it, and the barcode.
-fn create_cartridge<D: Disk + Drop, F: MakeFiles<D>>(
+// Makes both files of a cartridge, where the first one is missing: what became of it, and the barcode. The second one
+// is made with no bytes where it is missing, and else stays as it is.
+fn create_cartridge<D: Disk + Drop, F: MakeFiles<D> + SecondFiles<D>>(
     alloc: Global,
     files: &F,
     entry: CartridgeEntry,
 ) -> Result<(Fate, Barcode), VtlFault>
-    ensures ok { IfOk result (λ made. IsMadeOrKept D.state F.makes F.leaves (CartridgeFile entry) made.0) }
+    ensures ok { IfOk result (λ made. IsMadeOrKept D.state
+        (makes_of F.makes F.leaves F.takes_away F.opens_second F.closes_second)
+        (CartridgeFile entry) made.0) }
     ensures label { IfOk result (λ made. made.1 ≡ entry.barcode) }
-    ensures err { IfErr result (IsNotMade D.state F.makes F.takes_away (CartridgeFile entry)) }
+    ensures err { IfErr result (IsNotMade D.state
+        (makes_of F.makes F.leaves F.takes_away F.opens_second F.closes_second)
+        (CartridgeFile entry)) }
 {
     let CartridgeEntry {
         barcode,
         file,
+        second_file,
         capacities,
         ..
     } = entry;
-    let Some((name, disk)) = new_file::<D, F>(files, file)? else {
+    let Some((name, first)) = new_file::<D, F>(files, file)? else {
         return Ok((Fate::Kept, barcode));
     };
-    match Cartridge::create(alloc, disk, &barcode, slice_of(&capacities)) {
+    let (second_name, opened) = files.open_second(second_file);
+    let Ok(second) = opened else {
+        files.take_away(name, first);
+        return Err(VtlFault::Device);
+    };
+    match Cartridge::create(alloc, first, second, &barcode, slice_of(&capacities)) {
         Ok(shelved) => {
-            files.leave(name, shelved.into_disk());
+            let (first, second) = shelved.into_disks();
+            files.leave(name, first);
+            files.close_second(second_name, second);
             Ok((Fate::Created, barcode))
         }
         Err(refused) => {
-            let NotCreated { error, disk } = refused;
-            files.take_away(name, disk);
+            let NotCreated {
+                error,
+                first,
+                second,
+            } = refused;
+            files.take_away(name, first);
+            files.close_second(second_name, second);
             match error {
                 CartridgeError::NoMemory => Err(VtlFault::NoMemory),
                 _ => Err(VtlFault::Device),
@@ -84,13 +102,17 @@ fn create_cartridge<D: Disk + Drop, F: MakeFiles<D>>(
 }
 
 // Makes the file of a drive's reservations, where it is missing.
-fn create_store<D: Disk + Drop, F: MakeFiles<D>>(
+fn create_store<D: Disk + Drop, F: MakeFiles<D> + SecondFiles<D>>(
     alloc: Global,
     files: &F,
     entry: DriveEntry,
 ) -> Result<Fate, VtlFault>
-    ensures ok { IfOk result (IsMadeOrKept D.state F.makes F.leaves (StoreFile entry)) }
-    ensures err { IfErr result (IsNotMade D.state F.makes F.takes_away (StoreFile entry)) }
+    ensures ok { IfOk result (IsMadeOrKept D.state
+        (makes_of F.makes F.leaves F.takes_away F.opens_second F.closes_second)
+        (StoreFile entry)) }
+    ensures err { IfErr result (IsNotMade D.state
+        (makes_of F.makes F.leaves F.takes_away F.opens_second F.closes_second)
+        (StoreFile entry)) }
 {
     let DriveEntry {
         number,
@@ -163,13 +185,14 @@ fn label_of(alloc: Global, number: DriveNo) -> Result<String, AllocError>
 }
 
 // Makes the missing file of a cartridge, and tells of it.
-fn make_cartridge<D: Disk + Drop, F: MakeFiles<D>, W: Write>(
+fn make_cartridge<D: Disk + Drop, F: MakeFiles<D> + SecondFiles<D>, W: Write>(
     alloc: Global,
     files: &F,
     entry: CartridgeEntry,
     writer: &mut W,
 ) -> Result<(), VtlFault>
-    ensures { TellsFiles D.state F.makes F.leaves F.takes_away (CartridgeFile entry ∷ [])
+    ensures { TellsFiles D.state (makes_of F.makes F.leaves F.takes_away F.opens_second F.closes_second)
+        (CartridgeFile entry ∷ [])
         (W.contents writer.old) (W.contents writer.new) result }
 {
     match create_cartridge::<D, F>(alloc, files, entry) {
@@ -179,13 +202,14 @@ fn make_cartridge<D: Disk + Drop, F: MakeFiles<D>, W: Write>(
 }
 
 // Makes the missing files of cartridges, and tells of each.
-fn make_cartridges<D: Disk + Drop, F: MakeFiles<D>, W: Write>(
+fn make_cartridges<D: Disk + Drop, F: MakeFiles<D> + SecondFiles<D>, W: Write>(
     alloc: Global,
     files: &F,
     entries: Vec<CartridgeEntry>,
     writer: &mut W,
 ) -> Result<(), VtlFault>
-    ensures { TellsFiles D.state F.makes F.leaves F.takes_away (map CartridgeFile entries.items)
+    ensures { TellsFiles D.state (makes_of F.makes F.leaves F.takes_away F.opens_second F.closes_second)
+        (map CartridgeFile entries.items)
         (W.contents writer.old) (W.contents writer.new) result }
 {
     for entry in entries {
@@ -197,13 +221,14 @@ fn make_cartridges<D: Disk + Drop, F: MakeFiles<D>, W: Write>(
 }
 
 // Makes the missing file of a drive's reservations, and tells of it.
-fn make_store<D: Disk + Drop, F: MakeFiles<D>, W: Write>(
+fn make_store<D: Disk + Drop, F: MakeFiles<D> + SecondFiles<D>, W: Write>(
     alloc: Global,
     files: &F,
     entry: DriveEntry,
     writer: &mut W,
 ) -> Result<(), VtlFault>
-    ensures { TellsFiles D.state F.makes F.leaves F.takes_away (StoreFile entry ∷ [])
+    ensures { TellsFiles D.state (makes_of F.makes F.leaves F.takes_away F.opens_second F.closes_second)
+        (StoreFile entry ∷ [])
         (W.contents writer.old) (W.contents writer.new) result }
 {
     let number = entry.number;
@@ -217,13 +242,14 @@ fn make_store<D: Disk + Drop, F: MakeFiles<D>, W: Write>(
 }
 
 // Makes the missing files of the reservations of drives, and tells of each.
-fn make_stores<D: Disk + Drop, F: MakeFiles<D>, W: Write>(
+fn make_stores<D: Disk + Drop, F: MakeFiles<D> + SecondFiles<D>, W: Write>(
     alloc: Global,
     files: &F,
     entries: Vec<DriveEntry>,
     writer: &mut W,
 ) -> Result<(), VtlFault>
-    ensures { TellsFiles D.state F.makes F.leaves F.takes_away (map StoreFile entries.items)
+    ensures { TellsFiles D.state (makes_of F.makes F.leaves F.takes_away F.opens_second F.closes_second)
+        (map StoreFile entries.items)
         (W.contents writer.old) (W.contents writer.new) result }
 {
     for entry in entries {
@@ -234,18 +260,21 @@ fn make_stores<D: Disk + Drop, F: MakeFiles<D>, W: Write>(
     Ok(())
 }
 
-/// Makes each file of a configuration that is missing, cartridges first, then the stores of drives,
+/// Makes the files of a configuration that are missing, cartridges first, then the stores of drives,
 /// each in the order of the configuration, and writes a line for each: `created NAME`, or `kept NAME`
 /// where something has the file's name already, which is not touched. NAME is the barcode, or `DRIVE`
-/// and the number. At the first fault it ends, and the file that was being made is gone again, where
-/// the system could take it away: `Device` where a file or the writer fails, `NoMemory`.
-pub fn create_missing<D: Disk + Drop, F: MakeFiles<D>, W: Write>(
+/// and the number. With a cartridge's first file its second one is made, where that is missing; of a
+/// cartridge that is kept it is not looked at. At the first fault it ends, and the file that was being
+/// made is gone again, where the system could take it away: `Device` where a file or the writer fails,
+/// `NoMemory`.
+pub fn create_missing<D: Disk + Drop, F: MakeFiles<D> + SecondFiles<D>, W: Write>(
     alloc: Global,
     files: &F,
     config: Config,
     writer: &mut W,
 ) -> Result<(), VtlFault>
-    ensures { TellsFiles D.state F.makes F.leaves F.takes_away (files_of config)
+    ensures { TellsFiles D.state (makes_of F.makes F.leaves F.takes_away F.opens_second F.closes_second)
+        (files_of config)
         (W.contents writer.old) (W.contents writer.new) result }
 {
     let Config { cartridges, drives } = config;

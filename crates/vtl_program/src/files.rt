@@ -1,7 +1,7 @@
 //! The calls for files that the program makes, by the files' names. The traits say what a function may do with files:
 //! each order's function has just those that it needs. A file is made or opened to be changed once at most, since its
 //! name is given up for that.
-ghost use Rattle.std.specs.Prelude.{◌≡◌, ℕ, List, Result, Ok, Vec};
+ghost use Rattle.std.specs.Prelude.{◌≡◌, ℕ, List, [], Result, Ok, Vec};
 ghost use Rattle.std.specs.declared.alloc.Global.{Global};
 ghost use Rattle.std.specs.declared.io.Error.{Error};
 ghost use Rattle.file_disk.specs.declared.error.FileError.{FileError};
@@ -10,6 +10,7 @@ use crate::starting::NotStarted;
 use bays::Held;
 use file_disk::{FileDisk, FileError};
 use std::{fs, io};
+use tape_disk::Disk;
 use vtl_config::{FileName, UsedName};
 
 /// Files whose bytes are read.
@@ -23,7 +24,7 @@ pub trait TextFiles {
 }
 
 /// Files that are looked at.
-pub trait ReadFiles<D> {
+pub trait ReadFiles<D: Disk> {
     // The answers that a call may have, by the name.
     ghost opens_to_read: { List ℕ → Result D FileError → Type 0 };
 
@@ -37,6 +38,28 @@ pub trait ReadFiles<D> {
     /// Takes a disk back, as it is.
     fn close(&self, name: &str, disk: D)
         ensures { closes name.now disk };
+
+    /// A disk of no bytes, which stands for a file that is missing. It fails at each call that would change it.
+    fn nothing(&self) -> D
+        ensures { (D.state result).honest → (D.state result).seen ≡ [] };
+}
+
+/// The second files of cartridges.
+pub trait SecondFiles<D> {
+    // The answers that a call may have, by the name.
+    ghost opens_second: { List ℕ → Result D FileError → Type 0 };
+
+    // The disk that was handed back for a name: its file stays.
+    ghost closes_second: { List ℕ → D → Type 0 };
+
+    /// A disk over the file of this name, which is made with no bytes where it is missing. The name is used up.
+    fn open_second(&self, name: FileName) -> (UsedName, Result<D, FileError>)
+        ensures used { result.0 ≡ name }
+        ensures answer { opens_second name result.1 };
+
+    /// Takes a disk back, as it is. Its file stays.
+    fn close_second(&self, name: UsedName, disk: D)
+        ensures { closes_second name disk };
 }
 
 /// Files that are changed.
@@ -44,7 +67,7 @@ pub trait ChangeFiles<D> {
     // The answers that a call may have, by the name.
     ghost opens: { List ℕ → Result D FileError → Type 0 };
 
-    // The disk that was handed back for a name: no side was found on it.
+    // The disk that was handed back for a name.
     ghost hands_back: { List ℕ → D → Type 0 };
 
     /// A disk over the file of this name, which is used up.
@@ -52,7 +75,7 @@ pub trait ChangeFiles<D> {
         ensures used { result.0 ≡ name }
         ensures answer { opens name result.1 };
 
-    /// Takes back a disk on which no side was found, as it is.
+    /// Takes a disk back, as it is.
     fn hand_back(&self, name: UsedName, disk: D)
         ensures { hands_back name disk };
 }
@@ -125,6 +148,29 @@ impl<'a> ReadFiles<FileDisk> for SystemFiles<'a> {
     }
 
     fn close(&self, _: &str, disk: FileDisk) {
+        drop(disk);
+    }
+
+    fn nothing(&self) -> FileDisk {
+        file_disk::no_file()
+    }
+}
+
+impl<'a> SecondFiles<FileDisk> for SystemFiles<'a> {
+    ghost opens_second = { λ name answer. Unit {0} };
+
+    ghost closes_second = { λ name disk. Unit {0} };
+
+    fn open_second(&self, name: FileName) -> (UsedName, Result<FileDisk, FileError>) {
+        let name = name.use_up();
+        let opened = match file_disk::open(self.rt, name.as_str()) {
+            Err(FileError::Missing) => file_disk::create(self.rt, name.as_str()),
+            other => other,
+        };
+        (name, opened)
+    }
+
+    fn close_second(&self, _: UsedName, disk: FileDisk) {
         drop(disk);
     }
 }

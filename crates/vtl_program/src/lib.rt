@@ -1,4 +1,5 @@
-//! What the program does for each order of its words: libraries made, run and looked at, in files or in memory.
+//! What the program does for each order of its words: libraries made, run, looked at and reclaimed, in files
+//! or in memory.
 #![tactic(auto)]
 
 pub mod checking;
@@ -7,9 +8,11 @@ pub mod creating;
 pub mod files;
 pub mod laws;
 pub mod lines;
+mod opened;
 pub mod orders;
 pub mod pace;
 pub mod programs;
+pub mod reclaiming;
 pub mod running;
 pub mod side_checks;
 pub mod sides;

@@ -2,18 +2,19 @@
 ghost use Rattle.std.specs.Prelude.{◌≡◌, ℕ, List, IfOk, option_map, string_bytes};
 ghost use Rattle.vtl_config.specs.Configs.{Says};
 ghost use Rattle.vtl_words.specs.Orders.{asked_of, texts_of};
+ghost use Rattle.vtl_program.specs.Creating.{makes_of};
 ghost use Rattle.vtl_program.specs.Files.{answers_of};
-ghost use Rattle.vtl_program.specs.Orders.{AnswersWords, ChecksOrder, CreatesOrder, DoesOrder, Obeys, RunsConfig, RunsOrder, RunsProgram, given_words};
+ghost use Rattle.vtl_program.specs.Orders.{AnswersWords, CreatesOrder, DoesOrder, Obeys, ReclaimsOrder, RunsConfig, RunsOrder, RunsProgram, given_words};
 ghost use Rattle.vtl_program.specs.Program.{HaveAcceptedNone, RunsFrom};
 ghost use Rattle.vtl_program.specs.Sides.{file_sides};
 
-use crate::checking::{Checked, check_side};
 use crate::configs::config_in;
 use crate::creating::create_missing;
-use crate::files::{ChangeFiles, MakeFiles, ReadFiles, TakesBack, TextFiles};
+use crate::files::{ChangeFiles, MakeFiles, ReadFiles, SecondFiles, TakesBack, TextFiles};
 use crate::programs::{Ended, Verdict, VtlFault, end};
+use crate::reclaiming::reclaim_named;
 use crate::running::{Left, run_shared};
-use crate::side_checks::tell_lines;
+use crate::side_checks::check_named;
 use crate::sides::{FileSides, NewSides, Sides};
 use crate::starting::{NotStarted, Starting, built_in, start};
 use crate::writing::tell;
@@ -24,6 +25,7 @@ use std::sync::Wait;
 use std::thread::Threads;
 use std::time::Clock;
 use tape_disk::Disk;
+use vtl_base::Barcode;
 use vtl_config::Config;
 use vtl_words::{Order, WordsError, read_words};
 
@@ -82,7 +84,7 @@ fn run_config<
 // Runs a script over the library of the words.
 fn run_order<
     D: Disk + Drop + Send,
-    F: TextFiles + ChangeFiles<D> + TakesBack<Held<D>, NotStarted<D>>,
+    F: TextFiles + ChangeFiles<D> + SecondFiles<D> + TakesBack<Held<D>, NotStarted<D>>,
     R: Threads + Wait + Clock + Sync,
     I: Read,
     W: Write,
@@ -95,7 +97,7 @@ fn run_order<
     reader: &mut I,
     writer: &mut W,
 ) -> Result<(), VtlFault>
-    ensures { RunsOrder D.state F.reads (file_sides D.state F.opens F.hands_back) F.closes_all F.gives_up
+    ensures { RunsOrder D.state F.reads (file_sides D.state F.opens F.opens_second F.hands_back) F.closes_all F.gives_up
         memory (option_map string_bytes config)
         (I.remaining reader.old) (I.remaining reader.new)
         (W.contents writer.old) (W.contents writer.new) result }
@@ -119,43 +121,44 @@ fn run_order<
 }
 
 // Makes the missing files of the configuration that a file says.
-fn create_order<D: Disk + Drop, F: TextFiles + MakeFiles<D>, W: Write>(
+fn create_order<D: Disk + Drop, F: TextFiles + MakeFiles<D> + SecondFiles<D>, W: Write>(
     alloc: Global,
     files: &F,
     name: &str,
     writer: &mut W,
 ) -> Result<(), VtlFault>
-    ensures { CreatesOrder D.state F.reads F.makes F.leaves F.takes_away name.now
+    ensures { CreatesOrder D.state F.reads
+        (makes_of F.makes F.leaves F.takes_away F.opens_second F.closes_second) name.now
         (W.contents writer.old) (W.contents writer.new) result }
 {
     let config = config_in(alloc, files, name)?;
     create_missing::<D, F, W>(alloc, files, config, writer)
 }
 
-// Tells what the side in a file holds.
-fn check_order<D: Disk + Drop, F: ReadFiles<D>, W: Write>(
+// Reclaims the cartridge that has this barcode, of the configuration that a file says.
+fn reclaim_order<D: Disk + Drop, F: TextFiles + ChangeFiles<D> + SecondFiles<D>, W: Write>(
     alloc: Global,
     files: &F,
     name: &str,
+    barcode: &Barcode,
     writer: &mut W,
 ) -> Result<Verdict, VtlFault>
-    ensures { ChecksOrder D.state F.opens_to_read F.closes name.now
+    ensures { ReclaimsOrder D.state F.reads F.opens F.opens_second F.hands_back F.closes_second name.now barcode.now
         (W.contents writer.old) (W.contents writer.new) result }
 {
-    match files.open_to_read(name) {
-        Ok(disk) => {
-            let Checked { lines, disk } = check_side(alloc, disk);
-            files.close(name, disk);
-            tell_lines(lines, writer)
-        }
-        Err(_) => Err(VtlFault::Device),
-    }
+    let config = config_in(alloc, files, name)?;
+    reclaim_named::<D, F, W>(alloc, files, config, barcode, writer)
 }
 
 // Does what an order asks for.
 fn do_order<
     D: Disk + Drop + Send,
-    F: TextFiles + ReadFiles<D> + ChangeFiles<D> + TakesBack<Held<D>, NotStarted<D>> + MakeFiles<D>,
+    F: TextFiles
+        + ReadFiles<D>
+        + ChangeFiles<D>
+        + SecondFiles<D>
+        + TakesBack<Held<D>, NotStarted<D>>
+        + MakeFiles<D>,
     R: Threads + Wait + Clock + Sync,
     I: Read,
     W: Write,
@@ -169,7 +172,7 @@ fn do_order<
 ) -> Result<Verdict, VtlFault>
     ensures { DoesOrder D.state
         (answers_of F.reads F.opens_to_read F.closes F.opens F.hands_back F.closes_all F.gives_up
-        F.makes F.leaves F.takes_away)
+        F.opens_second F.closes_second F.makes F.leaves F.takes_away)
         (asked_of order)
         (I.remaining reader.old) (I.remaining reader.new)
         (W.contents writer.old) (W.contents writer.new) result }
@@ -182,7 +185,10 @@ fn do_order<
             create_order::<D, F, W>(alloc, files, config.as_str(), writer)?
         }
         Order::Check { file } => {
-            return check_order::<D, F, W>(alloc, files, file.as_str(), writer);
+            return check_named::<D, F, W>(alloc, files, file.as_str(), writer);
+        }
+        Order::Reclaim { config, barcode } => {
+            return reclaim_order::<D, F, W>(alloc, files, config.as_str(), &barcode, writer);
         }
     }
     Ok(Verdict::Done)
@@ -205,7 +211,12 @@ fn answer_words<W: Write>(error: WordsError, writer: &mut W) -> Result<Verdict, 
 /// Does what the words of a command line ask for, over these files. The first word is the program's name.
 pub fn obey<
     D: Disk + Drop + Send,
-    F: TextFiles + ReadFiles<D> + ChangeFiles<D> + TakesBack<Held<D>, NotStarted<D>> + MakeFiles<D>,
+    F: TextFiles
+        + ReadFiles<D>
+        + ChangeFiles<D>
+        + SecondFiles<D>
+        + TakesBack<Held<D>, NotStarted<D>>
+        + MakeFiles<D>,
     R: Threads + Wait + Clock + Sync,
     I: Read,
     W: Write,
@@ -219,7 +230,7 @@ pub fn obey<
 ) -> Result<Verdict, VtlFault>
     ensures { Obeys D.state
         (answers_of F.reads F.opens_to_read F.closes F.opens F.hands_back F.closes_all F.gives_up
-        F.makes F.leaves F.takes_away)
+        F.opens_second F.closes_second F.makes F.leaves F.takes_away)
         (texts_of words.now)
         (I.remaining reader.old) (I.remaining reader.new)
         (W.contents writer.old) (W.contents writer.new) result }
@@ -234,7 +245,12 @@ pub fn obey<
 /// the third stream and by its status. Where the system gave no words, their fault is reported.
 pub fn run<
     D: Disk + Drop + Send,
-    F: TextFiles + ReadFiles<D> + ChangeFiles<D> + TakesBack<Held<D>, NotStarted<D>> + MakeFiles<D>,
+    F: TextFiles
+        + ReadFiles<D>
+        + ChangeFiles<D>
+        + SecondFiles<D>
+        + TakesBack<Held<D>, NotStarted<D>>
+        + MakeFiles<D>,
     R: Threads + Wait + Clock + Sync,
     I: Read,
     W: Write,
@@ -250,7 +266,7 @@ pub fn run<
 ) -> Ended
     ensures { RunsProgram D.state
         (answers_of F.reads F.opens_to_read F.closes F.opens F.hands_back F.closes_all F.gives_up
-        F.makes F.leaves F.takes_away)
+        F.opens_second F.closes_second F.makes F.leaves F.takes_away)
         (given_words words)
         (I.remaining reader.old) (I.remaining reader.new)
         (W.contents writer.old) (W.contents writer.new)

@@ -107,7 +107,7 @@ pub fn fault_line(fault: &VtlFault) -> (u8, FaultLine)
 pub enum Verdict {
     /// What was asked for is done.
     Done,
-    /// The file that was checked is refused; its line says why.
+    /// The file that was checked is refused, or the cartridge is not reclaimed; the line says why.
     Refused,
 }
 

@@ -1,12 +1,18 @@
 //! What the side on a disk holds is told.
-ghost use Rattle.std.specs.Prelude.{◌≡◌, ◌==◌, ◌||◌, List, ℕ, IfOk, IfErr, codes};
+ghost use Rattle.std.specs.Prelude.{◌≡◌, ◌==◌, ◌||◌, List, ℕ, IfOk, IfErr, MatchOption, codes};
 ghost use Rattle.std.specs.List.{starts_with};
-ghost use Rattle.vtl_program.specs.Checks.{TellsLines, verdict_of};
+ghost use Rattle.vtl_program.specs.Checks.{ChecksOrder, IsSecondRead, IsSecondUnread, TellsLines, verdict_of};
 
+use crate::checking::{Checked, check_side};
+use crate::files::ReadFiles;
 use crate::programs::{Verdict, VtlFault};
 use crate::writing::tell;
+use file_disk::FileError;
+use std::alloc::Global;
 use std::io::Write;
+use tape_disk::Disk;
 use vtl_base::Bytes;
+use vtl_config::second_file;
 
 // Whether the lines of a side tell what it holds, or else why it holds nothing.
 fn verdict_of(lines: &[u8]) -> Verdict
@@ -35,4 +41,48 @@ pub fn tell_lines<W: Write>(
         Ok(()) => Ok(verdict_of(lines.as_slice())),
         Err(fault) => Err(fault),
     }
+}
+
+// A disk to read a second file of this name by, one of no bytes where the file is missing.
+fn second_to_read<D: Disk, F: ReadFiles<D>>(files: &F, name: &str) -> Option<D>
+    ensures { MatchOption result (IsSecondUnread D.state F.opens_to_read name.now)
+        (IsSecondRead D.state F.opens_to_read name.now) }
+{
+    match files.open_to_read(name) {
+        Ok(disk) => Some(disk),
+        Err(FileError::Missing) => Some(files.nothing()),
+        Err(_) => None,
+    }
+}
+
+/// Tells what the file of this name holds, and beside it the one whose name has `.2` added, which may be
+/// missing: `Done` where it is a cartridge or a store, `Refused` where it is neither. No file is made or
+/// changed. `Device` where a file is not opened, `NoMemory`.
+pub fn check_named<D: Disk, F: ReadFiles<D>, W: Write>(
+    alloc: Global,
+    files: &F,
+    name: &str,
+    writer: &mut W,
+) -> Result<Verdict, VtlFault>
+    ensures { ChecksOrder D.state F.opens_to_read F.closes name.now
+        (W.contents writer.old) (W.contents writer.new) result }
+{
+    let Ok(second_name) = second_file(alloc, name) else {
+        return Err(VtlFault::NoMemory);
+    };
+    let Ok(first) = files.open_to_read(name) else {
+        return Err(VtlFault::Device);
+    };
+    let Some(second) = second_to_read::<D, F>(files, second_name.as_str()) else {
+        files.close(name, first);
+        return Err(VtlFault::Device);
+    };
+    let Checked {
+        lines,
+        first,
+        second,
+    } = check_side(alloc, first, second);
+    files.close(name, first);
+    files.close(second_name.as_str(), second);
+    tell_lines(lines, writer)
 }

@@ -6,7 +6,8 @@ ghost use Rattle.vtl_program.specs.Faults.{IsFailure, fault_of_store};
 ghost use Rattle.vtl_program.specs.Sides.{IsNoStoreOn, IsStoreOn, SidesGiven};
 
 use crate::creating::slice_of;
-use crate::files::{ChangeFiles, TakesBack};
+use crate::files::{ChangeFiles, SecondFiles, TakesBack};
+use crate::opened::opened_both;
 use crate::programs::VtlFault;
 use crate::starting::NotStarted;
 use aptpl_store::{AptplStore, StoreError, StoreRefused};
@@ -93,16 +94,15 @@ fn opened<D: Disk>(alloc: Global, disk: D) -> Result<DriveStore<D>, NoStore<D>>
 
 // No disk can be dropped here, and in the next block: each that was opened is in a side, or handed back. A cartridge's
 // disk is not called.
-impl<'a, D: Disk, F: ChangeFiles<D>> Sides<D> for FileSides<'a, F> {
+impl<'a, D: Disk, F: ChangeFiles<D> + SecondFiles<D>> Sides<D> for FileSides<'a, F> {
     ghost use Rattle.vtl_program.specs.Sides.{file_sides};
 
-    ghost given = { file_sides D.state F.opens F.hands_back };
+    ghost given = { file_sides D.state F.opens F.opens_second F.hands_back };
 
     fn cartridge(&self, alloc: Global, entry: CartridgeEntry) -> Result<Parked<D>, VtlFault> {
-        let (_name, opened) = self.files.open(entry.file);
-        match opened {
-            Ok(disk) => Ok(Parked::of(alloc, Shelved::of(disk))),
-            Err(_) => Err(VtlFault::Device),
+        match opened_both::<D, F>(self.files, entry.file, entry.second_file) {
+            Ok((first, second)) => Ok(Parked::of(alloc, Shelved::of(first.1, second.1))),
+            Err(fault) => Err(fault),
         }
     }
 
@@ -144,8 +144,14 @@ impl Sides<MemDisk> for NewSides {
 
     // The one failure of a disk in memory is a growth that was refused.
     fn cartridge(&self, alloc: Global, entry: CartridgeEntry) -> Result<Parked<MemDisk>, VtlFault> {
-        let disk = MemDisk::new(alloc);
-        match Cartridge::create(alloc, disk, &entry.barcode, slice_of(&entry.capacities)) {
+        let (first, second) = (MemDisk::new(alloc), MemDisk::new(alloc));
+        match Cartridge::create(
+            alloc,
+            first,
+            second,
+            &entry.barcode,
+            slice_of(&entry.capacities),
+        ) {
             Ok(shelved) => Ok(Parked::of(alloc, shelved)),
             Err(_) => Err(VtlFault::NoMemory),
         }

@@ -254,7 +254,13 @@ pub fn built_in(alloc: Global) -> Result<Held<MemDisk>, VtlFault>
         return Err(VtlFault::Config);
     };
     let (Ok(shelved), Ok(store)) = (
-        Cartridge::create(alloc, MemDisk::new(alloc), &barcode, &[CAPACITY]),
+        Cartridge::create(
+            alloc,
+            MemDisk::new(alloc),
+            MemDisk::new(alloc),
+            &barcode,
+            &[CAPACITY],
+        ),
         AptplStore::create(alloc, MemDisk::new(alloc), number),
     ) else {
         return Err(VtlFault::NoMemory);

@@ -48,7 +48,7 @@ fn header(alloc: Global, bytes: &[u8]) -> Result<Option<Vec<Partition>>, AllocEr
         return Ok(None);
     };
     let kind = part(bytes, 1, 8) == Some(b"VTLCART1".as_slice());
-    let gates = number(bytes, 0, 1) == Some(GATE) && number(bytes, 9, 1) == Some(0);
+    let gates = number(bytes, 0, 1) == Some(GATE) && number(bytes, 9, 1) != Some(GATE);
     if !kind || !gates || !is_name(name) {
         return Ok(None);
     }

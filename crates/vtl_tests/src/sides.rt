@@ -4,7 +4,7 @@ use assertions::{assert_equal, assert_holds};
 use std::alloc::Global;
 use std::process::Abort;
 use std::test::Fail;
-use tape_disk::{FuseDisk, MemDisk, OnceDisk};
+use tape_disk::{Disk, FuseDisk, MemDisk, OnceDisk};
 use vtl_base::Bytes;
 use vtl_program::checking::{Checked, check_side};
 use vtl_program::programs::VtlFault;
@@ -16,11 +16,14 @@ const SIDE: &'static [u8; 71] = b"\xa5VTLCART1\0\x01T00001L6        \0\0\0\0\0\0
     \xa5\0\0\0\x0a\x02\0\0\0\0\x01\0\0\0\x01\
     \0";
 
-// How often the disk is called until its two frames are opened.
-const CALLS: u64 = 8;
+// How often the first disk is called until its two frames are opened: a sync and a read of up to 71 bytes, by which it
+// is found which side counts; then a sync, two reads of the front, one read at each of three gates, and one of each
+// body.
+const CALLS: u64 = 2 + 1 + 2 + 3 + 2;
 
-// The same of a store with two frames, which is opened as a cartridge before.
-const STORE_CALLS: u64 = 11;
+// The same of a store with two frames: by a sync and a read it is found that no side counts. Then it is opened as a
+// store: a sync, two reads of the front (the second one of no byte), three gates, two bodies.
+const STORE_CALLS: u64 = 2 + 1 + 2 + 3 + 2;
 
 const WHOLE: &str = "cartridge T00001L6 partitions 1 frames 2\npartition 0 objects 2 used 37\n";
 
@@ -35,8 +38,14 @@ const STORED: &str = "reservations DRIVE1 frames 2 registrations 1\n";
 
 // The lines of the side with these bytes, which stay as they are.
 fn told(rt: &impl Abort, alloc: Global, bytes: &[u8]) -> Result<Bytes, Fail> {
-    let Checked { lines, disk } = check_side(alloc, MemDisk::from_bytes(alloc, bytes)?);
-    assert_equal!(rt; disk.bytes(), bytes);
+    let disk = MemDisk::from_bytes(alloc, bytes)?;
+    let Checked {
+        lines,
+        first,
+        second,
+    } = check_side(alloc, disk, MemDisk::new(alloc));
+    assert_equal!(rt; first.bytes(), bytes);
+    assert_equal!(rt; second.len(), 0);
     match lines {
         Ok(text) => Ok(text),
         Err(_) => Err(Fail::from("not told")),
@@ -96,12 +105,14 @@ fn a_disk_that_fails(rt: HostRuntime) -> Result<(), Fail> {
     for (side, wanted, needed) in SIDES {
         for calls in 0..20 {
             let disk = MemDisk::from_bytes(alloc, side)?;
-            let stopped = check_side(alloc, FuseDisk::new(disk, calls));
-            assert_equal!(rt; stopped.disk.inner().bytes(), *side);
+            let second = FuseDisk::new(MemDisk::new(alloc), u64::MAX);
+            let stopped = check_side(alloc, FuseDisk::new(disk, calls), second);
+            assert_equal!(rt; stopped.first.inner().bytes(), *side);
             assert_fails_before(&rt, stopped.lines, wanted, calls >= *needed);
             let disk = MemDisk::from_bytes(alloc, side)?;
-            let failed = check_side(alloc, OnceDisk::new(disk, calls));
-            assert_equal!(rt; failed.disk.inner().bytes(), *side);
+            let second = OnceDisk::new(MemDisk::new(alloc), u64::MAX);
+            let failed = check_side(alloc, OnceDisk::new(disk, calls), second);
+            assert_equal!(rt; failed.first.inner().bytes(), *side);
             assert_fails_before(&rt, failed.lines, wanted, calls >= *needed);
         }
     }

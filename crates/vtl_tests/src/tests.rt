@@ -3,6 +3,7 @@ mod calls;
 mod failing;
 mod noted_files;
 mod programs;
+mod reclaims;
 mod refusals;
 mod streams;
 mod unwritten;

@@ -1,5 +1,5 @@
 -- The command line is one whose matches are known.
-use Rattle.std.proofs.Common.{◌≡◌, ◌⊎◌, inl, inr, ℕ, true, List, [], Option, Some, None, option_map, Box, refl, sym, subst, ◌∙◌}
+use Rattle.std.proofs.Common.{◌≡◌, ◌⊎◌, inl, inr, ℕ, true, List, [], Option, Some, None, IfSome, option_map, Box, refl, sym, subst, ◌∙◌}
 use Rattle.std.proofs.lemmas.Option.{same_Some}
 use Rattle.std.specs.Box.{box_value}
 use Rattle.clap.specs.Faults.{fault_of, is_simple_and_free}
@@ -12,9 +12,10 @@ use Rattle.clap.specs.declared.parser.matches.ArgMatches.TheViews.{out-SubComman
 use Rattle.clap.proofs.OnLiterals.{clap_on_literals}
 use Rattle.clap.specs.declared.error.kind.ErrorKind.{ErrorKind}
 use Rattle.clap.specs.declared.error.kind.ErrorKind.TheVariants.{OutOfMemory}
+use Rattle.vtl_base.specs.Barcode.{IsBarcode}
 use Rattle.vtl_words.specs.Commands.{vtl_command}
 use Rattle.vtl_words.specs.Inner.Told.{Tells, AsksNothing}
-use Rattle.vtl_words.specs.Orders.{Asked, order_from, RefusesWords}
+use Rattle.vtl_words.specs.Orders.{Asked, reclaim, reclaim_by, HasForm, IsNoOrder, order_from, RefusesWords}
 use Rattle.vtl_words.specs.declared.orders.WordsError.{WordsError}
 use Rattle.vtl_words.specs.declared.orders.WordsError.TheVariants.{Help, Refused, NoMemory}
 
@@ -54,5 +55,15 @@ pub nothing_refused :
     (words : List (List ℕ)) (asked : Option Asked) (error : WordsError) → fault_of vtl_command words ≡ []
     → asked ≡ order_from (subcommand_of vtl_command words) → AsksNothing asked error → RefusesWords words error
 nothing_refused words asked (Help text) faultless same nothing = absurd nothing
-nothing_refused words asked Refused faultless same nothing = inr (faultless, sym same ∙ nothing)
+nothing_refused words asked Refused faultless same nothing =
+    inr (faultless, subst (λ (found : Option Asked). IsNoOrder found) same nothing)
 nothing_refused words asked NoMemory faultless same nothing = tt
+
+-- what is no barcode gives no order, whatever the configuration
+pub no_barcode :
+    (config barcode : Option (List ℕ)) → IfSome barcode (λ text. ¬ IsBarcode text)
+    → IsNoOrder (reclaim_by config barcode)
+no_barcode None None wrong = tt
+no_barcode None (Some text) wrong = tt
+no_barcode (Some file) None wrong = tt
+no_barcode (Some file) (Some text) wrong = wrong

@@ -21,6 +21,10 @@ config_required = record config_option { required = true }
 abbrev pub file_word : Rule
 file_word = record (new_rule (codes "file")) { action = Some Set; value_names = 1; required = true }
 
+-- a barcode, which stands by itself (own)
+abbrev pub barcode_word : Rule
+barcode_word = record (new_rule (codes "barcode")) { action = Some Set; value_names = 1; required = true }
+
 -- `run [--memory] [--config FILE]` (own)
 abbrev pub run_command : App
 run_command = with_rule (with_rule (new_app (codes "run")) memory_flag) config_option
@@ -33,13 +37,18 @@ create_command = with_rule (new_app (codes "create")) config_required
 abbrev pub check_command : App
 check_command = with_rule (new_app (codes "check")) file_word
 
+-- `reclaim --config FILE BARCODE` (own)
+abbrev pub reclaim_command : App
+reclaim_command = with_rule (with_rule (new_app (codes "reclaim")) config_required) barcode_word
+
 -- a word has to follow, and `help` is none (own)
 abbrev pub needs_a_word : Shape → Shape
 needs_a_word shape = record shape { subcommand_required = true; disable_help_subcommand = true }
 
--- `vtl`, with one of the three words behind it (own)
+-- `vtl`, with one of the four words behind it (own)
 abbrev pub vtl_command : App
 vtl_command =
     with_subcommand
+    (with_subcommand
     (with_subcommand (with_subcommand (on_top needs_a_word (new_app (codes "vtl"))) run_command.top)
-    create_command.top) check_command.top
+    create_command.top) check_command.top) reclaim_command.top

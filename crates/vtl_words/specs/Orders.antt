@@ -9,6 +9,7 @@ use Rattle.clap.specs.Simple.{subcommand_of}
 use Rattle.clap.specs.Walk.{Row, first_of}
 use Rattle.clap.specs.declared.error.kind.ErrorKind.{ErrorKind}
 use Rattle.clap.specs.declared.error.kind.ErrorKind.TheVariants.{DisplayHelp}
+use Rattle.vtl_base.specs.Barcode.{IsBarcode}
 use Rattle.vtl_words.specs.Commands.{vtl_command}
 use Rattle.vtl_words.specs.declared.orders.Order.{Order}
 use Rattle.vtl_words.specs.declared.orders.Order.TheVariants as order
@@ -20,16 +21,23 @@ pub data Asked : Type 0 where
   run : Bool → Option (List ℕ) → Asked
   create : List ℕ → Asked
   check : List ℕ → Asked
+  reclaim : (config barcode : List ℕ) → Asked
 
 -- the order as it is seen
 abbrev pub asked_of : Order → Asked
 asked_of (order.Run memory config) = run memory (option_map string_bytes config)
 asked_of (order.Create config) = create (string_bytes config)
 asked_of (order.Check file) = check (string_bytes file)
+asked_of (order.Reclaim config barcode) = reclaim (string_bytes config) barcode
 
 -- the flag was given
 abbrev pub is_set : Option (List ℕ) → Bool
 is_set value = option_map_or (λ text. bytes_eq text (codes "true")) value false
+
+-- what `reclaim` asks for, if both values are there (own)
+abbrev pub reclaim_by : Option (List ℕ) → Option (List ℕ) → Option Asked
+reclaim_by (Some config) (Some barcode) = Some (reclaim config barcode)
+reclaim_by _ _ = None
 
 -- what a word with these matches asks for, if a required value is there (own)
 abbrev pub asked_by : List ℕ → List Row → Option Asked
@@ -38,6 +46,8 @@ asked_by word rows =
     then Some (run (is_set (first_of (codes "memory") rows)) (first_of (codes "config") rows))
     else if bytes_eq word (codes "create") then option_map create (first_of (codes "config") rows)
     else if bytes_eq word (codes "check") then option_map check (first_of (codes "file") rows)
+    else if bytes_eq word (codes "reclaim")
+    then reclaim_by (first_of (codes "config") rows) (first_of (codes "barcode") rows)
     else None
 
 -- what matches ask for
@@ -45,20 +55,31 @@ abbrev pub order_from : Option (List ℕ × List Row) → Option Asked
 order_from None = None
 order_from (Some matches) = asked_by matches.0 matches.1
 
+-- what is asked for has its form: what is to be reclaimed is named by a barcode (own)
+abbrev pub HasForm : Asked → Type 0
+HasForm (reclaim config barcode) = IsBarcode barcode
+HasForm _ = ⊤
+
+-- nothing is asked for, or what is asked for has not its form (own)
+abbrev pub IsNoOrder : Option Asked → Type 0
+IsNoOrder None = ⊤
+IsNoOrder (Some asked) = ¬ HasForm asked
+
 -- words as bytes
 abbrev pub texts_of : List (String Global) → List (List ℕ)
 texts_of words = map (λ word. string_bytes word) words
 
--- the words ask for this: the parser finds no fault in them, and its matches ask for it (own)
+-- the words ask for this: the parser finds no fault in them, its matches ask for it, and it has its form (own)
 pub record Asks (words : List (List ℕ)) (asked : Asked) : Type 0 where
   pub no_fault : fault_of vtl_command words ≡ []
   pub matches : order_from (subcommand_of vtl_command words) ≡ Some asked
+  pub form : HasForm asked
 
--- the parser finds a fault in the words that is no request for help, or none, and its matches ask for nothing (own)
+-- the parser finds a fault in the words that is no request for help, or none, and its matches give no order (own)
 abbrev pub AreRefused : List (List ℕ) → Type 0
 AreRefused words =
     ((kind : ErrorKind) × (kind ≢ DisplayHelp) × IsAmong kind (fault_of vtl_command words))
-    ⊎ ((fault_of vtl_command words ≡ []) × (order_from (subcommand_of vtl_command words) ≡ None))
+    ⊎ ((fault_of vtl_command words ≡ []) × IsNoOrder (order_from (subcommand_of vtl_command words)))
 
 -- why words give no order; memory may run out at any (own)
 abbrev pub RefusesWords : List (List ℕ) → WordsError → Type 0

@@ -16,10 +16,12 @@ Example:
   vtl create --config library.toml
   vtl run --config library.toml < backup.script
   vtl check daily1.tape
+  vtl reclaim --config library.toml DAILY1L6
 
 Statuses:
   0  done
-  1  refused: the command line, a configuration, a script line or a checked file
+  1  refused: the command line, a configuration, a script line, a checked file
+     or a cartridge that is to be reclaimed
   2  failed: a device, a file or a stream; a missing file, or one in use;
      a refused store of reservations
   3  out of memory
@@ -28,9 +30,12 @@ Statuses:
 const RUN_ABOUT: &str = "Runs the script on standard input and prints its answers";
 
 const CREATE_ABOUT: &str =
-    "Makes each missing file of a configuration; a file that is there is kept";
+    "Makes the files of each cartridge and drive that has none; others are kept";
 
 const CHECK_ABOUT: &str = "Tells what the file of a cartridge or of a drive's reservations holds";
+
+const RECLAIM_ABOUT: &str =
+    "Gives back the room of overwritten data: copies a cartridge to its other file";
 
 const CONFIG_HELP: &str = "The configuration: a TOML file of cartridges and drives";
 
@@ -43,7 +48,13 @@ const MEMORY_HELP: &str = "\
 Makes the cartridges and reservations anew in memory;
 no file is touched, and nothing is kept at the end";
 
-const FILE_HELP: &str = "The file to look at; it is not changed";
+const FILE_HELP: &str = "\
+The file to look at: a store's, or the first of a cartridge,
+whose second has this name with .2 added and may be missing;
+no file is changed";
+
+const BARCODE_HELP: &str =
+    "The cartridge, by its barcode in the configuration; both of its files are opened";
 
 fn memory_flag<'a>(alloc: Global) -> Arg<'a>
     ensures rule { rule_of result ≡ line.memory_flag }
@@ -81,6 +92,16 @@ fn file_word<'a>(alloc: Global) -> Arg<'a>
         .action(ArgAction::Set)
         .required(true);
     file.value_name("FILE").help(FILE_HELP)
+}
+
+fn barcode_word<'a>(alloc: Global) -> Arg<'a>
+    ensures rule { rule_of result ≡ line.barcode_word }
+    ensures local { result.global ≡ false }
+{
+    let barcode = Arg::new(alloc, "barcode")
+        .action(ArgAction::Set)
+        .required(true);
+    barcode.value_name("BARCODE").help(BARCODE_HELP)
 }
 
 // A command of this name, with nothing yet.
@@ -138,6 +159,18 @@ fn check_command<'a>(alloc: Global) -> Result<Command<'a>, AllocError>
     Ok(whole)
 }
 
+fn reclaim_command<'a>(alloc: Global) -> Result<Command<'a>, AllocError>
+    ensures app { IfOk result (λ r. app_of r ≡ line.reclaim_command) }
+    ensures local { IfOk result (λ r. (out-Command r).has_globals ≡ false) }
+{
+    let configured = with(
+        named(alloc, "reclaim", RECLAIM_ABOUT),
+        config_required(alloc),
+    )?;
+    let whole = with(configured, barcode_word(alloc))?;
+    Ok(whole)
+}
+
 // `vtl` before its words.
 fn program<'a>(alloc: Global) -> Command<'a>
     ensures app { app_of result ≡ on_top line.needs_a_word (new_app (codes "vtl")) }
@@ -156,8 +189,10 @@ pub(crate) fn vtl_command<'a>(alloc: Global) -> Result<Command<'a>, AllocError>
     let run = run_command(alloc)?;
     let create = create_command(alloc)?;
     let check = check_command(alloc)?;
+    let reclaim = reclaim_command(alloc)?;
     let one = with_word(program(alloc), run)?;
     let two = with_word(one, create)?;
     let three = with_word(two, check)?;
-    Ok(three)
+    let four = with_word(three, reclaim)?;
+    Ok(four)
 }

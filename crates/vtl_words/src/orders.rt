@@ -1,6 +1,7 @@
 //! What command words ask for.
 use std::alloc::{AllocError, AllocFailed};
 use thiserror::Error;
+use vtl_base::Barcode;
 
 /// What the program is to do.
 #[derive(Debug, Drop)]
@@ -18,6 +19,11 @@ pub enum Order {
     /// Tells what a file holds.
     Check {
         file: String,
+    },
+    /// Gives back the room of overwritten data of the cartridge of a configuration that has this barcode.
+    Reclaim {
+        config: String,
+        barcode: Barcode,
     },
 }
 

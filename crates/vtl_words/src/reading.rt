@@ -1,20 +1,21 @@
 //! Reads command words.
-ghost use Rattle.std.specs.Prelude.{◌≡◌, ◌≢◌, [], Some, IfOk, IfErr, option_map, string_bytes, codes};
+ghost use Rattle.std.specs.Prelude.{◌≡◌, ◌≢◌, [], Some, IfOk, IfErr, IfSome, MatchOption, option_map, string_bytes, codes};
 ghost use Rattle.clap.specs.Faults.{fault_of};
 ghost use Rattle.clap.specs.Matches.{found_of};
 ghost use Rattle.clap.specs.Simple.{subcommand_of, subcommand_rows_of};
 ghost use Rattle.clap.specs.Values.{kind_of};
 ghost use Rattle.clap.specs.Walk.{first_of, rows_of};
+ghost use Rattle.vtl_base.specs.Barcode.{IsBarcode};
 ghost use Rattle.vtl_words.specs.Commands.{vtl_command};
 ghost use Rattle.vtl_words.specs.Orders.{asked_of, asked_by, order_from, is_set, texts_of, Asks, RefusesWords};
-ghost use Rattle.vtl_words.specs.Inner.Told.{Tells, AsksNothing};
+ghost use Rattle.vtl_words.specs.Inner.Told.{Tells, AsksFor, AsksNothing};
 
 use crate::commands::vtl_command;
 use crate::orders::{Order, WordsError};
 use clap::ArgMatches;
 use clap::error::ErrorKind;
 use std::alloc::Global;
-use vtl_base::NoMemory;
+use vtl_base::{Barcode, NoMemory};
 
 // What an error of the parser is told as.
 fn told(alloc: Global, error: &clap::Error) -> WordsError
@@ -84,8 +85,7 @@ fn run_order(alloc: Global, matches: &ArgMatches<'_>) -> Result<Order, NoMemory>
 }
 
 fn create_order(alloc: Global, matches: &ArgMatches<'_>) -> Result<Order, WordsError>
-    ensures ok { IfOk result (λ order.
-        asked_by (codes "create") (rows_of (found_of matches.now)) ≡ Some (asked_of order)) }
+    ensures ok { IfOk result (AsksFor (asked_by (codes "create") (rows_of (found_of matches.now)))) }
     ensures err { IfErr result (AsksNothing (asked_by (codes "create") (rows_of (found_of matches.now)))) }
 {
     match copied(alloc, value_of(matches, "config")) {
@@ -98,8 +98,7 @@ fn create_order(alloc: Global, matches: &ArgMatches<'_>) -> Result<Order, WordsE
 }
 
 fn check_order(alloc: Global, matches: &ArgMatches<'_>) -> Result<Order, WordsError>
-    ensures ok { IfOk result (λ order.
-        asked_by (codes "check") (rows_of (found_of matches.now)) ≡ Some (asked_of order)) }
+    ensures ok { IfOk result (AsksFor (asked_by (codes "check") (rows_of (found_of matches.now)))) }
     ensures err { IfErr result (AsksNothing (asked_by (codes "check") (rows_of (found_of matches.now)))) }
 {
     match copied(alloc, value_of(matches, "file")) {
@@ -111,8 +110,37 @@ fn check_order(alloc: Global, matches: &ArgMatches<'_>) -> Result<Order, WordsEr
     }
 }
 
+// The barcode that is given; none where it is not there, or is no barcode.
+fn barcode_in(matches: &ArgMatches<'_>) -> Option<Barcode>
+    ensures { MatchOption result
+        (IfSome (first_of (codes "barcode") (rows_of (found_of matches.now))) (λ text. ¬ IsBarcode text))
+        (λ barcode. (first_of (codes "barcode") (rows_of (found_of matches.now)) ≡ Some barcode) × IsBarcode barcode) }
+{
+    match value_of(matches, "barcode") {
+        Some(text) => Barcode::parse(text.as_bytes()).ok(),
+        None => None,
+    }
+}
+
+fn reclaim_order(alloc: Global, matches: &ArgMatches<'_>) -> Result<Order, WordsError>
+    ensures ok { IfOk result (AsksFor (asked_by (codes "reclaim") (rows_of (found_of matches.now)))) }
+    ensures err { IfErr result (AsksNothing (asked_by (codes "reclaim") (rows_of (found_of matches.now)))) }
+{
+    let barcode = match barcode_in(matches) {
+        Some(barcode) => barcode,
+        None => return Err(WordsError::Refused),
+    };
+    match copied(alloc, value_of(matches, "config")) {
+        Ok(value) => match value {
+            Some(config) => Ok(Order::Reclaim { config, barcode }),
+            None => Err(WordsError::Refused),
+        },
+        Err(_) => Err(WordsError::NoMemory),
+    }
+}
+
 fn order_by(alloc: Global, word: &str, matches: &ArgMatches<'_>) -> Result<Order, WordsError>
-    ensures ok { IfOk result (λ order. asked_by word.now (rows_of (found_of matches.now)) ≡ Some (asked_of order)) }
+    ensures ok { IfOk result (AsksFor (asked_by word.now (rows_of (found_of matches.now)))) }
     ensures err { IfErr result (AsksNothing (asked_by word.now (rows_of (found_of matches.now)))) }
 {
     if word == "run" {
@@ -127,11 +155,14 @@ fn order_by(alloc: Global, word: &str, matches: &ArgMatches<'_>) -> Result<Order
     if word == "check" {
         return check_order(alloc, matches);
     }
+    if word == "reclaim" {
+        return reclaim_order(alloc, matches);
+    }
     Err(WordsError::Refused)
 }
 
 fn order_in(alloc: Global, matches: &ArgMatches<'_>) -> Result<Order, WordsError>
-    ensures ok { IfOk result (λ order. order_from (subcommand_rows_of matches.now) ≡ Some (asked_of order)) }
+    ensures ok { IfOk result (AsksFor (order_from (subcommand_rows_of matches.now))) }
     ensures err { IfErr result (AsksNothing (order_from (subcommand_rows_of matches.now))) }
 {
     match matches.subcommand() {

@@ -61,6 +61,34 @@ fn checked(answer: &Result<Order, WordsError>) -> Option<&str> {
     }
 }
 
+// The configuration and the barcode of an order that reclaims.
+fn reclaimed(answer: &Result<Order, WordsError>) -> Option<(&str, &[u8])> {
+    match answer {
+        Ok(Order::Reclaim { config, barcode }) => Some((config.as_str(), barcode.as_bytes())),
+        _ => None,
+    }
+}
+
+// Lines that reclaim: the configuration and the barcode.
+static RECLAIMS: &'static [(&'static str, &'static str, &'static str)] = &[
+    ("vtl reclaim --config a.toml T00001L6", "a.toml", "T00001L6"),
+    ("vtl reclaim T00001L6 --config a.toml", "a.toml", "T00001L6"),
+    ("vtl reclaim --config=a 0", "a", "0"),
+    (
+        "vtl reclaim --config a ABCDEFGHIJ012345",
+        "a",
+        "ABCDEFGHIJ012345",
+    ),
+];
+
+#[test]
+fn reclaim_has_a_configuration_and_a_barcode(rt: HostRuntime) {
+    for &(line, file, barcode) in RECLAIMS {
+        let answer = asked(rt.alloc(), line);
+        assert_equal!(rt; reclaimed(&answer), Some((file, barcode.as_bytes())); line);
+    }
+}
+
 // Lines that are refused.
 static REFUSED: &'static [&'static str] = &[
     "vtl",
@@ -83,6 +111,15 @@ static REFUSED: &'static [&'static str] = &[
     "vtl check a b",
     "vtl check --config a",
     "vtl run run",
+    "vtl reclaim",
+    "vtl reclaim T00001L6",
+    "vtl reclaim --config a",
+    "vtl reclaim --config a T00001L6 T00002L6",
+    "vtl reclaim --memory --config a T00001L6",
+    "vtl reclaim --config a t00001L6",
+    "vtl reclaim --config a ABCDEFGHIJ0123456",
+    "vtl reclaim --config a T-1",
+    "vtl reclaim --config a ",
 ];
 
 fn is_refused(answer: &Result<Order, WordsError>) -> bool {

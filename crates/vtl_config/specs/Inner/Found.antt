@@ -3,7 +3,8 @@ use Rattle.std.specs.Prelude.{◌≡◌, ℕ, Some, false, List, ◌++◌, ⊤}
 use Rattle.std.specs.List.{Contains}
 use Rattle.toml.specs.Data.{Data, table, Members}
 use Rattle.vtl_config.specs.Configs.{AreDrives, AreCartridges, IsAtHome, BrokenAt, ConfigBreaks}
-use Rattle.vtl_config.specs.Entries.{numbers_of, drive_files, barcodes_of, cartridge_files, homes_of, IsDriveTable, IsCartridgeTable}
+use Rattle.vtl_config.specs.Entries.{numbers_of, drive_files, barcodes_of, both_files, homes_of, IsDriveTable, IsCartridgeTable}
+use Rattle.vtl_config.specs.FileNames.{both_names, Meets}
 use Rattle.vtl_config.specs.Rules.{DriveTableBreaks, CartridgeTableBreaks}
 use Rattle.vtl_config.specs.declared.entries.DriveEntry.{DriveEntry}
 use Rattle.vtl_config.specs.declared.entries.CartridgeEntry.{CartridgeEntry}
@@ -29,7 +30,7 @@ pub record FitsCartridgeTable (drives : List DriveEntry) (before : List Cartridg
     (barcode file capacities : List ℕ) (home : ℕ) : Type 0 where
   pub is_table : IsCartridgeTable entry barcode file capacities home
   pub new_barcode : ¬ Contains (barcodes_of before) barcode
-  pub new_file : ¬ Contains (drive_files drives ++ cartridge_files before) file
+  pub new_files : ¬ Meets (both_names file) (drive_files drives ++ both_files before)
   pub new_home : ¬ Contains (homes_of before) home
   pub is_listed : IsAtHome (numbers_of drives) home
 

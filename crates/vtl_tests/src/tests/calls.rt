@@ -21,13 +21,13 @@ const DEVICE_ERROR: FileError = FileError::Device(DevFault { failures: 1 });
 // One run: what fails and the words behind the name; what is wanted: the calls, the text, and the line with the status.
 pub type Row<'a> = (Failing, &'a str, &'a str, &'a str, (&'a str, u8));
 
-const DONE: (&str, u8) = ("", 0);
+pub const DONE: (&str, u8) = ("", 0);
 
-const REFUSED_WORDS: (&str, u8) = ("vtl: command line refused\n", 1);
+pub const REFUSED_WORDS: (&str, u8) = ("vtl: command line refused\n", 1);
 
 pub const FAILED: (&str, u8) = (DEVICE, 2);
 
-const NO_MEMORY: (&str, u8) = ("vtl: out of memory\n", 3);
+pub const NO_MEMORY: (&str, u8) = ("vtl: out of memory\n", 3);
 
 fn words_of(alloc: Global, line: &str) -> Result<Vec<String>, Fail> {
     let mut words = Vec::new(alloc);
@@ -115,11 +115,11 @@ pub fn assert_rows<R: Abort + Threads + Wait + Clock + Sync>(
 
 const RUN: &str = "vtl run --config c";
 
-const THREE: &str = "read c;open t;open u;open 1;give up;";
+const THREE: &str = "read c;open t;second t.2;open u;second u.2;open 1;give up;";
 
-const FOUR: &str = "read c;open t;open u;open 1;open 2;give up;";
+const FOUR: &str = "read c;open t;second t.2;open u;second u.2;open 1;open 2;give up;";
 
-const ALL: &str = "read c;open t;open u;open 1;open 2;close all;";
+const ALL: &str = "read c;open t;second t.2;open u;second u.2;open 1;open 2;close all;";
 
 static RUNS: &'static [Row<'static>] = &[
     (Failing::Nothing, RUN, ALL, "", DONE),
@@ -147,14 +147,28 @@ static RUNS: &'static [Row<'static>] = &[
         FAILED,
     ),
     (
-        Failing::Call(3, FileError::Missing),
+        Failing::Call(3, FileError::InUse),
         RUN,
-        "read c;open t;open u;give up;",
+        "read c;open t;second t.2;back t;give up;",
         "",
         FAILED,
     ),
-    (Failing::Call(4, FileError::Missing), RUN, THREE, "", FAILED),
-    (Failing::Call(5, FileError::Missing), RUN, FOUR, "", FAILED),
+    (
+        Failing::Call(4, FileError::Missing),
+        RUN,
+        "read c;open t;second t.2;open u;give up;",
+        "",
+        FAILED,
+    ),
+    (
+        Failing::Call(5, DEVICE_ERROR),
+        RUN,
+        "read c;open t;second t.2;open u;second u.2;back u;give up;",
+        "",
+        FAILED,
+    ),
+    (Failing::Call(6, FileError::Missing), RUN, THREE, "", FAILED),
+    (Failing::Call(7, FileError::Missing), RUN, FOUR, "", FAILED),
     (Failing::Memory, RUN, "read c;", "", NO_MEMORY),
     // The first call of a cartridge's disk would fail, in a slot and in a drive, or the file is no cartridge's.
     (Failing::Disk("t", 0), RUN, ALL, "", DONE),
@@ -174,21 +188,21 @@ static MADE: &'static [Row<'static>] = &[
     (
         Failing::Nothing,
         CREATE,
-        "read c;make t;leave t;make u;leave u;make 1;leave 1;make 2;leave 2;",
+        "read c;make t;second t.2;leave t;back t.2;make u;second u.2;leave u;back u.2;make 1;leave 1;make 2;leave 2;",
         "created T00001L6\ncreated T00002L6\ncreated DRIVE1\ncreated DRIVE2\n",
         DONE,
     ),
     (
-        Failing::Call(3, FileError::Exists),
+        Failing::Call(4, FileError::Exists),
         CREATE,
-        "read c;make t;leave t;make u;make 1;leave 1;make 2;leave 2;",
+        "read c;make t;second t.2;leave t;back t.2;make u;make 1;leave 1;make 2;leave 2;",
         "created T00001L6\nkept T00002L6\ncreated DRIVE1\ncreated DRIVE2\n",
         DONE,
     ),
     (
-        Failing::Call(5, FileError::Exists),
+        Failing::Call(7, FileError::Exists),
         CREATE,
-        "read c;make t;leave t;make u;leave u;make 1;leave 1;make 2;",
+        "read c;make t;second t.2;leave t;back t.2;make u;second u.2;leave u;back u.2;make 1;leave 1;make 2;",
         "created T00001L6\ncreated T00002L6\ncreated DRIVE1\nkept DRIVE2\n",
         DONE,
     ),
@@ -199,9 +213,10 @@ fn a_creation_makes_what_is_missing(rt: HostRuntime) -> Result<(), Fail> {
     assert_rows(&rt, rt.alloc(), MADE)
 }
 
-const ONE: &str = "read c;make t;leave t;make u;";
+const ONE: &str = "read c;make t;second t.2;leave t;back t.2;make u;";
 
-const TWO: &str = "read c;make t;leave t;make u;leave u;make 1;";
+const TWO: &str =
+    "read c;make t;second t.2;leave t;back t.2;make u;second u.2;leave u;back u.2;make 1;";
 
 const FIRST: &str = "created T00001L6\n";
 
@@ -229,33 +244,40 @@ static TAKEN_AWAY: &'static [Row<'static>] = &[
         "",
         FAILED,
     ),
-    (Failing::Call(3, DEVICE_ERROR), CREATE, ONE, FIRST, FAILED),
-    (Failing::Call(4, DEVICE_ERROR), CREATE, TWO, BOTH, FAILED),
+    (
+        Failing::Call(3, FileError::InUse),
+        CREATE,
+        "read c;make t;second t.2;take t;",
+        "",
+        FAILED,
+    ),
+    (Failing::Call(4, DEVICE_ERROR), CREATE, ONE, FIRST, FAILED),
+    (Failing::Call(6, DEVICE_ERROR), CREATE, TWO, BOTH, FAILED),
     (
         Failing::Disk("t", 0),
         CREATE,
-        "read c;make t;take t;",
+        "read c;make t;second t.2;take t;back t.2;",
         "",
         FAILED,
     ),
     (
         Failing::Disk("t", 1),
         CREATE,
-        "read c;make t;take t;",
+        "read c;make t;second t.2;take t;back t.2;",
         "",
         FAILED,
     ),
     (
         Failing::Disk("u", 0),
         CREATE,
-        "read c;make t;leave t;make u;take u;",
+        "read c;make t;second t.2;leave t;back t.2;make u;second u.2;take u;back u.2;",
         FIRST,
         FAILED,
     ),
     (
         Failing::Disk("1", 1),
         CREATE,
-        "read c;make t;leave t;make u;leave u;make 1;take 1;",
+        "read c;make t;second t.2;leave t;back t.2;make u;second u.2;leave u;back u.2;make 1;take 1;",
         BOTH,
         FAILED,
     ),
@@ -272,14 +294,14 @@ static CHECKS: &'static [Row<'static>] = &[
     (
         Failing::Nothing,
         CHECK,
-        "look t;close t;",
+        "look t;look t.2;close t;close t.2;",
         "cartridge T00001L6 partitions 1 frames 0\npartition 0 objects 0 used 0\n",
         DONE,
     ),
     (
         Failing::Nothing,
         "vtl check 1",
-        "look 1;close 1;",
+        "look 1;look 1.2;close 1;close 1.2;",
         "reservations DRIVE1 frames 0 registrations 0\n",
         DONE,
     ),
@@ -290,11 +312,38 @@ static CHECKS: &'static [Row<'static>] = &[
         "",
         FAILED,
     ),
-    (Failing::Disk("t", 0), CHECK, "look t;close t;", "", FAILED),
+    (
+        Failing::Call(2, FileError::Missing),
+        CHECK,
+        "look t;look t.2;close t;close t.2;",
+        "cartridge T00001L6 partitions 1 frames 0\npartition 0 objects 0 used 0\n",
+        DONE,
+    ),
+    (
+        Failing::Call(2, FileError::InUse),
+        CHECK,
+        "look t;look t.2;close t;",
+        "",
+        FAILED,
+    ),
+    (
+        Failing::Disk("t", 0),
+        CHECK,
+        "look t;look t.2;close t;close t.2;",
+        "",
+        FAILED,
+    ),
+    (
+        Failing::Disk("t.2", 0),
+        CHECK,
+        "look t;look t.2;close t;close t.2;",
+        "",
+        FAILED,
+    ),
 ];
 
 #[test]
-fn a_check_opens_one_file_to_read(rt: HostRuntime) -> Result<(), Fail> {
+fn a_check_opens_both_files_to_read(rt: HostRuntime) -> Result<(), Fail> {
     assert_rows(&rt, rt.alloc(), CHECKS)
 }
 

@@ -30,8 +30,15 @@ fn failing_cartridge(
     calls: u64,
     entry: &CartridgeEntry,
 ) -> Option<Parked<OnceDisk<MemDisk>>> {
-    let disk = OnceDisk::new(MemDisk::new(alloc), calls);
-    match Cartridge::create(alloc, disk, &entry.barcode, entry.capacities.as_slice()) {
+    let first = OnceDisk::new(MemDisk::new(alloc), calls);
+    let second = OnceDisk::new(MemDisk::new(alloc), u64::MAX);
+    match Cartridge::create(
+        alloc,
+        first,
+        second,
+        &entry.barcode,
+        entry.capacities.as_slice(),
+    ) {
         Ok(shelved) => Some(Parked::of(alloc, shelved)),
         Err(_) => None,
     }

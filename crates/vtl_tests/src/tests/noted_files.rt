@@ -7,7 +7,7 @@ use std::io::{self, ErrorKind};
 use tape_disk::{MemDisk, OnceDisk};
 use vtl_base::DevFault;
 use vtl_config::{FileName, UsedName};
-use vtl_program::files::{ChangeFiles, MakeFiles, ReadFiles, TakesBack, TextFiles};
+use vtl_program::files::{ChangeFiles, MakeFiles, ReadFiles, SecondFiles, TakesBack, TextFiles};
 use vtl_program::starting::NotStarted;
 
 // A configuration of two cartridges, in slot 1001 and in drive 2, and of two drives.
@@ -18,6 +18,9 @@ const CONFIG: &[u8] = b"cartridge = [\
 
 /// The side of its first cartridge, new.
 pub const CARTRIDGE: &[u8] = b"\xa5VTLCART1\0\x01T00001L6        \0\0\0\0\0\0\x10\0\0";
+
+// What is no side, but can stand beside one of a pair.
+const SPARE: &[u8] = b"\0VTLCART1\0";
 
 // The side of its first drive, new.
 const STORE: &[u8] = b"\xa5VTLRESV1\0\0DRIVE1          \0";
@@ -98,6 +101,8 @@ impl NotedFiles {
         match (self.failing, name) {
             (Failing::Side(bad, bytes), _) if bad == name => bytes,
             (_, "t" | "u") => CARTRIDGE,
+            (_, "t.2") => b"",
+            (_, "u.2") => SPARE,
             _ => STORE,
         }
     }
@@ -142,11 +147,38 @@ impl ReadFiles<OnceDisk<MemDisk>> for NotedFiles {
         let _ = self.noted("close", name);
         drop(disk);
     }
+
+    fn nothing(&self) -> OnceDisk<MemDisk> {
+        OnceDisk::new(MemDisk::new(self.alloc), u64::MAX)
+    }
+}
+
+impl SecondFiles<OnceDisk<MemDisk>> for NotedFiles {
+    ghost opens_second = { λ name answer. Unit {0} };
+
+    ghost closes_second = { λ name disk. Unit {0} };
+
+    fn open_second(&self, name: FileName) -> (UsedName, Result<OnceDisk<MemDisk>, FileError>) {
+        let name = name.use_up();
+        let opened = self.second(name.as_str());
+        (name, opened)
+    }
+
+    fn close_second(&self, name: UsedName, disk: OnceDisk<MemDisk>) {
+        let name = name.as_str();
+        let _ = self.noted(self.word_of(&disk, name), name);
+        drop(disk);
+    }
 }
 
 impl NotedFiles {
     fn opened(&self, name: &str) -> Result<OnceDisk<MemDisk>, FileError> {
         self.call("open", name)?;
+        self.disk(name, self.side(name))
+    }
+
+    fn second(&self, name: &str) -> Result<OnceDisk<MemDisk>, FileError> {
+        self.call("second", name)?;
         self.disk(name, self.side(name))
     }
 

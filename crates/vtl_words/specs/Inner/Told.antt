@@ -1,8 +1,9 @@
 -- What private functions say of errors.
-use Rattle.std.specs.Prelude.{◌≡◌, ◌≢◌, Option, None, ⊤}
+use Rattle.std.specs.Prelude.{◌≡◌, ◌≢◌, Option, Some, ⊤}
 use Rattle.clap.specs.declared.error.kind.ErrorKind.{ErrorKind}
 use Rattle.clap.specs.declared.error.kind.ErrorKind.TheVariants.{DisplayHelp, OutOfMemory}
-use Rattle.vtl_words.specs.Orders.{Asked}
+use Rattle.vtl_words.specs.Orders.{Asked, asked_of, HasForm, IsNoOrder}
+use Rattle.vtl_words.specs.declared.orders.Order.{Order}
 use Rattle.vtl_words.specs.declared.orders.WordsError.{WordsError}
 use Rattle.vtl_words.specs.declared.orders.WordsError.TheVariants.{Help, Refused, NoMemory}
 
@@ -12,8 +13,12 @@ Tells kind (Help text) = kind ≡ DisplayHelp
 Tells kind Refused = (kind ≢ DisplayHelp) × (kind ≢ OutOfMemory)
 Tells kind NoMemory = ⊤
 
--- nothing is asked for, unless memory ran out
+-- the order is what is asked for, and that has its form
+abbrev pub AsksFor : Option Asked → Order → Type 0
+AsksFor asked order = (asked ≡ Some (asked_of order)) × HasForm (asked_of order)
+
+-- no order is given, unless memory ran out
 abbrev pub AsksNothing : Option Asked → WordsError → Type 0
 AsksNothing asked (Help text) = ⊥
-AsksNothing asked Refused = asked ≡ None
+AsksNothing asked Refused = IsNoOrder asked
 AsksNothing asked NoMemory = ⊤

@@ -1,7 +1,8 @@
 use Rattle.std.proofs.Common.{◌≡◌, true, inl, inr, refl}
-use Rattle.std.proofs.lemmas.List.Elements.{Contains-append_left, Contains-append_right, Contains-append_cases}
-use Rattle.vtl_config.specs.Entries.{address_of, drive_files, cartridge_files}
+use Rattle.vtl_config.specs.Entries.{address_of, drive_files}
+use Rattle.vtl_config.specs.FileNames.{both_names}
 use Rattle.vtl_config.specs.Rules.{cartridge_alone, double_barcode, double_file, double_home, no_such_drive}
+use Rattle.vtl_config.proofs.DoubleLemmas.{meets_drives, meets_firsts, meets_seconds, meets_cases}
 use Rattle.vtl_config.proofs.cartridge_entries.cartridge_in.Goals as goal
 
 pub returns-in-Err-clause-err : goal.returns-in-Err-clause-err
@@ -12,17 +13,23 @@ returns-then-has_barcode-clause-err c =
     double_barcode c.in-Ok.found.barcode refl c.in-Ok.ensures.ok.barcode_value
     (c.has_barcode.ensures.0 c.if-has_barcode.true)
 
-pub returns-then-has_drive_file-clause-err : goal.returns-then-has_drive_file-clause-err
-returns-then-has_drive_file-clause-err c =
+pub returns-then-meets_drive_files-clause-err : goal.returns-then-meets_drive_files-clause-err
+returns-then-meets_drive_files-clause-err c =
     double_file c.in-Ok.found.file.now refl c.in-Ok.ensures.ok.file_value
-    (Contains-append_left (drive_files c.args.drives.now) (cartridge_files c.args.before.now) c.in-Ok.found.file.now
-    (c.has_drive_file.ensures.0 c.if-has_drive_file.true))
+    (meets_drives (both_names c.in-Ok.found.file.now) (drive_files c.args.drives.now) c.args.before.now
+    (c.meets_drive_files.ensures.0 c.if-meets_drive_files.true))
 
-pub returns-then-has_cartridge_file-clause-err : goal.returns-then-has_cartridge_file-clause-err
-returns-then-has_cartridge_file-clause-err c =
+pub returns-then-meets_cartridge_files-clause-err : goal.returns-then-meets_cartridge_files-clause-err
+returns-then-meets_cartridge_files-clause-err c =
     double_file c.in-Ok.found.file.now refl c.in-Ok.ensures.ok.file_value
-    (Contains-append_right (drive_files c.args.drives.now) (cartridge_files c.args.before.now) c.in-Ok.found.file.now
-    (c.has_cartridge_file.ensures.0 c.if-has_cartridge_file.true))
+    (meets_firsts (both_names c.in-Ok.found.file.now) (drive_files c.args.drives.now) c.args.before.now
+    (c.meets_cartridge_files.ensures.0 c.if-meets_cartridge_files.true))
+
+pub returns-then-meets_second_files-clause-err : goal.returns-then-meets_second_files-clause-err
+returns-then-meets_second_files-clause-err c =
+    double_file c.in-Ok.found.file.now refl c.in-Ok.ensures.ok.file_value
+    (meets_seconds (both_names c.in-Ok.found.file.now) (drive_files c.args.drives.now) c.args.before.now
+    (c.meets_second_files.ensures.0 c.if-meets_second_files.true))
 
 pub returns-then-has_home-clause-err : goal.returns-then-has_home-clause-err
 returns-then-has_home-clause-err c =
@@ -40,14 +47,19 @@ returns-clause-ok c = record {
   new_barcode =
       (λ has. let found : c.has_barcode.result ≡ true = c.has_barcode.ensures.1 has in
       cc (found, c.if-has_barcode.false));
-  new_file = (λ has. elim (Contains-append_cases _ _ _ has) [
-    | inl a ↦
-        let found : c.has_drive_file.result ≡ true = c.has_drive_file.ensures.1 a in
-        cc (found, c.if-has_drive_file.false)
-    | inr b ↦
-        let found : c.has_cartridge_file.result ≡ true = c.has_cartridge_file.ensures.1 b in
-        cc (found, c.if-has_cartridge_file.false)
-  ]);
+  new_files =
+      (λ meets.
+      elim (meets_cases (both_names c.in-Ok.found.file.now) (drive_files c.args.drives.now) c.args.before.now meets) [
+        | inl drive ↦
+            let found : c.meets_drive_files.result ≡ true = c.meets_drive_files.ensures.1 drive in
+            cc (found, c.if-meets_drive_files.false)
+        | inr (inl first) ↦
+            let found : c.meets_cartridge_files.result ≡ true = c.meets_cartridge_files.ensures.1 first in
+            cc (found, c.if-meets_cartridge_files.false)
+        | inr (inr second) ↦
+            let found : c.meets_second_files.result ≡ true = c.meets_second_files.ensures.1 second in
+            cc (found, c.if-meets_second_files.false)
+      ]);
   new_home =
       (λ has. let found : c.has_home.result ≡ true = c.has_home.ensures.1 has in cc (found, c.if-has_home.false));
   is_listed = c.if-not-is_at_home.ensures;

@@ -4,6 +4,7 @@ use Rattle.toml.specs.View.{view}
 use Rattle.toml.specs.declared.value.Value.{Value}
 use Rattle.vtl_config.specs.Configs.{AreCartridges}
 use Rattle.vtl_config.specs.Entries.{address_of, drive_files}
+use Rattle.vtl_config.specs.FileNames.{second_name}
 use Rattle.vtl_config.specs.Inner.Found.{FitsCartridge}
 use Rattle.vtl_config.specs.Rules.{CartridgeTableBreaks}
 use Rattle.vtl_config.specs.declared.rules.Place.TheVariants.{Cartridge}
@@ -38,10 +39,12 @@ loop-place-preserved c =
     ∙ ap (λ (v : Value). map view (take place values) ++ view v ∷ []) (sym c.index-entries-place.is) in
     let text : c.of.result ≡ c.in-Ok.found.file.now =
     search (rules, c.of.ensures, c.in_ok-file.ensures.ok) in
+    let named : c.of-in-loop-place.result ≡ second_name c.of.result =
+    c.of-in-loop-place.ensures ∙ (c.in_ok-second.ensures ∙ ap second_name (sym text)) in
     let fits : FitsCartridge c.args.drives.now c.loop-place.cartridges.items (view here) c.in-Ok.found.barcode
     c.of.result c.in-Ok.found.capacities (address_of c.in-Ok.found.home) =
     rw (← c.as_slice.ensures.value, text) c.in-Ok.ensures.ok in
-    rw (taken, c.in_ok-push.ensures.items) (cartridges_push _ _ _ _ _ c.loop-place.invariant fits)
+    rw (taken, c.in_ok-push.ensures.items) (cartridges_push _ _ _ _ _ c.loop-place.invariant fits named)
 
 pub returns-clause-ok : goal.returns-clause-ok
 returns-clause-ok c =

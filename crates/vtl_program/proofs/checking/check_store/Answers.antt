@@ -6,9 +6,9 @@ use Rattle.vtl_program.proofs.checking.check_store.Goals.{in-NotOurs, in-Damaged
 
 pub returns-in-Ok-clause-text : goal.returns-in-Ok-clause-text
 returns-in-Ok-clause-text g c =
-    rw c.close-disk.ensures
+    rw c.close-first.ensures
     (store_told c.in-Ok.store.heading c.in-Ok.store.states c.in-Ok.left c.told-lines.result c.states_text.result
-    (g.D.Disk.state c.args.disk) (g.D.Disk.state c.in-Ok.store.disk) c.told-lines.ensures.ok c.states_text.ensures
+    (g.D.Disk.state c.args.first) (g.D.Disk.state c.in-Ok.store.disk) c.told-lines.ensures.ok c.states_text.ensures
     c.in-Ok.ensures.ok.3 c.in-Ok.ensures.gives)
 
 pub returns-after-error-clause-text : goal.returns-after-error-clause-text
@@ -23,5 +23,5 @@ returns-after-error-clause-text g c =
       | in-Device w ↦ rw (w.in-Device.is, w.lines-is) tt
       | in-NoMemory w ↦ rw (w.in-NoMemory.is, w.lines-is) tt
     ] in
-    store_refusal_told c.in-Err.refused.error c.match-error.lines (g.D.Disk.state c.args.disk)
+    store_refusal_told c.in-Err.refused.error c.match-error.lines (g.D.Disk.state c.args.first)
     (g.D.Disk.state c.in-Err.refused.disk) c.in-Err.ensures.refused told

@@ -1,5 +1,5 @@
 use Rattle.std.proofs.Common.{◌∷◌, ◌++◌, [], ◌∙◌, ap, subst}
-use Rattle.gate_journal.specs.Side.{CLOSED, Heading, spell}
+use Rattle.gate_journal.specs.Side.{CLOSED, Heading, plain, spell}
 use Rattle.aptpl_store.specs.Contents.{GivesStates}
 use Rattle.vtl_program.proofs.creating.create_store.Goals as goal
 
@@ -15,7 +15,7 @@ returns-in-Ok-clause-ok g c =
           none_failed = c.in-Ok.ensures.ok.5;
           bytes = λ honest.
               c.in-Ok.ensures.bytes honest
-              ∙ ap (λ (h : Heading). spell h [] ++ CLOSED ∷ []) c.in-Ok.ensures.ok.0;
+              ∙ ap (λ (h : Heading). spell (plain h) [] ++ CLOSED ∷ []) c.in-Ok.ensures.ok.0;
           sure = λ honest image left.
               subst (λ (h : Heading). GivesStates h [] image) c.in-Ok.ensures.ok.0
               (c.in-Ok.ensures.sure honest image left);

@@ -1,5 +1,6 @@
 use Rattle.std.proofs.Common.{◌≡◌, ◌∙◌, inl, inr, ap, refl}
 use Rattle.bays.specs.Elements.{HeldState}
+use Rattle.library.specs.Counts.{places_filled}
 use Rattle.vtl_program.proofs.OrdersLemmas.{keeps_same}
 use Rattle.vtl_program.proofs.RunningLemmas.{as_many, put_together, ran_over}
 use Rattle.vtl_program.proofs.running.run_shared.Goals as goal
@@ -33,3 +34,9 @@ returns-in-Err g c =
     let same =
     c.from_parts-in-Err.ensures ∙ put_together c.args.held c.in-Err.back.slots c.in-Err.back.bays.items slots bays in
     rw (c.in-Err.ensures.back.4, c.in-Err.ensures.back.5) (inr (refl, same, (keeps_same _, keeps_same _)))
+
+pub run_library-ran-requires-clause-bay_ledger : goal.run_library-ran-requires-clause-bay_ledger
+run_library-ran-requires-clause-bay_ledger g c κs within = (
+  record { named = refl; cut = refl; one_each = refl },
+  c.new-drives.ensures ∙ c.count_drives.ensures ∙ ap places_filled c.as_slice.ensures.value,
+)

@@ -1,5 +1,6 @@
 use Rattle.std.proofs.Common.{◌≡◌, ◌∙◌, [], ap, sym, subst, List, ℕ}
-use Rattle.cartridge.specs.Contents.{contents_from, heading_with}
+use Rattle.side_pairs.specs.declared.which.Which.TheVariants.{First}
+use Rattle.cartridge.specs.Contents.{contents_from, heading_with, plain_head}
 use Rattle.tape_disk.specs.declared.memory.MemDisk.{MemDisk}
 use Rattle.vtl_program.specs.Inner.Waiting.{PutsHome, SwitchesOnAt}
 use Rattle.vtl_program.specs.Orders.{built_in_barcode, built_in_capacities}
@@ -25,7 +26,7 @@ returns-in-Ok c =
       known = shelved.0;
       torn = shelved.1;
       contents = shelved.2
-          ∙ ap (λ (barcode : List ℕ). contents_from (heading_with barcode built_in_capacities) [])
+          ∙ ap (λ (barcode : List ℕ). contents_from First (plain_head (heading_with barcode built_in_capacities)) [])
           c.in-Some-Ok.ensures'.value;
     } in
     let puts : PutsHome 1 c.of-cartridge.result c.in_ok-starting.starting c.put.new.self =

@@ -1,4 +1,4 @@
-use Rattle.std.proofs.Common.{◌≡◌, ◌∙◌, ap, subst}
+use Rattle.std.proofs.Common.{◌≡◌, [], ◌∙◌, ap, subst}
 use Rattle.clap.specs.Faults.{fault_of, is_simple_and_free}
 use Rattle.clap.specs.Kinds.{HasKind}
 use Rattle.clap.specs.Simple.{App}
@@ -16,3 +16,8 @@ returns-in-Err-try_get_matches_from-clause-err c =
     let kinds : HasKind (fault_of vtl_command words) error =
     subst (λ (app : App). HasKind (fault_of app words) error) c.in-Ok.ensures has in
     told_refused words (kind_of error) c.told.result c.told.ensures kinds
+
+pub returns-in-Ok-try_get_matches_from-clause-no_fault : goal.returns-in-Ok-try_get_matches_from-clause-no_fault
+returns-in-Ok-try_get_matches_from-clause-no_fault c =
+    let none = c.in-Ok-try_get_matches_from.ensures.kinds (ap is_simple_and_free c.in-Ok.ensures ∙ line_is_free) in
+    subst (λ (app : App). fault_of app (texts_of c.args.words.now) ≡ []) c.in-Ok.ensures none

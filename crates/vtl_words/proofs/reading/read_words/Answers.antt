@@ -10,7 +10,8 @@ returns-clause-ok c =
     IfOk-weaker c.order_in.result _ _
     (λ order asked. record {
       no_fault = c.in-Ok.ensures.no_fault;
-      matches = sym (ap order_from c.in-Ok.ensures.ok) ∙ asked;
+      matches = sym (ap order_from c.in-Ok.ensures.ok) ∙ asked.0;
+      form = asked.1;
     })
     c.order_in.ensures.ok
 

@@ -1,0 +1,14 @@
+use Rattle.vtl_config.specs.FileNames.{both_names, is_of_both}
+use Rattle.vtl_config.proofs.DoubleLemmas.{any_meets, meets_any, both_sound, both_complete}
+use Rattle.vtl_config.proofs.double_files.meets_drive_files.Goals as goal
+
+pub returns : goal.returns
+returns c = (
+  (λ found.
+      any_meets (λ entry. entry.reservations) (is_of_both c.args.file.now) (both_names c.args.file.now)
+      (both_sound c.args.file.now) c.args.drives.now (rw (← c.any_is_drive_file.ensures) found)),
+  (λ meets.
+      rw c.any_is_drive_file.ensures
+      (meets_any (λ entry. entry.reservations) (is_of_both c.args.file.now) (both_names c.args.file.now)
+      (both_complete c.args.file.now) c.args.drives.now meets)),
+)

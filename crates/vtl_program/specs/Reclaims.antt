@@ -1,0 +1,144 @@
+-- What `vtl reclaim` does, and what it writes (own).
+use Rattle.std.specs.Prelude.{◌≡◌, ◌⊎◌, ◌<◌, ◌≤◌, ◌-◌, ◌^◌, ◌==◌, ℕ, List, [], ◌∷◌, ◌++◌, bytes_eq, codes, decimal, Option, None, Some, Result, Ok, Err, IfOk, IfErr, OnOk, if◌then◌else◌}
+use Rattle.std.specs.List.{find, starts_with}
+use Rattle.std.specs.Io.KnownBytes.{Appends}
+use Rattle.std.specs.Io.KnownBytes as Known
+use Rattle.vtl_base.specs.declared.limits.TheConstants.{MAX_SIDE}
+use Rattle.tape_disk.specs.Disk.{DiskState}
+use Rattle.tape_disk.specs.TwoDisks.{AreHonest, EachOfTwo, Images, KeepsDisks, MayLeave, TwoDisks, TwoLeave, failures_of, seen_of_two}
+use Rattle.file_disk.specs.declared.error.FileError.{FileError}
+use Rattle.gate_journal.specs.Heads.{epoch_of}
+use Rattle.cartridge.specs.declared.error.CartridgeError.TheVariants as causes
+use Rattle.cartridge.specs.declared.reclaiming.ReclaimError.{ReclaimError}
+use Rattle.cartridge.specs.declared.reclaiming.ReclaimError.TheVariants.{Cartridge, EpochsSpent}
+use Rattle.cartridge.specs.Contents.{Contents, GivesContents, IsBadFrameAt, IsDamagedPairAt, IsNoCartridge, volume_made}
+use Rattle.cartridge.specs.Disks.{NoneOfTwo}
+use Rattle.cartridge.specs.Reclaiming.{LeavesVolume, copy_length, reclaimed_from}
+use Rattle.vtl_config.specs.declared.entries.CartridgeEntry.{CartridgeEntry}
+use Rattle.vtl_config.specs.declared.entries.Config.{Config}
+use Rattle.vtl_script.specs.Text.{AppendsPart}
+use Rattle.vtl_program.specs.Opened.{AreNotOpened}
+use Rattle.vtl_program.specs.SideText.{bad_record_line, damaged_line, not_a_side_line}
+use Rattle.vtl_program.specs.declared.programs.Verdict.{Verdict}
+use Rattle.vtl_program.specs.declared.programs.Verdict.TheVariants.{Done, Refused}
+use Rattle.vtl_program.specs.declared.programs.VtlFault.{VtlFault}
+use Rattle.vtl_program.specs.declared.programs.VtlFault.TheVariants.{Words, Config as BadConfig, Script, Device, NoMemory}
+
+-- the line of a cartridge that was reclaimed: what it is called, and how often it was so far (own)
+abbrev pub reclaimed_line : List ℕ → ℕ → List ℕ
+reclaimed_line barcode epoch = codes "reclaimed " ++ barcode ++ codes " epoch " ++ decimal epoch ++ 10 ∷ []
+
+-- the line of a cartridge that has no room or no epoch for a copy (own)
+abbrev pub not_reclaimed_line : List ℕ
+not_reclaimed_line = codes "not reclaimed" ++ 10 ∷ []
+
+-- why a cartridge is not reclaimed, by the images of its two files, and the line for it: its copy has no room, or its
+-- epoch is the greatest; no side counts; or a frame of the side that counts is not whole, or spells no changes that
+-- apply (own)
+abbrev pub RefusalText : Images → List ℕ → Type 0
+RefusalText images text =
+    ((contents : Contents) × GivesContents contents images
+    × ((MAX_SIDE < copy_length contents) ⊎ (epoch_of contents.head ≡ 2 ^ 64 - 1)) × (text ≡ not_reclaimed_line))
+    ⊎ ((IsNoCartridge images × (text ≡ not_a_side_line))
+    ⊎ (((at : ℕ) × IsDamagedPairAt images at × (text ≡ damaged_line at))
+    ⊎ ((at : ℕ) × IsBadFrameAt images at × (text ≡ bad_record_line at))))
+
+-- it is this line, or memory ran out (own)
+abbrev pub IsLine : List ℕ → Result (List ℕ) VtlFault → Type 0
+IsLine line (Ok text) = text ≡ line
+IsLine line (Err fault) = fault ≡ NoMemory
+
+-- the line for a cause why a cartridge is not reclaimed, or the fault that the cause is (own)
+abbrev pub TellsCause : ReclaimError → Result (List ℕ) VtlFault → Type 0
+TellsCause EpochsSpent lines = IsLine not_reclaimed_line lines
+TellsCause (Cartridge causes.SideFull) lines = IsLine not_reclaimed_line lines
+TellsCause (Cartridge causes.NotOurs) lines = IsLine not_a_side_line lines
+TellsCause (Cartridge (causes.Damaged at)) lines = IsLine (damaged_line at) lines
+TellsCause (Cartridge (causes.BadRecord at)) lines = IsLine (bad_record_line at) lines
+TellsCause (Cartridge (causes.Device fault)) lines = lines ≡ Err Device
+TellsCause (Cartridge causes.Failed) lines = lines ≡ Err Device
+TellsCause (Cartridge causes.NoMemory) lines = lines ≡ Err NoMemory
+
+module _ {D : Type 0} (state : D → DiskState) where
+  -- A cartridge was reclaimed: its copy has room, whatever crash comes the disks give the copy of what a read gave
+  -- before, which is the same volume, and the line has the epoch of the copy (own).
+  pub record IsReclaimed (barcode : List ℕ) (old new : TwoDisks D) (text : List ℕ) : Type 0 where
+    pub contents : Contents
+    pub gave : GivesContents contents (seen_of_two state old)
+    pub fits : copy_length contents ≤ MAX_SIDE
+    pub gives : EachOfTwo state new (GivesContents (reclaimed_from contents))
+    pub same : volume_made (reclaimed_from contents) ≡ volume_made contents
+    pub line : text ≡ reclaimed_line barcode (epoch_of (reclaimed_from contents).head)
+
+  -- why no line is told: a call of one of the disks failed; or memory ran out, and none did (own)
+  abbrev pub IsUntold : VtlFault → TwoDisks D → TwoDisks D → Type 0
+  IsUntold Device old new = failures_of state old < failures_of state new
+  IsUntold NoMemory old new = NoneOfTwo state old new
+  IsUntold Words old new = ⊥
+  IsUntold BadConfig old new = ⊥
+  IsUntold (Script line) old new = ⊥
+
+  -- Two disks were reclaimed as the cartridge that is called so: the lines say that it was, or why it was not, or none
+  -- are told for a cause that is one; and at every moment a crash leaves what it might have left before, or what gives
+  -- the volume that stood there (own).
+  pub record Reclaims (barcode : List ℕ) (old new : TwoDisks D) (lines : Result (List ℕ) VtlFault) : Type 0 where
+    pub keeps : KeepsDisks state old new
+    pub none_failed : OnOk lines (NoneOfTwo state old new)
+    pub text : IfOk lines (λ text. AreHonest state old →
+        IsReclaimed barcode old new text ⊎ RefusalText (seen_of_two state old) text)
+    pub cause : IfErr lines (λ fault. IsUntold fault old new)
+    pub any_moment : AreHonest state old →
+        TwoLeave state old new (LeavesVolume (MayLeave state old) (seen_of_two state old))
+
+-- what the line of a reclaim says: that it is done, or why it is not (own)
+abbrev pub verdict_told : List ℕ → Verdict
+verdict_told lines = if starts_with (◌==◌) lines (codes "reclaimed ") then Done else Refused
+
+-- the line of a reclaim was written, or a beginning of it, where the writer failed; where none is told, nothing was
+-- written (own)
+abbrev pub TellsReclaim :
+    Result (List ℕ) VtlFault → (before now : Option (List ℕ)) → Result Verdict VtlFault → Type 0
+TellsReclaim (Ok lines) before now (Ok verdict) = (verdict ≡ verdict_told lines) × Appends before now lines
+TellsReclaim (Ok lines) before now (Err fault) = (fault ≡ Device) × AppendsPart before now lines
+TellsReclaim (Err why) before now result = (result ≡ Err why) × Known.Keeps before now
+
+-- the cartridge of a configuration that has this barcode, if there is one (own)
+abbrev pub entry_with : List ℕ → List CartridgeEntry → Option CartridgeEntry
+entry_with barcode entries = find (λ entry. bytes_eq entry.barcode barcode) entries
+
+module _ {D : Type 0} (state : D → DiskState) (opens opens_second : List ℕ → Result D FileError → Type 0)
+    (hands_back closes_second : List ℕ → D → Type 0) (barcode : List ℕ) where
+  -- both files of a cartridge were opened, and reclaimed under this name; their disks were handed back, and it is told
+  -- (own)
+  pub record ReclaimsBoth (entry : CartridgeEntry) (before now : Option (List ℕ)) (result : Result Verdict VtlFault) :
+      Type 0 where
+    pub disks : TwoDisks D
+    pub first : opens entry.file (Ok disks.first)
+    pub second : opens_second entry.second_file (Ok disks.second)
+    pub last : TwoDisks D
+    pub closed : hands_back entry.file last.first × closes_second entry.second_file last.second
+    pub lines : Result (List ℕ) VtlFault
+    pub reclaims : Reclaims state barcode disks last lines
+    pub tells : TellsReclaim lines before now result
+
+  -- a file was not opened, and nothing is written (own)
+  abbrev pub ReclaimsNone : CartridgeEntry → (before now : Option (List ℕ)) → Result Verdict VtlFault → Type 0
+  ReclaimsNone entry before now result =
+      (fault : VtlFault) × (result ≡ Err fault) × Known.Keeps before now
+      × AreNotOpened opens opens_second hands_back entry.file entry.second_file fault
+
+  -- what is done with the cartridge that was named; where there is none, the words are refused, and nothing is written
+  -- (own)
+  abbrev pub ReclaimsEntry :
+      Option CartridgeEntry → (before now : Option (List ℕ)) → Result Verdict VtlFault → Type 0
+  ReclaimsEntry (Some entry) before now result =
+      ReclaimsBoth entry before now result ⊎ ReclaimsNone entry before now result
+  ReclaimsEntry None before now result = (result ≡ Err Words) × Known.Keeps before now
+
+  -- the cartridge of a configuration that has the barcode is reclaimed; where there is no configuration, nothing is
+  -- opened or written (own)
+  abbrev pub ReclaimsNamed :
+      Result Config VtlFault → (before now : Option (List ℕ)) → Result Verdict VtlFault → Type 0
+  ReclaimsNamed (Ok config) before now result =
+      ReclaimsEntry (entry_with barcode config.cartridges.items) before now result
+  ReclaimsNamed (Err fault) before now result = (result ≡ Err fault) × Known.Keeps before now
