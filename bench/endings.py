@@ -3,11 +3,11 @@
 
 Done; a bad line; a reader that fails (a folder); a writer that fails (a full device, a closed pipe); words and
 configurations that are refused, files that are missing, that can't be written (and are gone again), and full devices
-under create and check; a standard output that is closed from the start, of which nothing may land in a file; files that
-a run in another process has open, which goes on; checked files that hold no side, a damaged one or a bad record, whose
-line says so; memory that runs out, by limits of the system over a range: at each at which a script of no line ends well
-a long one does so too, or memory runs out in the program or in the command, and at some it does. But for --short, a
-script of 2,147,483,648 bytes, and one of a byte more."""
+under create, check and reclaim; a standard output that is closed from the start, of which nothing may land in a file;
+files that a run in another process has open, which goes on; checked files that hold no side, a damaged one or a bad
+record, whose line says so; memory that runs out, by limits of the system over a range: at each at which a script of no
+line ends well a long one does so too, or memory runs out in the program or in the command, and at some it does. But for
+--short, a script of 2,147,483,648 bytes, and one of a byte more."""
 import os
 import resource
 import signal
@@ -58,11 +58,13 @@ def ended_on(size):
 
 
 RUN, CREATE = ["run", "--config", "lib.toml"], ["create", "--config", "lib.toml"]
+RECLAIM = ["reclaim", "--config", "lib.toml", "T00001L6"]
 CONFIG = b"""cartridge = [{ barcode = "T00001L6", file = "t1.tape", capacities = [4096], home = 1 }]
 drive = [{ number = 1, reservations = "d1.pr" }]
 """
 # the sides of these files as they are made
 NEW = {"t1.tape": b"\xa5VTLCART1\0\x01T00001L6" + b" " * 8 + (4096).to_bytes(8, "big") + b"\0",
+       "t1.tape.2": b"",
        "d1.pr": b"\xa5VTLRESV1\0\0DRIVE1" + b" " * 10 + b"\0"}
 
 
@@ -83,25 +85,28 @@ def over_files(full):
         with open(os.path.join(room, "lib.toml"), "wb") as file:
             file.write(CONFIG)
         refused = b"vtl: command line refused\n"
-        made, tape = ["d1.pr", "lib.toml", "t1.tape"], os.path.join(room, "t1.tape")
+        made, tape = ["d1.pr", "lib.toml", "t1.tape", "t1.tape.2"], os.path.join(room, "t1.tape")
         rows = [
             ("a word that is none", (1, b"", refused, ["lib.toml"]), ended_in(room, ["walk"])),
             ("a word that is no text", (1, b"", refused, ["lib.toml"]), ended_in(room, [b"run", b"--config", b"\xff"])),
             ("files that are missing", (2, b"", DEVICE, ["lib.toml"]), ended_in(room, RUN)),
-            ("a cartridge that can't be made is gone again", (2, b"", DEVICE, ["lib.toml"]),
+            # its second file was made before, with no bytes
+            ("a cartridge that can't be made is gone again", (2, b"", DEVICE, ["lib.toml", "t1.tape.2"]),
              ended_in(room, CREATE, size=20)),
         ]
         with open(tape, "wb") as file:
             file.write(b"mine")
-        rows.append(("so is a store", (2, b"kept T00001L6\n", DEVICE, ["lib.toml", "t1.tape"]),
+        rows.append(("so is a store", (2, b"kept T00001L6\n", DEVICE, ["lib.toml", "t1.tape", "t1.tape.2"]),
                      ended_in(room, CREATE, size=20)))
         os.remove(tape)
-        rows.append(("a full device for create", (2, b"", DEVICE, ["lib.toml", "t1.tape"]),
+        rows.append(("a full device for create", (2, b"", DEVICE, ["lib.toml", "t1.tape", "t1.tape.2"]),
                      ended_in(room, CREATE, stdout=full)))
         rows.append(("create goes on", (0, b"kept T00001L6\ncreated DRIVE1\n", b"", made), ended_in(room, CREATE)))
         rows.append(("a full device for check", (2, b"", DEVICE, made),
                      ended_in(room, ["check", "t1.tape"], stdout=full)))
         rows.append(("a script over files", (0, b"", b"", made), ended_in(room, RUN)))
+        rows.append(("a full device for reclaim", (2, b"", DEVICE, made), ended_in(room, RECLAIM, stdout=full)))
+        rows.append(("reclaim goes on", (0, b"reclaimed T00001L6 epoch 2\n", b"", made), ended_in(room, RECLAIM)))
         return rows + closed_output() + files_in_use(room) + refused_files(room, made)
 
 
@@ -121,7 +126,7 @@ def closed_output():
     with tempfile.TemporaryDirectory(prefix="vtl-endings-") as room:
         with open(os.path.join(room, "lib.toml"), "wb") as file:
             file.write(CONFIG)
-        tape = {"lib.toml": CONFIG, "t1.tape": NEW["t1.tape"]}
+        tape = {"lib.toml": CONFIG, "t1.tape": NEW["t1.tape"], "t1.tape.2": b""}
         rows = [("a closed output for create", (2, DEVICE, tape), ended_closed(room, CREATE)),
                 ("a closed output for a file that is kept", (2, DEVICE, tape), ended_closed(room, CREATE))]
         ended_in(room, CREATE)
@@ -140,7 +145,8 @@ def files_in_use(room):
     told = first.stdout.readline()
     rows = [(f"{what} that another process has open", (2, b"", DEVICE, made), ended_in(room, words))
             for what, words in (("a run over files", RUN), ("a check of a cartridge", ["check", "t1.tape"]),
-                                ("a check of a store", ["check", "d1.pr"]))]
+                                ("a check of its second file", ["check", "t1.tape.2"]),
+                                ("a cartridge to be reclaimed", RECLAIM), ("a check of a store", ["check", "d1.pr"]))]
     rest, said = first.communicate(READY)
     return rows + [("the process that has them open", (0, ATTENTION + b"GOOD\n", b""),
                     (first.returncode, told + rest, said))]
@@ -156,12 +162,11 @@ def refused_files(room, made):
     for what, content in (("no UTF-8", b"\xff"), ("no TOML", b"drive"),
                           ("a drive that is not listed", CONFIG.replace(b"number = 1", b"number = 2"))):
         there = file_of("bad.toml", content)
-        for word in ("run", "create"):
-            rows.append((f"{word} over a configuration that is {what}", (1, b"", refused, there),
-                         ended_in(room, [word, "--config", "bad.toml"])))
+        for words in (["run"], ["create"], ["reclaim", "T00001L6"]):
+            rows.append((f"{words[0]} over a configuration that is {what}", (1, b"", refused, there),
+                         ended_in(room, [*words, "--config", "bad.toml"])))
     os.remove(os.path.join(room, "bad.toml"))
-    with open(os.path.join(room, "t1.tape"), "rb") as file:
-        side = file.read()
+    side = NEW["t1.tape"]
     # the gate of the first frame of a side of one partition has the place 35
     for what, content, line in (("empty", b"", b"not a side\n"), ("cut before its gate", side[:35], b"damaged at 35\n"),
                                 ("open at a frame that is none", side[:35] + b"\xa5", b"damaged at 35\n"),

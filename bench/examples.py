@@ -4,8 +4,9 @@
 `vtl create` must print create.expected, and the same with `kept` when it is asked again. Each NAME.script must write
 the bytes of NAME.expected and nothing on standard error, with status 0; where there is a NAME.ends, its first line is
 the status and the rest standard error. Then each command of NAME.check, a line `$ vtl WORDS`, must print the lines
-below it, and write no file; nor may the second `create`. A cartridge may have more frames than are written there: a
-flusher may store a part of what waits before all of it is. --program PATH: another program than the proved one."""
+below it, and write no file, `reclaim` excepted; nor may the second `create`. A cartridge may have more frames than are
+written there: a flusher may store a part of what waits before all of it is. --program PATH: another program than the
+proved one."""
 import argparse
 import os
 import shutil
@@ -90,7 +91,8 @@ class Library:
         self.compare(name, wanted, ["run", "--config", "library.toml"], example(f"{name}.script"))
         for command in example(f"{name}.check").decode().split("$ vtl ")[1:]:
             words, _, lines = command.partition("\n")
-            self.touch_nothing(f"vtl {words} after {name}", (0, lines.encode(), b""), words.split())
+            compare = self.compare if words.startswith("reclaim ") else self.touch_nothing
+            compare(f"vtl {words} after {name}", (0, lines.encode(), b""), words.split())
 
 
 def main():

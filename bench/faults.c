@@ -5,8 +5,8 @@
 // only the calls count between that read of standard input and the next one; 0 is the start.
 // The file that FAULTS_TOLD names gets how many calls of the kind there were, the name of the one, and how many threads
 // were started. The file that FAULTS_ASKED names gets a line for each call of malloc and realloc: how many bytes were
-// asked for. To the file that FAULTS_NOTES names each call is added that did something to a file or to standard output:
-// a letter, the last part of the file's name, a place, how many bytes; then the bytes.
+// asked for. To the file that FAULTS_NOTES names each call is added that did something to a file or to standard output,
+// and each sync that failed: a letter, the last part of the file's name, a place, how many bytes; then the bytes.
 #define _GNU_SOURCE
 #include <dlfcn.h>
 #include <errno.h>
@@ -165,8 +165,15 @@ ssize_t pwrite(int file, const void *from, size_t count, off_t place) {
         return (ssize_t)count;
     return noted(CALL(pwrite64, file, from, moved("pwrite", count), place), 'W', file, from, place);
 }
-int fsync(int file) { return noted(CALL(fsync, file), 'S', file, NULL, 0); }
-int fdatasync(int file) { return noted(CALL(fdatasync, file), 'S', file, NULL, 0); }
+// A sync that failed is noted too, by a letter of its own.
+static int synced(int done, int file) {
+    int why = errno;
+    noted(done < 0 && why == EIO ? 0 : done, done < 0 ? 'F' : 'S', file, NULL, 0);
+    errno = why;
+    return done;
+}
+int fsync(int file) { return synced(CALL(fsync, file), file); }
+int fdatasync(int file) { return synced(CALL(fdatasync, file), file); }
 int ftruncate(int file, off_t size) { return noted(CALL(ftruncate, file, size), 'T', file, NULL, size); }
 int flock(int file, int order) { return CALL(flock, file, order); }
 int fchmod(int file, mode_t mode) { return BRIEF(fchmod, file, mode); }

@@ -15,6 +15,7 @@ none of its commands failed; the reservations are those of a first part of the o
 create told of is there, each file that is there is whole, and it goes on; check changes no byte. In the stored run one
 command at most is ended by want of memory, and has its stored answer when it is given again. The journal, the cartridge
 and the buffer, in memory, end with status 1 (their words) or 2 behind some of their stored answers, or change nothing.
+Where the program has `vtl reclaim` that is tried too: the volumes stay, and the cartridge can be reclaimed again.
 
 --program PATH another program than the proved one; --stored: the growths of the stored run alone, as the gate does;
 --selftest: writes are lost behind the program's back, which must be found, and so must invented answers."""
@@ -28,13 +29,17 @@ import sys
 import tempfile
 
 import fault_invented
+import reclaiming
 from drive_model import MARK
 from fault_script import (ABORTED, ANSWERED, DEFERRED, FIRST, HAS_FAILED, NOT_PRESENT, RESERVED, RIGHT, SCRIPT, SECOND,
                           STATUS, WRITE_ERROR, misanswered)
 from life import LONGEST, PROVED, TOP, objects_of
+from reclaiming import content
 
 STORE = "DRIVE1"
 FILES = {FIRST: "1.tape", SECOND: "2.tape", STORE: "drive1.pr"}
+# the second files of cartridges too, which a program without `vtl reclaim` does not have
+EACH_FILE = [*FILES.values(), *(FILES[name] + reclaiming.SECOND for name in (FIRST, SECOND))]
 CONFIG = "".join(f'[[cartridge]]\nbarcode = "{name}"\nfile = "{FILES[name]}"\n'
                  f"capacities = [65_536]\nhome = {home}\n"
                  for name, home in [(FIRST, 1), (SECOND, 1001)]) + "[[drive]]\nnumber = 1\nreservations = "
@@ -50,13 +55,6 @@ Run = collections.namedtuple("Run", "status out err calls name")
 
 def built(crate):
     return os.path.join(TOP, "crates", crate, "out", crate)
-
-
-def content(path):
-    if not os.path.exists(path):
-        return None
-    with open(path, "rb") as file:
-        return file.read()
 
 
 class Room:
@@ -120,6 +118,21 @@ def look(name):
         wrong = [] if done or fails(kind, wanted.out, run) else ["its end"]
         return run, "nothing" if done else "the program", wrong + ["a file is changed"] * (room.sides() != before)
     return checks
+
+
+def reclaim(room, kind, at):
+    """The volumes stay, the cartridge is of its epoch or the next one, and it can be reclaimed again."""
+    words, path = ["reclaim", "--config", "lib.toml", FIRST], os.path.join(room.path, FILES[FIRST])
+    held, epoch = read_back(room)[0], reclaiming.side_that_counts(path)[2]
+    wanted = f"reclaimed {FIRST} epoch {epoch + 1}\n"
+    run = room.run(words, "", kind, at)
+    there, done = reclaiming.side_that_counts(path)[2], run[:3] == (0, wanted, "")
+    wrong = [] if done or fails(kind, wanted, run) else ["its end"]
+    wrong += [f"of epoch {epoch} there is {there}"] * (there != epoch + 1 if wanted in run.out else there < epoch)
+    goes_on = room.run(words)[:3] == (0, f"reclaimed {FIRST} epoch {there + 1}\n", "")
+    wrong += [] if goes_on else ["it is not reclaimed again"]
+    wrong += [] if read_back(room)[0] == held else ["another volume is read"]
+    return run, "nothing" if done else "the program", wrong
 
 
 def serve(room, kind, at):
@@ -278,6 +291,12 @@ def sweeps(tools, bare, new, used):
                             ("vtl check of a store", look(STORE), used), ("vtl run", serve, new)):
         for kind in ("memory", "fault", "interrupted", "short"):
             wrong += sweep(tools, room, what, way, kind)
+    for kind in ("memory", "fault", "interrupted", "short") if reclaiming.reclaims(tools[0]) else ():
+        room = Room(tools, used)
+        with room.room:
+            wrong += sweep(tools, room.path, "vtl reclaim", reclaim, kind)
+            room.run(["reclaim", "--config", "lib.toml", FIRST])
+            wrong += sweep(tools, room.path, "vtl reclaim of a copy", reclaim, kind)
     wrong += sweep(tools, bare, "the stored run", again, "memory")
     for crate in WORKS:
         wrong += sweep((built(crate), tools[1]), bare, crate, work(crate), "memory")

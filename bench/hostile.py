@@ -7,13 +7,17 @@ lengths and gates changed, with frames moved, cut, spliced; bodies that spell no
 not apply; whole sides; frames as long as may be. None may stop the program or change a byte of the file; standard error
 stays empty; each answer comes for one file in a hundred at least.
 
+Of a program that has `vtl reclaim` each second one is a pair (pair_maker.py), the file that is checked and the one with
+`.2`: pairs that were reclaimed, or left by a reclaim that was stopped, and pairs of which one file is missing, cut, of
+another cartridge, of an older epoch, or any bytes. Neither may change, and a missing one may not be made.
+
 A file is opened in memory for eight times its bytes and a mebibyte, beside what a new cartridge takes. A program that
 the system can limit is held to that for each nineteenth file. One that is built with checks, as that of unproved.py,
 cannot be limited so: there no single growth may be larger.
 
 --program PATH another program than the proved one; --count N files; --seed S; --jobs J at a time; --one N looks at the
-file of that number alone; --selftest: the plain reader is compared with the rows of rows/, and programs that are wrong
-on purpose must be found."""
+file of that number alone; --selftest: the plain reader is compared with the rows of rows/ and with a table
+of pairs (pairs_selftest.py), and programs that are wrong on purpose must be found."""
 import argparse
 import collections
 import concurrent.futures
@@ -25,7 +29,9 @@ import sys
 import tempfile
 import time
 
+import pair_maker
 import plain_sides
+import reclaiming
 import side_maker
 
 TOP = os.path.dirname(os.path.dirname(os.path.abspath(__file__)))
@@ -57,8 +63,8 @@ def late(number, frame):
 class Room:
     """A folder in which files are checked one after the other."""
 
-    def __init__(self, program, base, folder):
-        self.program, self.base = program, base
+    def __init__(self, program, base, folder, is_paired=False):
+        self.program, self.base, self.is_paired = program, base, is_paired
         self.path, self.out, self.said = (os.path.join(folder, name) for name in ("side", "out", "said"))
         signal.signal(signal.SIGALRM, late)
 
@@ -78,11 +84,19 @@ class Room:
         return os.posix_spawn(self.program, words, environ, file_actions=[
             (os.POSIX_SPAWN_OPEN, 1, self.out, flags, 0o600), (os.POSIX_SPAWN_OPEN, 2, self.said, flags, 0o600)])
 
-    def checked(self, data, limit=None):
+    def put(self, files):
+        """Writes the file, and its second one or none."""
+        for path, data in zip((self.path, self.path + reclaiming.SECOND), files):
+            if data is not None:
+                with open(path, "wb") as file:
+                    file.write(data)
+            elif os.path.exists(path):
+                os.remove(path)
+
+    def checked(self, files, limit=None):
         """How the program ends over these bytes."""
-        with open(self.path, "wb") as file:
-            file.write(data)
-        child = self.started(len(data), limit)
+        self.put(files)
+        child = self.started(size_of(files), limit)
         signal.alarm(SECONDS)
         try:
             status = os.waitstatus_to_exitcode(os.waitpid(child, 0)[1])
@@ -94,14 +108,31 @@ class Room:
             signal.alarm(0)
         return Ended(status, read(self.out), read(self.said))
 
-    def wrong(self, data, limited):
+    def wrong(self, files, limited):
         """The answer that is owed for these bytes, and what differs from it."""
-        lines, status = plain_sides.checked(data)
-        limit = self.base + room_for(len(data)) if limited and self.base else None
-        ended, wanted = self.checked(data, limit), Ended(status, lines.encode(), b"")
+        lines, status = owed(files, self.is_paired)
+        limit = self.base + room_for(size_of(files)) if limited and self.base else None
+        ended, wanted = self.checked(files, limit), Ended(status, lines.encode(), b"")
         if ended != wanted:
             return lines, f"{ended} in the place of {wanted}" + (f", in {limit} bytes of memory" if limit else "")
-        return lines, None if read(self.path) == data else "the file has changed"
+        return lines, None if reclaiming.pair(self.path) == tuple(files) else "a file has changed"
+
+
+def size_of(files):
+    return sum(len(data) for data in files if data is not None)
+
+
+def owed(files, is_paired):
+    """The lines and the status for a file and its second one."""
+    return plain_sides.checked_pair(*files) if is_paired else plain_sides.checked(files[0])
+
+
+def made(seed, number, is_paired):
+    """The kind and the files of that number."""
+    if is_paired and number % 2:
+        return pair_maker.made_pair(seed, number // 2)
+    kind, data = side_maker.made(seed, number // 2 if is_paired else number)
+    return kind, [data, None]
 
 
 def read(path):
@@ -109,18 +140,18 @@ def read(path):
         return file.read()
 
 
-def batch(program, base, seed, numbers):
+def batch(program, base, is_paired, seed, numbers):
     """How often each kind of file and each answer came, and what is wrong."""
     kinds, answers, wrong = collections.Counter(), collections.Counter(), []
     with tempfile.TemporaryDirectory(prefix="vtl-hostile-", dir=MEMORY) as folder:
-        room = Room(program, base, folder)
+        room = Room(program, base, folder, is_paired)
         for number in numbers:
-            kind, data = side_maker.made(seed, number)
-            lines, differs = room.wrong(data, number % LIMITED == 0)
+            kind, files = made(seed, number, is_paired)
+            lines, differs = room.wrong(files, number % LIMITED == 0)
             kinds[kind] += 1
             answers[next(answer for answer in ANSWERS if lines.startswith(answer))] += 1
             if differs:
-                wrong.append(f"file {number} of seed {seed} ({kind}, {len(data)} bytes): {differs[:600]}")
+                wrong.append(f"file {number} of seed {seed} ({kind}, {size_of(files)} bytes): {differs[:600]}")
     return kinds, answers, wrong
 
 
@@ -129,7 +160,7 @@ def least_memory(program):
     with tempfile.TemporaryDirectory(prefix="vtl-hostile-", dir=MEMORY) as folder:
         room = Room(program, None, folder)
         for limit in range(4 * MIB, 128 * MIB, 3 * MIB):
-            if room.checked(NEW[0], limit) == Ended(0, NEW[1], b""):
+            if room.checked([NEW[0], None], limit) == Ended(0, NEW[1], b""):
                 return limit
     return None
 
@@ -137,9 +168,9 @@ def least_memory(program):
 def all_batches(program, seed, count, jobs):
     """The same of all files."""
     kinds, answers, wrong = collections.Counter(), collections.Counter(), []
-    base = least_memory(program)
+    base, is_paired = least_memory(program), reclaiming.reclaims(program)
     with concurrent.futures.ProcessPoolExecutor(jobs) as pool:
-        done = [pool.submit(batch, program, base, seed, range(at, min(at + BATCH, count)))
+        done = [pool.submit(batch, program, base, is_paired, seed, range(at, min(at + BATCH, count)))
                 for at in range(0, count, BATCH)]
         for found in concurrent.futures.as_completed(done):
             more, those, differ = found.result()
@@ -152,11 +183,12 @@ def all_batches(program, seed, count, jobs):
 
 
 def look_at(program, seed, number):
-    kind, data = side_maker.made(seed, number)
+    is_paired = reclaiming.reclaims(program)
+    kind, files = made(seed, number, is_paired)
     with tempfile.TemporaryDirectory(prefix="vtl-hostile-", dir=MEMORY) as folder:
-        ended = Room(program, None, folder).checked(data)
-    print(f"file {number} of seed {seed} ({kind}, {len(data)} bytes): {data[:400].hex()}\n{ended}\n"
-          f"{plain_sides.checked(data)}")
+        ended = Room(program, None, folder).checked(files)
+    said = " and ".join("none" if data is None else data[:400].hex() for data in files)
+    print(f"file {number} of seed {seed} ({kind}, {size_of(files)} bytes): {said}\n{ended}\n{owed(files, is_paired)}")
 
 
 def main():

@@ -9,9 +9,13 @@ part of the changes given to it leaves, with every change up to its last acknowl
 reservations of each drive must be what a loss of power leaves after a first part of the orders, with every acknowledged
 one. The next script goes on from there, ten on one library.
 
+Between two scripts of a program that has `vtl reclaim` a cartridge is reclaimed, mostly killed at a random moment too.
+Each volume must be what it was; the epoch is what it was or one more, and one more where the line is out; a copy that
+counts is whole, and nothing lies behind it.
+
 --count N kills (1,000); --seed S; --jobs J libraries at a time; --program PATH another program than the proved one;
---selftest: files are changed behind the program's back instead, and another end is put behind a script that runs to its
-end; each of these must be found."""
+--selftest: files are changed behind the program's back instead, of a cartridge that was reclaimed too, and another
+end is put behind a script that runs to its end; each of these must be found."""
 import argparse
 import concurrent.futures
 import os
@@ -21,7 +25,8 @@ import sys
 import tempfile
 import time
 
-from kill_script import Script
+import reclaiming
+from kill_script import TAPES, Script
 from life import PROVED, Life, end_of, files_of, is_cut, read
 
 LIVES = 10
@@ -57,6 +62,7 @@ class Found:
 
     def __init__(self):
         self.kills = self.opening = self.cut = self.ended = self.beyond = self.lost = self.answers = self.standing = 0
+        self.reclaims = self.stopped = self.copies = 0
         self.prefixes, self.wrong = set(), []
 
     def add(self, killed, read, cut, parts, stands):
@@ -70,6 +76,24 @@ class Found:
             self.standing += stands
             self.lost += any(there is not None and there < given for _, there, given in parts)
             self.prefixes.add(tuple(parts))
+
+    def add_reclaim(self, killed, is_copied):
+        self.reclaims += 1
+        self.stopped += killed
+        self.copies += killed and is_copied
+
+
+def reclaim_some(life, chance, found, seconds):
+    """Reclaims a cartridge now and then, mostly killed within twice the time that one took; how long one takes."""
+    if life.wrong or not reclaiming.reclaims(life.program) or chance.random() < 0.3:
+        return seconds
+    name, began = chance.choice(list(TAPES)), time.monotonic()
+    delay = chance.random() * 2 * seconds if seconds and chance.random() < 0.8 else None
+    killed, is_copied = life.reclaim(name, delay)
+    took = time.monotonic() - began
+    found.add_reclaim(killed, is_copied)
+    life.keeps(name)
+    return seconds if killed else took if seconds is None else seconds + 0.2 * (took - seconds)
 
 
 def compared(life, told, script):
@@ -87,7 +111,7 @@ def live(program, seed, kills):
         began = time.monotonic()
         life.ended(["run", "--config", "drive.toml"])
         opening = time.monotonic() - began
-        pace = None
+        pace = reclaim_takes = None
         for _ in range(kills * 4 + 1):
             if found.kills == kills or life.wrong:
                 break
@@ -104,6 +128,7 @@ def live(program, seed, kills):
                 life.wrong.append(f"it ended by itself after {len(told)} of {len(script.answers)} answers")
             parts = life.judge(script, len(told), killed)
             found.add(killed, len(told), cut, parts, any(it.keys for it in life.reservations.values()))
+            reclaim_takes = reclaim_some(life, chance, found, reclaim_takes)
         found.wrong = [f"seed {seed}, kill {found.kills}: {wrong}" for wrong in life.wrong]
     return found
 
@@ -123,16 +148,51 @@ def doctored(program):
                 life = Life(program, room)
                 script = Script(random.Random(1), life.volumes, life.reservations)
                 life.run(script, None)
-                with open(os.path.join(room, name), "r+b") as file:
-                    side = change(file.read())
-                    file.seek(0)
-                    file.truncate()
-                    file.write(side)
+                rewrite(os.path.join(room, name), change)
                 life.judge(script, len(script.answers), False)
                 tried += 1
                 if bool(life.wrong) != (way != "nothing"):
                     missed.append(f"{name}: {way}: {life.wrong or 'not found'}")
     return tried, missed
+
+
+def reclaimed_and_doctored(program):
+    """The same for a cartridge that was reclaimed, whose second file counts."""
+    def close(place):
+        return lambda side: side[:place] + b"\0" + side[place + 1:]
+    ways = {"nothing": ("", bytes), "the copy is closed, and the old side counts": ("", bytes),
+            "the copy is closed, and a frame of the old side": (reclaiming.SECOND, close(0)),
+            "the copy is cut": (reclaiming.SECOND, lambda side: side[:-3]),
+            "the pair gate is closed, and a frame of the old side": ("", close(9)),
+            "a byte of the last block is another": (reclaiming.SECOND,
+                                                    lambda side: side[:-2] + bytes([side[-2] ^ 1]) + side[-1:])}
+    missed = []
+    for way, (which, change) in ways.items():
+        with tempfile.TemporaryDirectory(prefix="vtl-kills-") as room:
+            life, name = Life(program, room), "KILL1L6"
+            script = Script(random.Random(1), life.volumes, life.reservations)
+            life.run(script, None)
+            life.judge(script, len(script.answers), False)
+            life.reclaim(name)
+            path = os.path.join(room, f"{name}.tape")
+            if way.startswith("the copy is closed, and the old"):
+                # which holds the same, so nothing may be found
+                rewrite(path + reclaiming.SECOND, close(0))
+            if "a frame of the old side" in way:
+                rewrite(path, lambda side: close(end_of(side)[0])(side))
+            rewrite(path + which, change)
+            life.keeps(name)
+            if bool(life.wrong) != (change is not bytes):
+                missed.append(f"{name}, reclaimed: {way}: {life.wrong or 'not found'}")
+    return len(ways), missed
+
+
+def rewrite(path, change):
+    with open(path, "r+b") as file:
+        side = change(file.read())
+        file.seek(0)
+        file.truncate()
+        file.write(side)
 
 
 def stood_in(program):
@@ -156,6 +216,9 @@ def stood_in(program):
 
 def selftest(program):
     (libraries, changes), (count, ends) = doctored(program), stood_in(program)
+    if reclaiming.reclaims(program):
+        more, others = reclaimed_and_doctored(program)
+        libraries, changes = libraries + more, changes + others
     print("\n".join([*changes, *ends, f"self-test: {libraries} libraries and {count} ends, "
                      f"{len(changes) + len(ends)} not judged as they should be"]))
     return 1 if changes or ends else 0
@@ -198,6 +261,8 @@ def tell(founds):
     print(f"in {total('lost')} kills a part of what was given is gone, in {total('beyond')} more is there than was "
           f"acknowledged; {len(prefixes)} different prefixes")
     print(f"after {total('standing')} kills registrations and reservations stood")
+    print(f"{total('reclaims')} reclaims, {total('stopped')} of them killed, after {total('copies')} of which the copy "
+          "counts")
     print(f"kills: {len(wrong)} violations")
     return 1 if wrong else 0
 

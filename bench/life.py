@@ -1,9 +1,12 @@
-"""A library over real files for kills.py and stops.py: scripts are run over it, and what it then holds is compared."""
+"""A library over real files for kills.py and stops.py: scripts are run over it, its cartridges are reclaimed, and what
+it then holds is compared."""
 import os
 import subprocess
 import sys
 import time
 
+import plain_sides
+import reclaiming
 from drive_model import MARK, Reservations, check
 from kill_script import TAPES, configuration
 
@@ -52,6 +55,35 @@ class Life:
         if said or child.returncode and not killed:
             self.wrong.append(f"a script ended with status {child.returncode}: {said.decode(errors='replace')}")
         return told.decode().split("\n")[:-1], killed
+
+    def reclaim(self, name, delay=None):
+        """Reclaims a cartridge, killed so long after its start where a delay is given; whether it was, and whether the
+        other file counts then. It may leave the cartridge as it was, or reclaimed, and nothing between."""
+        path = os.path.join(self.room, f"{name}.tape")
+        _, _, epoch, _ = reclaiming.side_that_counts(path)
+        child = subprocess.Popen([self.program, "reclaim", "--config", "drive.toml", name], cwd=self.room,
+                                 stdin=subprocess.DEVNULL, stdout=subprocess.PIPE, stderr=subprocess.PIPE)
+        if delay is not None:
+            time.sleep(delay)
+            child.kill()
+        out, said = child.communicate()
+        killed, line = child.returncode == -9, f"reclaimed {name} epoch {epoch + 1}\n".encode()
+        if said or out not in (line, b"" if killed else line) or child.returncode not in (0, -9 if killed else 0):
+            self.wrong.append(f"reclaim {name} ended with status {child.returncode}: {out + said}")
+        side, start, later, base = reclaiming.side_that_counts(path)
+        if later not in ((epoch + 1,) if out else (epoch, epoch + 1)):
+            self.wrong.append(f"{name}: of epoch {epoch} is reclaimed to epoch {later}, and {out} is written")
+        found, damaged = plain_sides.frames(side, start)
+        if later > epoch and (damaged is not None or len(found) != base or len(side) != end_of(side)[1] + 1):
+            self.wrong.append(f"{name}: a copy of base {base} has {len(found)} frames and {len(side)} bytes")
+        return killed, later > epoch
+
+    def keeps(self, name):
+        """Whether a volume that was judged last is read again."""
+        found = self.read_back({tape: len(objects) for tape, objects in self.volumes.items()})[0]
+        if found != self.volumes:
+            self.wrong.append(f"{name} was reclaimed, and another volume is read")
+        return found == self.volumes
 
     def read_back(self, counts):
         """Each volume, of so many objects at most, or None where it is not read; and what is read of each drive's
@@ -121,13 +153,13 @@ def objects_of(answers):
 
 
 def read(path):
-    with open(path, "rb") as file:
-        return file.read()
+    """The bytes of a file; of a cartridge those of the one that counts."""
+    return reclaiming.side_that_counts(path)[0] if path.endswith(".tape") else reclaiming.content(path)
 
 
 def end_of(side):
     """The places of the last frame's gate and of the gate behind it."""
-    at, last = 27 + 8 * side[10], 0
+    at, last = plain_sides.Header(side).end, 0
     while side[at] == 0xA5:
         at, last = at + 5 + int.from_bytes(side[at + 1:at + 5], "big"), at
     return last, at

@@ -4,12 +4,14 @@ import collections
 from faults import content
 
 Call = collections.namedtuple("Call", "letter name place bytes")
+# between the calls of two processes
+OPENED = Call("O", "", 0, b"")
 FILLS = [b"\x00", b"\xa5", b"\xff"]
 
 
 def noted(path):
     """The calls that were noted: those that did something to a file of the library, to its folder, or to standard
-    output."""
+    output, and the syncs that failed."""
     text, at, calls = content(path), 0, []
     while at < len(text):
         end = text.index(b"\n", at)
@@ -20,10 +22,15 @@ def noted(path):
 
 
 class Disk:
-    """A file, as a loss of power may leave it: what is safe, and the calls since."""
+    """A file, as a loss of power may leave it: what is safe, and the calls since. Where a sync failed, later ones may
+    pass over the bytes that were written before it, until they are written again: these by their places, with what is
+    safe there."""
+
+    # that so many bytes of one write stay which an opening writes over the same ones is a premise of its own
+    stays = 1
 
     def __init__(self, safe):
-        self.safe, self.calls = safe, []
+        self.safe, self.calls, self.passed, self.again, self.is_opened = safe, [], {}, set(), False
 
     def seen(self):
         image = bytearray(self.safe)
@@ -34,15 +41,36 @@ class Disk:
                 image[call.place:call.place + len(call.bytes)] = call.bytes
         return bytes(image)
 
+    def places(self, call):
+        return range(call.place, call.place + len(call.bytes))
+
     def do(self, call):
-        if call.letter == "S":
-            self.safe, self.calls = self.seen(), []
-        # that one byte stays which is written over the same one is a premise of its own
-        elif call.letter == "T" or len(call.bytes) != 1 or self.seen()[call.place:call.place + 1] != call.bytes:
+        if call.letter == "W":
+            self.again.update(self.places(call))
+        if call.letter == "T":
+            self.passed = {place: old for place, old in self.passed.items() if place < call.place}
+        if call.letter == "F":
+            # of a place that was in doubt before, what is safe stays what it was
+            doubt = {place: (self.safe[place:place + 1] or b"\0")[0] for it in self.calls if it.letter == "W"
+                     for place in self.places(it)}
+            self.passed, self.again = {**doubt, **self.passed}, set()
+        elif call.letter == "S":
+            self.passed = {place: old for place, old in self.passed.items() if place not in self.again}
+            self.safe, self.calls, self.again, self.is_opened = self.seen(), [], set(), True
+        elif call.letter == "T" or self.is_opened or len(call.bytes) > self.stays or (
+                self.seen()[call.place:call.place + len(call.bytes)] != call.bytes):
             self.calls.append(call)
 
     def image(self, chance):
-        """One of the images: all of it, none of it, or each call in its own way."""
+        """One of the images; in each the bytes that syncs pass over are as they were written, or older, or any."""
+        image, way = bytearray(self.image_of_calls(chance)), chance.randrange(4)
+        for place, old in self.passed.items() if way else ():
+            if place < len(image) and (way == 1 or chance.random() < 0.5):
+                image[place] = chance.randrange(256) if way == 3 else old
+        return bytes(image)
+
+    def image_of_calls(self, chance):
+        """One of those that the calls leave: all of them, none, or each in its own way."""
         whole = chance.random()
         if whole < 0.1 or not self.calls:
             return self.seen()
@@ -87,6 +115,9 @@ class World:
     def do(self, call):
         if call.letter == "A":
             self.out += call.bytes.decode()
+        elif call.letter == "O":
+            for disk in self.disks.values():
+                disk.is_opened = False
         elif call.letter == "C":
             self.disks.setdefault(call.name, Disk(b""))
         elif call.name in self.disks:

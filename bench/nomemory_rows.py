@@ -42,7 +42,7 @@ def contents(*texts):
 def config(home, drives):
     cartridge = f'[[cartridge]]\nbarcode = "T00001L6"\nfile = "tape"\ncapacities = [4096]\nhome = {home}\n'
     stores = [f'[[drive]]\nnumber = {number}\nreservations = "store{number}"\n' for number in drives]
-    return {"lib.toml": ["".join([cartridge, *stores]).encode()]}
+    return {"lib.toml": ["".join([cartridge, *stores]).encode()], "tape.2": [b""]}
 
 
 # the side of the cartridge, up to its first gate, and the frames of what is written

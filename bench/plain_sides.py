@@ -1,5 +1,5 @@
-"""What `vtl check` has to print of a file's bytes, and its status: read byte by byte as docs/FORMATS.md has the layout
-(Files, The lines of vtl check), with nothing of the program's."""
+"""What `vtl check` has to print of the bytes of a file, or of a cartridge's two, and its status: read byte by byte as
+docs/FORMATS.md has the layout (Files, The lines of vtl check), with nothing of the program's."""
 
 OPEN, LONGEST_BODY, LONGEST_BLOCK, MOST_OBJECTS = 0xA5, 8_388_608, 1_048_576, 16_000_000
 CAPACITIES = range(4_096, 1_099_511_627_776 + 1)
@@ -16,18 +16,29 @@ def number(data, at, width):
 
 
 class Header:
-    """Kind, name and capacities of a file, or of none (`kind` is None)."""
+    """What a side whose gate is open says of itself: kind, name, capacities and pair gate, of a copy epoch and base. Of
+    bytes that begin with no header the kind is None."""
 
     def __init__(self, data):
         self.kind, self.name, self.capacities = None, data[11:27].rstrip(b" "), []
-        if len(data) < 27 or data[0] != OPEN or data[9] != 0:
+        self.pair, self.is_copy, self.epoch, self.base = None, False, 0, 0
+        if len(data) < 27 or data[0] != OPEN:
             return
-        count = data[10]
-        self.capacities = [number(data, 27 + 8 * at, 8) for at in range(count)] if count <= 4 else []
-        if data[1:9] == STORE and count == 0 and self.name in DRIVES:
+        self.pair = data[9]
+        if data[1:9] == STORE and self.pair == 0 and data[10] == 0 and self.name in DRIVES:
             self.kind = STORE
-        if data[1:9] == CARTRIDGE and 1 <= count <= 4 and self.is_barcode() and self.are_capacities():
+        if data[1:9] == CARTRIDGE and self.has_head(data, data[10] & 0x7F):
             self.kind = CARTRIDGE
+
+    def has_head(self, data, count):
+        """Whether a cartridge's head stands there, of so many capacities; a copy's has epoch and base behind them."""
+        if not 1 <= count <= 4:
+            return False
+        self.capacities = [number(data, 27 + 8 * at, 8) for at in range(count)]
+        self.is_copy = data[10] >= 0x80
+        if self.is_copy:
+            self.epoch, self.base = number(data, 27 + 8 * count, 8), number(data, 35 + 8 * count, 4)
+        return self.is_barcode() and self.are_capacities() and None not in (self.epoch, self.base)
 
     def is_barcode(self):
         return self.name != b"" and all(byte in LETTERS for byte in self.name)
@@ -38,7 +49,30 @@ class Header:
 
     @property
     def end(self):
-        return 27 + 8 * len(self.capacities)
+        """The place of the first gate."""
+        return 27 + 8 * len(self.capacities) + 12 * self.is_copy
+
+
+def begins(data):
+    """Whether the ten bytes are there that a cartridge's side begins with, whatever its two gates are."""
+    return len(data) >= 10 and data[1:9] == CARTRIDGE
+
+
+def counting(first, second):
+    """Which of a cartridge's two files counts, 0 or 1, and its header; None where neither does."""
+    if not begins(first):
+        return None
+    if first[9] != OPEN:
+        header = Header(first)
+        return (0, header) if header.kind == CARTRIDGE and not header.is_copy else None
+    if not begins(second) or second[9] == OPEN:
+        return None
+    found = [(at, Header(side)) for at, side in enumerate((first, second)) if side[0] == OPEN]
+    if not found or any(header.kind is None for _, header in found):
+        return None
+    if len({header.epoch for _, header in found}) < len(found):
+        return None
+    return max(found, key=lambda it: it[1].epoch)
 
 
 def frames(data, at):
@@ -159,12 +193,29 @@ def store(header, found):
     return f"reservations {header.name.decode()} frames {len(found)} registrations {left}\n", 0
 
 
-def checked(data):
-    """The lines and the status of `vtl check` for these bytes."""
-    header = Header(data)
-    if header.kind is None:
-        return "not a side\n", 1
+def read_side(header, data):
+    """The lines and the status for a side with this header."""
     found, damaged = frames(data, header.end)
+    if damaged is None and len(found) < header.base:
+        # the closed gate comes too early
+        damaged = found[-1][0] + 5 + len(found[-1][1]) if found else header.end
     if damaged is not None:
         return f"damaged at {damaged}\n", 1
     return (cartridge if header.kind == CARTRIDGE else store)(header, found)
+
+
+def checked(data):
+    """The lines and the status of a `vtl check` that knows no second file, for these bytes."""
+    header = Header(data)
+    if header.kind is None or header.pair != 0 or header.is_copy:
+        return "not a side\n", 1
+    return read_side(header, data)
+
+
+def checked_pair(first, second):
+    """The lines and the status of `vtl check` for a file and its second one, which is None where it is missing."""
+    found = counting(first, second or b"")
+    if found:
+        return read_side(found[1], (first, second)[found[0]])
+    header = Header(first)
+    return read_side(header, first) if header.kind == STORE else ("not a side\n", 1)

@@ -218,7 +218,8 @@ class Reader:
             raise self.bad(run.error_at, f"the script has no line {refused}")
         if refused is not None and run.status != 1:
             raise self.bad(run.error_at, "a script that is refused ends with `exit 1`")
-        if (run.status == 0) != (run.error is None) and not (run.words[:1] == [b"check"] and run.status == 1):
+        if (run.status == 0) != (run.error is None) and not (
+                run.words[:1] in ([b"check"], [b"reclaim"]) and run.status == 1):
             raise self.bad(run.number, "`exit` and `error` do not go together")
         if any(not line.has_end for line in run.lines[:-1]):
             raise self.bad(run.number, "a line without its end is not the last")

@@ -4,37 +4,42 @@
 The calls of a run, and of a creation, over real files are noted (faults.c, which takes `cc`). Behind each of them files
 are made which a loss of power might have left there, as docs/FORMATS.md models a disk: what a sync made safe stays;
 each range that was written since, and everything from the old end on, holds what stood there, what was written, the
-first bytes of it, or any bytes; behind a cut stands anything; one byte that is written over the same one stays, which
-is the premise of an opening. A file is gone whose folder was not synced since it was made, or it is there. Over these
-files the program is started again. Each
-cartridge must hold what a first part of the accepted changes leaves, with all up to the last acknowledged synchronizing
-command; the reservations must be those of a first part of the orders, with each acknowledged one; a file that was told
-as created must be new.
+first bytes of it, or any bytes; behind a cut stands anything. The premise of an opening is that one byte stays which is
+written over the same one before the first sync; of a program that has `vtl reclaim` all bytes that are written so. A
+file is gone whose folder was not synced since it was made, or it is there. Over these files the program is started
+again. Each cartridge must hold what a first part of the accepted changes leaves, with all up to the last acknowledged
+synchronizing command; the reservations must be those of a first part of the orders, with each acknowledged one; a file
+that was told as created must be new.
 
 So too the opening and the check of files that hold something, with bytes behind their end gates; a run in which a
-sync fails, and the cartridge is unloaded and loaded again; and random scripts of kill_script.py, with writing over,
-moves and reservations, three times behind each call.
+sync fails, and the cartridge is unloaded and loaded again; a run behind one in which a sync failed, where later syncs
+pass over what was written before it; and random scripts of kill_script.py, with writing over, moves and reservations,
+three times behind each call. Of a program that has `vtl reclaim` also reclaims (reclaim_stops.py), and a script over
+cartridges that were reclaimed.
 
 --images N: files behind each call (30); --scripts N: such scripts (10); --seed S; --program PATH another program than
 the proved one; --selftest: syncs are forgotten, which must be found."""
 import argparse
 import concurrent.futures
+import copy
 import os
 import random
 import subprocess
 import sys
 import tempfile
 
-from drive_model import MARK, Reservations, good
+from drive_model import MARK, good
 from fault_script import FIRST, MARKED, SCRIPT, write
-from faults import FILES, NEW, Room, brief, content, judged, made, read_back
+from faults import EACH_FILE, FILES, NEW, Room, brief, content, judged, made, read_back
 from kill_script import TAPES, Script
-from life import PROVED, TOP, Life
-from lost_power import World, noted
+from life import PROVED, TOP, Life, objects_of
+from lost_power import OPENED, Disk, World, noted
+from reclaiming import SECOND, reclaims
 
 # a cartridge is written to, unloaded, loaded, and written to
 BODIES = b"before a fault", b"behind a fault"
 FRAMES = [[body, MARK] for body in BODIES]
+RUN, READ_ALL = ["run", "--config", "lib.toml"], "64 1 000000000000\n" + "64 1 080210000000\n" * 6
 LOAD_SCRIPT = "".join(f"{line}\n" for line in [
     "1 1 000000000000", write(BODIES[0]).text, MARKED.text, "1 1 1b0000000000", "1 1 1b0000000100",
     write(BODIES[1]).text, MARKED.text])
@@ -90,11 +95,17 @@ def after_create(room, out):
             if room.run(["check", FILES[name]])[:3] != (0, NEW[name], "")]
 
 
-def left_behind(before, calls, chance, images, forgets=lambda: False):
-    """So many times behind each call: its number, what was written to standard output by then, and the files."""
+def held_in(folder):
+    """The bytes of each file of a library, None of one that is missing."""
+    return {file: content(os.path.join(folder, file)) for file in EACH_FILE}
+
+
+def left_behind(before, calls, chance, images, forgets=lambda: False, since=0):
+    """So many times behind each call, from that one on: its number, what was written to standard output by then, and
+    the files."""
     world = World(before, forgets)
     for at in range(len(calls) + 1):
-        for _ in range(images):
+        for _ in range(images if at >= since else 0):
             yield at, world.out, world.images(chance)
         if at < len(calls):
             world.do(calls[at])
@@ -114,15 +125,20 @@ def stop(tools, pristine, words, way, script, chance, images, forgets=lambda: Fa
     """Stops what these words do behind each call."""
     room = Room(tools, pristine)
     with room.room:
-        before = {file: content(os.path.join(room.path, file)) for file in FILES.values()}
+        before = held_in(room.path)
         calls = calls_of(tools, room.path, words, script)
+    tasks = list(left_behind(before, calls, chance, images, forgets))
+    return looked_at(f"vtl {words[0]}", calls, tasks, looking(tools, pristine, way))
 
+
+def looking(tools, pristine, way):
+    """Looks in this way at files that were left, in a copy of that folder."""
     def look(out, files):
         here = Room(tools, pristine)
         with here.room:
-            put(here.path, FILES.values(), files)
+            put(here.path, EACH_FILE, files)
             return way(here, out)
-    return looked_at(f"vtl {words[0]}", calls, list(left_behind(before, calls, chance, images, forgets)), look)
+    return look
 
 
 def openings(tools, used, chance, images):
@@ -137,56 +153,70 @@ def openings(tools, used, chance, images):
     return run + stop(tools, used, ["check", FILES[FIRST]], after_opening(held), "", chance, images)
 
 
-def healed(tools, pristine, chance, images):
-    """Stops a run behind each call in which a sync fails, and the cartridge is then unloaded and loaded."""
-    words, wrong = ["run", "--config", "lib.toml"], []
+def failing_syncs(tools, pristine, words, script):
+    """For each sync that may fail: the number of the call, the calls that were made and noted, and the files that the
+    program left, in a folder that is gone later."""
     room = Room(tools, pristine)
     with room.room:
-        before = {file: content(os.path.join(room.path, file)) for file in FILES.values()}
-        count = room.run(words, LOAD_SCRIPT, "fault", 0).calls
+        count = room.run(words, script, "fault", 0).calls
     for at in range(1, count + 1):
         room = Room(tools, pristine)
         with room.room:
             notes = os.path.join(room.room.name, "notes")
             os.environ["FAULTS_NOTES"] = notes
             try:
-                run = room.run(words, LOAD_SCRIPT, "fault", at)
+                run = room.run(words, script, "fault", at)
             finally:
                 del os.environ["FAULTS_NOTES"]
-            calls = noted(notes)
-        if run.name not in ("fsync", "fdatasync"):
-            continue
+            if run.name in ("fsync", "fdatasync"):
+                yield at, noted(notes), room
 
-        def look(out, files):
-            here = Room(tools, pristine)
-            with here.room:
-                put(here.path, FILES.values(), files)
-                return after_load(here, out)
+
+def healed(tools, pristine, chance, images, again="W"):
+    """Stops a run behind each call in which a sync fails, and the cartridge is then unloaded and loaded; and a run
+    behind such a one, once it has read the cartridge, whose writes are forgotten in a self-test."""
+    wrong, before = [], held_in(pristine)
+    for at, calls, room in failing_syncs(tools, pristine, RUN, LOAD_SCRIPT):
         tasks = list(left_behind(before, calls, chance, images))
-        wrong += looked_at(f"a run whose call {at} fails", calls, tasks, look)
+        wrong += looked_at(f"a run whose call {at} fails", calls, tasks, looking(tools, pristine, after_load))
+        behind = [call for call in calls_of(tools, room.path, RUN, READ_ALL) if call.letter in f"AFS{again}"]
+        read = b"".join(call.bytes for call in behind if call.letter == "A").decode().splitlines()
+        more = [*calls, OPENED, *behind]
+        tasks = list(left_behind(before, more, chance, 10 * images, since=len(more)))
+        way = after_opening({FIRST: objects_of(read[1:])})
+        wrong += looked_at(f"a run behind one whose call {at} failed", more, tasks, looking(tools, pristine, way))
     return wrong
 
 
-def life(tools, chance, images, forgets=lambda: False):
-    """Stops a random script of kill_script.py, over a library that holds nothing yet, behind each call."""
-    files = [*(f"{name}.tape" for name in TAPES), "drive1.pr", "drive2.pr"]
+def life(tools, chance, images, forgets=lambda: False, first=0):
+    """Stops a random script of kill_script.py, over a library that holds nothing yet, behind each call; or over one
+    that has gone through other scripts, so many, and reclaims."""
+    files = [*(f"{name}.tape{end}" for name in TAPES for end in ("", SECOND)), "drive1.pr", "drive2.pr"]
     with tempfile.TemporaryDirectory(prefix="vtl-stops-") as room:
         lived = Life(tools[0], room)
+        for _ in range(first):
+            script = Script(chance, lived.volumes, lived.reservations)
+            lived.run(script, None)
+            lived.judge(script, len(script.answers), False)
+            for name in TAPES:
+                lived.reclaim(name)
+        held = {number: copy.deepcopy(it) for number, it in lived.reservations.items()}
         script = Script(chance, lived.volumes, lived.reservations)
         before = {file: content(os.path.join(room, file)) for file in os.listdir(room)}
         calls = calls_of(tools, room, ["run", "--config", "drive.toml"], "".join(script.text))
 
         def look(out, images_of):
             with tempfile.TemporaryDirectory(prefix="vtl-stops-") as folder:
-                put(folder, before, {**before, **images_of})
+                others = {file: bytes_of for file, bytes_of in before.items() if file not in files}
+                put(folder, [*before, *files], {**others, **images_of})
                 again = Life.__new__(Life)
                 again.program, again.room, again.wrong = tools[0], folder, []
-                again.volumes, again.reservations = {name: [] for name in TAPES}, {1: Reservations(), 2: Reservations()}
+                again.volumes, again.reservations = dict(lived.volumes), copy.deepcopy(held)
                 again.judge(script, out.count("\n"), True)
                 return again.wrong
-        sides = {file: before[file] for file in files}
-        return looked_at(f"a script of {len(script.answers)} answers", calls,
-                         list(left_behind(sides, calls, chance, images, forgets)), look)
+        sides = {file: before.get(file) for file in files}
+        return lived.wrong + looked_at(f"a script of {len(script.answers)} answers", calls,
+                                       list(left_behind(sides, calls, chance, images, forgets)), look)
 
 
 def main():
@@ -206,6 +236,7 @@ def main():
         subprocess.run(["cc", "-O1", "-shared", "-fPIC", "-o", shim, source], check=True)
         tools = os.path.abspath(said.program), shim
         bare, new, used = made(tools, folder)
+        Disk.stays = sys.maxsize if reclaims(tools[0]) else 1
         run = (new, ["run", "--config", "lib.toml"], after_run, script)
         create = (bare, ["create", "--config", "lib.toml"], after_create, "")
         if said.selftest:
@@ -213,11 +244,16 @@ def main():
             found.append(life(tools, chance, 3, lambda: chance.random() < 0.2))
             counts = ", ".join(str(len(it)) for it in found)
             print(f"self-test: where one sync in five is forgotten {counts} were found wrong")
+            found.append(healed(tools, new, chance, 1, again=""))
+            print(f"self-test: where an opening writes nothing again {len(found[-1])} were found wrong")
             return 0 if all(found) else 1
         wrong = stop(tools, *run, chance, said.images) + stop(tools, *create, chance, said.images)
         wrong += openings(tools, used, chance, said.images) + healed(tools, new, chance, 3)
-        for _ in range(said.scripts):
-            wrong += life(tools, chance, 3)
+        for at in range(said.scripts):
+            wrong += life(tools, chance, 3, first=at % 3 if reclaims(tools[0]) else 0)
+        if reclaims(tools[0]):
+            import reclaim_stops
+            wrong += reclaim_stops.all_of(tools, used, chance, said.images)
     print("\n".join([*wrong[:20], f"stops: {len(wrong)} wrong"]))
     return 1 if wrong else 0
 

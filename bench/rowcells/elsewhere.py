@@ -61,9 +61,12 @@ CELLS = {
     "limits | a script of 4,294,967,296 reads, and one more": ["limits_of_bytes_and_reads", "reads_are_counted"],
     "limits | PRGENERATION wraps at 2^32": ["the_generation_wraps"],
     "run | a file that is open in another process": [ENDINGS],
+    "reclaim | each step of it, stopped": ["a_reclaim_is_stopped_at_each_call", "reclaim_stops.py"],
+    "reclaim | a device fault": ["a_fault_at_each_call", FAULTS],
     "create | a file that could not be completed is taken away": [ENDINGS, "a_creation_takes_away_what_is_not_whole"],
-    "opening | what the first sync writes again": ["an_opening_writes_one_byte", "what_stands_behind_the_end",
-                                                   "a_file_that_is_no_side", "a_gate_is_written_again"],
+    "opening | what the first sync writes again": [
+        "an_opening_of_a_store_writes_one_byte", "what_stands_behind_the_end", "a_file_that_is_no_side",
+        "a_gate_is_written_again"],
     "opening | what the next sync writes after one that failed": ["a_sync_behind_one_that_failed"],
 }
 

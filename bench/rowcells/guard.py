@@ -11,10 +11,11 @@ LINES = {
     "Memory and device faults": [9, 5], "Persistent reservations": [6, 3], "Actions of PERSISTENT RESERVE OUT": [18],
     "The cases of PREEMPT": [5], "When 2A/04 is established": [3], "READ KEYS and READ RESERVATION": [3],
     "Mode lists": [6, 3, 2], "Sense data": [6], "Unit attention conditions": [6], "Moves": [4, 5, 3],
-    "When a move puts the cartridge back": [2], "Scripts": [3, 5], "The command line": [4, 3],
-    "What created and kept mean": [2], "Exit status": [10], "The exit status at a damaged cartridge": [3],
-    "The header": [7], "A cartridge's file": [6, 3], "A reservation store's file": [6, 5],
-    "The lines of vtl check": [5, 3], "What an opening writes": [6],
+    "When a move puts the cartridge back": [2], "Scripts": [3, 5], "The command line": [5, 4],
+    "What created and kept mean": [2], "Exit status": [11], "The exit status at a damaged cartridge": [4],
+    "The header": [9], "Which file counts": [2, 12, 8], "What a reclaim does": [5], "A cartridge's file": [6, 3],
+    "A reservation store's file": [6, 5],
+    "The lines of vtl check": [5, 4], "The lines of vtl reclaim": [3], "What an opening writes": [6],
 }
 NO_CELLS = {"Formats", "The standards' terms", "Our terms"}
 # by limit of README, cells of both sides, or of the limit where one side has no line

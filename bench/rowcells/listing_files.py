@@ -51,8 +51,10 @@ def of_words():
     cells = [f"words | {what}" for what in (
         "run", "run --memory", "run --config FILE", "run --memory --config FILE", "run --config FILE --memory",
         "run --config=FILE", "create --config FILE", "create --config=FILE", "check FILE", "check -- FILE",
+        "reclaim --config FILE BARCODE", "reclaim --config=FILE", "reclaim -- BARCODE",
         "behind -- a word like an option is a file", "an empty name is a name", "--help", "-h")]
-    cells += [f"words | {word} {option}" for word in ("run", "create", "check") for option in ("--help", "-h")]
+    cells += [f"words | {word} {option}" for word in ("run", "create", "check", "reclaim")
+              for option in ("--help", "-h")]
     cells += [f"words | refused: {why}" for why in (
         "no word", "help", "version", "another word", "another option in its place", "a shortened word",
         "run, --memory twice", "run, --config twice", "create, --config twice", "run, a word too many",
@@ -60,7 +62,8 @@ def of_words():
         "run, another option", "create, another option", "check, another option", "create, --memory", "check, --memory",
         "check, --config", "run, a shortened name", "create, a shortened name", "run, a flag with a value",
         "run, --config without its file", "create, --config without its file", "create without --config",
-        "check without a file")]
+        "check without a file", "reclaim, a word too many", "reclaim, --memory", "reclaim without --config",
+        "reclaim without a barcode", "reclaim, what is no barcode")]
     return cells + [f"faults | {pair}" for pair in ("1 before 2", "2 before 5", "3 before 5", "4 before 5")]
 
 
@@ -82,6 +85,7 @@ def of_configurations():
     refused += ["0 capacities", "5 capacities", "a capacity of 4,095", "a capacity of 1,099,511,627,777"]
     refused += ["two drives of one number", "two cartridges of one barcode", "two cartridges of one home",
                 "two drives of one file", "two cartridges of one file", "a cartridge and a drive of one file",
+                "a cartridge of another's second file", "a drive of a cartridge's second file",
                 "a home that is a drive not listed"]
     taken = ["an empty document", "no list of drives", "no list of cartridges", "inline tables", "an empty list",
              "a number in hexadecimal", "a number with _", "lists of tables", "number 1", "number 16", "home 1",
@@ -93,13 +97,15 @@ def of_configurations():
 
 def of_sides():
     none = ["empty", "shorter than a header", "the header's gate is closed", "the header's gate has another value",
-            "another name of the format", "the pair gate is not 00h", "a store of partitions",
+            "another name of the format", "a store's pair gate is not 00h", "a store of partitions",
             "a store of another name", "0 partitions", "5 partitions", "a barcode that is none",
             "a capacity is missing", "a capacity of 4,095",
-            "a capacity of 1,099,511,627,777"]
+            "a capacity of 1,099,511,627,777", "a copy behind a closed pair gate",
+            "the pair gate is open, and the second file does not begin so", "both pair gates are open",
+            "no gate is open", "an open file without a header", "both are of one epoch"]
     damaged = ["the first gate is missing", "the length is missing", "a length of 0", "a length of 8,388,609",
                "the body is missing", "the gate behind the body is missing"]
-    damaged += [f"{why} of a later frame" for why in damaged[1:]]
+    damaged += [f"{why} of a later frame" for why in damaged[1:]] + ["fewer frames than the base"]
     bad = ["a change is cut short", "kind 00h", "kind 04h", "a partition that is not there",
            "more objects stay than there are", "an erase of another number than 0", "a block of 0 bytes",
            "a block of 1,048,577 bytes", "0 filemarks", "16,000,001 filemarks", "the bytes of a block are cut short",
@@ -115,7 +121,15 @@ def of_sides():
     cells += [f"file | a {kind} of {count} frames" for kind in ("cartridge", "store") for count in ("no", "some")]
     cells += ["file | what lies behind a closed gate counts for nothing",
               "file | a gate of another value ends the frames"]
-    cells += [f"damaged | {order} | {line}" for order in ("check", "run")
+    cells += [f"file | {why}" for why in (
+        "the pair gate is closed", "the pair gate is closed, beside a second file",
+        "first file is of the greater epoch", "second file is of the greater epoch", "first file is open alone",
+        "second file is open alone")]
+    cells += [f"reclaim | {what}" for what in (
+        "no such barcode", "no file", "a folder under the second name", "a second file is made", "the last epoch",
+        "a copy in the first file", "a copy in the second file", "each step of it, stopped", "a device fault")]
+    cells += ["create | a second file is made", "create | a second file is there", "run | a second file is made"]
+    cells += [f"damaged | {order} | {line}" for order in ("check", "run", "reclaim")
               for line in ("not a side", "damaged", "bad record")]
     cells += ["damaged | run | a store's header", "damaged | run | a damaged store of reservations",
               "power | the cartridge in the drive is damaged: the drive is on, the medium unloaded",

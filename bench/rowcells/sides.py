@@ -7,6 +7,7 @@ from .work import MARK, MOST_OBJECTS, Cartridge
 
 LEAST, MOST = 4_096, 1_099_511_627_776
 BODY = 8_388_608
+FRAME = 4_194_304
 BLOCK = 1_048_576
 BARCODE = re.compile(rb"([A-Z0-9]{1,16}) *")
 STORE = re.compile(rb"(DRIVE(?:[1-9]|1[0-6])) *")
@@ -21,10 +22,12 @@ class Refused(Exception):
 
 
 class Side:
-    """What a file holds: its kind, name and frames, and a Cartridge or the Reservations after a loss of power."""
+    """What a file holds: its kind, name and frames, and a Cartridge or the Reservations after a loss of power; of a
+    cartridge's file whether its pair gate is open, and of a copy its epoch and base."""
 
     def __init__(self, kind, name, content, frames=0):
         self.kind, self.name, self.content, self.frames = kind, name, content, frames
+        self.is_paired, self.is_copy, self.epoch, self.base = False, False, 0, 0
 
     def lines(self, frames):
         if self.kind == "store":
@@ -37,10 +40,12 @@ class Side:
             for at, objects in enumerate(parts)]
 
 
+def none(why):
+    return Refused("not a side", why)
+
+
 def header(raw):
     """The side without its frames, and the place of the first gate."""
-    def none(why):
-        return Refused("not a side", why)
     if len(raw) < 27:
         raise none("shorter than a header" if raw else "empty")
     if raw[0] != 0xA5:
@@ -48,16 +53,22 @@ def header(raw):
     kind = {b"VTLCART1": "cartridge", b"VTLRESV1": "store"}.get(raw[1:9])
     if kind is None:
         raise none("another name of the format")
-    if raw[9]:
-        raise none("the pair gate is not 00h")
     count, name = raw[10], raw[11:27]
     if kind == "store":
+        if raw[9]:
+            raise none("a store's pair gate is not 00h")
         if count:
             raise none("a store of partitions")
         found = STORE.fullmatch(name)
         if not found:
             raise none("a store of another name")
         return Side(kind, found[1].decode(), Reservations()), 27
+    return head(raw, count, name)
+
+
+def head(raw, count, name):
+    """The same of a cartridge's file."""
+    is_copy, count = count >= 0x80, count & 0x7F
     if not 1 <= count <= 4:
         raise none(f"{count} partitions")
     found = BARCODE.fullmatch(name)
@@ -69,7 +80,57 @@ def header(raw):
     for capacity in capacities:
         if not LEAST <= capacity <= MOST:
             raise none(f"a capacity of {capacity:,}")
-    return Side(kind, found[1].decode(), Cartridge(capacities)), 27 + 8 * count
+    side, at = Side("cartridge", found[1].decode(), Cartridge(capacities)), 27 + 8 * count
+    side.is_paired, side.is_copy = raw[9] == 0xA5, is_copy
+    if is_copy:
+        if len(raw) < at + 12:
+            raise none("an epoch or a base is missing")
+        side.epoch, side.base = (int.from_bytes(raw[at + it:at + end], "big") for it, end in ((0, 8), (8, 12)))
+        at += 12
+    return side, at
+
+
+def begins(entry):
+    """Whether a file begins with the ten bytes of a cartridge's side."""
+    return isinstance(entry, Side) and entry.kind == "cartridge" or (
+        isinstance(entry, bytes) and len(entry) >= 10 and entry[1:9] == b"VTLCART1")
+
+
+def is_open(entry):
+    return isinstance(entry, Side) or entry[0] == 0xA5
+
+
+def is_paired(entry):
+    return entry.is_paired if isinstance(entry, Side) else entry[9] == 0xA5
+
+
+def headed(entry):
+    """The header of an open file, as a Side."""
+    return entry if isinstance(entry, Side) else header(entry)[0]
+
+
+def counting(first, second):
+    """Which of two files counts, 0 or 1, and why, as a cell; each is bytes, or a Side that a run left."""
+    if not is_paired(first):
+        if headed(first).is_copy:
+            raise none("a copy behind a closed pair gate")
+        return 0, "the pair gate is closed" if not second else "the pair gate is closed, beside a second file"
+    if not begins(second):
+        raise none("the pair gate is open, and the second file does not begin so")
+    if is_paired(second):
+        raise none("both pair gates are open")
+    found = [(at, entry) for at, entry in enumerate((first, second)) if is_open(entry)]
+    if not found:
+        raise none("no gate is open")
+    try:
+        epochs = [(headed(entry).epoch, at) for at, entry in found]
+    except Refused as why:
+        raise none("an open file without a header") from why
+    if len({epoch for epoch, _ in epochs}) < len(epochs):
+        raise none("both are of one epoch")
+    which = max(epochs)[1]
+    why = "is of the greater epoch" if len(epochs) == 2 else "is open alone"
+    return which, f"{('first', 'second')[which]} file {why}"
 
 
 def bodies(raw, at):
@@ -157,9 +218,12 @@ def state(body):
 
 
 def read(raw):
-    """The Side of these bytes, and what of them is worth a cell; Refused otherwise."""
+    """The Side of these bytes, whatever its pair gate is, and what of them is worth a cell; Refused otherwise."""
     side, at = header(raw)
     found, notes = bodies(raw, at)
+    if len(found) < side.base:
+        place = found[-1][0] + 5 + len(found[-1][1]) if found else at
+        raise Refused(f"damaged at {place}", "fewer frames than the base")
     for place, body in found:
         made = changes(body, side.content) if side.kind == "cartridge" else state(body)
         if isinstance(made, str):
@@ -168,3 +232,39 @@ def read(raw):
             side.content = made
     side.frames = len(found)
     return side, notes
+
+
+def read_pair(first, second):
+    """The Side that counts of a cartridge's two files, or of a store's, what of them is worth a cell, and which of the
+    two it is."""
+    if not begins(first):
+        return *(read(first) if isinstance(first, bytes) else (first, [])), 0
+    which, why = counting(first, second)
+    entry = (first, second)[which]
+    side, notes = (entry, []) if isinstance(entry, Side) else read(entry)
+    return side, [*notes, why], which
+
+
+def copied(side):
+    """The bytes of a copy, in a file whose pair gate is closed."""
+    records = []
+    for part, tape in enumerate(side.content.parts):
+        at = 0
+        while at < len(tape):
+            end = at + 1
+            while tape[at] is MARK and end < len(tape) and tape[end] is MARK:
+                end = tape.run(end)[1]
+            head = bytes([1 if tape[at] is not MARK else 2, part]) + at.to_bytes(4, "big")
+            block = tape[at] or b""
+            records.append(head + (len(block) or end - at).to_bytes(4, "big") + block)
+            at = end
+    frames = []
+    for record in records:
+        if not frames or len(frames[-1]) + len(record) > FRAME:
+            frames.append(b"")
+        frames[-1] += record
+    capacities = side.content.capacities
+    head = b"\xa5VTLCART1\0" + bytes([0x80 + len(capacities)]) + side.name.encode().ljust(16)
+    head += b"".join(it.to_bytes(8, "big") for it in capacities) + (side.epoch + 1).to_bytes(8, "big")
+    head += len(frames).to_bytes(4, "big")
+    return head + b"".join(b"\xa5" + len(it).to_bytes(4, "big") + it for it in frames) + b"\0"

@@ -66,7 +66,7 @@ class Walk:
             self.see("files | a file that stays as it was")
         elif isinstance(entry, sides.Side):
             found, _ = sides.read(step.content)
-            if found.lines(0) != entry.lines(0):
+            if (found.lines(0), found.is_paired, found.epoch) != (entry.lines(0), entry.is_paired, entry.epoch):
                 raise Differs(step.number, f"{found.lines(0)} in the place of {entry.lines(0)}")
             self.see(f"files | a {found.kind} with {'no frame' if not found.frames else 'frames'}, by its bytes")
         else:
@@ -92,6 +92,8 @@ class Walk:
             self.ends(run, 0, None, "done")
         elif asked.kind == "check":
             self.check(run, asked.file)
+        elif asked.kind == "reclaim":
+            self.reclaim(run, asked)
         else:
             self.configured(run, asked)
 
@@ -104,27 +106,77 @@ class Walk:
         self.see(f"exit | {cause}")
 
     def check(self, run, name):
-        entry = self.find(os.fsdecode(name))
-        if entry is None or entry is FOLDER:
+        entry, second = self.pair(os.fsdecode(name))
+        if entry is None or FOLDER in (entry, second):
             self.see(f"check | {'a folder' if entry else 'no file'}")
             self.ends(run, 2, DEVICE, "a file is missing", [])
             return
-        if isinstance(entry, sides.Side):
-            said = [text.decode() for _, text in run.output]
-            frames = re.search(r" frames (\d+)", said[0]) if said else None
-            self.see(f"check | a {entry.kind} that a run left")
-            self.ends(run, 0, None, "done", entry.lines(int(frames[1]) if frames else 0))
-            return
         try:
-            side, notes = sides.read(entry)
+            side, notes, which = sides.read_pair(entry, second)
+            if (entry, second)[which] is side:
+                said = [text.decode() for _, text in run.output]
+                frames = re.search(r" frames (\d+)", said[0]) if said else None
+                self.see(f"check | a {side.kind} that a run left")
+                self.ends(run, 0, None, "done", side.lines(int(frames[1]) if frames else 0))
+                return
         except sides.Refused as why:
             self.see(f"file | {why.line.partition(' at ')[0]}: {why.why}")
             self.see(f"damaged | check | {why.line.partition(' at ')[0]}")
-            self.ends(run, 1, None, "check: the file is neither", [why.line])
+            self.ends(run, 1, None, "check, reclaim: the file is neither", [why.line])
             return
         for note in [*notes, f"a {side.kind} of {'no' if not side.frames else 'some'} frames"]:
             self.see(f"file | {note}")
         self.ends(run, 0, None, "done", side.lines(side.frames))
+
+    def pair(self, name):
+        """What has this name, and the same with `.2`."""
+        return self.find(name), self.find(name + ".2")
+
+    def reclaim(self, run, asked):
+        self.configured(run, asked)
+
+    def reclaim_one(self, run, config, barcode):
+        entry = next((it for it in config["cartridge"] if it["barcode"] == barcode), None)
+        if entry is None:
+            self.see("reclaim | no such barcode")
+            self.ends(run, 1, "vtl: command line refused", "the words ask for nothing", [])
+            return
+        name = os.path.normpath(os.fsencode(entry["file"]))
+        first, second = self.pair(entry["file"])
+        if first is None or FOLDER in (first, second):
+            self.see(f"reclaim | {'a folder under the second name' if first else 'no file'}")
+            self.ends(run, 2, DEVICE, "a file is missing", [])
+            return
+        if second is None:
+            self.see("reclaim | a second file is made")
+            self.folder[name + b".2"] = second = b""
+        try:
+            side, _, which = sides.read_pair(first, second)
+            if side.kind == "store":
+                raise sides.Refused("not a side", "a store under the name of a cartridge")
+        except sides.Refused as why:
+            self.see(f"damaged | reclaim | {why.line.partition(' at ')[0]}")
+            self.ends(run, 1, None, "check, reclaim: the file is neither", [why.line])
+            return
+        if side.epoch == 2 ** 64 - 1:
+            self.see("reclaim | the last epoch")
+            self.ends(run, 1, None, "reclaim: not reclaimed", ["not reclaimed"])
+            return
+        self.copy(name, side, which)
+        self.see(f"reclaim | a copy in the {('second', 'first')[which]} file")
+        self.ends(run, 0, None, "done", [f"reclaimed {barcode} epoch {side.epoch + 1}"])
+
+    def copy(self, name, side, which):
+        """The other file is a copy, and the first one's pair gate is open."""
+        copy, first = sides.copied(side), self.folder[name]
+        if which:
+            self.folder[name] = copy[:9] + b"\xa5" + copy[10:]
+            return
+        self.folder[name + b".2"] = copy
+        if isinstance(first, bytes):
+            self.folder[name] = first[:9] + b"\xa5" + first[10:]
+        else:
+            first.is_paired = True
 
     def configured(self, run, asked):
         if asked.config is None:
@@ -145,6 +197,8 @@ class Walk:
                 return
         if asked.kind == "create":
             self.create(run, config, raw)
+        elif asked.kind == "reclaim":
+            self.reclaim_one(run, config, asked.file.decode())
         else:
             self.opened(run, config, raw, asked.memory or raw is None)
 
@@ -168,9 +222,15 @@ class Walk:
                 if not is_possible(name) or folder and self.folder.get(folder) is not FOLDER:
                     failed = True
                     break
+                if what == "cartridge" and self.folder.get(at + b".2") is FOLDER:
+                    failed = True
+                    break
                 content = Cartridge(entry["capacities"]) if what == "cartridge" else sides.Reservations()
                 self.folder[at] = sides.Side("cartridge" if what == "cartridge" else "store", shown, content)
                 self.see(f"create | created: a {self.folder[at].kind}")
+                if what == "cartridge":
+                    self.see("create | a second file is " + ("there" if at + b".2" in self.folder else "made"))
+                    self.folder.setdefault(at + b".2", b"")
                 lines.append(f"created {shown}")
             if failed:
                 break
@@ -208,7 +268,7 @@ class Walk:
         self.script(run, library)
         for name, side in found.items():
             if side.name:
-                self.folder[os.path.normpath(os.fsencode(name))] = side
+                self.folder[os.path.normpath(os.fsencode(name)) + b".2" * side.is_second] = side
 
     def open(self, what, name, names):
         """The side in a file, without a name where it is damaged; or why it ends the run."""
@@ -218,9 +278,16 @@ class Walk:
         if at in names:
             return None, "a second name of one file"
         names[at] = True
-        if isinstance(entry, bytes):
+        second = self.find(name + ".2") if what == "cartridge" else None
+        if second is FOLDER:
+            return None, "a folder"
+        if what == "cartridge" and second is None:
+            self.see("run | a second file is made")
+            self.folder[at + b".2"] = second = b""
+        is_second = False
+        if isinstance(entry, bytes) or second:
             try:
-                entry, _ = sides.read(entry)
+                entry, _, is_second = sides.read_pair(entry, second)
             except sides.Refused as why:
                 if what == "drive":
                     return None, why.line.partition(" at ")[0]
@@ -235,6 +302,7 @@ class Walk:
         if kind == "store":
             entry.content.see = self.see
             entry.content.lose_power()
+        entry.is_second = bool(is_second)
         return entry, None
 
     # scripts

@@ -2,14 +2,18 @@
 import re
 import tomllib
 
-WORDS = {b"run": {b"--memory": False, b"--config": True}, b"create": {b"--config": True}, b"check": {}}
+WORDS = {b"run": {b"--memory": False, b"--config": True}, b"create": {b"--config": True}, b"check": {},
+         b"reclaim": {b"--config": True}}
+# what stands behind these words
+NAMED = {b"check": "FILE", b"reclaim": "BARCODE"}
 KEYS = {"drive": {"number": int, "reservations": str},
         "cartridge": {"barcode": str, "file": str, "capacities": list, "home": int}}
 BARCODE = re.compile(r"[A-Z0-9]{1,16}")
 
 
 class Words:
-    """What the words ask for: `help`, `run`, `create`, `check`, or `refused` and why."""
+    """What the words ask for: `help`, `run`, `create`, `check`, `reclaim`, or `refused` and why. What is the file in a
+    reclaim is the barcode."""
 
     def __init__(self, kind, cells, config=None, memory=False, file=None):
         self.kind, self.cells, self.config, self.memory, self.file = kind, cells, config, memory, file
@@ -44,7 +48,7 @@ def options(word, rest):
             files.append(given)
         elif given == b"--":
             is_open = False
-            cells.append(f"words | {name} -- FILE")
+            cells.append(f"words | {name} -- {NAMED.get(word, 'FILE')}")
         elif option not in known:
             is_short = any(other.startswith(option) for other in known)
             if is_short:
@@ -66,16 +70,20 @@ def options(word, rest):
             found[option], rest = rest[0], rest[1:]
     if word == b"check" and files == [b""]:
         cells.append("words | an empty name is a name")
-    if len(files) > (1 if word == b"check" else 0):
+    if len(files) > (1 if word in NAMED else 0):
         return refused(f"{name}, a word too many" + ("" if is_open else " behind --"))
     if word == b"check" and not files:
         return refused("check without a file")
-    if word == b"create" and b"--config" not in found:
-        return refused("create without --config")
+    if word in (b"create", b"reclaim") and b"--config" not in found:
+        return refused(f"{name} without --config")
+    if word == b"reclaim" and not files:
+        return refused("reclaim without a barcode")
+    if word == b"reclaim" and not BARCODE.fullmatch(files[0].decode(errors="replace")):
+        return refused("reclaim, what is no barcode")
     if word == b"check" and files[0].startswith(b"-"):
         cells.append("words | behind -- a word like an option is a file")
     names = " ".join([name, *(["--memory"] if b"--memory" in found else []),
-                      *(["--config FILE"] if b"--config" in found else []), *(["FILE"] if files else [])])
+                      *(["--config FILE"] if b"--config" in found else []), *([NAMED[word]] if files else [])])
     if list(found) == [b"--config", b"--memory"]:
         cells.append("words | run --config FILE --memory")
     return Words(name, [*cells, f"words | {names}"], found.get(b"--config"), b"--memory" in found,
@@ -151,6 +159,9 @@ def config_faults(raw):
     faults += ["two drives of one file"] if doubles(stores) else []
     faults += ["two cartridges of one file"] if doubles(files) else []
     faults += ["a cartridge and a drive of one file"] if set(stores) & set(files) else []
+    seconds = {name + ".2" for name in files}
+    faults += ["a cartridge of another's second file"] if seconds & set(files) else []
+    faults += ["a drive of a cartridge's second file"] if seconds & set(stores) else []
     faults += ["a home that is a drive not listed" for it in cartridges
                if it["home"] <= 16 and it["home"] not in numbers]
     return (None if faults else lists), faults
