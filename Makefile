@@ -76,6 +76,7 @@ bench: need-rt
 	python3 bench/starts.py
 	python3 bench/hosts.py
 	python3 bench/loads.py
+	python3 bench/reclaim.py
 
 gate: need-rt
 	python3 bench/gate.py
