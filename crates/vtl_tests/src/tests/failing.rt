@@ -11,6 +11,7 @@ use std::test::Fail;
 use std::thread::Threads;
 use std::time::Clock;
 use tape_disk::{MemDisk, OnceDisk};
+use volume_core::are_capacities;
 use vtl_config::{CartridgeEntry, Config, DriveEntry, read_config};
 use vtl_program::files::TakesBack;
 use vtl_program::orders::run_started;
@@ -32,13 +33,11 @@ fn failing_cartridge(
 ) -> Option<Parked<OnceDisk<MemDisk>>> {
     let first = OnceDisk::new(MemDisk::new(alloc), calls);
     let second = OnceDisk::new(MemDisk::new(alloc), u64::MAX);
-    match Cartridge::create(
-        alloc,
-        first,
-        second,
-        &entry.barcode,
-        entry.capacities.as_slice(),
-    ) {
+    let capacities = entry.capacities.as_slice();
+    if !are_capacities(capacities) {
+        return None;
+    }
+    match Cartridge::create(alloc, first, second, &entry.barcode, capacities) {
         Ok(shelved) => Some(Parked::of(alloc, shelved)),
         Err(_) => None,
     }
