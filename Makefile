@@ -2,7 +2,7 @@
 RT := $(shell command -v rt)
 
 .PHONY: demo vtl check wrong rows rows-wrong nomemory mutants faults hostile asked endings examples stops kills bench \
-	gate definitions need-rt
+	gate fmt definitions need-rt
 .DEFAULT_GOAL := demo
 
 need-rt:
@@ -48,6 +48,7 @@ faults: vtl
 
 hostile: $(if $(PROGRAM),,vtl)
 	python3 bench/hostile.py --selftest
+	python3 bench/hostile.py --heads $(if $(PROGRAM),--program $(PROGRAM))
 	python3 bench/hostile.py $(if $(PROGRAM),--program $(PROGRAM)) $(if $(COUNT),--count $(COUNT)) $(if $(SEED),--seed $(SEED))
 
 asked: vtl
@@ -80,6 +81,10 @@ bench: need-rt
 
 gate: need-rt
 	python3 bench/gate.py
+
+# The layout of each crate, in which the gate wants it.
+fmt: need-rt
+	for crate in crates/*/; do (cd $$crate && rt fmt) || exit 1; done
 
 definitions:
 	python3 docs/definitions.py

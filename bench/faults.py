@@ -129,6 +129,7 @@ def reclaim(room, kind, at):
     there, done = reclaiming.side_that_counts(path)[2], run[:3] == (0, wanted, "")
     wrong = [] if done or fails(kind, wanted, run) else ["its end"]
     wrong += [f"of epoch {epoch} there is {there}"] * (there != epoch + 1 if wanted in run.out else there < epoch)
+    wrong += ["memory ran out behind the copy"] * (run.status == 3 and there != epoch)
     goes_on = room.run(words)[:3] == (0, f"reclaimed {FIRST} epoch {there + 1}\n", "")
     wrong += [] if goes_on else ["it is not reclaimed again"]
     wrong += [] if read_back(room)[0] == held else ["another volume is read"]

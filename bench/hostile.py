@@ -16,11 +16,13 @@ the system can limit is held to that for each nineteenth file. One that is built
 cannot be limited so: there no single growth may be larger.
 
 --program PATH another program than the proved one; --count N files; --seed S; --jobs J at a time; --one N looks at the
-file of that number alone; --selftest: the plain reader is compared with the rows of rows/ and with a table
-of pairs (pairs_selftest.py), and programs that are wrong on purpose must be found."""
+file of that number alone; --heads: pairs that were reclaimed, each byte of both heads set to each value, whose answers
+a table has that was worked out by hand (pairs_selftest.py); --selftest: the plain reader is compared with the rows of
+rows/ and with that table, and programs that are wrong on purpose must be found."""
 import argparse
 import collections
 import concurrent.futures
+import itertools
 import os
 import resource
 import signal
@@ -30,6 +32,7 @@ import tempfile
 import time
 
 import pair_maker
+import pairs_selftest
 import plain_sides
 import reclaiming
 import side_maker
@@ -182,6 +185,30 @@ def all_batches(program, seed, count, jobs):
     return base, kinds, answers, wrong
 
 
+def heads_batch(program, first, step):
+    """Of the pairs with a byte of a head set, each so-manieth from one on: how many, and what is wrong."""
+    count, wrong = 0, []
+    with tempfile.TemporaryDirectory(prefix="vtl-hostile-", dir=MEMORY) as folder:
+        room = Room(program, None, folder, is_paired=True)
+        for where, sides, _, (lines, status) in itertools.islice(pairs_selftest.altered(), first, None, step):
+            ended, wanted = room.checked(sides), Ended(status, lines.encode(), b"")
+            count += 1
+            if ended != wanted:
+                wrong.append(f"{where}: {ended} in the place of {wanted}")
+            elif reclaiming.pair(room.path) != tuple(sides):
+                wrong.append(f"{where}: a file has changed")
+    return count, wrong
+
+
+def heads(program, jobs):
+    with concurrent.futures.ProcessPoolExecutor(jobs) as pool:
+        found = [each.result() for each in [pool.submit(heads_batch, program, at, jobs) for at in range(jobs)]]
+    wrong = [line for _, lines in found for line in lines]
+    print("\n".join(wrong[:50]), end="\n" if wrong else "")
+    print(f"heads: {sum(count for count, _ in found)} pairs with a byte set, {len(wrong)} other than expected")
+    return 1 if wrong else 0
+
+
 def look_at(program, seed, number):
     is_paired = reclaiming.reclaims(program)
     kind, files = made(seed, number, is_paired)
@@ -197,6 +224,7 @@ def main():
     for name, value in (("--count", 100_000), ("--seed", 1), ("--jobs", os.cpu_count()), ("--one", None)):
         parser.add_argument(name, type=int, default=value)
     parser.add_argument("--selftest", action="store_true")
+    parser.add_argument("--heads", action="store_true")
     given, started = parser.parse_args(), time.monotonic()
     if given.selftest:
         import hostile_selftest
@@ -204,6 +232,8 @@ def main():
     program = os.path.abspath(given.program)
     if not os.path.exists(program):
         sys.exit(f"{given.program} is not there; build the program first: make vtl")
+    if given.heads:
+        return heads(program, given.jobs)
     if given.one is not None:
         return look_at(program, given.seed, given.one)
     base, kinds, answers, wrong = all_batches(program, given.seed, given.count, given.jobs)

@@ -108,9 +108,10 @@ def smeared(chance, old, call):
 class World:
     """The files of a library, their folder, and what was written to standard output."""
 
-    def __init__(self, sides, is_sync_forgotten):
+    def __init__(self, sides, is_sync_forgotten, unnamed=()):
         self.disks = {file: Disk(side) for file, side in sides.items() if side is not None}
-        self.named, self.out, self.forgets = set(self.disks), "", is_sync_forgotten
+        # files whose names are safe; not those of files that a killed process had just made
+        self.named, self.out, self.forgets = set(self.disks).difference(unnamed), "", is_sync_forgotten
 
     def do(self, call):
         if call.letter == "A":

@@ -167,8 +167,10 @@ EDITS = [
      "    if !has_only(table, &KEYS) {",
      ["the_top_comes_first_and_drives_before_cartridges"]),
     ("help has two statuses exchanged", "vtl_words", "src/commands.rt",
-     ("  1  refused: the command line, a configuration, a script line or a checked file\n", "  3  out of memory\n"),
-     ("  1  out of memory\n", "  3  refused: the command line, a configuration, a script line or a checked file\n"),
+     ("  1  refused: the command line, a configuration, a script line, a checked file\n",
+      "  2  failed: a device, a file or a stream; a missing file, or one in use;\n"),
+     ("  2  refused: the command line, a configuration, a script line, a checked file\n",
+      "  1  failed: a device, a file or a stream; a missing file, or one in use;\n"),
      ["rows/13-words/help.row"]),
     ("the example of help has a line that is refused", "vtl_words", "src/commands.rt", "  vtl check daily1.tape\n",
      "  vtl check --config daily1.tape\n", ["rows/13-words/help.row"]),
@@ -181,6 +183,9 @@ EDITS = [
      "        Some(text) => match String::from_str(alloc, text) {",
      "        Some(text) if text.len() > 255 => Err(NoMemory),\n"
      "        Some(text) => match String::from_str(alloc, text) {", ["long_names_are_names"]),
+    ("what is to be reclaimed and is no barcode is want of memory", "vtl_words", "src/reading.rt",
+     "        None => return Err(WordsError::Refused),\n", "        None => return Err(WordsError::NoMemory),\n",
+     ["other_words_are_refused"]),
     ("a cartridge that is moved into a drive behind the second is want of memory", "bays", "src/lent.rt",
      "    let cartridge = take_held(slots, from);\n    match destination.load(cartridge) {\n",
      "    let cartridge = take_held(slots, from);\n    if to > 2 {\n"
@@ -328,10 +333,38 @@ EDITS = [
      "        let (first, second) = (row.take(0), row.take(1));\n"
      "        row.put(0, second);\n        row.put(1, first);\n    }\n",
      ["all_hosts_come_to_one_drive_at_once"]),
+    ("the slots are others at the end", "library", "src/finishing.rt",
+     ("            alloc: _,\n", "        let slots = slots.into_inner();\n"),
+     ("            alloc,\n",
+      "        let slots = match Slots::new(alloc) {\n            Ok(other) => {\n"
+      "                drop(slots.into_inner());\n                other\n            }\n"
+      "            Err(_) => slots.into_inner(),\n        };\n"),
+     ["cartridges_are_moved_while_hosts_write"]),
+    ("a cartridge that has failed is unloaded before the last turn", "library", "src/finishing.rt",
+     "    } = shared.into_place().end();\n",
+     "    } = {\n        let (mut bay, share) = shared.into_place().into_parts();\n"
+     "        if bay.drive().has_failed() {\n            if let Ok(cartridge) = bay.unload() {\n"
+     "                bay.insert(cartridge);\n            }\n        }\n        let written = bay.write_out();\n"
+     "        EndedPlace {\n            bay,\n            share,\n            written,\n        }\n    };\n",
+     ["a_turn_in_which_the_device_fails"]),
+    ("a move of a script is made twice", "library", "src/stages.rt",
+     "        replies\n            .push(self.library.move_medium(self.rt, from, to))\n",
+     "        let _ = self.library.move_medium(self.rt, from, to);\n"
+     "        replies\n            .push(self.library.move_medium(self.rt, from, to))\n",
+     ["a_crowd_ends_at_any_line"]),
+    ("what is seen of the drives is the wrong way round", "library", "src/inventories.rt",
+     "            Some(bay) => bay.lock.lock(rt).seen(),\n",
+     "            Some(bay) => match bay.lock.lock(rt).seen() {\n                Element::Full => Element::Empty,\n"
+     "                _ => Element::Full,\n            },\n",
+     ["a_cartridge_goes_round_both_drives"]),
     ("an inventory lets the slots go before it looks at the drives", "library", "src/inventories.rt",
      ("        let slots = self.slots.lock(rt);\n", "            slots: seen_in_slots(&slots),\n"),
      ("        let slots = seen_in_slots(&self.slots.lock(rt));\n", "            slots,\n"),
      ["cartridges_are_moved_while_hosts_write"]),
+    ("the other side is closed twice", "side_reclaim", "src/readying.rt",
+     "    pair(which, first, second)?;\n    close(which, first, second)\n",
+     "    pair(which, first, second)?;\n    close(which, first, second)?;\n    close(which, first, second)\n",
+     ["a_stop_at_each_call_of_both"]),
 ]
 # bodies that a contract refuses too, in the same form: they show that the tests of stops and faults can fail. Where a
 # sync is left out a read stands in its place, so that it is not the number of calls that fails.
@@ -346,10 +379,6 @@ STOPS = [
      "    pair(which, first, second)?;\n", "", ["a_stop_at_each_call_of_both", "the_worked_row"]),
     ("the other side is not closed", "side_reclaim", "src/readying.rt",
      "    pair(which, first, second)?;\n    close(which, first, second)\n", "    pair(which, first, second)\n",
-     ["a_stop_at_each_call_of_both"]),
-    ("the other side is closed twice", "side_reclaim", "src/readying.rt",
-     "    pair(which, first, second)?;\n    close(which, first, second)\n",
-     "    pair(which, first, second)?;\n    close(which, first, second)?;\n    close(which, first, second)\n",
      ["a_stop_at_each_call_of_both"]),
     ("a copy is opened before it is written", "side_reclaim", "src/taking.rt",
      "    write_copy(spare, header, copied, source, buffer)?;\n    open_copy(spare)\n",

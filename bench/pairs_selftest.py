@@ -109,13 +109,10 @@ def owed(pair, answer, sides):
     return (0 if answer == FIRST else 1), lines(pair, answer, sides)
 
 
-def by_the_table():
-    """How many bytes were set, and what is read otherwise than the table says."""
-    count, said = 0, []
+def altered():
+    """Each pair with one byte of a head set to a value: where, the two files, which file counts (0 or 1, None where
+    neither does or the one that counts is damaged), and what has to be printed, with the status."""
     for (pair, at), rows in TABLE.items():
-        ends = {"once": (35, 47), "again": (47, 47)}[pair][at]
-        if [place for places, _, _ in rows for place in places] != list(range(ends)):
-            said.append(f"{pair}, file {at + 1}: the table has not each place once")
         for places, most, others in rows:
             answers = {value: answer for text, answer in others.items() for value in values(text)}
             for place in places:
@@ -123,13 +120,22 @@ def by_the_table():
                     sides = [bytearray(side) for side in PAIRS[pair]]
                     sides[at][place] = value
                     which, text = owed(pair, answers.get(value, most), sides)
-                    found = counting(*map(bytes, sides))
-                    right = checked_pair(*map(bytes, sides)) == text and (
-                        which is None or found is not None and found[0] == which)
-                    count += 1
-                    if not right:
-                        said.append(f"{pair}, file {at + 1}, byte {place} of {value:02x}: "
-                                    f"{checked_pair(*map(bytes, sides))} in the place of {text}")
+                    yield f"{pair}, file {at + 1}, byte {place} of {value:02x}", [*map(bytes, sides)], which, text
+
+
+def by_the_table():
+    """How many bytes were set, and what is read otherwise than the table says."""
+    count, said = 0, []
+    for (pair, at), rows in TABLE.items():
+        ends = {"once": (35, 47), "again": (47, 47)}[pair][at]
+        if [place for places, _, _ in rows for place in places] != list(range(ends)):
+            said.append(f"{pair}, file {at + 1}: the table has not each place once")
+    for where, sides, which, text in altered():
+        found = counting(*sides)
+        right = checked_pair(*sides) == text and (which is None or found is not None and found[0] == which)
+        count += 1
+        if not right:
+            said.append(f"{where}: {checked_pair(*sides)} in the place of {text}")
     return count, said
 
 

@@ -1,10 +1,13 @@
 #!/usr/bin/env python3
-"""Speed of `vtl reclaim` over files, beside `cp` of the same bytes with one sync behind it; of five times, taken in
-turns, the best and the median; and the most memory that it takes, beside a load of the same cartridge.
+"""Speed of `vtl reclaim` over files, beside `cp` of the same bytes with one sync behind it: over a file of as many
+bytes, as a reclaim goes over the file of the one before, and to a new file. Of five times, taken in turns, the best and
+the median; and the most memory that it takes, beside a load of the same cartridge.
 
 A cartridge of 1 GiB of blocks of 256 KiB, half of which was written over, is reclaimed again and again: each time as
 much is copied to the other file. The file that then counts must have the length of what stands, no more; the blocks are
-read before and after it, and compared; `vtl check` must say as many objects as before, and frames of 4 MiB.
+read before and after it, and compared; `vtl check` must say as many objects as before, and frames of 4 MiB. In the
+first reclaim standard error is a terminal, which has to have a line for each GiB; in the others a pipe, which has to
+have nothing.
 
 --size N: so many bytes of blocks stand (default 1 GiB; half as many beside them were written over). --program PATH:
 another program than the proved one. The files lie in a new folder beside the repository's own, or in the one that a
@@ -13,6 +16,7 @@ import argparse
 import hashlib
 import itertools
 import os
+import pty
 import statistics
 import subprocess
 import sys
@@ -41,13 +45,13 @@ def locate(number):
     return b"1 1 2b0000%08x000000\n" % number
 
 
-def run(program, folder, words, script=()):
+def run(program, folder, words, script=(), stderr=None):
     """Seconds, and the most memory in bytes; what it wrote lies in the file out."""
     with open(os.path.join(folder, "in"), "wb") as file:
         file.writelines(script)
     with open(os.path.join(folder, "in"), "rb") as stdin, open(os.path.join(folder, "out"), "wb") as stdout:
         start = time.perf_counter()
-        child = subprocess.Popen([program, *words], cwd=folder, stdin=stdin, stdout=stdout)
+        child = subprocess.Popen([program, *words], cwd=folder, stdin=stdin, stdout=stdout, stderr=stderr)
         _, status, usage = os.wait4(child.pid, 0)
         seconds = time.perf_counter() - start
     os.remove(os.path.join(folder, "in"))
@@ -85,11 +89,9 @@ def owed(numbers):
     return found.hexdigest()
 
 
-def copied(folder, path):
-    """Seconds of cp and one sync of the copy."""
-    target = os.path.join(folder, "raw")
-    if os.path.exists(target):
-        os.remove(target)
+def copied(folder, path, is_new):
+    """Seconds of cp and one sync of the copy, to a new file, or over the one that stands there."""
+    target = os.path.join(folder, "new" if is_new else "raw")
     start = time.perf_counter()
     subprocess.run(["cp", path, target], check=True)
     file = os.open(target, os.O_RDWR)
@@ -115,11 +117,33 @@ def checked(program, folder, count, frames):
         sys.exit(f"check prints {found!r} in the place of {wanted!r}")
 
 
-def reclaimed(program, folder, epoch):
-    seconds, memory = run(program, folder, ["reclaim", "--config", "lib.toml", "T00001L6"])
+def rest_of(stream):
+    """All that is left in a terminal or a pipe whose other end is closed."""
+    found = b""
+    while True:
+        try:
+            more = os.read(stream, 65_536)
+        except OSError:  # a terminal's end
+            more = b""
+        if not more:
+            os.close(stream)
+            return found
+        found += more
+
+
+def reclaimed(program, folder, epoch, whole):
+    """Seconds, and the most memory in bytes, of a reclaim that writes so many bytes."""
+    terminal = epoch == 1
+    ours, theirs = pty.openpty() if terminal else os.pipe()
+    seconds, memory = run(program, folder, ["reclaim", "--config", "lib.toml", "T00001L6"], stderr=theirs)
+    os.close(theirs)
+    said = rest_of(ours)
     with open(os.path.join(folder, "out"), "rb") as out:
         if out.read() != b"reclaimed T00001L6 epoch %d\n" % epoch:
             sys.exit("another line of reclaim than expected")
+    # a terminal makes two characters of a line feed
+    if said != b"".join(b"%d GiB written\r\n" % (full + 1) for full in range(whole >> 30) if terminal):
+        sys.exit(f"{said!r} on standard error, which is a {'terminal' if terminal else 'pipe'}")
     return seconds, memory
 
 
@@ -136,22 +160,27 @@ def measured(program, folder, count):
         sys.exit("other blocks are read than were written")
     load = run(program, folder, ["run", "--config", "lib.toml"])[1]
     whole, frames = length_of(count)
-    times, plain, most = [], [], 0
+    copied(folder, path, False)
+    times, plain, new, most = [], [], [], 0
     for epoch in range(1, ROUNDS + 1):
-        seconds, memory = reclaimed(program, folder, epoch)
+        seconds, memory = reclaimed(program, folder, epoch, whole)
         times, most = [*times, seconds], max(most, memory)
         side = path + (reclaiming.SECOND if epoch % 2 else "")
         if os.path.getsize(side) != whole:
             sys.exit(f"the copy has {os.path.getsize(side):,} bytes in the place of {whole:,}")
-        plain.append(copied(folder, side))
+        plain.append(copied(folder, side, False))
+        new.append(copied(folder, side, True))
+        os.remove(os.path.join(folder, "new"))
         if epoch <= 2:
             checked(program, folder, count, frames)
     if read_back(program, folder, count) != stands:
         sys.exit("other blocks are read behind a reclaim than before it")
     best, middle = min(times) / min(plain), statistics.median(times) / statistics.median(plain)
+    beside = min(times) / min(new), statistics.median(times) / statistics.median(new)
     print(f"a file of {before:,} bytes, of which {count:,} blocks of {BLOCK:,} stand, is reclaimed to one of "
           f"{whole:,}: {min(times):.3f} s, {whole / 1e6 / min(times):,.0f} MB/s, {best:.2f} ({middle:.2f}) times cp "
-          f"with one sync ({min(plain):.3f} s); at most {AIM} is the aim")
+          f"with one sync over a file of as many bytes ({min(plain):.3f} s), {beside[0]:.2f} ({beside[1]:.2f}) times "
+          f"cp to a new file ({min(new):.3f} s); at most {AIM} is the aim")
     print(f"the most memory of a reclaim: {most / 1024:,.0f} KiB; of a load of it {load / 1024:,.0f} KiB, and the "
           f"buffer of a frame has {LONGEST / 1024:,.0f}", flush=True)
 

@@ -114,7 +114,9 @@ def all_of(tools, used, chance, images):
     with tempfile.TemporaryDirectory(prefix="vtl-stops-") as top:
         for count in range(3):
             folder, held, epoch = written(tools, folder, top, f"written-{count}")
-            wrong += stop(tools, folder, RECLAIM, after_reclaim(held, epoch), "", chance, images)
+            # a second file of no byte, which a killed process had just made
+            unnamed = [] if epoch else [FILES[FIRST] + reclaiming.SECOND]
+            wrong += stop(tools, folder, RECLAIM, after_reclaim(held, epoch), "", chance, images, unnamed=unnamed)
             wrong += behind_a_failed_sync(tools, folder, held, epoch, chance, 3)
             for at in range(3):
                 left = stopped(tools, folder, top, f"stopped-{count}-{at}", chance)

@@ -2,8 +2,8 @@
 """Time of starts of the built program over many files: of 1,000 in four starts, since a library has 288 at most, 16
 drives' stores and a cartridge at each of the 272 element addresses. The files are new and cached, the script is empty.
 The best of five rounds, by the clock and in the processor's time, beside a library of no file and a plain reading of
-the same files. With `strace` also the calls of a start over 288 files, and the bytes that it writes: one of each store
-and of each cartridge in a drive, no more.
+the same files. With `strace` also the calls of a start over 288 files, and the bytes that it writes: one of each store,
+eleven of each cartridge in a drive (the ten that its side begins with, and the gate behind them), no more.
 
 --program PATH: another program than the proved one. The files lie in a new folder beside the repository's own, or in
 the one that a word names."""
@@ -95,13 +95,14 @@ def calls_of(program, full, empty):
         return
     calls, written = traced(program, full)
     bare, _ = traced(program, empty)
-    owed = collections.Counter([f"{at}.{kind}" for at in range(1, DRIVES + 1) for kind in ("pr", "tape")])
+    owed = collections.Counter({f"{at}.{kind}": count for at in range(1, DRIVES + 1)
+                                for kind, count in (("pr", 1), ("tape", 11))})
     if written != owed:
         sys.exit(f"a start wrote {dict(written - owed)} more than it has to, and {dict(owed - written)} less")
     more = calls - bare
     by_name = ", ".join(f"{name} {count / GREATEST:.2f}" for name, count in more.most_common() if count >= DRIVES)
-    print(f"a start over {GREATEST} files writes {sum(written.values())} bytes, one of each store and of each "
-          f"cartridge in a drive; {sum(more.values()) / GREATEST:.2f} calls a file: {by_name}")
+    print(f"a start over {GREATEST} files writes {sum(written.values())} bytes, one of each store and eleven "
+          f"of each cartridge in a drive; {sum(more.values()) / GREATEST:.2f} calls a file: {by_name}")
 
 
 def main():

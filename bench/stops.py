@@ -100,10 +100,10 @@ def held_in(folder):
     return {file: content(os.path.join(folder, file)) for file in EACH_FILE}
 
 
-def left_behind(before, calls, chance, images, forgets=lambda: False, since=0):
+def left_behind(before, calls, chance, images, forgets=lambda: False, since=0, unnamed=()):
     """So many times behind each call, from that one on: its number, what was written to standard output by then, and
     the files."""
-    world = World(before, forgets)
+    world = World(before, forgets, unnamed)
     for at in range(len(calls) + 1):
         for _ in range(images if at >= since else 0):
             yield at, world.out, world.images(chance)
@@ -121,13 +121,13 @@ def looked_at(what, calls, tasks, look):
     return wrong
 
 
-def stop(tools, pristine, words, way, script, chance, images, forgets=lambda: False):
-    """Stops what these words do behind each call."""
+def stop(tools, pristine, words, way, script, chance, images, forgets=lambda: False, unnamed=()):
+    """Stops what these words do behind each call; the names of some files may not be safe before."""
     room = Room(tools, pristine)
     with room.room:
         before = held_in(room.path)
         calls = calls_of(tools, room.path, words, script)
-    tasks = list(left_behind(before, calls, chance, images, forgets))
+    tasks = list(left_behind(before, calls, chance, images, forgets, unnamed=unnamed))
     return looked_at(f"vtl {words[0]}", calls, tasks, looking(tools, pristine, way))
 
 

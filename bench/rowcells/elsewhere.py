@@ -9,6 +9,7 @@ STORES = "what_is_pending_is_stored_first"
 UNLOADS = "an_unloading_meets_a_fault"
 OPENS = "a_fault_at_each_call_of_a_loading"
 SAVES = "a_fault_at_each_call_of_a_save"
+FRAMES = ["each_request", "each_request_written", "each_answer", "refused_headers"]
 # by cell: the tests
 CELLS = {
     # a block of no byte has no line
@@ -57,6 +58,33 @@ CELLS = {
     "stream | an interrupted write": ["writes_that_are_interrupted_many_times"],
     "stream | any other error of the writer, and an interrupted flush": ["writes_that_fail", ENDINGS],
     "stream | after a fault, and where memory runs out": ["writes_that_fail", ENDINGS],
+    # frames, which no program reads or writes yet
+    **{f"frame, byte | {at}": FRAMES for at in ("0", "1", "2", "3", "4 to 7", "8 to 11", "12 to 15", "16 on")},
+    **{f"frame | {what}": [test] for test, those in (
+        ("each_request", ["TEST UNIT READY of host 1 to drive 2, tag 7",
+                          "WRITE(6) of the three bytes 61h 62h 63h, host 3, drive 1, tag FFFFFFFEh",
+                          "a move from slot 1001 to drive 1, tag 9", "an inventory, tag 01000000h"]),
+        ("each_answer", ["its answer from an empty drive", "an answer with these three bytes",
+                         "CONFLICT for host 64, tag 0", "its answer, GOOD",
+                         "an answer with drive 1, in which nothing is, and slot 1001 with T00001L6"]))
+       for what in those},
+    # what an answer means, which no program writes yet
+    **{f"words of | {what}": [test] for test, those in (
+        ("each_condition_of_a_tape_in_words", [
+            "ILI, 0, 00/00", "0, 00/01", "0, 00/02", "0, 00/04", "8, 00/05", "Dh, 00/02"]),
+        ("each_refusal_in_words", [
+            "0, 00/00", "2, 3A/00", "5, 20/00", "5, 24/00", "5, 1A/00", "5, 26/00", "5, 26/04",
+            "5, 21/01", "5, 3B/0D", "5, 3B/0E", "5, 55/04"]),
+        ("each_fault_in_words", [
+            "3, 0C/00", "3, 11/00", "4, 44/00", "Bh, 55/03", "any other"]),
+        ("each_attention_in_words", [
+            "6, 29/00", "6, 28/00", "6, 2A/03", "6, 2A/05", "6, 2A/04", "6, 2A/01"]))
+       for what in those},
+    "words where | deferred": ["each_fault_in_words"],
+    "words where | INFORMATION is valid and not 0, ILI is 0": ["each_condition_of_a_tape_in_words"],
+    "words where | INFORMATION is valid and not 0, ILI is 1": ["each_condition_of_a_tape_in_words"],
+    "words where | FILEMARK, EOM, ILI": ["each_condition_of_a_tape_in_words"],
+    "words where | CONFLICT": ["a_conflict_in_words"],
     "limits | a script of 2,147,483,648 bytes, and one of a byte more": ["limits_of_bytes_and_reads", ENDINGS],
     "limits | a script of 4,294,967,296 reads, and one more": ["limits_of_bytes_and_reads", "reads_are_counted"],
     "limits | PRGENERATION wraps at 2^32": ["the_generation_wraps"],

@@ -2,6 +2,7 @@
 import os
 import re
 
+from . import explained
 from .tables import TOP
 
 # by heading, the lines of its tables; a table that has more needs its cells in listing.py, and then its number here
@@ -10,8 +11,9 @@ LINES = {
     "The bytes of READ POSITION and of INQUIRY": [4], "When a partition or a file is full": [6],
     "Memory and device faults": [9, 5], "Persistent reservations": [6, 3], "Actions of PERSISTENT RESERVE OUT": [18],
     "The cases of PREEMPT": [5], "When 2A/04 is established": [3], "READ KEYS and READ RESERVATION": [3],
-    "Mode lists": [6, 3, 2], "Sense data": [6], "Unit attention conditions": [6], "Moves": [4, 5, 3],
-    "When a move puts the cartridge back": [2], "Scripts": [3, 5], "The command line": [5, 4],
+    "Mode lists": [6, 3, 2], "Sense data": [6], "Unit attention conditions": [6],
+    "Sense data in words": [28, 5], "Moves": [4, 5, 3],
+    "When a move puts the cartridge back": [2], "Scripts": [3, 5], "Frames": [8, 9], "The command line": [5, 4],
     "What created and kept mean": [2], "Exit status": [11], "The exit status at a damaged cartridge": [4],
     "The header": [9], "Which file counts": [2, 12, 8], "What a reclaim does": [5], "A cartridge's file": [6, 3],
     "A reservation store's file": [6, 5],
@@ -65,5 +67,6 @@ def faults(tables, cells):
     for limit in readme_limits():
         if not any(limit.startswith(known) or known.startswith(limit) for known in LIMITS):
             said.append(f"README.md: the limit `{limit}` has no cells")
+    said += explained.faults(tables)
     return said + [f"the limit {limit}: `{cell}` is no cell" for limit, those in LIMITS.items() for cell in those
                    if cell not in cells]

@@ -5,7 +5,7 @@ from .tables import ALWAYS, NAMES, NEEDS_MEDIUM, TYPES, flushing
 
 OF_TABLE = ("does | ", "action | ", "preempt | ", "when 2A/04 | ", "move | ", "out | ", "in | ", "back | ")
 LEVELS = ["29/00", "28/00", "2A/03", "2A/05", "2A/04", "2A/01"]
-CAUSES = ["done", "check, reclaim: the file is neither", "reclaim: not reclaimed", "the words ask for nothing",
+CAUSES = ["done", "check: the file is neither", "reclaim: not reclaimed", "the words ask for nothing",
           "the configuration's file is no UTF-8", "a bad line", "a file is missing",
           "run: the file of a drive's reservations is refused", "run: a buffer could not be written out",
           "a read or write of the streams failed", "out of memory"]
@@ -32,7 +32,8 @@ def of_tables(tables):
             ("When 2A/04 is established", 0, "when 2A/04", 1), ("Moves", 0, "move", 1), ("Moves", 1, "out", 2),
             ("Moves", 2, "in", 2), ("When a move puts the cartridge back", 0, "back", 1),
             ("Memory and device faults", 0, "fault", 1), ("Memory and device faults", 1, "memory", 1),
-            ("Scripts", 1, "stream", 1)):
+            ("Scripts", 1, "stream", 1), ("Frames", 0, "frame, byte", 1), ("Frames", 1, "frame", 1),
+            ("Sense data in words", 0, "words of", 1), ("Sense data in words", 1, "words where", 1)):
         cells += [" | ".join([prefix, *fields[:columns]]) for fields in lines(tables, heading, at)]
     found = [fields[2] for fields in lines(tables, "Exit status")]
     for cause in CAUSES:

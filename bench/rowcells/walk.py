@@ -122,7 +122,7 @@ class Walk:
         except sides.Refused as why:
             self.see(f"file | {why.line.partition(' at ')[0]}: {why.why}")
             self.see(f"damaged | check | {why.line.partition(' at ')[0]}")
-            self.ends(run, 1, None, "check, reclaim: the file is neither", [why.line])
+            self.ends(run, 1, None, "check: the file is neither", [why.line])
             return
         for note in [*notes, f"a {side.kind} of {'no' if not side.frames else 'some'} frames"]:
             self.see(f"file | {note}")
@@ -156,7 +156,7 @@ class Walk:
                 raise sides.Refused("not a side", "a store under the name of a cartridge")
         except sides.Refused as why:
             self.see(f"damaged | reclaim | {why.line.partition(' at ')[0]}")
-            self.ends(run, 1, None, "check, reclaim: the file is neither", [why.line])
+            self.ends(run, 1, None, "check: the file is neither", [why.line])
             return
         if side.epoch == 2 ** 64 - 1:
             self.see("reclaim | the last epoch")

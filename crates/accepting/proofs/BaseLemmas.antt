@@ -1,10 +1,10 @@
 -- Where no step changes what all is carried out from, what is kept begins what is accepted; and where one does.
-use Rattle.std.specs.Prelude.{◌≡◌, ◌⊎◌, ◌≤◌, ◌<◌, ℕ, zero, suc, List, [], ◌∷◌, length, take, refl}
+use Rattle.std.specs.Prelude.{◌≡◌, ◌≤◌, ◌<◌, ℕ, zero, suc, List, [], ◌∷◌, length, take, refl}
 use Rattle.std.proofs.Common.{◌∙◌, inl, inr, ⊎_elim, sym, subst, arith, append-nil}
 use Rattle.std.proofs.lemmas.List.{take_all}
 use Rattle.accepting.specs.Device.{Device, IsDevice}
 use Rattle.accepting.specs.Core.{Rules, Core, CoreStep, Accept, Store, Safe, Ack, Fault, Stop, Rebase, AllMayCome, AllStepTo, CanAcknowledge, IsCore, IsKept, NeverRebases, NoneRebases, kept_begins}
-use Rattle.accepting.specs.Events.{GivesAcknowledged, ShowsBetween, ShowsCore}
+use Rattle.accepting.specs.Events.{GivesAcknowledged, ShowsBetween}
 use Rattle.accepting.specs.Laws.{AcknowledgedBegins, CrashesKeepAcknowledged, EventsKeepBase, FailuresKeepAccepted, RebasesKeepAccepted}
 use Rattle.accepting.specs.Rebasing.{GivesKept, ShowsEither, rebasing_shows, rebasing_steps}
 use Rattle.accepting.proofs.KeptLemmas.{acknowledged_is_kept, begins, holds_all, keeps_core, safe_is_kept, steps_hold}
@@ -102,32 +102,26 @@ module _ (rules : Rules) (device : Device rules.Image) where
         record { core = (keeps_core rules old new event.steps core event.leads).0; base = safe.0; safe = safe.1 },
       )
 
--- all that was accepted could be acknowledged, and goes into another base
+-- all that was accepted could be acknowledged, and another base may come
 module _ (rules : Rules) (old : Core rules.Base rules.Item) (base : rules.Base) (core : IsCore old)
-    (could : CanAcknowledge old) (goes_into : rules.rebases old.base old.accepted base) where
-  -- it is kept behind that, with whatever comes then
-  kept_below : (items : List rules.Item) → IsKept rules old.base old.accepted base items
-  kept_below items = (suc zero, (old.base, old.accepted, (refl, ([], sym (append-nil old.accepted))), goes_into))
-
-  kept_itself : (items : List rules.Item) → items ≡ old.accepted → IsKept rules old.base old.accepted old.base items
-  kept_itself items same = (zero, (refl, ([], same ∙ sym (append-nil old.accepted))))
+    (could : CanAcknowledge old) where
+  -- where it goes into that, it is kept behind it, with whatever comes then
+  kept_below : rules.rebases old.base old.accepted base → (items : List rules.Item)
+      → IsKept rules old.base old.accepted base items
+  kept_below goes_into items =
+      (suc zero, (old.base, old.accepted, (refl, ([], sym (append-nil old.accepted))), goes_into))
 
   all_of : (n : ℕ) → length old.accepted ≤ n → (image : rules.Image)
       → rules.gives old.base (take n old.accepted) image → GivesKept rules old.base old.accepted image
   all_of n many image g =
-      record {
-        base_then = old.base;
-        items_then = take n old.accepted;
-        kept = kept_itself (take n old.accepted) (take_all n old.accepted many);
-        gives = g;
-      }
+      inl (subst (λ (l : List rules.Item). rules.gives old.base l image) (take_all n old.accepted many) g)
 
   -- and in what is given while it goes there
   kept_either : (image : rules.Image) → ShowsEither rules old base image → GivesKept rules old.base old.accepted image
   kept_either image (inl shows) =
       ⊎_elim (all_of old.safe (omega (arith, could.1)) image)
       (all_of old.stored (omega (arith, could.1, core.safe)) image) shows
-  kept_either image (inr g) = record { base_then = base; items_then = []; kept = kept_below []; gives = g }
+  kept_either image (inr g) = inr (base, g.1, g.0)
 
 module _ (rules : Rules) (device : Device rules.Image) (laws : IsDevice device) where
   pub crash_keeps : CrashesKeepAcknowledged rules device
@@ -149,10 +143,10 @@ module _ (rules : Rules) (device : Device rules.Image) (laws : IsDevice device) 
         shows = λ honest shows. rebasing_shows rules device laws disk disk' old new r honest shows;
         moments = λ honest shows.
             laws.weakened disk disk' (ShowsEither rules old new.base) (GivesKept rules old.base old.accepted)
-            (r.moments honest shows) (kept_either rules old new.base core r.could r.goes_into);
+            (r.moments honest shows) (kept_either rules old new.base core r.could);
       }
 
   pub failures_keep : FailuresKeepAccepted rules device
   failures_keep disk disk' old base core r honest shows =
       laws.weakened disk disk' (ShowsEither rules old base) (GivesKept rules old.base old.accepted)
-      (r.moments honest shows) (kept_either rules old base core r.could r.goes_into)
+      (r.moments honest shows) (kept_either rules old base core r.could)

@@ -25,10 +25,10 @@ pub record Core (S C : Type 0) : Type 0 where
   pub stored : ℕ
   -- how many of these, from the first on, are safe: a crash leaves them
   pub safe : ℕ
-  -- the device failed, and that was told: nothing more is stored or accepted
+  -- the device failed, and that was reported: nothing more is stored or accepted
   pub fault : Bool
-  -- the device failed, and that is not yet told: nothing more is stored. No step sets it while each fault is told at
-  -- once.
+  -- the device failed, and that is not yet reported: nothing more is stored. No step sets it while each fault is
+  -- reported at once.
   pub stuck : Bool
   -- stopped, and what was then found is not yet made safe
   pub recovering : Bool

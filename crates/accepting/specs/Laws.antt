@@ -41,6 +41,14 @@ module _ (rules : Rules) where
       NeverRebases rules → (base base' : rules.Base) (items items' : List rules.Item)
       → IsKept rules base items base' items' → (base' ≡ base) × IsPrefix items items'
 
+  -- what is kept in something which is itself kept in something later is kept in that: so calls chain with changes of
+  -- base (own)
+  abbrev pub KeptStaysKept : Type 0
+  KeptStaysKept =
+      (base base' base'' : rules.Base) (items items' items'' : List rules.Item)
+      → IsKept rules base items base' items' → IsKept rules base' items' base'' items''
+      → IsKept rules base items base'' items''
+
 module _ (rules : Rules) (device : Device rules.Image) where
   -- nothing done accepts nothing (own)
   abbrev pub NothingMoves : Type 0

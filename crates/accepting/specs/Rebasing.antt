@@ -3,20 +3,21 @@
 use Rattle.std.specs.Prelude.{◌≡◌, ◌⊎◌, ◌<◌, List, [], ◌∷◌, refl}
 use Rattle.std.proofs.Common.{inl, ⊎_elim, subst, sym}
 use Rattle.accepting.specs.Device.{Device, IsDevice, KeepsDevice}
-use Rattle.accepting.specs.Core.{Rules, Core, Rebase, AllStepTo, CanAcknowledge, IsKept, rebased}
+use Rattle.accepting.specs.Core.{Rules, Core, Rebase, AllStepTo, CanAcknowledge, rebased}
 use Rattle.accepting.specs.Events.{ShowsBetween, ShowsCore}
 
 module _ (rules : Rules) where
-  -- the image gives things in which these are kept, carried out from wherever they then are (own)
-  pub record GivesKept (base : rules.Base) (items : List rules.Item) (image : rules.Image) : Type 0 where
-    pub base_then : rules.Base
-    pub items_then : List rules.Item
-    pub kept : IsKept rules base items base_then items_then
-    pub gives : rules.gives base_then items_then image
+  -- the image gives just these, carried out from there; or nothing yet, carried out from what all these go into (own)
+  abbrev pub GivesKept : rules.Base → List rules.Item → rules.Image → Type 0
+  GivesKept base items image =
+      rules.gives base items image
+      ⊎ ((next : rules.Base) × rules.rebases base items next × rules.gives next [] image)
 
-  -- the image gives what is safe or what is stored, or nothing yet, carried out from this (own)
+  -- the image gives what is safe or what is stored, or nothing yet, carried out from this, into which all that was
+  -- accepted then goes (own)
   abbrev pub ShowsEither : Core rules.Base rules.Item → rules.Base → rules.Image → Type 0
-  ShowsEither old base image = ShowsCore rules old image ⊎ rules.gives base [] image
+  ShowsEither old base image =
+      ShowsCore rules old image ⊎ (rules.gives base [] image × rules.rebases old.base old.accepted base)
 
 module _ (rules : Rules) (device : Device rules.Image) where
   -- All that was accepted goes into what the next ones are carried out from. It could be acknowledged before. Where the
@@ -33,13 +34,13 @@ module _ (rules : Rules) (device : Device rules.Image) where
     pub sure : device.honest disk → device.each disk (ShowsCore rules old) → device.each disk' (rules.gives new.base [])
 
   -- The device failed while all that was accepted was to go into this base: each moment has an image of the old core,
-  -- or of the new base with nothing behind it, and which of the two is found when it is read again (own).
+  -- or of the new base with nothing behind it, and which of the two is found when it is read again. That all goes into
+  -- it is known of an image of it alone (own).
   pub record FailsToRebase (disk disk' : device.State) (old : Core rules.Base rules.Item) (base : rules.Base)
       : Type 0 where
     pub keeps : KeepsDevice device disk disk'
     pub failed : device.failures disk < device.failures disk'
     pub could : CanAcknowledge old
-    pub goes_into : rules.rebases old.base old.accepted base
     pub moments :
         device.honest disk → device.each disk (ShowsCore rules old)
         → device.leaves disk disk' (ShowsEither rules old base)
@@ -75,4 +76,4 @@ module _ (rules : Rules) (device : Device rules.Image) where
           → ShowsBetween rules old (Rebase ∷ []) image
       between image either =
           ⊎_elim (λ s. (0, old, refl, s))
-          (λ g. (1, new, rebasing_steps disk disk' old new r, after image g)) either
+          (λ g. (1, new, rebasing_steps disk disk' old new r, after image g.0)) either

@@ -1,5 +1,5 @@
 //! Laws of what accepts. Each is a function that does nothing, and its contract is the law.
-ghost use Rattle.accepting.specs.Laws.{AcknowledgedBegins, AcknowledgedIsKept, CallsDropNothing, CrashesKeepAcknowledged, EventsKeepBase, FailuresKeepAccepted, KeptBegins, MovesAppend, NothingMoves, RebasesKeepAccepted, SafeIsKept, StepsKeepCores};
+ghost use Rattle.accepting.specs.Laws.{AcknowledgedBegins, AcknowledgedIsKept, CallsDropNothing, CrashesKeepAcknowledged, EventsKeepBase, FailuresKeepAccepted, KeptBegins, KeptStaysKept, MovesAppend, NothingMoves, RebasesKeepAccepted, SafeIsKept, StepsKeepCores};
 
 use crate::accepting::Accepting;
 
@@ -22,6 +22,12 @@ pub fn what_is_safe_is_kept<A: Accepting>()
 /// Where what all is carried out from never changes, what is kept begins what is accepted.
 pub fn what_is_kept_begins<A: Accepting>()
     ensures { KeptBegins A.rules }
+{}
+
+/// What is kept in something that is itself kept in something later is kept in that. So what a call keeps, and what a
+/// change of base keeps, is kept over all of them in a row.
+pub fn what_is_kept_stays_kept<A: Accepting>()
+    ensures { KeptStaysKept A.rules }
 {}
 
 /// Steps leave a core well-formed, and leave what all is carried out from where that never changes.

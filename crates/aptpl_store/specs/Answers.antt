@@ -34,12 +34,12 @@ module _ {D : Type 0} where
   SavesState old state (Err save.SideFull) new = new ≡ old
   SavesState old state (Err save.Failed) new = new ≡ old
 
-  -- the disk that a creation gives back, in the store or beside its refusal (own)
+  -- the disk that a creation returns, in the store or beside its refusal (own)
   abbrev pub disk_of_new : Result (OpenStore D) (StoreRefused D) → D
   disk_of_new (Ok store) = store.disk
   disk_of_new (Err refused) = refused.disk
 
-  -- the disk that an opening gives back, in the store or beside its refusal (own)
+  -- the disk that an opening returns, in the store or beside its refusal (own)
   abbrev pub disk_of_opened : {R : Type 0} → Result (OpenStore D × R) (StoreRefused D) → D
   disk_of_opened (Ok opened) = opened.0.disk
   disk_of_opened (Err refused) = refused.disk
@@ -67,7 +67,7 @@ IsStoreNotMade NotOurs memory device = ⊥
 IsStoreNotMade (Damaged at) memory device = ⊥
 IsStoreNotMade (BadRecord at) memory device = ⊥
 
--- Why a store is not opened: what the old bytes are; a fault; or want of memory, where there are the 27 bytes of a
+-- Why a store is not opened: what the old bytes are; a fault; or memory ran out, where there are the 27 bytes of a
 -- heading. But for a fault no call failed, and what stands is sure (own).
 abbrev pub IsStoreNotOpened : StoreError → DiskState → DiskState → Type 0
 IsStoreNotOpened NotOurs old new = NoneFailed old new × (old.honest → IsNoStore old.seen × Only old.seen new.may_leave)

@@ -70,6 +70,6 @@ impl From<NoMemory> for StoreError {
 pub struct StoreRefused<D> {
     /// Why.
     pub error: StoreError,
-    /// The disk that was handed in.
+    /// The disk that was given.
     pub disk: D,
 }

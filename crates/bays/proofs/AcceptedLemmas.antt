@@ -7,13 +7,13 @@ use Rattle.tape_disk.specs.Disk.{DiskState}
 use Rattle.pr_core.specs.declared.states.PrState.{PrState}
 use Rattle.pr_core.specs.States.{empty_state, power_loss}
 use Rattle.gate_journal.specs.Side.{Heading}
-use Rattle.accepting.specs.Core.{NeverRebases, Rules}
+use Rattle.accepting.specs.Core.{AllStepTo, Core, CoreStep, NeverRebases, NoneRebases, Rebase, Rules}
 use Rattle.accepting.specs.Events.{ShowsCore}
 use Rattle.accepting.specs.Laws.{AcknowledgedBegins, AcknowledgedIsKept, KeptBegins}
 use Rattle.aptpl_store.specs.Contents.{OpensAs}
 use Rattle.tape_buffer.specs.Moves.{buffer_below}
 use Rattle.tape_buffer.specs.State.{state_of}
-use Rattle.bays.specs.Accepted.{PrEvent, StopsKeepAccepted, StopsKeepThrough, order_rules, orders_core, pr_after, pr_after_all}
+use Rattle.bays.specs.Accepted.{GoesIntoBase, PrEvent, StopsKeepAccepted, StopsKeepThrough, order_rules, orders_core, pr_after, pr_after_all}
 use Rattle.bays.specs.Bays.{ShowsOrders}
 use Rattle.bays.specs.Elements.{BayState}
 use Rattle.bays.specs.Reservations.{GivesHeld, HoldingGives, IsHolding}
@@ -24,13 +24,40 @@ stops_keep rules kept begins never first acked last events before after rest all
     (begins never acked.base last.base acked.accepted last.accepted
     (kept first acked last before after core one two)).1
 
+-- steps in a row lead to a core between
+parted : (rules : Rules) (a c : Core rules.Base rules.Item) (first second : List (CoreStep rules.Item))
+    → AllStepTo rules a (first ++ second) c
+    → (b : Core rules.Base rules.Item) × AllStepTo rules a first b × AllStepTo rules b second c
+parted rules a c [] second leads = (a, refl, leads)
+parted rules a c (step ∷ first) second leads =
+    let rest = parted rules leads.0 c first second leads.2 in (rest.0, (leads.0, leads.1, rest.1), rest.2)
+
 pub stops_keep_through : (rules : Rules) → AcknowledgedIsKept rules → AcknowledgedBegins rules → StopsKeepThrough rules
 stops_keep_through rules kept begins first acked last events before after rest all core one two =
     record {
       kept = kept first acked last before after core one two;
       base = λ none. (begins first acked last before after core one two none).0;
       first = λ none. (begins first acked last before after core one two none).1;
+      into = into;
     }
+  where
+    into : (until behind : List (CoreStep rules.Item)) → after ≡ until ++ Rebase ∷ behind → NoneRebases until
+        → GoesIntoBase rules acked until behind last
+    into until behind is none =
+        let leads : AllStepTo rules acked (until ++ Rebase ∷ behind) last =
+        subst (λ (steps : List (CoreStep rules.Item)). AllStepTo rules acked steps last) is
+        (subst (λ (x : Core rules.Base rules.Item). AllStepTo rules x after last) two.1.1 two.2) in
+        let parts = parted rules acked last until (Rebase ∷ behind) leads in
+        let begun = begins first acked parts.0 before until core one (acked, (two.1.0, refl), parts.1) none in
+        record {
+          mid = parts.0;
+          next = parts.2.0;
+          until = parts.1;
+          base = begun.0;
+          first = begun.1;
+          into = parts.2.1;
+          behind = parts.2.2;
+        }
 
 -- one more comes last
 more_last : (state : PrState) (events : List PrEvent) (event : PrEvent)

@@ -10,7 +10,7 @@ use Rattle.pr_core.specs.Orders.{effect_of}
 use Rattle.pr_core.specs.Sets.{nexuses}
 use Rattle.pr_core.specs.States.{empty_state, power_loss}
 use Rattle.gate_journal.specs.Side.{Heading}
-use Rattle.accepting.specs.Core.{Ack, AllStepTo, Core, CoreStep, IsCore, IsKept, IsPrefix, NoneRebases, Rules}
+use Rattle.accepting.specs.Core.{Ack, AllStepTo, Core, CoreStep, IsCore, IsKept, IsPrefix, NoneRebases, Rebase, Rules, StepsTo}
 use Rattle.aptpl_store.specs.Contents.{OpensAs}
 
 -- what changes the reservations of a drive: an order of a host, or a loss of power (SPC-4, PERSISTENT RESERVE OUT,
@@ -97,14 +97,31 @@ module _ (rules : Rules) where
       → IsCore first → AllStepTo rules first before acked → AllStepTo rules acked (Ack ∷ after) last
       → IsPrefix acked.accepted last.accepted
 
+  -- Some steps lead to a core in which what was accepted in the old one begins what is accepted, carried out from where
+  -- it was; just that goes into what all is carried out from in the next one, and the other steps follow (own).
+  pub record GoesIntoBase
+      (old : Core rules.Base rules.Item) (steps rest : List (CoreStep rules.Item)) (new : Core rules.Base rules.Item)
+      : Type 0 where
+    pub mid : Core rules.Base rules.Item
+    pub next : Core rules.Base rules.Item
+    pub until : AllStepTo rules old steps mid
+    pub base : mid.base ≡ old.base
+    pub first : IsPrefix old.accepted mid.accepted
+    pub into : StepsTo rules mid Rebase next
+    pub behind : AllStepTo rules next rest new
+
   -- What was accepted in a core is kept in one that these steps lead to, carried out from wherever all is then. Where
-  -- no step changes that, it is what it was, and what was accepted begins what is accepted then (own).
+  -- no step changes that, it is what it was, and what was accepted begins what is accepted then. The first step that
+  -- changes it has it begin what goes into that (own).
   pub record KeepsThrough
       (old : Core rules.Base rules.Item) (steps : List (CoreStep rules.Item)) (new : Core rules.Base rules.Item)
       : Type 0 where
     pub kept : IsKept rules old.base old.accepted new.base new.accepted
     pub base : NoneRebases steps → new.base ≡ old.base
     pub first : NoneRebases steps → IsPrefix old.accepted new.accepted
+    pub into :
+        (until rest : List (CoreStep rules.Item)) → steps ≡ until ++ Rebase ∷ rest → NoneRebases until
+        → GoesIntoBase old until rest new
 
   -- For every list of events, and of changes of what all is carried out from, each a list of steps: what was accepted
   -- at an acknowledgement, in whichever event it stands, is kept so at any moment behind it, inside an event too,

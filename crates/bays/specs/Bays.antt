@@ -103,7 +103,7 @@ module _ {D : Type 0} (state : D → DiskState) where
         (disk_of (state_of state) (buffer_below state) state new)
         (LeavesHeld (state_of state) (buffer_below state) state old call new)
 
-  -- a host is answered by a step of the machine, and of every moment inside the call that step's event is told (own)
+  -- a host is answered by a step of the machine, and that step's event says what is left at every moment of it (own)
   pub record AnswersInEvent (old : BayState D) (request : Request) (reply : Reply) (new : BayState D) : Type 0 where
     pub step : Answers (state_of state) (buffer_below state) store_kept (store_below state) old request reply new
     pub moments : EveryMoment old (Asked request reply) step.taken.made (medium_in old.bay) (medium_in new.bay) new
@@ -121,7 +121,7 @@ module _ {D : Type 0} (state : D → DiskState) where
   IsSafeIn None = Unit {0}
   IsSafeIn (Some medium) = CanAcknowledge (medium_core state medium)
 
-  -- the medium that a loading leaves: in the drive, or handed back (own)
+  -- the medium that a loading leaves: in the drive, or returned (own)
   abbrev pub loaded_or_back : Result Unit (BufferState D × Reply) → BayState D → Option (BufferState D)
   loaded_or_back (Ok done) new = medium_in new.bay
   loaded_or_back (Err back) new = Some back.0

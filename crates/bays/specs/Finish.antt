@@ -26,7 +26,7 @@ module _ {D : Type 0} (state : D → DiskState) where
   IsWrittenIn (Loaded medium) = ((state_of state medium).failed ≡ false) × ((state_of state medium).pending ≡ [])
   IsWrittenIn _ = Unit {0}
 
-  -- a drive, where there is one, takes a flusher's turn, and of every moment inside it its event is told (own)
+  -- a drive, where there is one, takes a flusher's turn, and its event says what is left at every moment of it (own)
   abbrev pub TurnsAt : Option (BayState D) → Option (BayState D) → Type 0
   TurnsAt None None = Unit {0}
   TurnsAt (Some old) (Some new) =

@@ -52,7 +52,7 @@ module _ {D : Type 0} (state : D → DiskState) where
         Run (IsHonestBay old) (machine_in old) (map Execute requests) (map Answered answers) made (machine_in left)
 
   -- a run of a drive's machine over these requests, with flusher's turns wherever they stand in it, may give these
-  -- replies, and no fault, want of memory or full side (own)
+  -- replies; no fault came, memory did not run out and no side was full (own)
   pub record MayReply (requests : List Request) (replies : List Reply) (old : BayState D) : Type 0 where
     pub inputs : List Input
     pub outputs : List Output
@@ -63,10 +63,10 @@ module _ {D : Type 0} (state : D → DiskState) where
     pub run : Run (Unit {0}) (machine_in old) inputs outputs made end
     pub replied : replies ≡ replies_of outputs
 
-  -- some lines were answered by the drives that they name: each drive answered its own, in their order, by a run of its
-  -- machine, and the text of all answers was written in the order of the lines, and nothing else; over honest media of
-  -- which it is sure what their sides give, and where no answer is a fault, want of memory or a full side, no other
-  -- replies have another text that each drive may give to its own lines without any of these (own)
+  -- Some lines were answered by the drives that they name: each drive answered its own, in their order, by a run of its
+  -- machine, and the text of all answers was written in the order of the lines, and nothing else. Suppose that the
+  -- media are honest, that it is sure what their sides give, and that no answer is a fault, out of memory or a full
+  -- side. Then no other replies have another text that each drive may give to its own lines without any of these (own).
   pub record AnswersLines
       (lines : List Line) (old : HeldState D) (before : Option (List ℕ)) (new : HeldState D)
       (now : Option (List ℕ)) : Type 0 where

@@ -29,7 +29,7 @@ use tape_disk::Disk;
 use volume_core::{Medium, Turn};
 use vtl_base::{Bytes, Nexus, NoMemory};
 
-/// Why a drive was not switched on: memory ran out. What was handed in comes back.
+/// Why a drive was not switched on: memory ran out. What was given is returned.
 #[derive(Drop)]
 pub struct NotOn<D: Disk> {
     /// The cartridge, closed still.
@@ -193,9 +193,9 @@ impl<D: Disk> Bay<D> {
         turn
     }
 
-    /// Opens a cartridge and loads it into an empty drive: each nexus is told that the medium may have changed. One
-    /// that can't be opened comes back, closed, with the reply: 3, 11/00 where its side is refused or the device fails,
-    /// Bh, 55/03 where memory runs out.
+    /// Opens a cartridge and loads it into an empty drive. For each nexus 28/00 is established: the medium may have
+    /// changed. One that can't be opened is returned, closed, with the reply: 3, 11/00 where its side is refused or the
+    /// device fails, Bh, 55/03 where memory runs out.
     pub fn load(&mut self, cartridge: Parked<D>) -> Result<(), (Parked<D>, Reply)>
         requires empty { self.old.bay ≡ Bays.Empty }
         ensures taken { TakesIn (state_of D.state) (buffer_below D.state) self.old cartridge result self.new }
@@ -212,7 +212,7 @@ impl<D: Disk> Bay<D> {
         }
     }
 
-    /// Puts a cartridge into an empty drive, not loaded. No host is told. It takes no memory.
+    /// Puts a cartridge into an empty drive, not loaded. No condition is established. It takes no memory.
     pub fn insert(&mut self, cartridge: Parked<D>)
         requires empty { self.old.bay ≡ Bays.Empty }
         ensures inserted { self.new ≡ record self.old { bay = Bays.Unloaded cartridge } }

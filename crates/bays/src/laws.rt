@@ -14,7 +14,7 @@ use tape_disk::Disk;
 
 /// For every list of events, of the changes of a cartridge and of the orders of a drive's reservations: what was
 /// accepted at an acknowledgement begins all that is accepted later, whatever stops come between. Of a cartridge also
-/// where what all is carried out from changes between two events: then what was accepted is kept in that.
+/// where what all is carried out from changes between two events: then what was accepted begins what goes into that.
 pub fn stop_keeps<D: Disk>()
     ensures changes { StopsKeepThrough medium_rules }
     ensures orders { StopsKeepAccepted order_rules }

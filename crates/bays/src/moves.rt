@@ -37,8 +37,9 @@ impl<D: Disk + Drop> Held<D> {
     /// by the first of these that holds, and then nothing changes: 5, 21/01 where an address is no slot's and no
     /// configured drive's; RESERVATION CONFLICT where a reservation is held at a drive that is touched, since the
     /// operator is no nexus; 5, 3B/0E where nothing is at the source; 5, 3B/0D where something is at the destination.
-    /// Out of a drive it does what UNLOAD does, and answers as it does. Into a drive it loads, and each nexus is told
-    /// there; where the loading fails the cartridge goes back to its source, unloaded, and the reply is the drive's.
+    /// Out of a drive it does what UNLOAD does, and answers as it does. Into a drive it loads, and 28/00 is established
+    /// there for each nexus; where the loading fails the cartridge goes back to its source, unloaded, and the reply is
+    /// the drive's.
     pub fn move_medium(&mut self, from: u32, to: u32) -> Reply
         ensures answer { MovesMedium D.state self.old from to result self.new }
         ensures kept { KeepsCartridges D.state self.old from to result self.new }

@@ -13,7 +13,6 @@ ghost use Rattle.bays.specs.Runs.{LibraryAnswers, is_configured_in, line_request
 use crate::held::Held;
 use crate::laws::cartridges::a_stop_keeps_acknowledged_changes_of_what_is_moved;
 use aptpl_store::AptplStore;
-use drive_core::laws;
 use scsi_sense::Reply;
 use std::alloc::Global;
 use std::io::{Read, Write};
@@ -106,9 +105,9 @@ pub fn run_held<D: Disk + Drop, R: Read, W: Write>(
     ensures keeps { RunKeeps D.state held.old held.new }
 {
     // The laws of the machine, of scripts and of stops, for the proof alone.
-    laws::honest_steps::<Buffered<D>>();
-    laws::answers_are_determined();
-    laws::served_hosts_run::<Buffered<D>, AptplStore<D>>();
+    drive_laws::honest_steps::<Buffered<D>>();
+    drive_laws::answers_are_determined();
+    drive_laws::served_hosts_run::<Buffered<D>, AptplStore<D>>();
     vtl_script::laws::one_host_runs_in_order();
     a_stop_keeps_acknowledged_changes_of_what_is_moved::<D>();
     run_script(alloc, held, reader, writer)

@@ -63,7 +63,7 @@ fn what_is_not_loaded_goes_back(rt: HostRuntime) -> Result<(), Fail> {
     Ok(())
 }
 
-// What a host is told by drive 1, into which its cartridge was put back: it is there, and not loaded.
+// What drive 1 answers a host once its cartridge was put back into it: it is there, and not loaded.
 static PUT_BACK: &'static [(&'static [u8], Answer)] = &[
     (READY, POWERED_ON),
     (READY, MEDIUM_CHANGED),

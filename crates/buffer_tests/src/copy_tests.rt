@@ -10,25 +10,25 @@ use std::process::Abort;
 use std::test::Fail;
 use tape_disk::{MemDisk, OnceDisk};
 
-// The first side, as it was before: a block of five bytes and a filemark, and then a block written at the beginning.
-static FIRST: &'static [u8] = b"\xa5VTLCART1\xa5\x01T00001L6        \0\0\0\0\0\0\x10\0\
+/// The first side, as it was before: a block of five bytes and a filemark, and then a block written at the beginning.
+pub static FIRST: &'static [u8] = b"\xa5VTLCART1\xa5\x01T00001L6        \0\0\0\0\0\0\x10\0\
     \xa5\0\0\0\x0f\x01\0\0\0\0\0\0\0\0\x05hello\
     \xa5\0\0\0\x0a\x02\0\0\0\0\x01\0\0\0\x01\
     \xa5\0\0\0\x0b\x01\0\0\0\0\0\0\0\0\x01x\0";
 
-// The second side: epoch 1, and one frame that is the copy.
-static SECOND: &'static [u8] = b"\xa5VTLCART1\0\x81T00001L6        \0\0\0\0\0\0\x10\0\
+/// The second side: epoch 1, and one frame that is the copy.
+pub static SECOND: &'static [u8] = b"\xa5VTLCART1\0\x81T00001L6        \0\0\0\0\0\0\x10\0\
     \0\0\0\0\0\0\0\x01\0\0\0\x01\
     \xa5\0\0\0\x0b\x01\0\0\0\0\0\0\0\0\x01x\0";
 
-// The second side with a frame more: the block `y`.
-static MORE: &'static [u8] = b"\xa5VTLCART1\0\x81T00001L6        \0\0\0\0\0\0\x10\0\
+/// The second side with a frame more: the block `y`.
+pub static MORE: &'static [u8] = b"\xa5VTLCART1\0\x81T00001L6        \0\0\0\0\0\0\x10\0\
     \0\0\0\0\0\0\0\x01\0\0\0\x01\
     \xa5\0\0\0\x0b\x01\0\0\0\0\0\0\0\0\x01x\
     \xa5\0\0\0\x0b\x01\0\0\0\0\x01\0\0\0\x01y\0";
 
-// The block of the copy is read, and one more is stored behind it.
-static APPENDED: &'static [Row<'static>] = &[
+/// The block of the copy is read, and one more is stored behind it.
+pub static APPENDED: &'static [Row<'static>] = &[
     (1, READ_1, NONE, (None, b"x")),
     (1, WRITE_1, b"y", GOOD),
     (1, WRITE_OUT, NONE, GOOD),

@@ -144,7 +144,7 @@ fn a_fault_at_each_call_of_a_storing(rt: HostRuntime) -> Result<(), Fail> {
     Ok(())
 }
 
-// A turn failed: a host is told of it in the place of its command, and then nobody.
+// A turn failed: that is reported to one host in the place of its command, and then to nobody.
 static TOLD_ONCE: &'static [Row<'static>] = &[
     (1, INQUIRY, NONE, INQUIRED),
     (2, TEST_UNIT_READY, NONE, LATE_ERROR),
@@ -153,7 +153,7 @@ static TOLD_ONCE: &'static [Row<'static>] = &[
     (2, INQUIRY, NONE, INQUIRED),
 ];
 
-// The same, told by a command that would clear it all: one that is refused as unknown comes first and takes nothing.
+// The same, reported at a command that would clear it all: one of an unknown code comes first and clears nothing.
 static TOLD_TO_A_READ: &'static [Row<'static>] = &[
     (1, &[0xa5; 12], NONE, (Some((0x70, 5, 0, 0x20, 0)), &[])),
     (1, READ_1, NONE, LATE_ERROR),
@@ -173,7 +173,7 @@ static TOLD_AS_DATA: &'static [Row<'static>] = &[
     (1, TEST_UNIT_READY, NONE, FAILED),
 ];
 
-// The same, told to UNLOAD, which is then asked again.
+// The same, reported at UNLOAD, which is then asked again.
 static TOLD_TO_AN_UNLOADING: &'static [Row<'static>] = &[
     (1, UNLOAD, NONE, LATE_ERROR),
     (2, TEST_UNIT_READY, NONE, FAILED),
@@ -181,7 +181,7 @@ static TOLD_TO_AN_UNLOADING: &'static [Row<'static>] = &[
 
 static WAITING: &'static [Row<'static>] = ONE_WAITS;
 
-// A turn fails, hosts are told of it, and the tape is found to hold this.
+// A turn fails, that is reported to hosts, and the tape is found to hold this.
 fn turn_fails<D: Disk + Drop>(rt: &impl Abort, drive: &mut Tape<D>, told: &[Row], holds: &[u8]) {
     asks(rt, drive, WAITING);
     assert_turn(rt, drive, Turn::Device);
@@ -218,7 +218,7 @@ static LOADED_LATE: &'static [Row<'static>] = &[
     (2, TEST_UNIT_READY, NONE, GOOD),
 ];
 
-// The tape is unloaded, and loaded at the second asking alone; the other host is told once.
+// The tape is unloaded, and loaded at the second asking alone; that is reported to the other host once.
 static LOADED_AGAIN: &'static [Row<'static>] = &[
     (1, UNLOAD, NONE, GOOD),
     (1, LOAD, NONE, READ_ERROR),

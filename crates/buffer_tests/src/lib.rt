@@ -12,6 +12,8 @@ mod fault_tests;
 #[cfg(test)]
 mod medium_tests;
 #[cfg(test)]
+mod reclaim_tests;
+#[cfg(test)]
 mod row_tests;
 #[cfg(test)]
 mod samples;

@@ -17,3 +17,4 @@ pub mod StoringLemmas
 pub mod WalkingLemmas
 mod ReclaimLemmas
 mod CopiedLemmas
+mod UntouchedLemmas

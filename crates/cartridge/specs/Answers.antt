@@ -86,12 +86,12 @@ module _ {D : Type 0} where
     pub same : new ≡ record old { reserved = new.reserved }
     pub reserved : KeepsReserved old.reserved new.reserved
 
-  -- the disks that a creation gives back (own)
+  -- the disks that a creation returns (own)
   abbrev pub disks_created : Result (ClosedCartridge D) (NotCreated D) → TwoDisks D
   disks_created (Ok cartridge) = cartridge.disks
   disks_created (Err refused) = record { first = refused.first; second = refused.second }
 
--- the disks that an opening gives, in an open cartridge or in the closed one that is handed back (own)
+-- the disks that an opening gives, in an open cartridge or in the closed one that is returned (own)
 abbrev pub disks_opened : {D : Type 0} → Result (OpenCartridge D) (NotOpened D) → TwoDisks D
 disks_opened (Ok cartridge) = cartridge.disks
 disks_opened (Err refused) = refused.shelved.disks

@@ -11,6 +11,7 @@ use Rattle.gate_journal.specs.State.{IsBodyAt}
 use Rattle.side_pairs.specs.Passes.{copy_head, other}
 use Rattle.volume_copy.specs.Copies.{copy_of}
 use Rattle.volume_copy.specs.Frames.{change_size, frames_of}
+use Rattle.volume_reclaim.specs.Reclaiming.{KeepsBesideCopy}
 use Rattle.cartridge.specs.declared.error.CartridgeError.{CartridgeError}
 use Rattle.cartridge.specs.declared.error.CartridgeError.TheVariants.{NotOurs, Damaged, BadRecord, SideFull, Device, Failed, NoMemory}
 use Rattle.cartridge.specs.declared.reclaiming.NotReclaimed.{NotReclaimed}
@@ -18,7 +19,7 @@ use Rattle.cartridge.specs.declared.reclaiming.ReclaimError.{ReclaimError}
 use Rattle.cartridge.specs.declared.reclaiming.ReclaimError.TheVariants.{Cartridge, EpochsSpent}
 use Rattle.cartridge.specs.Answers.{IsNotOpened}
 use Rattle.cartridge.specs.Contents.{Contents, GivesContents, bodies_of, contents_from, volume_made}
-use Rattle.cartridge.specs.Disks.{IsFaultOfTwo, NoneOfTwo}
+use Rattle.cartridge.specs.Disks.{IsFaultOfTwo, NoneOfTwo, OnlyOfTwo, UnwrittenTwo}
 use Rattle.cartridge.specs.Notes.{Notes, noted_contents}
 use Rattle.cartridge.specs.State.{ClosedCartridge}
 
@@ -32,6 +33,12 @@ abbrev pub reclaimed_from : Contents → Contents
 reclaimed_from contents =
     contents_from (other contents.which) (copy_head contents.head (bodies_of (copy_frames contents)))
     (copy_frames contents)
+
+-- Both sides are open. The one that counted has all that it had from place 10 on, and the other one the copy of these
+-- contents' volume there, and nothing behind it (own).
+abbrev pub KeepsOldSide : Contents → Images → Images → Type 0
+KeepsOldSide contents before images =
+    KeepsBesideCopy contents.which contents.head (volume_made contents) before images
 
 -- what is noted of it (own)
 abbrev pub notes_copied : Notes → Notes
@@ -97,3 +104,18 @@ module _ {D : Type 0} (state : D → DiskState) where
       × IsUnplanned refused.shelved.contents refused.error
       × (AreHonest state old.disks → GivesContents refused.shelved.contents (seen_of_two state old.disks)))
       ⊎ IsBrokenOff old.disks refused)
+
+  -- nothing was written, and what the disks read is sure (own)
+  abbrev pub StaysSure : TwoDisks D → TwoDisks D → Type 0
+  StaysSure old new = UnwrittenTwo state old new × OnlyOfTwo state old new
+
+  -- what the cause why a cartridge is not reclaimed says of its disks: unless one failed, nothing was written (own)
+  abbrev pub IsUntouched : ReclaimError → TwoDisks D → TwoDisks D → Type 0
+  IsUntouched EpochsSpent old new = StaysSure old new
+  IsUntouched (Cartridge NotOurs) old new = StaysSure old new
+  IsUntouched (Cartridge (Damaged at)) old new = StaysSure old new
+  IsUntouched (Cartridge (BadRecord at)) old new = StaysSure old new
+  IsUntouched (Cartridge SideFull) old new = StaysSure old new
+  IsUntouched (Cartridge Failed) old new = StaysSure old new
+  IsUntouched (Cartridge NoMemory) old new = StaysSure old new
+  IsUntouched (Cartridge (Device fault)) old new = Unit {0}

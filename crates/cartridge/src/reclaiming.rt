@@ -13,7 +13,7 @@ ghost use Rattle.cartridge.specs.declared.reclaiming.ReclaimError.TheVariants as
 ghost use Rattle.cartridge.specs.Contents.{Contents, GivesContents, volume_made};
 ghost use Rattle.cartridge.specs.Disks.{IsFaultOfTwo, NoneOfTwo, OnlyOfTwo};
 ghost use Rattle.side_pairs.specs.Passes.{other};
-ghost use Rattle.cartridge.specs.Reclaiming.{GivesVolume, HasBodies, IsBrokenOff, IsNotReclaimed, IsUnplanned, LeavesVolume, copy_frames, copy_length, disks_reclaimed, reclaimed_from};
+ghost use Rattle.cartridge.specs.Reclaiming.{GivesVolume, HasBodies, IsBrokenOff, IsNotReclaimed, IsUnplanned, IsUntouched, KeepsOldSide, LeavesVolume, copy_frames, copy_length, disks_reclaimed, reclaimed_from};
 
 use crate::cartridges::Cartridge;
 use crate::error::CartridgeError;
@@ -54,8 +54,9 @@ pub struct NotReclaimed<D: Disk> {
 impl<D: Disk> Cartridge<D> {
     /// Reclaims a closed cartridge: the volume of the side that counts is copied to the other one, which
     /// counts from then on. It is opened first, and every cause but a device fault is found before
-    /// anything is written. At every moment each pair of images is an old one, or gives what the
-    /// cartridge holds, or the copy: the same volume.
+    /// anything is written; so is a device fault of the opening. At every moment each pair of images is
+    /// an old one, or gives what the cartridge holds, or the copy: the same volume. At Ok the side that
+    /// counted before keeps its length and what it holds.
     pub fn reclaim(alloc: Global, shelved: Shelved<D>) -> Result<Shelved<D>, NotReclaimed<D>>
         ensures disks { KeepsDisks D.state shelved.disks (disks_reclaimed result) }
         ensures ok { IfOk result (λ reclaimed. (reclaimed.known ≡ true) × (reclaimed.torn ≡ [])
@@ -65,8 +66,15 @@ impl<D: Disk> Cartridge<D> {
             × (volume_made reclaimed.contents ≡ volume_made contents)
             × (copy_length contents ≤ MAX_SIDE)
             × (AreHonest D.state shelved.disks →
-            GivesContents contents (seen_of_two D.state shelved.disks))) }
+            GivesContents contents (seen_of_two D.state shelved.disks))
+            × (AreHonest D.state shelved.disks → EachOfTwo D.state reclaimed.disks
+            (KeepsOldSide contents (seen_of_two D.state shelved.disks)))) }
         ensures refused { IfErr result (λ refused. IsNotReclaimed D.state shelved refused) }
+        ensures unwritten { IfErr result (λ refused. IsBrokenOff D.state shelved.disks refused
+            ⊎ (AreHonest D.state shelved.disks →
+            TwoLeave D.state shelved.disks refused.shelved.disks (MayLeave D.state shelved.disks))) }
+        ensures untouched { IfErr result (λ refused. AreHonest D.state shelved.disks →
+            IsUntouched D.state refused.error shelved.disks refused.shelved.disks) }
         ensures any_moment { AreHonest D.state shelved.disks →
             TwoLeave D.state shelved.disks (disks_reclaimed result)
             (LeavesVolume (MayLeave D.state shelved.disks) (seen_of_two D.state shelved.disks)) }
@@ -218,6 +226,9 @@ fn copy_cartridge<D: Disk>(
         × NoneOfTwo D.state cartridge.disks reclaimed.disks) }
     ensures volume { IfOk result (λ reclaimed.
         volume_made reclaimed.contents ≡ volume_made cartridge.contents) }
+    ensures sides { IfOk result (λ reclaimed. AreHonest D.state cartridge.disks →
+        EachOfTwo D.state reclaimed.disks
+        (KeepsOldSide cartridge.contents (seen_of_two D.state cartridge.disks))) }
     ensures err { IfErr result (λ refused. IsBrokenOff D.state cartridge.disks refused) }
     ensures any_moment { AreHonest D.state cartridge.disks →
         TwoLeave D.state cartridge.disks (disks_reclaimed result) (GivesVolume cartridge.contents) }

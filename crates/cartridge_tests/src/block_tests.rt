@@ -45,7 +45,7 @@ fn reopened(alloc: Global, known: Known<MemDisk>) -> Result<Cartridge<MemDisk>, 
     }
 }
 
-// What each partition is told to have.
+// What each partition has: its capacity, its objects, and what they take.
 fn are_parts<D: Disk>(rt: &impl Abort, cartridge: &Cartridge<D>, parts: PartNo) {
     assert_equal!(rt; (cartridge.parts(), cartridge.frames()), (parts, 2));
     for part in 0..5u8 {

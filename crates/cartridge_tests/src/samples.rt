@@ -85,7 +85,7 @@ pub fn told<D: Disk>(cartridge: &Cartridge<D>) -> (usize, ObjNo, u64) {
     (cartridge.frames(), count, cartridge.used(0, count))
 }
 
-/// What the cartridge tells that a disk holds beside an empty one, or why it is none.
+/// The same of the cartridge on a disk beside an empty one, or why there is none.
 pub fn found(alloc: Global, disk: MemDisk) -> Result<(usize, ObjNo, u64), CartridgeError> {
     let cartridge = opened(alloc, disk, MemDisk::new(alloc))?;
     Ok(told(&cartridge))

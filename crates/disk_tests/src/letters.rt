@@ -2,7 +2,8 @@
 use accepting::Accepting;
 use accepting::laws::{
     a_crash_leaves_what_was_acknowledged, calls_drop_nothing,
-    changes_of_base_keep_what_was_accepted, events_keep_their_base, moves_append, steps_keep_cores,
+    changes_of_base_keep_what_was_accepted, events_keep_their_base,
+    failed_changes_of_base_keep_what_was_accepted, moves_append, steps_keep_cores,
     what_is_kept_begins, what_is_safe_is_kept, what_was_acknowledged_begins,
     what_was_acknowledged_is_kept,
 };
@@ -65,6 +66,7 @@ fn the_laws_hold_of<A: Accepting>() {
     moves_append::<A>();
     events_keep_their_base::<A>();
     changes_of_base_keep_what_was_accepted::<A>();
+    failed_changes_of_base_keep_what_was_accepted::<A>();
     a_crash_leaves_what_was_acknowledged::<A>();
     calls_drop_nothing::<A>();
 }

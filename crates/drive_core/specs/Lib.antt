@@ -27,6 +27,7 @@ pub mod Synchronize
 pub mod Counted
 pub mod Execute
 pub mod Data
+pub mod Alone
 pub mod Told
 pub mod Media
 pub mod Run

@@ -2,7 +2,7 @@
 ghost use Rattle.std.specs.Prelude.{◌≡◌, [], true, false, None};
 ghost use Rattle.vtl_base.specs.Below.{Advances};
 ghost use Rattle.volume_core.specs.Volume.{is_well_formed, refusal_of};
-ghost use Rattle.volume_core.specs.Medium.{volume_of};
+ghost use Rattle.volume_core.specs.Medium.{block_bytes, volume_of};
 ghost use Rattle.volume_core.specs.Stores.{Stores};
 ghost use Rattle.drive_core.specs.State.{IsPositioned, mounted};
 ghost use Rattle.drive_core.specs.Append.{AppendWork, amount_of, done_reply, is_warned};
@@ -40,7 +40,8 @@ pub fn append<M: Medium>(
     amount: Option<u32>,
     settles: bool,
 ) -> Appended
-    requires hand { M.below.at_hand medium.old }
+    requires settled { settles ≡ true → M.below.at_hand medium.old }
+    requires room { M.alone medium.old (block_bytes change) ≡ false → M.below.at_hand medium.old }
     requires ready { IsReady (mounted (M.state medium.old) position.old) }
     requires at { IsAt position.old change }
     requires formed { is_well_formed change ≡ true }
@@ -103,7 +104,7 @@ fn finish<M: Medium>(
     warned: bool,
     settles: bool,
 ) -> Result<Reply, Fault>
-    requires hand { M.below.at_hand medium.old }
+    requires hand { settles ≡ true → M.below.at_hand medium.old }
     requires awake { (M.state medium.old).awake ≡ true }
     requires works { (M.state medium.old).failed ≡ false }
     ensures answer { SettlesAfter settles warned (M.state medium.old) result (M.state medium.new) }

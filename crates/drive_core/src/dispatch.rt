@@ -6,6 +6,7 @@ ghost use Rattle.scsi_wire.specs.Opcodes.{needs_medium};
 ghost use Rattle.drive_core.specs.State.{IsPositioned, mounted};
 ghost use Rattle.drive_core.specs.Inner.Carries.{IsReady, Tallies};
 ghost use Rattle.drive_core.specs.Inner.Passing.{HasPart};
+ghost use Rattle.drive_core.specs.Alone.{needs_disk};
 ghost use Rattle.drive_core.specs.Work.{MediumWork};
 
 use crate::erases::erase;
@@ -34,7 +35,7 @@ pub fn carry_out<M: Medium>(
     command: Command,
     sent: &[u8],
 ) -> Result<Reply, Fault>
-    requires hand { M.below.at_hand medium.old }
+    requires hand { needs_disk (M.alone medium.old) buffered command ≡ true → M.below.at_hand medium.old }
     requires ready { IsReady (mounted (M.state medium.old) position.old) }
     requires needs { needs_medium (code_of command) ≡ true }
     requires part { HasPart (M.state medium.old) command }

@@ -1,13 +1,15 @@
 //! Drives.
-ghost use Rattle.std.specs.Prelude.{◌≡◌, IfOk, IfSome, false};
+ghost use Rattle.std.specs.Prelude.{◌≡◌, IfOk, IfSome, false, true};
 ghost use Rattle.drive_core.specs.declared.bays.Bay.TheVariants as Bays;
 ghost use Rattle.drive_core.specs.State.{IsAtHand, machine_of, medium_in, left_of};
 ghost use Rattle.drive_core.specs.Conditions.{denial_reply, denied, without_condition};
 ghost use Rattle.drive_core.specs.Checks.{Executes};
 ghost use Rattle.drive_core.specs.Synchronize.{IsSynchronizing, Acknowledges, NothingPending};
 ghost use Rattle.drive_core.specs.Execute.{Answers, Takes, HonestIn, asked};
+ghost use Rattle.drive_core.specs.Alone.{request_needs_disk};
 ghost use Rattle.drive_core.specs.Media.{TakesTurn, TakesIn, InsertSteps, LoadSteps, GoesOut, UnloadSteps, SwitchesOn, PowerOnSteps};
 
+mod alone;
 mod lending;
 mod loading;
 mod looking;
@@ -143,9 +145,10 @@ impl<M: Medium, K: Keeper> Drive<M, K> {
     }
 
     /// Answers a command: a command block of a host, and the data that were sent with it. Each
-    /// refusal is a reply.
+    /// refusal is a reply. The disk of what is loaded is at hand where the work of the command needs it.
     pub fn execute(&mut self, nexus: Nexus, cdb: &[u8], sent: &[u8]) -> Reply
-        requires hand { IsAtHand M.below.at_hand self.old.bay }
+        requires hand { request_needs_disk M.state K.kept M.alone self.old (asked nexus cdb.now sent.now) ≡ true
+            → IsAtHand M.below.at_hand self.old.bay }
         ensures step { Answers M.state M.below K.kept K.below
             self.old (asked nexus cdb.now sent.now) result self.new }
 
@@ -199,7 +202,8 @@ impl<M: Medium, K: Keeper> Drive<M, K> {
 
     // Checks a command, and carries it out where it passes all checks.
     fn check(&mut self, nexus: Nexus, cdb: &[u8], sent: &[u8]) -> Result<Reply, Fault>
-        requires hand { IsAtHand M.below.at_hand self.old.bay }
+        requires hand { request_needs_disk M.state K.kept M.alone self.old (asked nexus cdb.now sent.now) ≡ true
+            → IsAtHand M.below.at_hand self.old.bay }
         ensures { Takes M.state M.below K.kept K.below
             (Executes (HonestIn M.below (medium_in self.old.bay))
             (asked nexus cdb.now sent.now) (machine_of M.state K.kept self.old))

@@ -8,7 +8,6 @@ mod dispatch;
 pub mod drives;
 mod erases;
 pub mod faults;
-pub mod laws;
 mod loads;
 mod locates;
 mod marks;

@@ -1,5 +1,5 @@
 //! WRITE FILEMARKS.
-ghost use Rattle.std.specs.Prelude.{◌≡◌, []};
+ghost use Rattle.std.specs.Prelude.{◌≡◌, [], false};
 ghost use Rattle.drive_core.specs.State.{IsPositioned, mounted};
 ghost use Rattle.drive_core.specs.Marks.{MarksWork};
 ghost use Rattle.drive_core.specs.Inner.Carries.{Carries, IsReady, Tallies};
@@ -23,7 +23,8 @@ pub fn write_marks<M: Medium>(
     count: u32,
     immediate: bool,
 ) -> Result<Reply, Fault>
-    requires hand { M.below.at_hand medium.old }
+    requires settled { immediate ≡ false → M.below.at_hand medium.old }
+    requires room { (count ≡ 0 → ⊥) → M.alone medium.old 0 ≡ false → M.below.at_hand medium.old }
     requires ready { IsReady (mounted (M.state medium.old) position.old) }
     ensures carries { Tallies M.state M.below
         (MarksWork count immediate)
@@ -57,7 +58,7 @@ fn write_none<M: Medium>(
     position: &Pos,
     immediate: bool,
 ) -> Result<Reply, Fault>
-    requires hand { M.below.at_hand medium.old }
+    requires settled { immediate ≡ false → M.below.at_hand medium.old }
     requires ready { IsReady (mounted (M.state medium.old) position.now) }
     ensures carries { Carries M.state M.below
         (MarksWork 0 immediate)

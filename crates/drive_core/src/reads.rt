@@ -1,5 +1,5 @@
 //! READ.
-ghost use Rattle.std.specs.Prelude.{◌≡◌, ◌≤◌, [], false, true, Some, length, IfOk};
+ghost use Rattle.std.specs.Prelude.{◌≡◌, ◌≤◌, [], false, true, Some, length, nat_lt, IfOk};
 ghost use Rattle.vtl_base.specs.declared.limits.TheConstants.{MAX_BLOCK};
 ghost use Rattle.volume_core.specs.declared.objects.Kind.TheVariants as Kinds;
 ghost use Rattle.volume_core.specs.Volume.{kind_at, block_at};
@@ -29,7 +29,7 @@ pub fn read<M: Medium>(
     length: u32,
     suppress_length: bool,
 ) -> Result<Reply, Fault>
-    requires hand { M.below.at_hand medium.old }
+    requires hand { nat_lt 0 length ≡ true → M.below.at_hand medium.old }
     requires ready { IsReady (mounted (M.state medium.old) position.old) }
     ensures carries { Carries M.state M.below
         (ReadWork (M.below.honest medium.old) suppress_length length)

@@ -1,5 +1,5 @@
 //! SPACE.
-ghost use Rattle.std.specs.Prelude.{◌≡◌, []};
+ghost use Rattle.std.specs.Prelude.{◌≡◌, [], false};
 ghost use Rattle.drive_core.specs.State.{IsPositioned, mounted};
 ghost use Rattle.drive_core.specs.Space.{SpaceWork, is_over_nothing, space_reply};
 ghost use Rattle.drive_core.specs.Inner.Carries.{Carries, IsReady};
@@ -21,7 +21,7 @@ pub fn space<M: Medium>(
     code: SpaceCode,
     count: i32,
 ) -> Result<Reply, Fault>
-    requires hand { M.below.at_hand medium.old }
+    requires hand { is_over_nothing code count ≡ false → M.below.at_hand medium.old }
     requires ready { IsReady (mounted (M.state medium.old) position.old) }
     ensures carries { Carries M.state M.below
         (SpaceWork code count)
@@ -37,7 +37,8 @@ pub fn space<M: Medium>(
     Ok(space_reply(alloc, moved))
 }
 
-fn is_over_nothing(code: SpaceCode, count: i32) -> bool
+/// Whether a SPACE is over no blocks or no filemarks.
+pub fn is_over_nothing(code: SpaceCode, count: i32) -> bool
     ensures { result ≡ is_over_nothing code count }
 {
     match code {

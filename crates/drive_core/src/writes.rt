@@ -1,5 +1,5 @@
 //! WRITE.
-ghost use Rattle.std.specs.Prelude.{◌≡◌, ◌≤◌, length, None, Some, if◌then◌else◌};
+ghost use Rattle.std.specs.Prelude.{◌≡◌, ◌≤◌, [], false, length, None, Some, if◌then◌else◌};
 ghost use Rattle.vtl_base.specs.declared.limits.TheConstants.{MAX_BLOCK};
 ghost use Rattle.volume_core.specs.declared.changes.Refusal.TheVariants as Refusals;
 ghost use Rattle.volume_core.specs.Volume.{refusal_of};
@@ -30,7 +30,9 @@ pub fn write<M: Medium>(
     buffered: bool,
     sent: &mut Bytes,
 ) -> Result<Reply, Fault>
-    requires hand { M.below.at_hand medium.old }
+    requires settled { (sent.old ≡ [] → ⊥) → buffered ≡ false → M.below.at_hand medium.old }
+    requires room { (sent.old ≡ [] → ⊥) → M.alone medium.old (length sent.old) ≡ false
+        → M.below.at_hand medium.old }
     requires ready { IsReady (mounted (M.state medium.old) position.old) }
     requires short { length sent.old ≤ MAX_BLOCK }
     ensures carries { (tallies : Tallies M.state M.below
@@ -81,7 +83,9 @@ pub fn write_copy<M: Medium>(
     buffered: bool,
     sent: &[u8],
 ) -> Result<Reply, Fault>
-    requires hand { M.below.at_hand medium.old }
+    requires settled { (sent.now ≡ [] → ⊥) → buffered ≡ false → M.below.at_hand medium.old }
+    requires room { (sent.now ≡ [] → ⊥) → M.alone medium.old (length sent.now) ≡ false
+        → M.below.at_hand medium.old }
     requires ready { IsReady (mounted (M.state medium.old) position.old) }
     requires short { length sent.now ≤ MAX_BLOCK }
     ensures carries { Tallies M.state M.below

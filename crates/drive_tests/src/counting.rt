@@ -6,7 +6,7 @@ use crate::tables::{
 };
 use assertions::{assert_equal, assert_holds};
 use drive_core::Drive;
-use drive_core::laws::{counts_are_held, replies_tell_changes};
+use drive_laws::{counts_are_held, replies_tell_changes};
 use pr_core::NoKeeper;
 use scsi_sense::Reply;
 use std::alloc::Global;

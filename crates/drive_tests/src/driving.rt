@@ -11,10 +11,8 @@ use crate::tables::{
     READ_FAILS_TO_STORE, REWIND_FAILS, Row, SOUND, WRITE_ERROR, Wanted,
 };
 use assertions::{assert_equal, assert_holds};
-use drive_core::laws::{
-    answers_are_determined, events_run, honest_steps, runs_append, served_hosts_run,
-};
 use drive_core::{Drive, Fault};
+use drive_laws::{answers_are_determined, events_run, honest_steps, runs_append, served_hosts_run};
 use pr_core::NoKeeper;
 use std::alloc::Global;
 use std::process::Abort;

@@ -2,6 +2,8 @@
 #![tactic(auto)]
 
 #[cfg(test)]
+mod alone;
+#[cfg(test)]
 mod asking;
 #[cfg(test)]
 mod asserted;
@@ -9,6 +11,8 @@ mod asserted;
 mod counting;
 #[cfg(test)]
 mod driving;
+#[cfg(test)]
+mod halves;
 #[cfg(test)]
 mod lending;
 #[cfg(test)]

@@ -7,7 +7,7 @@ use Rattle.file_disk.specs.RawFile.{ReachesAll}
 use Rattle.file_disk.specs.declared.error.FileError.{FileError}
 use Rattle.file_disk.specs.declared.error.FileError.TheVariants.{Exists, Missing, NotAFile, InUse, Device}
 
--- where an error of the system is told, it is the first one (own)
+-- where an error of the system is reported, it is the first one (own)
 abbrev pub IsOneFailure : FileError → Type 0
 IsOneFailure (Device fault) = fault.failures ≡ 1
 IsOneFailure Exists = Unit {0}

@@ -18,7 +18,7 @@ use vtl_base::DevFault;
 /// The bytes that a file has at most: the system counts them in 63 bits (POSIX, `off_t` of 64 bits).
 pub const MAX_FILE: u64 = 9_223_372_036_854_775_807;
 
-// The length of a file, and whether the system told it since a call last failed.
+// The length of a file, and whether the system gave it since a call last failed.
 #[derive(Clone, Copy)]
 struct Size {
     bytes: u64,
@@ -29,9 +29,10 @@ struct Size {
 /// interrupted one is made again, and every other error of the system is a counted failure. After a
 /// write, a cut or a sync that failed the length is asked for anew; while the system does not tell
 /// it, each call fails. What a sync may pass over is written again as it stands before the next one:
-/// of a file that was just opened the last open gate and what stands behind the end gate; after a
-/// sync that failed what was written since the last good one. Where that is more than two ranges
-/// each later sync fails.
+/// of a file that was just opened the last open gate and what stands behind the end gate, of a
+/// cartridge's also its first ten bytes, and all of one that is not finished; after a sync that
+/// failed what was written since the last good one. Where that is more than two ranges each later
+/// sync fails.
 #[derive(Drop)]
 pub struct DiskOver<F: RawFile> {
     looked: Looked<F>,
@@ -59,7 +60,7 @@ impl<F: RawFile> Model for DiskOver<F> {
         (F.passed_over d.looked.file) (F.unsynced d.looked.file) };
 }
 
-// What the system tells of a file's length, or else the length that it told last.
+// The length that the system gives of a file, or else the one that it gave last.
 fn measured<F: RawFile>(file: &F, last: u64) -> Size
     ensures { (F.state file.now).honest →
         (result.is_told ≡ true) × (result.bytes ≡ length (F.state file.now).seen) }

@@ -18,7 +18,7 @@ mod written;
 pub use disk::DiskOver;
 pub use error::FileError;
 pub use forgetful::ForgetfulFile;
-pub use opening::{create, no_file, open, open_to_read};
+pub use opening::{create, no_file, open, open_or_create, open_to_read};
 pub use raw::{CallFailed, RawFile, Stop};
 pub use staged::{StagedFile, Turn};
 pub use system::SystemFile;

@@ -16,6 +16,7 @@ use std::io::ErrorKind;
 use std::os::fd::AsRawFd;
 use std::path::Path;
 use std::{fs, io};
+use tape_disk::Disk;
 use vtl_base::DevFault;
 
 // What a file is opened for.
@@ -120,6 +121,30 @@ pub fn open(rt: &HostRuntime, path: &str) -> Result<FileDisk, FileError>
     ensures device { IfErr result IsOneFailure }
 {
     open_as(rt, path, Access::Change)
+}
+
+/// Opens a file for change as `open` does, or makes it with no bytes, as `create` does, where it is
+/// missing. At Ok the name is sure of a file of no bytes: whoever made it may have been stopped before
+/// that.
+pub fn open_or_create(rt: &HostRuntime, path: &str) -> Result<FileDisk, FileError>
+    ensures ok { IfOk result (λ disk. disk.failures ≡ 0) }
+    ensures device { IfErr result IsOneFailure }
+{
+    let disk = match open(rt, path) {
+        Ok(disk) => disk,
+        Err(FileError::Missing) => return create(rt, path),
+        Err(error) => return Err(error),
+    };
+    if disk.len() > 0 {
+        return Ok(disk);
+    }
+    match sync_folder(rt, path) {
+        Ok(()) => Ok(disk),
+        Err(error) => {
+            drop(disk);
+            Err(error)
+        }
+    }
 }
 
 /// Opens a file to be read, for this process alone, and syncs it: each call that would change it

@@ -1,5 +1,5 @@
-//! A file for tests, in memory: its calls move as many bytes as they are told to, are interrupted
-//! or fail.
+//! A file for tests, in memory: its calls move as many bytes as a test asks for, are interrupted or
+//! fail.
 ghost use Rattle.std.specs.Prelude.{◌≡◌, ◌≤◌, length, IfOk};
 ghost use Rattle.tape_disk.specs.CallLog.{idled};
 ghost use Rattle.tape_disk.specs.MemDisk.{mem_log};

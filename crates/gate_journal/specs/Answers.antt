@@ -49,12 +49,12 @@ pub record Broke {D : Type 0} (old new : OpenSide D) (count : ℕ) : Type 0 wher
   pub reserved : old.reserved ≤ new.reserved
   pub reserved_extents : old.reserved_extents ≤ new.reserved_extents
 
--- the disk that a call gives back, in an open side or beside its refusal (own)
+-- the disk that a call returns, in an open side or beside its refusal (own)
 abbrev pub disk_after : {D : Type 0} → Result (OpenSide D) (Refused D) → D
 disk_after (Ok side) = side.disk
 disk_after (Err refused) = refused.disk
 
--- Why a side is not opened, told which bytes are not ours and which are damaged: these; a fault; or want of memory,
+-- Why a side is not opened, by which bytes are not ours and which are damaged: these; a fault; or memory ran out,
 -- where there are the 27 bytes of a heading. But for a fault no call failed, and what stands is sure (own).
 abbrev pub NotOpenedBy : (List ℕ → Type 0) → (List ℕ → ℕ → Type 0) → JournalError → DiskState → DiskState → Type 0
 NotOpenedBy not_ours damaged NotOurs old new =

@@ -9,7 +9,7 @@ use Rattle.gate_journal.specs.Side.{Front, Heading, IsDamagedOf, IsNotOf, Stands
 use Rattle.gate_journal.specs.State.{OpenSide}
 use Rattle.gate_journal.specs.Answers.{IsFault, NoneFailed}
 
--- the disk that an opening gives back, in an open side or beside its refusal (own)
+-- the disk that an opening returns, in an open side or beside its refusal (own)
 abbrev pub disk_decoded : {D T : Type 0} → Result (OpenSide D × T) (NotDecoded D) → D
 disk_decoded (Ok opened) = opened.0.disk
 disk_decoded (Err refused) = refused.disk

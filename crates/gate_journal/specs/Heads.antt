@@ -65,11 +65,11 @@ BeginsWithHead bytes =
     (head : Head) × (rest : List ℕ) × (head.heading.kind ≡ Cartridge) × IsHead head
     × (bytes ≡ spell_side_head head ++ rest)
 
--- what is told of a head: what it says of a copy, and how many bytes it takes (own)
+-- what is read of a head: what it says of a copy, and how many bytes it takes (own)
 abbrev pub IsToldHead : ToldHead → Head → Type 0
 IsToldHead told head = (told.size ≡ length (spell_side_head head)) × (told.copied ≡ head.copied)
 
--- what is told of the head of a cartridge's side that bytes begin with, or that they begin with none (own)
+-- what is read of the head of a cartridge's side that bytes begin with, or that they begin with none (own)
 abbrev pub TellsHead : List ℕ → Option ToldHead → Type 0
 TellsHead bytes None = BeginsWithHead bytes → ⊥
 TellsHead bytes (Some told) =

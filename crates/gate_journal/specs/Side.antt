@@ -7,7 +7,8 @@ use Rattle.gate_journal.specs.declared.header.Header.{Header}
 use Rattle.gate_journal.specs.declared.header.SideKind.{SideKind}
 use Rattle.gate_journal.specs.declared.header.SideKind.TheVariants.{Cartridge, Store}
 use Rattle.gate_journal.specs.declared.heads.Copied.{Copied}
-pub use Rattle.gate_journal.specs.Headings.{OPEN, CLOSED, Heading, IsCount, IsHeading, IsName, digits, drive_name, heading_of, mark, padded, start}
+pub use Rattle.gate_journal.specs.Headings.{OPEN, CLOSED, Heading, IsCount, IsHeading, IsName, digits, drive_name}
+pub use Rattle.gate_journal.specs.Headings.{heading_of, mark, padded, start}
 pub use Rattle.gate_journal.specs.Heads.{Head, IsHead, base_of, spell_side_head}
 
 -- What stands before a side's frames: its head, and the byte of its pair gate (own).
@@ -19,7 +20,7 @@ pub record Front : Type 0 where
 abbrev pub plain : Heading → Front
 plain heading = record { head = record { heading = heading; copied = None }; pair = CLOSED }
 
--- the front of a header in memory, of what is told of a copy, and of the pair gate's byte (own)
+-- the front of a header in memory, of what is said of a copy, and of the pair gate's byte (own)
 abbrev pub front_of : Header → Option Copied → ℕ → Front
 front_of header copied pair = record { head = record { heading = heading_of header; copied = copied }; pair = pair }
 

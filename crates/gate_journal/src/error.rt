@@ -57,7 +57,7 @@ impl From<DevFault> for JournalError {
 pub struct Refused<D> {
     /// Why.
     pub error: JournalError,
-    /// The disk that was handed in.
+    /// The disk that was given.
     pub disk: D,
 }
 
@@ -109,6 +109,6 @@ impl From<NoMemory> for OpenError {
 pub struct NotDecoded<D> {
     /// Why.
     pub error: OpenError,
-    /// The disk that was handed in.
+    /// The disk that was given.
     pub disk: D,
 }

@@ -108,7 +108,7 @@ fn read_front<D: Disk>(alloc: Global, disk: &mut D) -> Result<ReadFront, Journal
     })
 }
 
-// What is told of the front that the disk begins with, of either kind. It takes no memory.
+// What is read of the front that the disk begins with, of either kind. It takes no memory.
 pub(crate) fn find_start<D: Disk>(disk: &mut D) -> Result<ToldFront, JournalError>
     ensures disk { Keeps (D.state disk.old) (D.state disk.new) }
     ensures unwritten { (D.state disk.old).honest →
@@ -120,7 +120,7 @@ pub(crate) fn find_start<D: Disk>(disk: &mut D) -> Result<ToldFront, JournalErro
     Ok(told)
 }
 
-// The bytes of the front that the disk begins with, and what is told of it.
+// The bytes of the front that the disk begins with, and what is read in them.
 fn read_told<D: Disk>(disk: &mut D) -> Result<(FrontBytes, ToldFront), JournalError>
     ensures disk { Keeps (D.state disk.old) (D.state disk.new) }
     ensures unwritten { (D.state disk.old).honest →
@@ -172,7 +172,7 @@ fn size_behind(count: u8) -> usize
     }
 }
 
-// The header in bytes of whose front that is told.
+// The header in the bytes of a front, of which this was read.
 fn header_told(alloc: Global, bytes: &[u8], told: ToldFront) -> Result<Header, AllocError>
     requires some { 27 + copied_size told.copied ≤ told.size }
     requires inside { told.size ≤ length bytes.now }

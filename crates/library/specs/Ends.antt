@@ -19,7 +19,7 @@ module _ {D : Type 0} where
 abbrev pub sum_of_counts : List (Option ℕ) → ℕ
 sum_of_counts counts = sum_by or_none counts
 
--- What the seats that were handed back have together is not above what the drives counted. With as many seats as there
+-- What the seats that were given back have together is not above what the drives counted. With as many seats as there
 -- are hosts it is just as much, also where not all is written out, and no seat is missing (own).
 pub record Balances (seats hosts counted held : ℕ) (counts : Result (List (Option ℕ)) FinishError) : Type 0 where
   pub within : held ≤ counted

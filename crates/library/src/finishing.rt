@@ -29,7 +29,7 @@ pub enum FinishError {
     /// What is loaded in a drive has failed, before or as it was written out, so that not all is stored.
     #[error("not all is written out")]
     Unwritten,
-    /// The seats that were handed in have fewer changes than the drives accepted, so one at least is missing.
+    /// The seats that were given have fewer changes than the drives accepted, so one at least is missing.
     #[error("seats with {seats} of {total} changes")]
     SeatsMissing { total: u64, seats: u64 },
 }

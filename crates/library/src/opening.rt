@@ -20,7 +20,7 @@ use tape_disk::Disk;
 use vtl_base::Nexus;
 use vtl_base::limits::DRIVES;
 
-/// What was handed in for a library that was not opened, since memory ran out.
+/// What was given for a library that was not opened, since memory ran out.
 #[derive(Drop)]
 pub struct NotOpened<D: Disk> {
     /// The drives, from number 1 on.

@@ -20,7 +20,6 @@ mod moves;
 use crate::inventories::Element;
 use aptpl_store::AptplStore;
 use bays::{Bay, Unwritten};
-use drive_core::laws;
 use ledgers::{Parties, PartyShare, Seat, Tally};
 use scsi_sense::Reply;
 use std::marker::Model;
@@ -100,7 +99,7 @@ impl<D: Disk, B: Parties> Place<D, B> {
             result self.new seat.new }
     {
         // The law, and what is known of the drive before and after, for the proof alone.
-        laws::replies_tell_changes::<Buffered<D>, AptplStore<D>>();
+        drive_laws::replies_tell_changes::<Buffered<D>, AptplStore<D>>();
         let before = self.count_below_limit(rt);
         known_drive(&self.bay);
         let reply = self.bay.execute(seat.nexus(), cdb, sent);
@@ -123,7 +122,7 @@ impl<D: Disk, B: Parties> Place<D, B> {
             result self.new seat.new)
             × (sent.new ≡ data_left answers.event.step.taken.made.changes sent.old) }
     {
-        laws::replies_tell_changes::<Buffered<D>, AptplStore<D>>();
+        drive_laws::replies_tell_changes::<Buffered<D>, AptplStore<D>>();
         let before = self.count_below_limit(rt);
         known_drive(&self.bay);
         let reply = self.bay.execute_lent(seat.nexus(), cdb, sent);

@@ -83,8 +83,8 @@ impl Script {
     }
 }
 
-// What the hosts of a drive are told at the beginning of a round: at the first that it was switched on, and later that
-// its cartridge is new where it was moved before.
+// What is reported to the hosts of a drive at the beginning of a round: at the first that it was switched on, and later
+// that its cartridge is new where it was moved before.
 fn told(round: u32, drive: u32) -> &'static str {
     let moved = 2 * (round % 8);
     if round == 0 {

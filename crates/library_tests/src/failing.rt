@@ -25,7 +25,7 @@ const FAILED: Answer = (
 // A block is written, and waits for the flusher.
 const WRITES: Act = Act::Asks(&[(1, READY, b"", POWERED_ON), (1, WRITE_1, b"x", GOOD)]);
 
-// What is told of a turn that failed, once, and then of the cartridge.
+// What is reported of a turn that failed, once, and then of the cartridge.
 const IS_TOLD: Act = Act::Asks(&[
     (1, READY, b"", DEFERRED),
     (1, READY, b"", FAILED),

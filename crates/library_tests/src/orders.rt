@@ -77,7 +77,7 @@ fn byte_at(line: &[u8], place: usize) -> u8 {
     }
 }
 
-// Where the drive stood behind each block, as its host was told.
+// Where the drive stood behind each block, as its host read it.
 fn told(rt: &impl Abort, alloc: Global, answers: &mut Answers<'_>) -> Result<[u8; 80], Fail> {
     let mut told = [0u8; 80];
     for block in 0..ALL {
@@ -106,8 +106,8 @@ fn places(rt: &impl Abort, alloc: Global, answers: &mut Answers<'_>) -> Result<[
     Ok(places)
 }
 
-// Each host is told of a place behind its block, and not behind its next one. So the blocks in the order of the tape,
-// and each question behind as many blocks as were told, are an order of all commands that gives these answers.
+// Each host reads a place behind its block, and not behind its next one. So the blocks in the order of the tape, and
+// each question behind as many blocks as were read, are an order of all commands that gives these answers.
 fn is_some_order(rt: &impl Abort, told: &[u8; 80], places: &[u8; 80]) {
     for block in 0..ALL {
         let next = if block % EACH + 1 < EACH {

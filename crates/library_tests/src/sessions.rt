@@ -62,7 +62,7 @@ fn add_lines(alloc: Global, script: &mut String, host: u32) -> Result<(), Fail> 
     Ok(())
 }
 
-// Both hosts are told that the drives were switched on, and then give their lines in one phase.
+// To both hosts it is reported that the drives were switched on, and then give their lines in one phase.
 fn script(alloc: Global) -> Result<String, Fail> {
     let mut script = String::new(alloc);
     script.push_str("1 1 000000000000\n2 2 000000000000\n--\n")?;

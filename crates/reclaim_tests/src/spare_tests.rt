@@ -105,7 +105,7 @@ fn disk_of(alloc: Global, side: Side) -> Result<MemDisk, NoMemory> {
     MemDisk::from_bytes(alloc, changed.as_slice())
 }
 
-// What a cartridge is told to be.
+// Which side of a cartridge counts, how often it was reclaimed, and the figure of its barcode.
 fn seen(cartridge: &Cartridge<MemDisk>) -> (Which, u64, u8) {
     let (which, epoch, _) = told(cartridge);
     (which, epoch.unwrap_or(0), cartridge.barcode()[5])

@@ -9,8 +9,8 @@ use Rattle.vtl_base.specs.declared.faults.DevFault.{DevFault}
 use Rattle.tape_disk.specs.Disk.{DiskState, Only}
 use Rattle.gate_journal.specs.Answers.{NoneFailed}
 use Rattle.gate_journal.specs.Heads.{Head, base_of, spell_side_head}
-use Rattle.gate_journal.specs.Side.{CLOSED, IsBody, frame}
-use Rattle.side_pairs.specs.Copying.{GivesAll, HasCopied, HasFrames, NotCopied, WasGiven}
+use Rattle.gate_journal.specs.Side.{CLOSED, frame}
+use Rattle.side_pairs.specs.Copying.{GivesAll, HasCopied, HasFrames, IsCopyBody, NotCopied, WasGiven}
 
 frames_push : (bodies : List (List ℕ)) (body : List ℕ) →
     flat_map frame (bodies ++ body ∷ []) ≡ flat_map frame bodies ++ frame body
@@ -32,8 +32,8 @@ module _ {S : Type 0} (gives : S → List ℕ → S → Type 0) where
   frames_more count bodies body at end s0 s1 s2 d0 d1 d2 on so_far next = record {
     gave = gives_then s0 s1 s2 bodies (body ∷ []) so_far.gave (s2, next.gave, refl);
     count_is = omega (arith, length-append bodies (body ∷ []), so_far.count_is);
-    each = All-append IsBody bodies (body ∷ []) so_far.each
-        (All-cons IsBody body [] (next.short.0, omega (arith, next.short.1)) (All-nil IsBody));
+    each = All-append IsCopyBody bodies (body ∷ []) so_far.each
+        (All-cons IsCopyBody body [] next.short (All-nil IsCopyBody));
     none_failed = next.none_failed ∙ so_far.none_failed;
     written = λ h.
         let before = so_far.written h in

@@ -8,7 +8,7 @@ use Rattle.gate_journal.specs.declared.header.Header.{Header}
 use Rattle.gate_journal.specs.declared.heads.Copied.{Copied}
 use Rattle.gate_journal.specs.Answers.{IsFault, NoneFailed}
 use Rattle.gate_journal.specs.Heads.{Head, base_of, spell_side_head}
-use Rattle.gate_journal.specs.Side.{CLOSED, IsBody, frame, heading_of}
+use Rattle.gate_journal.specs.Side.{CLOSED, frame, heading_of}
 use Rattle.side_pairs.specs.declared.copying.TheConstants.{COPY_BODY}
 
 -- what a copy with this header says of itself (own)
@@ -27,7 +27,7 @@ KeepsFront old new =
 -- a copy with this head and these frames stands behind the ten bytes, and that is sure (own)
 pub record IsWritten (head : Head) (bodies : List (List ℕ)) (old new : DiskState) : Type 0 where
   pub count_is : length bodies ≡ base_of head
-  pub each : All IsBody bodies
+  pub each : All IsCopyBody bodies
   pub none_failed : NoneFailed old new
   pub written : old.honest
       → (new.seen ≡ take 10 old.seen ++ (spell_side_head head ++ (flat_map frame bodies ++ CLOSED ∷ [])))
@@ -53,7 +53,7 @@ module _ {S : Type 0} (gives : S → List ℕ → S → Type 0) where
       : Type 0 where
     pub gave : GivesAll source_old bodies source_new
     pub count_is : length bodies ≡ count
-    pub each : All IsBody bodies
+    pub each : All IsCopyBody bodies
     pub none_failed : NoneFailed old new
     pub written : old.honest → (new.seen ≡ old.seen ++ flat_map frame bodies) × (end ≡ length new.seen)
 

@@ -57,6 +57,10 @@ abbrev pub HasWritten : List ℕ → List ℕ → Type 0
 HasWritten copy image =
     (gate : ℕ) × (pair : ℕ) × (more : List ℕ) × (gate ≢ OPEN) × (image ≡ begun gate pair ++ (copy ++ more))
 
+-- the image is an open side with these bytes from place 10 on, and no others (own)
+abbrev pub IsOpenSideOf : List ℕ → List ℕ → Type 0
+IsOpenSideOf bytes image = (pair : ℕ) × (image ≡ begun OPEN pair ++ bytes)
+
 -- the side that does not count where this one does (own)
 abbrev pub other : Which → Which
 other First = Second

@@ -4,6 +4,7 @@ ghost use Rattle.tape_disk.specs.Disk.{Smeared};
 ghost use Rattle.gate_journal.specs.Heads.{Head};
 ghost use Rattle.gate_journal.specs.Side.{Front, IsDamagedAt, OPEN, StandsFor};
 ghost use Rattle.gate_journal.specs.declared.header.SideKind.{SideKind};
+ghost use Rattle.side_pairs.specs.declared.copying.TheConstants.{COPY_BODY};
 ghost use Rattle.side_pairs.specs.declared.which.Which.{Which};
 ghost use Rattle.side_pairs.specs.Pairs.{SideCounts, IsPairDamagedAt, IsDecidedPair, IsNoPair, IsOpenSide, PairStandsFor};
 ghost use Rattle.side_pairs.specs.Passes.{HasWritten, IsCopy, IsShutPair, SidesStandFor, TakesOver, first_image, second_image, spell_copy};
@@ -73,4 +74,9 @@ pub fn a_side_of_a_pair()
         damage.0.head.heading.kind ≡ SideKind.Cartridge →
         MayCountBeside which damage.0.pair damage.0.head spare →
         IsPairDamagedAt (first_image which counts spare) (second_image which counts spare) at }
+{}
+
+/// The number that this crate names itself: the bytes of a copy's longest body.
+pub fn the_numbers()
+    ensures body { COPY_BODY ≡ 4194304 }
 {}

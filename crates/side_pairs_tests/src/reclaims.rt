@@ -101,11 +101,11 @@ pub fn reclaim<D: Disk>(
     Ok(true)
 }
 
-/// What is told of a side that counts: which it is, its epoch, its base, and how many bytes its head
+/// What is found of a side that counts: which it is, its epoch, its base, and how many bytes its head
 /// has.
 pub type Told = Option<(Which, u64, u32, usize)>;
 
-/// What is told of the side that counts of two disks.
+/// What is found of the side that counts of two disks.
 pub fn told_of<D: Disk>(first: &mut D, second: &mut D) -> Result<Told, DevFault> {
     match choose(first, second)? {
         Some(counted) => {
@@ -116,7 +116,7 @@ pub fn told_of<D: Disk>(first: &mut D, second: &mut D) -> Result<Told, DevFault>
     }
 }
 
-/// What is told of the side that counts of two images.
+/// What is found of the side that counts of two images.
 pub fn told(
     alloc: Global,
     first: &[u8],

@@ -87,7 +87,7 @@ enum Stands {
     Other,
 }
 
-// What is told of the side that counts, its bytes from the tenth on, and what the pair stands for then.
+// What is found of the side that counts, its bytes from the tenth on, and what the pair stands for then.
 static KNOWN: &'static [(Told, &'static [u8], Stands)] = &[
     (Some((Which::First, 0, 0, 25)), BEFORE, Stands::Before),
     (Some((Which::Second, 1, 1, 37)), ONCE, Stands::Once),

@@ -1,20 +1,21 @@
 -- A copy is written, and its gate opened.
 use Rattle.std.proofs.Common.{◌≡◌, ◌⊎◌, inl, inr, ⊎_elim, ℕ, List, [], ◌∷◌, ◌++◌, ◌+◌, ◌<◌, ◌^◌, length, sym, ◌∙◌, ap, arith}
-use Rattle.std.specs.Prelude.{Err, Ok, OnOk, Result, Some, take}
+use Rattle.std.specs.Prelude.{Err, Ok, OnOk, Result, Some, drop, take}
 use Rattle.std.specs.List.{flat_map}
 use Rattle.std.proofs.lemmas.List.{append-nil}
+use Rattle.std.proofs.lemmas.List.Elements.{All-weaker}
 use Rattle.vtl_base.specs.declared.faults.DevFault.{DevFault}
-use Rattle.tape_disk.specs.Disk.{DiskState, Each, IsDisk}
+use Rattle.tape_disk.specs.Disk.{DiskState, Each, IsDisk, Only}
 use Rattle.tape_disk.specs.Moments.{LeavesOnly, holds_now, in_sequence, weakened}
 use Rattle.gate_journal.specs.declared.header.Header.{Header}
 use Rattle.gate_journal.specs.declared.heads.Copied.{Copied}
 use Rattle.gate_journal.specs.Heads.{Head, epoch_of, spell_side_head}
-use Rattle.gate_journal.specs.Side.{CLOSED, frame, heading_of}
+use Rattle.gate_journal.specs.Side.{CLOSED, IsBody, OPEN, frame, heading_of}
 use Rattle.side_pairs.specs.declared.which.Which.{Which}
 use Rattle.side_pairs.specs.declared.which.Which.TheVariants.{First, Second}
-use Rattle.side_pairs.specs.Copying.{GivesAll, IsWritten, said_of}
+use Rattle.side_pairs.specs.Copying.{GivesAll, IsCopyBody, IsWritten, said_of}
 use Rattle.side_pairs.specs.Pairs.{begun}
-use Rattle.side_pairs.specs.Passes.{HasWritten, IsCopy, IsShutPair, SidesStandFor, TakesOver, copy_head, first_image, spell_copy}
+use Rattle.side_pairs.specs.Passes.{HasStart, HasWritten, IsCopy, IsOpenSideOf, IsShutPair, SidesStandFor, TakesOver, copy_head, first_image, spell_copy}
 use Rattle.side_reclaim.specs.Taking.{HasTaken, MayTake, WithOrWithoutCopy}
 use Rattle.side_reclaim.proofs.PairedLemmas.{second_paired}
 
@@ -34,22 +35,37 @@ module _ (header : Header) (copied : Copied) (which : Which) (head : Head) (bodi
   begins : take 10 old.seen ≡ begun may.closed.1.0 may.closed.0
   begins = ap (λ (l : List ℕ). take 10 l) may.closed.1.3
 
+  -- behind the ten bytes lies the copy, and nothing else
+  reads : mid.seen ≡ begun may.closed.1.0 may.closed.0 ++ spell_copy head copies
+  reads =
+      (written.written honest).0
+      ∙ (λ i. begins i ++ (spell_side_head (same_head i) ++ (flat_map frame copies ++ CLOSED ∷ [])))
+
+  pub has_start : HasStart mid.seen
+  has_start = (may.closed.1.0, may.closed.0, spell_copy head copies, reads)
+
   pub has_written : HasWritten (spell_copy head copies) mid.seen
   has_written = (
     may.closed.1.0,
     may.closed.0,
     [],
     may.closed.1.2,
-    (written.written honest).0
-        ∙ (λ i. begins i ++ (spell_side_head (same_head i) ++ (flat_map frame copies ++ CLOSED ∷ [])))
+    reads
         ∙ ap (λ (l : List ℕ). begun may.closed.1.0 may.closed.0 ++ l) (sym (append-nil (spell_copy head copies))),
   )
+
+  -- so it does once the gate is open
+  pub alone : (new : DiskState) → new.seen ≡ OPEN ∷ drop 1 mid.seen → Only new.seen new.may_leave
+      → Each new (IsOpenSideOf (spell_copy head copies))
+  alone new opened only = λ image left.
+      (may.closed.0, only image left ∙ opened ∙ ap (λ (l : List ℕ). OPEN ∷ drop 1 l) reads)
 
   pub is_copy : copied.epoch < 2 ^ 64 → copied.base < 2 ^ 32 → IsCopy head copies
   is_copy epoch base = record {
     epoch = omega (arith, epoch, may.epoch);
     few = omega (arith, base, written.count_is);
-    each = written.each;
+    each =
+        All-weaker IsCopyBody IsBody (λ body short. (short.0, omega (arith, short.1))) copies written.each;
   }
 
   still_paired : (w : Which) → SidesStandFor w head bodies counts mid.seen
@@ -97,14 +113,18 @@ pub taken : {S : Type 0} (gives : S → List ℕ → S → Type 0) (header : Hea
     → (old.honest → (which : Which) (head : Head) (bodies : List (List ℕ)) (counts : List ℕ)
     → MayTake header copied which head bodies counts old
     → OnOk r (Each new (TakesOver which head copies counts)))
+    → (old.honest → (which : Which) (head : Head) (bodies : List (List ℕ)) (counts : List ℕ)
+    → MayTake header copied which head bodies counts old
+    → OnOk r (Each new (IsOpenSideOf (spell_copy head copies))))
     → OnOk r ((given : List (List ℕ)) × HasTaken gives header copied given source_old source_new old new)
-taken gives header copied copies source_old source_new old mid new gave written (Ok done) none takes = (
+taken gives header copied copies source_old source_new old mid new gave written (Ok done) none takes alone = (
   copies,
   record {
     gave = gave;
     count_is = written.count_is;
     none_failed = none ∙ written.none_failed;
     takes_over = takes;
+    alone = alone;
   },
 )
-taken gives header copied copies source_old source_new old mid new gave written (Err fault) none takes = tt
+taken gives header copied copies source_old source_new old mid new gave written (Err fault) none takes alone = tt

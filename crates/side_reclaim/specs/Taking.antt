@@ -8,7 +8,7 @@ use Rattle.gate_journal.specs.Heads.{Head, epoch_of}
 use Rattle.gate_journal.specs.Side.{heading_of}
 use Rattle.side_pairs.specs.declared.which.Which.{Which}
 use Rattle.side_pairs.specs.Copying.{GivesAll}
-use Rattle.side_pairs.specs.Passes.{IsShutPair, ReadsClosed, SidesStandFor, TakesOver, first_image}
+use Rattle.side_pairs.specs.Passes.{IsOpenSideOf, IsShutPair, ReadsClosed, SidesStandFor, TakesOver, first_image, spell_copy}
 
 -- Beside this image of the side that counts the spare may take a copy, of its heading and of an epoch more: its gate is
 -- closed, the pair gate is open, and that is sure (own).
@@ -37,6 +37,9 @@ module _ {S : Type 0} (gives : S → List ℕ → S → Type 0) where
     pub none_failed : NoneFailed old new
     pub takes_over : old.honest → (which : Which) (head : Head) (bodies : List (List ℕ)) (counts : List ℕ)
         → MayTake header copied which head bodies counts old → Each new (TakesOver which head copies counts)
+    -- the spare is open, with the copy from place 10 on and nothing behind it
+    pub alone : old.honest → (which : Which) (head : Head) (bodies : List (List ℕ)) (counts : List ℕ)
+        → MayTake header copied which head bodies counts old → Each new (IsOpenSideOf (spell_copy head copies))
 
   -- the pair stands for what it stood for, or for the copy that the source gave (own)
   abbrev pub WithOrWithoutCopy : ℕ → S → S → Which → Head → List (List ℕ) → List ℕ → List ℕ → Type 0

@@ -11,7 +11,7 @@ use Rattle.volume_core.specs.declared.changes.Change.{Change}
 use Rattle.volume_core.specs.declared.changes.Change.TheVariants.{Put, Marks, Erase}
 use Rattle.volume_core.specs.declared.changes.Refusal.TheVariants.{PastEnd, NoRoom, TooLong}
 use Rattle.volume_core.specs.Volume.{AllApply, Part, after, changed, is_well_formed, part_of, refusal_in, refusal_of}
-use Rattle.volume_core.specs.Medium.{Accepts, MediumState, Works, frame_size, volume_of}
+use Rattle.volume_core.specs.Medium.{Accepts, MediumState, Works, block_bytes, frame_size, volume_of}
 use Rattle.volume_core.specs.Stores.{Stores, after_append, stores_on}
 use Rattle.volume_core.specs.Plain.{moves_on_by_changes}
 use Rattle.record_index.specs.Records.{spell_all}
@@ -22,7 +22,7 @@ use Rattle.accepting.specs.Core.{Core, with_item}
 use Rattle.accepting.specs.Device.{two_disks, two_is_device}
 use Rattle.accepting.specs.Events.{CoreMoves}
 use Rattle.accepting.specs.Kinds.{moves_accepting}
-use Rattle.tape_buffer.specs.Limits.{FitsBuffer, block_bytes}
+use Rattle.tape_buffer.specs.Limits.{FitsBuffer}
 use Rattle.tape_buffer.specs.Moves.{buffer_below, medium_moves_on}
 use Rattle.tape_buffer.specs.Rules.{applies_behind, is_unrefused, medium_rules}
 use Rattle.tape_buffer.specs.State.{IsPendingOver, IsReservedFor, open_buffer, open_core, open_state}

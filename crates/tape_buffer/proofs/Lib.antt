@@ -10,6 +10,7 @@ pub mod MediumLemmas
 pub mod OpeningLemmas
 pub mod PendingLemmas
 pub mod PutLemmas
+pub mod ReclaimingLemmas
 pub mod RefusalLemmas
 pub mod RoomLemmas
 pub mod SeenLemmas

@@ -3,6 +3,7 @@ pub mod Inner
 pub mod Invariants
 pub mod Limits
 pub mod Moves
+pub mod Reclaiming
 pub mod Rules
 pub mod State
 pub mod Tail

@@ -3,9 +3,11 @@ use Rattle.std.specs.Prelude.{◌≡◌, ◌++◌, ℕ, List, [], Option, None, 
 use Rattle.std.proofs.Common.{◌∙◌}
 use Rattle.vtl_base.specs.Below.{Below}
 use Rattle.tape_disk.specs.Disk.{DiskState, IsDisk}
+use Rattle.tape_disk.specs.Moments.{LeavesOnly, no_call}
 use Rattle.tape_disk.specs.TwoDisks.{AreHonest, EachOfTwo, MayLeave, TwoDisks, TwoLeave, failures_of, two_rest_still}
 use Rattle.volume_core.specs.declared.changes.Change.{Change}
 use Rattle.cartridge.specs.Contents.{Start}
+use Rattle.cartridge.specs.Disks.{EachStays}
 use Rattle.accepting.specs.Core.{Core}
 use Rattle.accepting.specs.Device.{two_disks, two_is_device}
 use Rattle.accepting.specs.Events.{CoreMoves, ShowsCore, core_moves_nowhere, core_moves_on}
@@ -70,6 +72,16 @@ module _ {D : Type 0} (state : D → DiskState) where
   abbrev pub LeavesAlone : BufferState D → BufferState D → Type 0
   LeavesAlone old new = LeavesAloneOn (disks_in old.held) (disks_in new.held)
 
+  -- The same of each of the two that is honest, whatever the other one is (own).
+  abbrev pub LeavesEachAloneOn : Option (TwoDisks D) → Option (TwoDisks D) → Type 0
+  LeavesEachAloneOn (Some disks) (Some disks') = EachStays state disks disks'
+  LeavesEachAloneOn None None = Unit {0}
+  LeavesEachAloneOn _ _ = ⊥
+
+  -- from one medium to the other nothing was written to a disk that is honest, whatever the other one is (own)
+  abbrev pub LeavesEachAlone : BufferState D → BufferState D → Type 0
+  LeavesEachAlone old new = LeavesEachAloneOn (disks_in old.held) (disks_in new.held)
+
   -- nothing done writes nothing
   pub leaves_alone_nowhere : (buffer : BufferState D) → LeavesAlone buffer buffer
   leaves_alone_nowhere buffer = by (disks_in buffer.held)
@@ -77,6 +89,18 @@ module _ {D : Type 0} (state : D → DiskState) where
       by : (disks : Option (TwoDisks D)) → LeavesAloneOn disks disks
       by None = tt
       by (Some disks) = λ honest. two_rest_still state disks (MayLeave state disks) (λ images left. left)
+
+  -- nothing done writes nothing to either
+  pub leaves_each_alone_nowhere : ((disk : D) → (state disk).honest → IsDisk (state disk))
+      → (buffer : BufferState D) → LeavesEachAlone buffer buffer
+  leaves_each_alone_nowhere is_disk buffer = by (disks_in buffer.held)
+    where
+      stays : (disk : D) → (state disk).honest → LeavesOnly (state disk) (state disk) (state disk).may_leave
+      stays disk honest = no_call (state disk) (state disk).may_leave (is_disk disk honest) (λ image left. left)
+
+      by : (disks : Option (TwoDisks D)) → LeavesEachAloneOn disks disks
+      by None = tt
+      by (Some disks) = record { first = stays disks.first; second = stays disks.second }
 
   -- nothing done is the empty list
   pub medium_moves_nowhere : ((disk : D) → (state disk).honest → IsDisk (state disk))

@@ -7,7 +7,7 @@ ghost use Rattle.volume_core.specs.Medium.{Parks, Wakes, met_fault};
 ghost use Rattle.volume_core.specs.Stores.{Stores};
 ghost use Rattle.tape_buffer.specs.State.{IsPendingOver, IsSettledOn, closed_buffer, closed_state, open_buffer, open_state};
 ghost use Rattle.tape_buffer.specs.Frames.{ParksInFrames};
-ghost use Rattle.tape_buffer.specs.Moves.{LeavesAlone, buffer_below};
+ghost use Rattle.tape_buffer.specs.Moves.{LeavesAlone, LeavesEachAlone, buffer_below};
 ghost use Rattle.tape_buffer.specs.Inner.Waking.{wake_error_of};
 
 use crate::pending::Pending;
@@ -75,13 +75,15 @@ pub(crate) fn wake_closed<D: Disk>(
     ensures ok { IfOk result (λ cartridge. IsPendingOver cartridge []
         × Wakes (AreHonest D.state shelved.disks) (closed_state D.state shelved) (Ok tt) (open_state cartridge [])
         × Advances (buffer_below D.state) (closed_buffer shelved) [] false (open_buffer cartridge [])
-        × LeavesAlone D.state (closed_buffer shelved) (open_buffer cartridge [])) }
+        × LeavesAlone D.state (closed_buffer shelved) (open_buffer cartridge [])
+        × LeavesEachAlone D.state (closed_buffer shelved) (open_buffer cartridge [])) }
     ensures err { IfErr result (λ back. (back.0 ≢ Errors.Device → IsSettledOn D.state back.1)
         × Wakes (AreHonest D.state shelved.disks) (closed_state D.state shelved) (Err back.0)
         (closed_state D.state back.1)
         × Advances (buffer_below D.state) (closed_buffer shelved) [] (met_fault (Err back.0))
         (closed_buffer back.1)
-        × LeavesAlone D.state (closed_buffer shelved) (closed_buffer back.1)) }
+        × LeavesAlone D.state (closed_buffer shelved) (closed_buffer back.1)
+        × LeavesEachAlone D.state (closed_buffer shelved) (closed_buffer back.1)) }
 {
     // Asked for the proof's sake: a pair of images gives one cartridge's contents at most.
     a_pair_gives_one_volume();

@@ -9,9 +9,11 @@ mod fetching;
 pub mod holding;
 mod media;
 mod pending;
+mod reclaiming;
 mod seen;
 mod storing;
 mod tail;
 
 pub use buffered::Buffered;
 pub use holding::Holding;
+pub use reclaiming::reclaim;

@@ -6,7 +6,7 @@ ghost use Rattle.volume_core.specs.Medium.{Accepts, Parks, Settles, Turns, Wakes
 ghost use Rattle.volume_core.specs.Stores.{Stores};
 ghost use Rattle.tape_buffer.specs.State.{IsSettledIn, disks_in, state_of};
 ghost use Rattle.tape_buffer.specs.Frames.{AcceptsInFrames, IsOneFrame, IsOneFrameIn, ParksInFrames, frames_in};
-ghost use Rattle.tape_buffer.specs.Moves.{HonestOn, LeavesAlone, buffer_below};
+ghost use Rattle.tape_buffer.specs.Moves.{HonestOn, LeavesAlone, LeavesEachAlone, buffer_below};
 
 use crate::adding::{accept_over, has_room_over};
 use crate::buffered::Buffered;
@@ -20,12 +20,15 @@ use volume_core::{Change, Medium, MediumError, NotAccepted, Turn};
 use vtl_base::{ObjNo, PartNo};
 
 impl<D: Disk> Medium for Buffered<D> {
+    ghost use Rattle.std.specs.Prelude.{false};
     ghost use Rattle.vtl_base.specs.Below.{advances_nowhere};
     ghost use Rattle.volume_core.specs.Stores.{stores_nowhere};
     ghost use Rattle.tape_buffer.specs.State.{awake_is_read, state_of};
     ghost use Rattle.tape_buffer.specs.Moves.{buffer_below, medium_moves_nowhere, medium_moves_on};
 
     ghost below = { buffer_below D.state };
+
+    ghost alone = { λ medium bytes. false };
 
     // The trait's clauses, and which frames are stored on the way: none while the change may wait beside what is
     // pending, else one.
@@ -113,13 +116,14 @@ impl<D: Disk> Medium for Buffered<D> {
     }
 
     /// Opens it. One that is awake stays as it is, and answers whether it has failed. Whatever it answers, nothing is
-    /// written: at every moment a crash leaves what it might have left before. But for a device fault what stands is
-    /// sure.
+    /// written: at every moment a crash leaves what it might have left before, of one disk too that is honest beside
+    /// one that is not. But for a device fault what stands is sure.
     fn wake(&mut self) -> Result<(), MediumError>
         ensures answer { Wakes ((buffer_below D.state).honest self.old) (state_of D.state self.old) result
             (state_of D.state self.new) }
         ensures advances { Advances (buffer_below D.state) self.old [] (met_fault result) self.new }
         ensures alone { LeavesAlone D.state self.old self.new }
+        ensures each { LeavesEachAlone D.state self.old self.new }
         ensures settled { IfErr result (λ error. error ≢ Errors.Device → IsSettledIn D.state self.new.held) }
     {
         if let Holding::Open(cartridge) = &self.held {
@@ -152,6 +156,11 @@ impl<D: Disk> Medium for Buffered<D> {
             Holding::Closed(_) => unreachable!(),
             Holding::Between => unreachable!(),
         }
+    }
+
+    // A full buffer is stored before a change is taken, whatever its size; its disks are always at hand.
+    fn takes_alone(&self, _bytes: u32) -> bool {
+        false
     }
 
     fn pending(&self) -> usize {

@@ -1,9 +1,9 @@
 //! The changes that were accepted and are not stored yet.
 ghost use Rattle.std.specs.Prelude.{◌≡◌, ◌≤◌, ◌+◌, ◌++◌, ◌↔◌, [], ◌∷◌, IsTrue, IfErr, OnOk, length, sum_by};
 ghost use Rattle.vtl_base.specs.declared.limits.TheConstants.{MAX_BODY};
-ghost use Rattle.volume_core.specs.Medium.{frame_size};
+ghost use Rattle.volume_core.specs.Medium.{block_bytes, frame_size};
 ghost use Rattle.record_index.specs.Records.{spell_all};
-ghost use Rattle.tape_buffer.specs.Limits.{block_bytes, FitsBuffer};
+ghost use Rattle.tape_buffer.specs.Limits.{FitsBuffer};
 ghost use Rattle.tape_buffer.specs.Tail.{AppliesBehind, IsTailOf};
 
 use crate::tail::Tail;
@@ -24,7 +24,8 @@ pub(crate) struct Pending {
 impl Model for Pending {
     ghost use Rattle.std.specs.Prelude.{◌≡◌, ◌≤◌, List, length, sum_by};
     ghost use Rattle.volume_core.specs.declared.changes.Change.{Change};
-    ghost use Rattle.tape_buffer.specs.Limits.{block_bytes, FitsBuffer};
+    ghost use Rattle.volume_core.specs.Medium.{block_bytes};
+    ghost use Rattle.tape_buffer.specs.Limits.{FitsBuffer};
     ghost use Rattle.tape_buffer.specs.Tail.{IsTailOf};
 
     ghost Value = { List Change };

@@ -1,4 +1,4 @@
-//! A disk over another one, whose calls fail when they are told to.
+//! A disk over another one, whose calls fail where a test asks for it.
 ghost use Rattle.std.specs.Prelude.{◌≡◌, ◌+◌, ◌-◌, ◌≤◌, ◌^◌, min, length, OnOk, OnErr, Result, slice_range};
 ghost use Rattle.tape_disk.specs.Disk.{Elapses, Passes, Same, Writes, Cuts, Syncs, ReadAt, WriteAt, CutAt, SyncAll};
 ghost use Rattle.vtl_base.specs.declared.faults.DevFault.{DevFault};

@@ -42,6 +42,12 @@ frame_size (Put part at block) = 15 + length block
 frame_size (Marks part at count) = 15
 frame_size (Erase part at) = 15
 
+-- the bytes of a change's block; marks and an erasing have none (own)
+abbrev pub block_bytes : Change → ℕ
+block_bytes (Put part at block) = length block
+block_bytes (Marks part at count) = 0
+block_bytes (Erase part at) = 0
+
 -- these changes, each as a frame of its own, exceed the room (own)
 abbrev pub IsFull : Option ℕ → List Change → Type 0
 IsFull None changes = ⊥

@@ -19,6 +19,8 @@ pub record Staged : Type 0 where
   pub awake : Bool
   pub failed : Bool
   pub room : ℕ
+  -- it takes changes whose blocks have fewer bytes than this without its device
+  pub alone_below : ℕ
   -- how often its device has failed
   pub faults : ℕ
 

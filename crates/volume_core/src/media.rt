@@ -1,5 +1,5 @@
 //! What stands below a drive: a volume that tells of itself, and takes changes.
-ghost use Rattle.std.specs.Prelude.{◌≡◌, ℕ, ◌<◌, ◌≤◌, ◌↔◌, ◌++◌, [], List, IsTrue, true, false, Some, Err, OnOk, OnErr, IfErr, IfSome, length, vec_capacity};
+ghost use Rattle.std.specs.Prelude.{◌≡◌, ℕ, Bool, ◌<◌, ◌≤◌, ◌↔◌, ◌++◌, [], List, IsTrue, true, false, Some, Err, OnOk, OnErr, IfErr, IfSome, length, vec_capacity};
 ghost use Rattle.vtl_base.specs.declared.limits.TheConstants.{MAX_BLOCK, MAX_CAPACITY, MAX_OBJECTS, MAX_PARTITIONS};
 ghost use Rattle.vtl_base.specs.Below.{Below, Advances};
 ghost use Rattle.volume_core.specs.declared.changes.Change.{Change};
@@ -7,7 +7,7 @@ ghost use Rattle.volume_core.specs.declared.changes.Change.TheVariants.{Put, Mar
 ghost use Rattle.volume_core.specs.declared.objects.Kind.TheVariants as Kinds;
 ghost use Rattle.volume_core.specs.declared.media.MediumError.TheVariants as Errors;
 ghost use Rattle.volume_core.specs.Volume.{IsMarkOf, block_at, capacity_of, count_of, kind_at, mark_count, marks_upto, used_up_to};
-ghost use Rattle.volume_core.specs.Medium.{MediumState, volume_of, Accepts, HasRoomFor, Fetches, Settles, Turns, Parks, Wakes, accept_answer, accepted_by, met_fault, turn_met_fault};
+ghost use Rattle.volume_core.specs.Medium.{MediumState, block_bytes, volume_of, Accepts, HasRoomFor, Fetches, Settles, Turns, Parks, Wakes, accept_answer, accepted_by, met_fault, turn_met_fault};
 ghost use Rattle.volume_core.specs.Stores.{Stores};
 
 use crate::changes::{Change, Refusal};
@@ -127,11 +127,15 @@ pub trait Medium: Catalog {
     /// may be made, and which changes it accepted from one value to another.
     ghost below: { Below Self Change };
 
+    /// Whether it takes a change whose block has so many bytes, 0 for a change with no block, without its
+    /// device, which then need not be at hand.
+    ghost alone: { Self → ℕ → Bool };
+
     /// Carries a change out. What stood behind the objects that it keeps is gone. A change that is not
     /// accepted is returned.
     fn accept(&mut self, change: Change) -> Result<(), NotAccepted>
         requires awake { (Self.state self.old).awake ≡ true }
-        requires hand { below.at_hand self.old }
+        requires hand { alone self.old (block_bytes change) ≡ false → below.at_hand self.old }
         ensures answer { Accepts (Self.state self.old) change (accept_answer result)
             (Self.state self.new) }
         ensures returned { IfErr result (λ refused. refused.change ≡ change) }
@@ -143,7 +147,7 @@ pub trait Medium: Catalog {
     /// Puts a block behind the first `at` objects of a partition. What stood there is gone.
     fn put(&mut self, part: PartNo, at: ObjNo, block: Bytes) -> Result<(), MediumError>
         requires awake { (Self.state self.old).awake ≡ true }
-        requires hand { below.at_hand self.old }
+        requires hand { alone self.old (length block) ≡ false → below.at_hand self.old }
         ensures answer { Accepts (Self.state self.old) (Put part at block) result
             (Self.state self.new) }
         ensures stores { Stores (Self.state self.old) (accepted_by result (Put part at block))
@@ -157,7 +161,7 @@ pub trait Medium: Catalog {
     /// Puts this many marks behind the first `at` objects of a partition. What stood there is gone.
     fn marks(&mut self, part: PartNo, at: ObjNo, count: u32) -> Result<(), MediumError>
         requires awake { (Self.state self.old).awake ≡ true }
-        requires hand { below.at_hand self.old }
+        requires hand { alone self.old 0 ≡ false → below.at_hand self.old }
         ensures answer { Accepts (Self.state self.old) (Marks part at count) result
             (Self.state self.new) }
         ensures stores { Stores (Self.state self.old) (accepted_by result (Marks part at count))
@@ -171,7 +175,7 @@ pub trait Medium: Catalog {
     /// Erases what stands behind the first `at` objects of a partition.
     fn erase(&mut self, part: PartNo, at: ObjNo) -> Result<(), MediumError>
         requires awake { (Self.state self.old).awake ≡ true }
-        requires hand { below.at_hand self.old }
+        requires hand { alone self.old 0 ≡ false → below.at_hand self.old }
         ensures answer { Accepts (Self.state self.old) (Erase part at) result
             (Self.state self.new) }
         ensures stores { Stores (Self.state self.old) (accepted_by result (Erase part at))
@@ -239,6 +243,12 @@ pub trait Medium: Catalog {
         requires { (Self.state self.now).awake ≡ true }
         ensures { IsTrue result
             ↔ HasRoomFor (Self.state self.now).room (Self.state self.now).pending bytes };
+
+    /// Whether it takes a change whose block has this many bytes, 0 for a change with no block, without its
+    /// device.
+    fn takes_alone(&self, bytes: u32) -> bool
+        requires { (Self.state self.now).awake ≡ true }
+        ensures { result ≡ alone self.now bytes };
 
     /// How many changes are pending.
     fn pending(&self) -> usize

@@ -77,12 +77,14 @@ impl Catalog for PlainMedium {
 }
 
 impl Medium for PlainMedium {
-    ghost use Rattle.std.specs.Prelude.{refl};
+    ghost use Rattle.std.specs.Prelude.{refl, true};
     ghost use Rattle.vtl_base.specs.Below.{advances_nowhere};
     ghost use Rattle.volume_core.specs.Stores.{stores_nowhere};
     ghost use Rattle.volume_core.specs.Plain.{Plain, plain_state, plain_below, moves_nowhere_by_changes, moves_on_by_changes};
 
     ghost below = { plain_below };
+
+    ghost alone = { λ medium bytes. true };
 
     fn accept(&mut self, change: Change) -> Result<(), NotAccepted> {
         match self.volume.apply(change) {
@@ -140,6 +142,10 @@ impl Medium for PlainMedium {
     }
 
     fn has_room_for(&self, _bytes: u32) -> bool {
+        true
+    }
+
+    fn takes_alone(&self, _bytes: u32) -> bool {
         true
     }
 

@@ -40,6 +40,7 @@ pub struct StagedMedium {
     seen: Volume,
     room: u64,
     free: u64,
+    alone_below: u32,
     awake: bool,
     failed: bool,
     is_torn: bool,
@@ -65,6 +66,7 @@ impl Model for StagedMedium {
       awake = m.awake;
       failed = m.failed;
       room = m.room;
+      alone_below = m.alone_below;
       faults = times_blown m.store_fuse + times_blown m.fetch_fuse;
     } };
 
@@ -117,6 +119,7 @@ impl StagedMedium {
           awake = true;
           failed = false;
           room = room;
+          alone_below = 0;
           faults = 0;
         }) }
     {
@@ -128,6 +131,7 @@ impl StagedMedium {
             seen: Volume::new(alloc, capacities)?,
             room,
             free: room,
+            alone_below: 0,
             awake: true,
             failed: false,
             is_torn: false,
@@ -136,6 +140,15 @@ impl StagedMedium {
             store_fuse: Fuse::new(plan.store),
             fetch_fuse: Fuse::new(plan.fetch),
         })
+    }
+
+    /// The same, and it says that it takes changes whose blocks have fewer bytes than this without its
+    /// device. At first it says so of none.
+    pub fn taking_alone(mut self, bytes: u32) -> Self
+        ensures { result ≡ record self { alone_below = bytes } }
+    {
+        self.alone_below = bytes;
+        self
     }
 
     // The volume that it is seen as.

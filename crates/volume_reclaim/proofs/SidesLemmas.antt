@@ -1,5 +1,5 @@
 -- A copy is written over two disks, while the other one is read.
-use Rattle.std.proofs.Common.{◌≡◌, ◌+◌, ◌-◌, inl, inr, ℕ, zero, suc, List, length, refl, sym, subst, ap, ◌∙◌, arith}
+use Rattle.std.proofs.Common.{◌≡◌, ◌+◌, ◌-◌, inl, inr, ℕ, zero, suc, List, ◌++◌, length, refl, sym, subst, ap, ◌∙◌, arith}
 use Rattle.std.specs.Prelude.{Err, IfErr, Ok, OnOk, Result, drop, take}
 use Rattle.std.proofs.lemmas.List.{drop-drop, length-drop}
 use Rattle.vtl_base.specs.declared.faults.DevFault.{DevFault}
@@ -7,23 +7,25 @@ use Rattle.volume_core.specs.Volume.{Part}
 use Rattle.tape_disk.specs.Disk.{DiskState, Each, IsDisk, Keeps}
 use Rattle.tape_disk.specs.Moments as Moments
 use Rattle.tape_disk.specs.Moments.{LeavesOnly}
-use Rattle.tape_disk.specs.TwoDisks.{AreHonest, EachOfTwo, TwoDisks, TwoLeave}
+use Rattle.tape_disk.specs.TwoDisks.{AreHonest, EachOfTwo, TwoDisks, TwoLeave, seen_of_two}
 use Rattle.gate_journal.specs.declared.header.Header.{Header}
 use Rattle.gate_journal.specs.declared.heads.Copied.{Copied}
 use Rattle.gate_journal.specs.Crash.{Unwritten}
 use Rattle.gate_journal.specs.Heads.{Head}
+use Rattle.gate_journal.specs.Side.{OPEN}
 use Rattle.record_index.specs.Indexes.{Indexes, indexes_by}
 use Rattle.record_index.specs.Places.{PlacedPart}
 use Rattle.side_pairs.specs.declared.which.Which.{Which}
 use Rattle.side_pairs.specs.declared.which.Which.TheVariants.{First, Second}
 use Rattle.side_pairs.specs.Choosing.{FaultsOfOne}
 use Rattle.side_pairs.specs.Copying.{GivesAll, NotCopied}
-use Rattle.side_pairs.specs.Passes.{SidesStandFor, TakesOver}
-use Rattle.side_reclaim.specs.Ready.{GivesSide, GivesSurely, IsReady, StillGives}
+use Rattle.side_pairs.specs.Pairs.{begun}
+use Rattle.side_pairs.specs.Passes.{IsOpenSideOf, SidesStandFor, TakesOver, spell_copy}
+use Rattle.side_reclaim.specs.Ready.{GivesSide, GivesSurely, IsReady, StillGives, counting}
 use Rattle.side_reclaim.specs.Taking.{HasTaken, MayTake}
 use Rattle.volume_reclaim.specs.Reading.{LiesAtPlace, LiesOnDisk, OnlyRead, ReadUntilFault}
 use Rattle.volume_reclaim.specs.ReadFacts.{fault_on}
-use Rattle.volume_reclaim.specs.Reclaiming.{GivesCopy, MayReclaim, copy_bodies, counting_disk, images_in_order, two_by}
+use Rattle.volume_reclaim.specs.Reclaiming.{GivesCopy, KeepsBesideCopy, MayReclaim, copy_bodies, counting_disk, images_in_order, two_by}
 
 module _ {D : Type 0} (state : D → DiskState) where
   -- the copy may be written beside what the side that counts reads
@@ -159,6 +161,19 @@ pub stands_as : (which : Which) (head : Head) (bodies : List (List ℕ)) (counts
 stands_as First head bodies counts image stands = stands
 stands_as Second head bodies counts image stands = stands
 
+-- an image that begins as an open side is one with all that lies behind its ten bytes
+open_with : (image : List ℕ) (pair : ℕ) (rest : List ℕ) → image ≡ begun OPEN pair ++ rest
+    → IsOpenSideOf (drop 10 image) image
+open_with image pair rest is =
+    (pair, is ∙ ap (λ (l : List ℕ). begun OPEN pair ++ drop 10 l) (sym is))
+
+-- the side that counts is such a one
+counts_open : (which : Which) (head : Head) (bodies : List (List ℕ)) (one two : List ℕ)
+    → GivesSide which head bodies (one, two)
+    → IsOpenSideOf (drop 10 (counting which (one, two))) (counting which (one, two))
+counts_open First head bodies one two gives = open_with one gives.1.3.0 _ gives.1.3.1.image_is
+counts_open Second head bodies one two gives = open_with two gives.1.3.0 _ gives.1.3.2.image_is
+
 -- what is known of both sides, whichever disk each is on
 module _ {D : Type 0} (state : D → DiskState) where
   pub honest_by : (which : Which) (counts spare : D) → AreHonest state (two_by which counts spare)
@@ -171,6 +186,45 @@ module _ {D : Type 0} (state : D → DiskState) where
       → (image : List ℕ) → (state counts).may_leave image → image ≡ (state counts).seen
   sure_by First counts spare head bodies gives = gives.first
   sure_by Second counts spare head bodies gives = gives.second
+
+  -- where the copy was written, the side that counted is as it was, beside the copy alone
+  pub kept_beside : (which : Which) (counts counts_then spare spare_then : D) (head : Head) (bodies : List (List ℕ))
+      (volume : List Part) (copies : List (List ℕ)) → GivesSurely state (two_by which counts spare) which head bodies
+      → Unwritten (state counts) (state counts_then) → copies ≡ copy_bodies volume
+      → Each (state spare_then) (IsOpenSideOf (spell_copy head copies))
+      → EachOfTwo state (two_by which counts_then spare_then)
+      (KeepsBesideCopy which head volume (seen_of_two state (two_by which counts spare)))
+  kept_beside First counts counts_then spare spare_then head bodies volume copies gives still are alone images left =
+      record {
+        kept =
+            subst (λ (l : List ℕ). IsOpenSideOf (drop 10 (state counts).seen) l)
+            (sym (gives.first images.0 (still.images images.0 left.0)))
+            (counts_open First head bodies (state counts).seen (state spare).seen gives.stands);
+        written =
+            subst (λ (l : List (List ℕ)). IsOpenSideOf (spell_copy head l) images.1) are (alone images.1 left.1);
+      }
+  kept_beside Second counts counts_then spare spare_then head bodies volume copies gives still are alone images left =
+      record {
+        kept =
+            subst (λ (l : List ℕ). IsOpenSideOf (drop 10 (state counts).seen) l)
+            (sym (gives.second images.1 (still.images images.1 left.1)))
+            (counts_open Second head bodies (state spare).seen (state counts).seen gives.stands);
+        written =
+            subst (λ (l : List (List ℕ)). IsOpenSideOf (spell_copy head l) images.0) are (alone images.0 left.0);
+      }
+
+  -- and so since the disks were made ready, which left it as it was behind its ten bytes
+  pub kept_since : (which : Which) (head : Head) (bodies : List (List ℕ)) (volume : List Part)
+      (old mid new : TwoDisks D) (r : Result Unit DevFault) → StillGives state old mid which head bodies
+      → OnOk r (EachOfTwo state new (KeepsBesideCopy which head volume (seen_of_two state mid)))
+      → OnOk r (EachOfTwo state new (KeepsBesideCopy which head volume (seen_of_two state old)))
+  kept_since which head bodies volume old mid new (Err fault) still keeps = tt
+  kept_since which head bodies volume old mid new (Ok done) still keeps = λ images left.
+      let each = keeps images left in
+      record {
+        kept = subst (λ (l : List ℕ). IsOpenSideOf l (counting which images)) still.same each.kept;
+        written = each.written;
+      }
 
   pub lies_by : (which : Which) (counts spare : D) (parts : List PlacedPart) (volume : List Part)
       → Indexes (LiesOnDisk (state (counting_disk which (two_by which counts spare)))) volume parts

@@ -1,5 +1,5 @@
 -- A volume is copied to the side that does not count, which counts from then on.
-use Rattle.std.specs.Prelude.{◌≡◌, ◌+◌, ℕ, List, length, map}
+use Rattle.std.specs.Prelude.{◌≡◌, ◌+◌, ℕ, List, drop, length, map}
 use Rattle.volume_core.specs.Volume.{Part}
 use Rattle.tape_disk.specs.Disk.{DiskState}
 use Rattle.tape_disk.specs.TwoDisks.{Images, TwoDisks}
@@ -12,8 +12,8 @@ use Rattle.record_index.specs.Places.{PlacedPart}
 use Rattle.record_index.specs.Records.{spell_all}
 use Rattle.side_pairs.specs.declared.which.Which.{Which}
 use Rattle.side_pairs.specs.declared.which.Which.TheVariants.{First, Second}
-use Rattle.side_pairs.specs.Passes.{copy_head, other}
-use Rattle.side_reclaim.specs.Ready.{GivesSide, GivesSurely}
+use Rattle.side_pairs.specs.Passes.{IsOpenSideOf, copy_head, other, spell_copy}
+use Rattle.side_reclaim.specs.Ready.{GivesSide, GivesSurely, counting, resting}
 use Rattle.volume_copy.specs.Copies.{copy_of}
 use Rattle.volume_copy.specs.Entries.{entries_in, entry_size}
 use Rattle.volume_copy.specs.Frames.{frames_by, frames_of}
@@ -46,6 +46,12 @@ images_in_order Second counts spare = (spare, counts)
 -- the copy of a volume counts, on the other side (own)
 abbrev pub GivesCopy : Which → Head → List Part → Images → Type 0
 GivesCopy which head volume = GivesSide (other which) (copy_head head (copy_bodies volume)) (copy_bodies volume)
+
+-- Both sides are open. The one that counted before has all that it had from place 10 on; the other one has the copy of
+-- the volume there, and nothing behind it (own).
+pub record KeepsBesideCopy (which : Which) (head : Head) (volume : List Part) (before images : Images) : Type 0 where
+  pub kept : IsOpenSideOf (drop 10 (counting which before)) (counting which images)
+  pub written : IsOpenSideOf (spell_copy head (copy_bodies volume)) (resting which images)
 
 -- What is promised of bytes: two disks surely give a head and frames, of which this index has the volume, and the copy
 -- is to have their heading, an epoch more, and as many frames as the copy of the volume has (own).

@@ -1,13 +1,13 @@
 //! A volume is copied to the side that does not count, which counts from then on.
 ghost use Rattle.std.specs.Prelude.{◌≡◌, ◌⊎◌, ◌+◌, ◌≤◌, List, ℕ, OnOk, vec_capacity};
 ghost use Rattle.volume_core.specs.Volume.{Part};
-ghost use Rattle.tape_disk.specs.TwoDisks.{AreHonest, EachOfTwo, KeepsDisks, TwoLeave};
+ghost use Rattle.tape_disk.specs.TwoDisks.{AreHonest, EachOfTwo, KeepsDisks, TwoLeave, seen_of_two};
 ghost use Rattle.gate_journal.specs.Heads.{Head};
 ghost use Rattle.gate_journal.specs.Side.{IsHeading, heading_of};
 ghost use Rattle.side_pairs.specs.declared.copying.TheConstants.{COPY_BODY};
 ghost use Rattle.side_pairs.specs.Choosing.{FaultsOfOne};
 ghost use Rattle.side_reclaim.specs.Ready.{GivesSide, IsReady};
-ghost use Rattle.volume_reclaim.specs.Reclaiming.{GivesCopy, MayReclaim, two_by};
+ghost use Rattle.volume_reclaim.specs.Reclaiming.{GivesCopy, KeepsBesideCopy, MayReclaim, two_by};
 
 use crate::blocks::Blocks;
 use crate::source::Source;
@@ -29,7 +29,8 @@ pub struct Ended<D> {
 
 /// Copies the volume of an index from the side that counts to the other one, which counts from then
 /// on. At every moment, and after a fault of either disk, each pair of images stands for what it
-/// stood for, or for the copy. No memory is taken.
+/// stood for, or for the copy. At Ok the side that counted before is as it was from place 10 on, and
+/// open, and nothing lies behind the copy. No memory is taken.
 pub fn reclaim_volume<D: Disk>(
     which: Which,
     first: D,
@@ -51,6 +52,13 @@ pub fn reclaim_volume<D: Disk>(
         head bodies volume → OnOk result.result
         (EachOfTwo D.state (record { first = result.first; second = result.second })
         (GivesCopy which head volume)) }
+    ensures sides { AreHonest D.state (record { first = first; second = second }) →
+        (head : Head) (bodies : List (List ℕ)) (volume : List Part) →
+        MayReclaim D.state (record { first = first; second = second }) which header.now copied index
+        head bodies volume → OnOk result.result
+        (EachOfTwo D.state (record { first = result.first; second = result.second })
+        (KeepsBesideCopy which head volume
+        (seen_of_two D.state (record { first = first; second = second })))) }
     ensures any_moment { AreHonest D.state (record { first = first; second = second }) →
         (head : Head) (bodies : List (List ℕ)) (volume : List Part) →
         MayReclaim D.state (record { first = first; second = second }) which header.now copied index
@@ -117,6 +125,12 @@ fn copy_sides<D: Disk>(
         MayReclaim D.state (two_by which counts spare) which header.now copied index
         head bodies volume → IsReady D.state (two_by which counts spare) which → OnOk result.result
         (EachOfTwo D.state (two_by which result.counts result.spare) (GivesCopy which head volume)) }
+    ensures sides { AreHonest D.state (two_by which counts spare) →
+        (head : Head) (bodies : List (List ℕ)) (volume : List Part) →
+        MayReclaim D.state (two_by which counts spare) which header.now copied index
+        head bodies volume → IsReady D.state (two_by which counts spare) which → OnOk result.result
+        (EachOfTwo D.state (two_by which result.counts result.spare)
+        (KeepsBesideCopy which head volume (seen_of_two D.state (two_by which counts spare)))) }
     ensures any_moment { AreHonest D.state (two_by which counts spare) →
         (head : Head) (bodies : List (List ℕ)) (volume : List Part) →
         MayReclaim D.state (two_by which counts spare) which header.now copied index

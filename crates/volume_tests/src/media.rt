@@ -27,6 +27,8 @@ pub enum Ask {
     Wake,
     // Whether a change with so many bytes of a block has room.
     Room(u32),
+    // Whether a change with so many bytes of a block is taken without the device.
+    Alone(u32),
 }
 
 /// How it answers.
@@ -128,6 +130,7 @@ fn answered<M: Medium>(
         Ask::Reopen => reopen(medium),
         Ask::Wake => wake(medium),
         Ask::Room(bytes) => Ok(Answer::Has(medium.has_room_for(bytes))),
+        Ask::Alone(bytes) => Ok(Answer::Has(medium.takes_alone(bytes))),
         _ => take(alloc, medium, ask),
     }
 }
@@ -171,6 +174,7 @@ static IN_MEMORY: &'static [Row] = &[
     (Ask::Reopen, Answer::Done, 0, false, 3),
     (Ask::Fetch(2, 9), Answer::Done, 0, false, 3),
     (Ask::Room(1_048_576), Answer::Has(true), 0, false, 3),
+    (Ask::Alone(1_048_576), Answer::Has(true), 0, false, 3),
     (Ask::Accept(0, Add::Nothing), Answer::Done, 0, false, 0),
 ];
 

@@ -18,6 +18,7 @@ const FILLING: &'static [Row] = &[
     (Ask::Marks(1, 2), Answer::Done, 2, false, 3),
     (Ask::Room(0), Answer::Has(true), 2, false, 3),
     (Ask::Room(1), Answer::Has(false), 2, false, 3),
+    (Ask::Alone(0), Answer::Has(false), 2, false, 3),
     (Ask::Put(3, 1), FULL, 2, false, 3),
     (Ask::Erase(2), Answer::Done, 3, false, 2),
     (Ask::Accept(9, Add::Marks(1)), PAST_END, 3, false, 2),
@@ -135,6 +136,21 @@ const BOTH: FaultPlan = FaultPlan {
     fetch: Some(0),
     ..FOUND
 };
+
+// Blocks of fewer than six bytes are taken without the device, and so are marks.
+const FEW_BYTES: &'static [Row] = &[
+    (Ask::Alone(0), Answer::Has(true), 0, false, 0),
+    (Ask::Alone(5), Answer::Has(true), 0, false, 0),
+    (Ask::Alone(6), Answer::Has(false), 0, false, 0),
+    (Ask::Put(0, 6), Answer::Done, 1, false, 1),
+];
+
+#[test]
+fn changes_of_few_bytes_are_taken_alone(rt: HostRuntime) -> Result<(), Fail> {
+    let alloc = rt.alloc();
+    let mut medium = StagedMedium::new(alloc, &[4_096], 50, NO_FAULT)?.taking_alone(6);
+    assert_rows(&rt, alloc, &mut medium, FEW_BYTES)
+}
 
 // Which calls fail, the room of the side, what is asked, and what is asked then.
 static RUNS: &'static [(FaultPlan, u64, &'static [Row], &'static [Row])] = &[

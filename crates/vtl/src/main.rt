@@ -7,6 +7,7 @@ use std::process::ExitCode;
 use vtl_program::files::SystemFiles;
 use vtl_program::orders::run;
 use vtl_program::programs::VtlFault;
+use vtl_program::progress::GibLines;
 
 // The words of the command line.
 fn words_of(rt: &HostRuntime) -> Result<Vec<String>, VtlFault> {
@@ -31,7 +32,11 @@ fn main(rt: HostRuntime) -> ExitCode {
     let mut writer = io::writer(&stdout);
     let mut errors = io::writer(&stderr);
     let words = words_of(&rt);
-    let files = SystemFiles { rt: &rt };
+    let progress = GibLines::new(&rt, &words);
+    let files = SystemFiles {
+        rt: &rt,
+        progress: &progress,
+    };
     let ended = run(
         &rt,
         rt.alloc(),

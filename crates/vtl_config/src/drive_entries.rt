@@ -57,7 +57,7 @@ fn found_drive<'a>(before: &[DriveEntry], value: &'a Value) -> Result<FoundDrive
     }
 }
 
-// The drives of these entries. The first entry that breaks a rule is told.
+// The drives of these entries. The first entry that breaks a rule is reported.
 pub(crate) fn read_drives(alloc: Global, entries: &[Value]) -> Result<Vec<DriveEntry>, ConfigError>
     ensures ok { IfOk result (λ drives. AreDrives (map view entries.now) drives.items) }
     ensures err { IfErr result (DrivesRefused (map view entries.now)) }

@@ -69,7 +69,7 @@ fn read_table(alloc: Global, table: &Table) -> Result<Config, ConfigError>
 }
 
 /// The configuration that a text says; else `Refused` with place and rule, or `NoMemory`. Drives are read before
-/// cartridges; where several rules are broken, the first that is met is told.
+/// cartridges; where several rules are broken, the first that is met is reported.
 pub fn read_config(alloc: Global, text: &[u8]) -> Result<Config, ConfigError>
     ensures ok { IfOk result (Says text.now) }
     ensures err { IfErr result (RefusesText text.now) }

@@ -23,7 +23,7 @@ verdict_of lines =
     if starts_with (◌==◌) lines (codes "cartridge ") || starts_with (◌==◌) lines (codes "reservations ") then Done
     else Refused
 
--- two disks were looked at: the lines are those of what they give, or no line is told for a cause that is one; their
+-- two disks were looked at: the lines are those of what they give, or there are none for a cause that is one; their
 -- bytes are then sure, and at no moment a crash left anything new (own)
 pub record LooksAt {D : Type 0} (state : D → DiskState) (old new : TwoDisks D) (lines : Result (List ℕ) VtlFault) :
     Type 0 where
@@ -41,7 +41,7 @@ both first second = record { first = first; second = second }
 abbrev pub disks_checked : {D : Type 0} → Checked D → TwoDisks D
 disks_checked checked = record { first = checked.first; second = checked.second }
 
--- the lines of a side were written, or a beginning of them, where the writer failed; where none are told, nothing was
+-- the lines of a side were written, or a beginning of them, where the writer failed; where there are none, nothing was
 -- written (own)
 abbrev pub TellsLines : Result (List ℕ) VtlFault → (before now : Option (List ℕ)) → Result Verdict VtlFault → Type 0
 TellsLines (Ok lines) before now (Ok verdict) = (verdict ≡ verdict_of lines) × Appends before now lines
@@ -61,7 +61,7 @@ module _ {D : Type 0} (state : D → DiskState) (opens_to_read : List ℕ → Re
 
   module _ (closes : List ℕ → D → Type 0) (name : List ℕ) where
     -- both files were opened, the second one by its name, or as one of no bytes where it is missing; their disks were
-    -- looked at and handed back, and what they give is told (own)
+    -- looked at and returned, and the lines of what they give are written (own)
     pub record ChecksBoth (before now : Option (List ℕ)) (result : Result Verdict VtlFault) : Type 0 where
       pub disks : TwoDisks D
       pub first : opens_to_read name (Ok disks.first)
@@ -72,8 +72,8 @@ module _ {D : Type 0} (state : D → DiskState) (opens_to_read : List ℕ → Re
       pub looks : LooksAt state disks last lines
       pub tells : TellsLines lines before now result
 
-    -- the first file was opened, and the second one is there and was not: the first one's disk was handed back as it
-    -- was opened (own)
+    -- the first file was opened, and the second one is there and was not: the first one's disk was returned as it was
+    -- opened (own)
     pub record ChecksNeither : Type 0 where
       pub disk : D
       pub first : opens_to_read name (Ok disk)

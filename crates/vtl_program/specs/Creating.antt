@@ -29,7 +29,7 @@ pub data SideFile : Type 0 where
 abbrev pub files_of : Config → List SideFile
 files_of config = map CartridgeFile config.cartridges.items ++ map StoreFile config.drives.items
 
--- what a file is called where it is told of: a cartridge's by its barcode, a drive's by `DRIVE` and its number (own)
+-- what a file is called where it is reported: a cartridge's by its barcode, a drive's by `DRIVE` and its number (own)
 abbrev pub label_of : SideFile → List ℕ
 label_of (CartridgeFile entry) = entry.barcode
 label_of (StoreFile entry) = codes "DRIVE" ++ decimal entry.number
@@ -90,13 +90,13 @@ IsNewFile makes name (Ok None) = makes name (Err Exists)
 IsNewFile makes name (Err fault) =
     (fault ≡ Faults.Device) × ((error : FileError) × (error ≢ Exists) × makes name (Err error))
 
--- The answers that the calls of a creation may have, by the names of files, and the disks that are handed back (own).
+-- The answers that the calls of a creation may have, by the names of files, and the disks that are returned (own).
 pub record MakeAnswers (D : Type 0) : Type 1 where
-  -- a missing file is made, and its disk is handed back, with the file or to have it taken away
+  -- a missing file is made, and its disk is returned, with the file or to have it taken away
   pub makes : List ℕ → Result D FileError → Type 0
   pub leaves : List ℕ → D → Type 0
   pub takes_away : List ℕ → D → Type 0
-  -- a second file is opened, or made with no bytes where it is missing, and its disk is handed back
+  -- a second file is opened, or made with no bytes where it is missing, and its disk is returned
   pub opens_second : List ℕ → Result D FileError → Type 0
   pub closes_second : List ℕ → D → Type 0
 
@@ -112,7 +112,7 @@ makes_of makes leaves takes_away opens_second closes_second = record {
 }
 
 module _ {D : Type 0} (state : D → DiskState) (files : MakeAnswers D) where
-  -- a cartridge was made: its first file, and on it and the second one a new cartridge; both disks were handed back
+  -- a cartridge was made: its first file, and on it and the second one a new cartridge; both disks were returned
   -- (own)
   abbrev pub IsMadePair : CartridgeEntry → Type 0
   IsMadePair entry =
@@ -120,7 +120,7 @@ module _ {D : Type 0} (state : D → DiskState) (files : MakeAnswers D) where
       × ((last : TwoDisks D) × files.leaves entry.file last.first × files.closes_second entry.second_file last.second
       × HasNewPair state entry (record { first = first; second = second }) last)
 
-  -- what became of a file: it was made, and what was handed back is a new side; or there is one of its name (own)
+  -- what became of a file: it was made, and what was returned is a new side; or there is one of its name (own)
   abbrev pub IsMadeOrKept : SideFile → Fate → Type 0
   IsMadeOrKept (CartridgeFile entry) Created = IsMadePair entry
   IsMadeOrKept (StoreFile entry) Created =
@@ -132,16 +132,16 @@ module _ {D : Type 0} (state : D → DiskState) (files : MakeAnswers D) where
   abbrev pub IsRefusedFile : List ℕ → Type 0
   IsRefusedFile name = (error : FileError) × (error ≢ Exists) × files.makes name (Err error)
 
-  -- a new file was made, and its disk was handed back so, to have it taken away (own)
+  -- a new file was made, and its disk was returned so, to have it taken away (own)
   abbrev pub IsTakenAway : List ℕ → (D → D → Type 0) → Type 0
   IsTakenAway name ends =
       (disk : D) × files.makes name (Ok disk) × ((last : D) × files.takes_away name last × ends disk last)
 
-  -- the second file was not opened, or it was, and its disk was handed back as it was opened (own)
+  -- the second file was neither opened nor made (own)
   abbrev pub IsSecondRefused : List ℕ → Type 0
   IsSecondRefused name = (error : FileError) × files.opens_second name (Err error)
 
-  -- the second file was opened, and its disk was closed again (own)
+  -- the second file was opened or made, and its disk was closed as it was (own)
   abbrev pub IsSecondLeft : List ℕ → Type 0
   IsSecondLeft name = (second : D) × files.opens_second name (Ok second) × files.closes_second name second
 
@@ -194,7 +194,7 @@ module _ {D : Type 0} (state : D → DiskState) (files : MakeAnswers D) where
     pub fails : FailsAt file fault part
     pub is : text ≡ lines ++ part
 
-  -- what is made and told of these files: of all, or up to the one at which a fault came (own)
+  -- what is made and reported of these files: of all, or up to the one at which a fault came (own)
   abbrev pub TellsFiles : List SideFile → Option (List ℕ) → Option (List ℕ) → Result (Unit {0}) VtlFault → Type 0
   TellsFiles all before now (Ok done) = (text : List ℕ) × TellsAll all text × Appends before now text
   TellsFiles all before now (Err fault) = (text : List ℕ) × TellsSome all fault text × Appends before now text

@@ -21,7 +21,7 @@ abbrev pub fault_of_error : ErrorKind → VtlFault
 fault_of_error kinds.OutOfMemory = NoMemory
 fault_of_error _ = Device
 
--- the program's fault for a store that is not opened: want of memory, and else a device fault (own)
+-- the program's fault for a store that is not opened: out of memory, and else a device fault (own)
 abbrev pub fault_of_store : StoreError → VtlFault
 fault_of_store refusals.NoMemory = NoMemory
 fault_of_store _ = Device

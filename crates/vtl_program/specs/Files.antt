@@ -12,25 +12,25 @@ use Rattle.vtl_program.specs.Configured.{IsNoConfig}
 use Rattle.vtl_program.specs.Faults.{fault_of_error}
 use Rattle.vtl_program.specs.Unfinished.{NotStartedState}
 
--- The answers that a call for the file of a name may have, and the disks that may be handed back for one, or in a
+-- The answers that a call for the file of a name may have, and the disks that may be returned for one, or in a
 -- library. Nothing else is known of a file: whatever the program says that it read, opened or made, it has of a call
--- that answered so, and the disk that it hands back is the last that it had (own).
+-- that answered so, and the disk that it returns is the last that it had (own).
 pub record FileAnswers (D : Type 0) : Type 1 where
   -- the bytes of a file are read
   pub reads : List ℕ → Result (Vec ℕ Global) Error → Type 0
-  -- a file is opened to be read, and its disk is handed back
+  -- a file is opened to be read, and its disk is returned
   pub opens_to_read : List ℕ → Result D FileError → Type 0
   pub closes : List ℕ → D → Type 0
-  -- a file is opened to be changed, and its disk is handed back: alone; in a library; or in one whose drives were not
+  -- a file is opened to be changed, and its disk is returned: alone; in a library; or in one whose drives were not
   -- all switched on
   pub opens : List ℕ → Result D FileError → Type 0
   pub hands_back : List ℕ → D → Type 0
   pub closes_all : HeldState D → Type 0
   pub gives_up : NotStartedState D → Type 0
-  -- the second file of a cartridge is opened, or made with no bytes where it is missing, and its disk is handed back
+  -- the second file of a cartridge is opened, or made with no bytes where it is missing, and its disk is returned
   pub opens_second : List ℕ → Result D FileError → Type 0
   pub closes_second : List ℕ → D → Type 0
-  -- a missing file is made, and its disk is handed back, with the file or to have it taken away
+  -- a missing file is made, and its disk is returned, with the file or to have it taken away
   pub makes : List ℕ → Result D FileError → Type 0
   pub leaves : List ℕ → D → Type 0
   pub takes_away : List ℕ → D → Type 0

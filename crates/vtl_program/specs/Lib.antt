@@ -9,6 +9,7 @@ pub mod Opened
 pub mod Orders
 pub mod Pace
 pub mod Program
+pub mod Progress
 pub mod Reclaims
 pub mod SideText
 pub mod Sides

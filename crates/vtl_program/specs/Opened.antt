@@ -11,7 +11,7 @@ module _ {D : Type 0} (opens opens_second : List ℕ → Result D FileError → 
       (disks.0.0 ≡ file) × opens file (Ok disks.0.1)
       × ((disks.1.0 ≡ second_file) × opens_second second_file (Ok disks.1.1))
 
-  -- the first file was not opened; or the second one was not, and the first one's disk was handed back as it was opened
+  -- the first file was not opened; or the second one was not, and the first one's disk was returned as it was opened
   -- (own)
   abbrev pub AreNotOpened : (List ℕ → D → Type 0) → (file second_file : List ℕ) → VtlFault → Type 0
   AreNotOpened hands_back file second_file fault =

@@ -32,7 +32,7 @@ abbrev pub IsStart : {D : Type 0} → (HeldState D → Type 0) → (VtlFault →
 IsStart Is IsNot (Ok held) = Is held
 IsStart Is IsNot (Err fault) = IsNot fault
 
--- a library is switched on, a script is run over it, every buffer is written out, and the library is handed back; or it
+-- a library is switched on, a script is run over it, every buffer is written out, and the library is returned; or it
 -- is not switched on, and nothing is read or written (own)
 abbrev pub RunsOver : {D : Type 0} → (D → DiskState) → (closes_all Is : HeldState D → Type 0) → (VtlFault → Type 0)
     → (left left' before now : Option (List ℕ)) → Result (Unit {0}) VtlFault → Type 0
@@ -88,7 +88,7 @@ module _ {D : Type 0} (state : D → DiskState) where
         × RunsNamed state sides closes_all gives_up config left left' before now outcome
 
   module _ (made : MakeAnswers D) where
-    -- the missing files of a configuration are made, and each is told of; where there is no configuration, nothing is
+    -- the missing files of a configuration are made, and each is reported; where there is no configuration, nothing is
     -- written (own)
     abbrev pub CreatesNamed :
         Result Config VtlFault → (before now : Option (List ℕ)) → Result (Unit {0}) VtlFault → Type 0

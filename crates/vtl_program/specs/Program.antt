@@ -58,7 +58,7 @@ RunsHeld state old left left' before now new outcome =
     RunsStarted state old left left' before now new outcome
     ⊎ (outcome ≡ Err NoMemory) × (new ≡ old) × IsIdle left left' before now
 
--- a script was run over the library that was started, and it was handed back as it was then; where none was started,
+-- a script was run over the library that was started, and it was returned as it was then; where none was started,
 -- nothing was read or written (own)
 abbrev pub RunsFrom : {D : Type 0} → (D → DiskState) → (HeldState D → Type 0) → Result (HeldState D) VtlFault
     → (left left' before now : Option (List ℕ)) → Result (Unit {0}) VtlFault → Type 0

@@ -12,8 +12,9 @@ use Rattle.cartridge.specs.declared.error.CartridgeError.TheVariants as causes
 use Rattle.cartridge.specs.declared.reclaiming.ReclaimError.{ReclaimError}
 use Rattle.cartridge.specs.declared.reclaiming.ReclaimError.TheVariants.{Cartridge, EpochsSpent}
 use Rattle.cartridge.specs.Contents.{Contents, GivesContents, IsBadFrameAt, IsDamagedPairAt, IsNoCartridge, volume_made}
-use Rattle.cartridge.specs.Disks.{NoneOfTwo}
-use Rattle.cartridge.specs.Reclaiming.{LeavesVolume, copy_length, reclaimed_from}
+use Rattle.cartridge.specs.Disks.{NoneOfTwo, UnwrittenTwo}
+use Rattle.cartridge.specs.Reclaiming.{KeepsOldSide, LeavesVolume, StaysSure, copy_length, reclaimed_from}
+use Rattle.tape_buffer.specs.Reclaiming.{FailsToCopy, GiveOnly, RebasesContents}
 use Rattle.vtl_config.specs.declared.entries.CartridgeEntry.{CartridgeEntry}
 use Rattle.vtl_config.specs.declared.entries.Config.{Config}
 use Rattle.vtl_script.specs.Text.{AppendsPart}
@@ -61,31 +62,43 @@ TellsCause (Cartridge causes.NoMemory) lines = lines ≡ Err NoMemory
 
 module _ {D : Type 0} (state : D → DiskState) where
   -- A cartridge was reclaimed: its copy has room, whatever crash comes the disks give the copy of what a read gave
-  -- before, which is the same volume, and the line has the epoch of the copy (own).
+  -- before, which is the same volume, and the line has the epoch of the copy. Where whatever crash came they gave what
+  -- a read gave, it is a change of base (own).
   pub record IsReclaimed (barcode : List ℕ) (old new : TwoDisks D) (text : List ℕ) : Type 0 where
     pub contents : Contents
     pub gave : GivesContents contents (seen_of_two state old)
     pub fits : copy_length contents ≤ MAX_SIDE
     pub gives : EachOfTwo state new (GivesContents (reclaimed_from contents))
     pub same : volume_made (reclaimed_from contents) ≡ volume_made contents
+    pub sides : EachOfTwo state new (KeepsOldSide contents (seen_of_two state old))
+    pub rebases : EachOfTwo state old (GivesContents contents)
+        → RebasesContents state contents (reclaimed_from contents) old new
     pub line : text ≡ reclaimed_line barcode (epoch_of (reclaimed_from contents).head)
 
-  -- why no line is told: a call of one of the disks failed; or memory ran out, and none did (own)
+  -- why there is no line: a call of one of the disks failed, and with it a change of base; or memory ran out, none did,
+  -- and nothing was written (own)
   abbrev pub IsUntold : VtlFault → TwoDisks D → TwoDisks D → Type 0
-  IsUntold Device old new = failures_of state old < failures_of state new
-  IsUntold NoMemory old new = NoneOfTwo state old new
+  IsUntold Device old new =
+      (failures_of state old < failures_of state new)
+      × ((contents : Contents) → GiveOnly state contents old → FailsToCopy state contents old new)
+  IsUntold NoMemory old new = NoneOfTwo state old new × (AreHonest state old → UnwrittenTwo state old new)
   IsUntold Words old new = ⊥
   IsUntold BadConfig old new = ⊥
   IsUntold (Script line) old new = ⊥
 
-  -- Two disks were reclaimed as the cartridge that is called so: the lines say that it was, or why it was not, or none
-  -- are told for a cause that is one; and at every moment a crash leaves what it might have left before, or what gives
+  -- a cartridge is not reclaimed for the cause that its line says; nothing was written, and what stands there is sure
+  -- (own)
+  abbrev pub RefusesUntouched : TwoDisks D → TwoDisks D → List ℕ → Type 0
+  RefusesUntouched old new text = RefusalText (seen_of_two state old) text × StaysSure state old new
+
+  -- Two disks were reclaimed as the cartridge that is called so: the lines say that it was, or why it was not, or there
+  -- are none for a cause that is one; and at every moment a crash leaves what it might have left before, or what gives
   -- the volume that stood there (own).
   pub record Reclaims (barcode : List ℕ) (old new : TwoDisks D) (lines : Result (List ℕ) VtlFault) : Type 0 where
     pub keeps : KeepsDisks state old new
     pub none_failed : OnOk lines (NoneOfTwo state old new)
     pub text : IfOk lines (λ text. AreHonest state old →
-        IsReclaimed barcode old new text ⊎ RefusalText (seen_of_two state old) text)
+        IsReclaimed barcode old new text ⊎ RefusesUntouched old new text)
     pub cause : IfErr lines (λ fault. IsUntold fault old new)
     pub any_moment : AreHonest state old →
         TwoLeave state old new (LeavesVolume (MayLeave state old) (seen_of_two state old))
@@ -94,7 +107,7 @@ module _ {D : Type 0} (state : D → DiskState) where
 abbrev pub verdict_told : List ℕ → Verdict
 verdict_told lines = if starts_with (◌==◌) lines (codes "reclaimed ") then Done else Refused
 
--- the line of a reclaim was written, or a beginning of it, where the writer failed; where none is told, nothing was
+-- the line of a reclaim was written, or a beginning of it, where the writer failed; where there is none, nothing was
 -- written (own)
 abbrev pub TellsReclaim :
     Result (List ℕ) VtlFault → (before now : Option (List ℕ)) → Result Verdict VtlFault → Type 0
@@ -108,8 +121,8 @@ entry_with barcode entries = find (λ entry. bytes_eq entry.barcode barcode) ent
 
 module _ {D : Type 0} (state : D → DiskState) (opens opens_second : List ℕ → Result D FileError → Type 0)
     (hands_back closes_second : List ℕ → D → Type 0) (barcode : List ℕ) where
-  -- both files of a cartridge were opened, and reclaimed under this name; their disks were handed back, and it is told
-  -- (own)
+  -- both files of a cartridge were opened, and reclaimed under this name; their disks were returned, and the line is
+  -- written (own)
   pub record ReclaimsBoth (entry : CartridgeEntry) (before now : Option (List ℕ)) (result : Result Verdict VtlFault) :
       Type 0 where
     pub disks : TwoDisks D

@@ -1,4 +1,4 @@
--- What `vtl check` tells of a side (own).
+-- What `vtl check` says of a side (own).
 use Rattle.std.specs.Prelude.{◌≡◌, ◌≢◌, ◌⊎◌, ◌<◌, ℕ, List, [], ◌∷◌, ◌++◌, count_by, length, flat_map, codes, decimal}
 use Rattle.std.specs.List.{All, range_with_len}
 use Rattle.vtl_base.specs.Barcode.{IsBarcode}
@@ -86,7 +86,7 @@ SideText images text =
     ⊎ (((at : ℕ) × (IsDamagedPairAt images at ⊎ IsDamagedOf Store images.0 at) × (text ≡ damaged_line at))
     ⊎ ((at : ℕ) × (IsBadFrameAt images at ⊎ IsBadStateAt images.0 at) × (text ≡ bad_record_line at)))))
 
--- why the line of a store is not told: a call of its disk failed; or memory ran out, and none did, and what stands on
+-- why a store has no line: a call of its disk failed; or memory ran out, and none did, and what stands on
 -- the disk is sure (own)
 abbrev pub IsStoreNotTold : VtlFault → DiskState → DiskState → Type 0
 IsStoreNotTold Device old new = old.failures < new.failures
@@ -96,7 +96,7 @@ IsStoreNotTold Config old new = ⊥
 IsStoreNotTold (Script line) old new = ⊥
 
 module _ {D : Type 0} (state : D → DiskState) where
-  -- why the lines of two disks are not told: a call of one of them failed; or memory ran out, and none did, and what
+  -- why two disks have no lines: a call of one of them failed; or memory ran out, and none did, and what
   -- stands on them is sure (own)
   abbrev pub IsNotTold : VtlFault → TwoDisks D → TwoDisks D → Type 0
   IsNotTold Device old new = failures_of state old < failures_of state new

@@ -80,9 +80,9 @@ module _ {D : Type 0} where
       pub any_moment : (state disk).honest → LeavesOnly (state disk) (state last) (state disk).may_leave
 
     module _ (opens opens_second : List ℕ → Result D FileError → Type 0) (hands_back : List ℕ → D → Type 0) where
-      -- the sides that files hold, by what an opening of a file may answer and which disks may be handed back: a
+      -- the sides that files hold, by what an opening of a file may answer and which disks may be returned: a
       -- cartridge over the disks that the openings of its entry's two files gave, as they were opened, or a store that
-      -- was found on such a disk; or a file was not opened, or the disk gives no store, and it was handed back for this
+      -- was found on such a disk; or a file was not opened, or the disk gives no store, and it was returned for this
       -- file (own)
       abbrev pub file_sides : SidesGiven D
       file_sides = record {

@@ -1,4 +1,4 @@
--- A library whose drives are not all switched on yet, as it is handed back where it is not switched on (own).
+-- A library whose drives are not all switched on yet, as it is returned where it is not switched on (own).
 use Rattle.std.specs.Prelude.{◌≡◌, ℕ, ◌-◌, nat_le, List, slice_index_or, Option, None, if◌then◌else◌}
 use Rattle.tape_buffer.specs.State.{BufferState}
 use Rattle.aptpl_store.specs.State.{OpenStore}

@@ -1,4 +1,4 @@
-//! What a side holds, told by its lines.
+//! What two disks hold, in lines.
 ghost use Rattle.std.specs.Prelude.{◌≡◌, ◌≢◌, ◌<◌, ◌++◌, ◌==◌, ℕ, List, IfOk, IfErr, IfSome, MatchResult, OnOk, Ok, filter, is_some, length, position, string_bytes};
 ghost use Rattle.std.specs.List.{All};
 ghost use Rattle.gate_journal.specs.declared.header.SideKind.TheVariants as Kinds;
@@ -23,12 +23,12 @@ use std::alloc::{AllocError, Global};
 use tape_disk::Disk;
 use vtl_base::{Bytes, NoMemory};
 
-/// The lines that tell of two disks, and the disks.
+/// The lines that say what two disks hold, and the disks.
 #[derive(Drop)]
 pub struct Checked<D> {
-    /// The lines, each with its line feed, or why they are not told: `Device` or `NoMemory`.
+    /// The lines, each with its line feed, or why there are none: `Device` or `NoMemory`.
     pub lines: Result<Bytes, VtlFault>,
-    /// The first disk that was handed in.
+    /// The first disk that was given.
     pub first: D,
     /// The second one.
     pub second: D,

@@ -137,7 +137,7 @@ fn create_store<D: Disk + Drop, F: MakeFiles<D> + SecondFiles<D>>(
     }
 }
 
-// The word that tells of it.
+// The word for it.
 fn word_of(fate: Fate) -> &'static str
     ensures { result.now ≡ fate_word fate }
 {
@@ -158,7 +158,7 @@ fn line_of(alloc: Global, fate: Fate, label: &[u8]) -> Result<Vec<u8>, AllocErro
     Ok(line)
 }
 
-// Tells what became of a file that is called so.
+// Reports what became of a file that is called so.
 fn tell_fate<W: Write>(
     alloc: Global,
     writer: &mut W,
@@ -184,7 +184,7 @@ fn label_of(alloc: Global, number: DriveNo) -> Result<String, AllocError>
     format!(in alloc; "DRIVE{number}")
 }
 
-// Makes the missing file of a cartridge, and tells of it.
+// Makes the missing file of a cartridge, and reports it.
 fn make_cartridge<D: Disk + Drop, F: MakeFiles<D> + SecondFiles<D>, W: Write>(
     alloc: Global,
     files: &F,
@@ -201,7 +201,7 @@ fn make_cartridge<D: Disk + Drop, F: MakeFiles<D> + SecondFiles<D>, W: Write>(
     }
 }
 
-// Makes the missing files of cartridges, and tells of each.
+// Makes the missing files of cartridges, and reports each.
 fn make_cartridges<D: Disk + Drop, F: MakeFiles<D> + SecondFiles<D>, W: Write>(
     alloc: Global,
     files: &F,
@@ -220,7 +220,7 @@ fn make_cartridges<D: Disk + Drop, F: MakeFiles<D> + SecondFiles<D>, W: Write>(
     Ok(())
 }
 
-// Makes the missing file of a drive's reservations, and tells of it.
+// Makes the missing file of a drive's reservations, and reports it.
 fn make_store<D: Disk + Drop, F: MakeFiles<D> + SecondFiles<D>, W: Write>(
     alloc: Global,
     files: &F,
@@ -241,7 +241,7 @@ fn make_store<D: Disk + Drop, F: MakeFiles<D> + SecondFiles<D>, W: Write>(
     }
 }
 
-// Makes the missing files of the reservations of drives, and tells of each.
+// Makes the missing files of the reservations of drives, and reports each.
 fn make_stores<D: Disk + Drop, F: MakeFiles<D> + SecondFiles<D>, W: Write>(
     alloc: Global,
     files: &F,

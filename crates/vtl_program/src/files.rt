@@ -6,7 +6,9 @@ ghost use Rattle.std.specs.declared.alloc.Global.{Global};
 ghost use Rattle.std.specs.declared.io.Error.{Error};
 ghost use Rattle.file_disk.specs.declared.error.FileError.{FileError};
 
+use crate::progress::GibLines;
 use crate::starting::NotStarted;
+use crate::watched::Watched;
 use bays::Held;
 use file_disk::{FileDisk, FileError};
 use std::{fs, io};
@@ -28,7 +30,7 @@ pub trait ReadFiles<D: Disk> {
     // The answers that a call may have, by the name.
     ghost opens_to_read: { List ℕ → Result D FileError → Type 0 };
 
-    // The disk that was handed back for a name.
+    // The disk that was returned for a name.
     ghost closes: { List ℕ → D → Type 0 };
 
     /// A disk over the file of this name, which fails at each call that would change it.
@@ -49,7 +51,7 @@ pub trait SecondFiles<D> {
     // The answers that a call may have, by the name.
     ghost opens_second: { List ℕ → Result D FileError → Type 0 };
 
-    // The disk that was handed back for a name: its file stays.
+    // The disk that was returned for a name: its file stays.
     ghost closes_second: { List ℕ → D → Type 0 };
 
     /// A disk over the file of this name, which is made with no bytes where it is missing. The name is used up.
@@ -67,7 +69,7 @@ pub trait ChangeFiles<D> {
     // The answers that a call may have, by the name.
     ghost opens: { List ℕ → Result D FileError → Type 0 };
 
-    // The disk that was handed back for a name.
+    // The disk that was returned for a name.
     ghost hands_back: { List ℕ → D → Type 0 };
 
     /// A disk over the file of this name, which is used up.
@@ -102,7 +104,7 @@ pub trait MakeFiles<D> {
     // The answers that a call may have, by the name.
     ghost makes: { List ℕ → Result D FileError → Type 0 };
 
-    // The disk that was handed back for a name: its file stays, or it is taken away.
+    // The disk that was returned for a name: its file stays, or it is taken away.
     ghost leaves: { List ℕ → D → Type 0 };
 
     ghost takes_away: { List ℕ → D → Type 0 };
@@ -128,6 +130,31 @@ pub trait MakeFiles<D> {
 pub struct SystemFiles<'a> {
     /// What reaches the system.
     pub rt: &'a HostRuntime,
+    /// Where writes are reported.
+    pub progress: &'a GibLines<'a>,
+}
+
+/// A disk over a file of the operating system, whose writes are reported.
+pub type SystemDisk<'a> = Watched<'a, FileDisk, GibLines<'a>>;
+
+impl<'a> SystemFiles<'a> {
+    // A disk whose writes are reported.
+    fn watched(&self, disk: FileDisk) -> SystemDisk<'a>
+        ensures { result.disk ≡ disk }
+    {
+        Watched {
+            disk,
+            progress: self.progress,
+        }
+    }
+
+    // The same, where there is one.
+    fn answer(&self, found: Result<FileDisk, FileError>) -> Result<SystemDisk<'a>, FileError> {
+        match found {
+            Ok(disk) => Ok(self.watched(disk)),
+            Err(error) => Err(error),
+        }
+    }
 }
 
 impl<'a> TextFiles for SystemFiles<'a> {
@@ -138,92 +165,89 @@ impl<'a> TextFiles for SystemFiles<'a> {
     }
 }
 
-impl<'a> ReadFiles<FileDisk> for SystemFiles<'a> {
+impl<'a> ReadFiles<SystemDisk<'a>> for SystemFiles<'a> {
     ghost opens_to_read = { λ name answer. Unit {0} };
 
     ghost closes = { λ name disk. Unit {0} };
 
-    fn open_to_read(&self, name: &str) -> Result<FileDisk, FileError> {
-        file_disk::open_to_read(self.rt, name)
+    fn open_to_read(&self, name: &str) -> Result<SystemDisk<'a>, FileError> {
+        self.answer(file_disk::open_to_read(self.rt, name))
     }
 
-    fn close(&self, _: &str, disk: FileDisk) {
+    fn close(&self, _: &str, disk: SystemDisk<'a>) {
         drop(disk);
     }
 
-    fn nothing(&self) -> FileDisk {
-        file_disk::no_file()
+    fn nothing(&self) -> SystemDisk<'a> {
+        self.watched(file_disk::no_file())
     }
 }
 
-impl<'a> SecondFiles<FileDisk> for SystemFiles<'a> {
+impl<'a> SecondFiles<SystemDisk<'a>> for SystemFiles<'a> {
     ghost opens_second = { λ name answer. Unit {0} };
 
     ghost closes_second = { λ name disk. Unit {0} };
 
-    fn open_second(&self, name: FileName) -> (UsedName, Result<FileDisk, FileError>) {
+    fn open_second(&self, name: FileName) -> (UsedName, Result<SystemDisk<'a>, FileError>) {
         let name = name.use_up();
-        let opened = match file_disk::open(self.rt, name.as_str()) {
-            Err(FileError::Missing) => file_disk::create(self.rt, name.as_str()),
-            other => other,
-        };
-        (name, opened)
+        let opened = file_disk::open_or_create(self.rt, name.as_str());
+        (name, self.answer(opened))
     }
 
-    fn close_second(&self, _: UsedName, disk: FileDisk) {
+    fn close_second(&self, _: UsedName, disk: SystemDisk<'a>) {
         drop(disk);
     }
 }
 
-impl<'a> ChangeFiles<FileDisk> for SystemFiles<'a> {
+impl<'a> ChangeFiles<SystemDisk<'a>> for SystemFiles<'a> {
     ghost opens = { λ name answer. Unit {0} };
 
     ghost hands_back = { λ name disk. Unit {0} };
 
-    fn open(&self, name: FileName) -> (UsedName, Result<FileDisk, FileError>) {
+    fn open(&self, name: FileName) -> (UsedName, Result<SystemDisk<'a>, FileError>) {
         let name = name.use_up();
         let opened = file_disk::open(self.rt, name.as_str());
-        (name, opened)
+        (name, self.answer(opened))
     }
 
-    fn hand_back(&self, _: UsedName, disk: FileDisk) {
+    fn hand_back(&self, _: UsedName, disk: SystemDisk<'a>) {
         drop(disk);
     }
 }
 
-impl<'a> TakesBack<Held<FileDisk>, NotStarted<FileDisk>> for SystemFiles<'a> {
+impl<'a> TakesBack<Held<SystemDisk<'a>>, NotStarted<SystemDisk<'a>>> for SystemFiles<'a> {
     ghost closes_all = { λ library. Unit {0} };
 
     ghost gives_up = { λ starting. Unit {0} };
 
-    fn close_all(&self, library: Held<FileDisk>) {
+    fn close_all(&self, library: Held<SystemDisk<'a>>) {
         drop(library);
     }
 
-    fn give_up(&self, starting: NotStarted<FileDisk>) {
+    fn give_up(&self, starting: NotStarted<SystemDisk<'a>>) {
         drop(starting);
     }
 }
 
-impl<'a> MakeFiles<FileDisk> for SystemFiles<'a> {
+impl<'a> MakeFiles<SystemDisk<'a>> for SystemFiles<'a> {
     ghost makes = { λ name answer. Unit {0} };
 
     ghost leaves = { λ name disk. Unit {0} };
 
     ghost takes_away = { λ name disk. Unit {0} };
 
-    fn make(&self, name: FileName) -> (UsedName, Result<FileDisk, FileError>) {
+    fn make(&self, name: FileName) -> (UsedName, Result<SystemDisk<'a>, FileError>) {
         let name = name.use_up();
         let made = file_disk::create(self.rt, name.as_str());
-        (name, made)
+        (name, self.answer(made))
     }
 
-    fn leave(&self, _: UsedName, disk: FileDisk) {
+    fn leave(&self, _: UsedName, disk: SystemDisk<'a>) {
         drop(disk);
     }
 
     // The disk has the lock, until the file is gone.
-    fn take_away(&self, name: UsedName, disk: FileDisk) {
+    fn take_away(&self, name: UsedName, disk: SystemDisk<'a>) {
         let _ = fs::remove_file(self.rt, name.as_str());
         drop(disk);
     }

@@ -7,7 +7,7 @@ use crate::programs::VtlFault;
 use vtl_config::{FileName, UsedName};
 
 // Disks over both files of a cartridge, and the files' names; the second one is made with no bytes where it is missing.
-// Where it is not opened, the first one's disk is handed back.
+// Where it is not opened, the first one's disk is returned.
 pub(crate) fn opened_both<D, F: ChangeFiles<D> + SecondFiles<D>>(
     files: &F,
     file: FileName,

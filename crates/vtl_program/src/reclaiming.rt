@@ -1,30 +1,51 @@
-//! A cartridge of a configuration is reclaimed, and it is told.
-ghost use Rattle.std.specs.Prelude.{◌≡◌, IfOk, Some, Ok, bytes_eq};
+//! A cartridge of a configuration is reclaimed, and a line reports it.
+ghost use Rattle.std.specs.Prelude.{◌≡◌, ◌≤◌, ◌+◌, ◌++◌, Some, Ok, bytes_eq, length, vec_capacity, vec_len};
 ghost use Rattle.vtl_program.specs.Checks.{both, disks_checked};
 ghost use Rattle.vtl_program.specs.Reclaims.{Reclaims, ReclaimsEntry, ReclaimsNamed, TellsCause, TellsReclaim, entry_with, reclaimed_line, verdict_told};
 
-use crate::checking::{Checked, bad_record_text, damaged_text, line_text, told};
+use crate::checking::{Checked, bad_record_text, damaged_text, line_text};
 use crate::files::{ChangeFiles, SecondFiles};
 use crate::opened::opened_both;
 use crate::programs::{Verdict, VtlFault};
 use crate::writing::tell;
-use cartridge::{Cartridge, CartridgeError, NotReclaimed, ReclaimError, Shelved};
+use cartridge::{CartridgeError, NotReclaimed, ReclaimError, Shelved};
+use itoa::Buffer;
 use std::alloc::Global;
 use std::io::Write;
+use tape_buffer::reclaim;
 use tape_disk::Disk;
-use vtl_base::{Barcode, Bytes, NoMemory};
+use vtl_base::{Barcode, Bytes};
 use vtl_config::{CartridgeEntry, Config};
 
-// The line of a cartridge that was reclaimed.
-fn reclaimed_text(alloc: Global, barcode: &Barcode, epoch: u64) -> Result<Bytes, NoMemory>
-    ensures { IfOk result (λ text. text ≡ reclaimed_line barcode.now epoch) }
+// So many bytes are reserved for the line of a reclaim. The longest, of 16 bytes of barcode and the last epoch, has 54.
+const LINE_ROOM: usize = 80;
+
+// Puts bytes behind what is in a text that has room for them.
+fn put(text: &mut Vec<u8>, bytes: &[u8])
+    requires { vec_len text.old + length bytes.now ≤ vec_capacity text.old }
+    ensures items { text.new.items ≡ text.old.items ++ bytes.now }
+    ensures len { vec_len text.new ≡ vec_len text.old + length bytes.now }
+    ensures room { vec_capacity text.old ≤ vec_capacity text.new }
 {
-    let mut text = Vec::new(alloc);
-    text.extend_from_slice(b"reclaimed ")?;
-    text.extend_from_slice(barcode.as_bytes())?;
-    let count = format!(in alloc; " epoch {epoch}\n")?;
-    text.extend_from_slice(count.as_bytes())?;
-    Ok(Bytes::from_vec(text))
+    let Ok(()) = text.extend_from_slice(bytes) else {
+        unreachable!()
+    };
+}
+
+// The line of a cartridge that was reclaimed, in a text that has room for it. It takes no memory.
+fn reclaimed_text(room: Vec<u8>, barcode: &Barcode, epoch: u64) -> Bytes
+    requires { LINE_ROOM ≤ vec_capacity room }
+    ensures { result ≡ reclaimed_line barcode.now epoch }
+{
+    let mut text = room;
+    let mut digits = Buffer::new();
+    text.clear();
+    put(&mut text, b"reclaimed ");
+    put(&mut text, barcode.as_bytes());
+    put(&mut text, b" epoch ");
+    put(&mut text, digits.format(epoch).as_bytes());
+    put(&mut text, b"\n");
+    Bytes::from_vec(text)
 }
 
 // The line of a cartridge that was not, for this cause.
@@ -45,19 +66,41 @@ fn refusal_text(alloc: Global, error: ReclaimError) -> Result<Bytes, VtlFault>
     }
 }
 
-/// Reclaims the cartridge of two disks, which is called so: the line that says that it was, or why it was not. After an
-/// `Err` what the disks give is the volume that they gave.
+/// Reclaims the cartridge of two disks, which is called so: the line that says that it was, or why it was not. The room
+/// of that line is made first, so that a cartridge that was reclaimed has its line: where memory runs out nothing was
+/// written. After an `Err` what the disks give is the volume that they gave.
 pub fn reclaim_side<D: Disk>(alloc: Global, barcode: &Barcode, first: D, second: D) -> Checked<D>
     ensures { Reclaims D.state barcode.now (both first second) (disks_checked result) result.lines }
 {
-    match Cartridge::reclaim(alloc, Shelved::of(first, second)) {
+    match Vec::with_capacity(alloc, LINE_ROOM) {
+        Ok(room) => reclaim_with(alloc, room, barcode, first, second),
+        Err(_) => Checked {
+            lines: Err(VtlFault::NoMemory),
+            first,
+            second,
+        },
+    }
+}
+
+// Reclaims the cartridge of two disks, where there is room for its line.
+fn reclaim_with<D: Disk>(
+    alloc: Global,
+    room: Vec<u8>,
+    barcode: &Barcode,
+    first: D,
+    second: D,
+) -> Checked<D>
+    requires { LINE_ROOM ≤ vec_capacity room }
+    ensures { Reclaims D.state barcode.now (both first second) (disks_checked result) result.lines }
+{
+    match reclaim(alloc, Shelved::of(first, second)) {
         Ok(shelved) => {
-            let lines = told(reclaimed_text(alloc, barcode, shelved.epoch()));
+            let line = reclaimed_text(room, barcode, shelved.epoch());
             // Asked for the proof's sake: whatever crash comes, the disks give the copy.
             shelved.known();
             let (first, second) = shelved.into_disks();
             Checked {
-                lines,
+                lines: Ok(line),
                 first,
                 second,
             }
@@ -75,7 +118,7 @@ pub fn reclaim_side<D: Disk>(alloc: Global, barcode: &Barcode, first: D, second:
     }
 }
 
-// Whether the line of a reclaim tells that it is done, or else why it is not.
+// Whether the line of a reclaim says that it is done, or else why it is not.
 fn verdict_of(lines: &[u8]) -> Verdict
     ensures { result ≡ verdict_told lines.now }
 {
@@ -103,7 +146,7 @@ fn tell_reclaim<W: Write>(
     }
 }
 
-// Reclaims a cartridge over its two files, and tells it.
+// Reclaims a cartridge over its two files, and reports it.
 fn reclaim_files<D: Disk, F: ChangeFiles<D> + SecondFiles<D>, W: Write>(
     alloc: Global,
     files: &F,

@@ -1,4 +1,4 @@
-//! What the side on a disk holds is told.
+//! What two files hold is reported.
 ghost use Rattle.std.specs.Prelude.{◌≡◌, ◌==◌, ◌||◌, List, ℕ, IfOk, IfErr, MatchOption, codes};
 ghost use Rattle.std.specs.List.{starts_with};
 ghost use Rattle.vtl_program.specs.Checks.{ChecksOrder, IsSecondRead, IsSecondUnread, TellsLines, verdict_of};
@@ -26,7 +26,7 @@ fn verdict_of(lines: &[u8]) -> Verdict
 }
 
 /// Writes the lines of a side: `Done` where they tell what it holds, `Refused` where they tell why it gives nothing. A
-/// writer that fails is a `Device` fault. Where no lines are told nothing is written, and the fault is why.
+/// writer that fails is a `Device` fault. Where there are no lines nothing is written, and the fault is why.
 pub fn tell_lines<W: Write>(
     lines: Result<Bytes, VtlFault>,
     writer: &mut W,
@@ -55,7 +55,7 @@ fn second_to_read<D: Disk, F: ReadFiles<D>>(files: &F, name: &str) -> Option<D>
     }
 }
 
-/// Tells what the file of this name holds, and beside it the one whose name has `.2` added, which may be
+/// Reports what the file of this name holds, and beside it the one whose name has `.2` added, which may be
 /// missing: `Done` where it is a cartridge or a store, `Refused` where it is neither. No file is made or
 /// changed. `Device` where a file is not opened, `NoMemory`.
 pub fn check_named<D: Disk, F: ReadFiles<D>, W: Write>(

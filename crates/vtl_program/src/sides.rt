@@ -92,7 +92,7 @@ fn opened<D: Disk>(alloc: Global, disk: D) -> Result<DriveStore<D>, NoStore<D>>
     }
 }
 
-// No disk can be dropped here, and in the next block: each that was opened is in a side, or handed back. A cartridge's
+// No disk can be dropped here, and in the next block: each that was opened is in a side, or returned. A cartridge's
 // disk is not called.
 impl<'a, D: Disk, F: ChangeFiles<D> + SecondFiles<D>> Sides<D> for FileSides<'a, F> {
     ghost use Rattle.vtl_program.specs.Sides.{file_sides};

@@ -7,6 +7,7 @@ mod reclaims;
 mod refusals;
 mod streams;
 mod unwritten;
+mod watched;
 
 use assertions::assert_equal;
 use bays::{Held, run_held};

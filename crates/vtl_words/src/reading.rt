@@ -17,7 +17,7 @@ use clap::error::ErrorKind;
 use std::alloc::Global;
 use vtl_base::{Barcode, NoMemory};
 
-// What an error of the parser is told as.
+// What an error of the parser is reported as.
 fn told(alloc: Global, error: &clap::Error) -> WordsError
     ensures { Tells (kind_of error.now) result }
 {

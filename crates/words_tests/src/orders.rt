@@ -1,11 +1,11 @@
-//! Which rule is told where several are broken. What is expected was worked out by hand.
+//! Which rule is reported where several are broken. What is expected was worked out by hand.
 use crate::cartridges::second_cartridge;
 use crate::configs::{broken, refusal};
 use assertions::assert_equal;
 use std::alloc::Global;
 use vtl_config::{ConfigError, Key, Place, Rule};
 
-// Texts that break several rules, and the place and the rule that are told.
+// Texts that break several rules, and the place and the rule that are reported.
 static OF_THE_TOP: &'static [(&'static str, Place, Rule)] = &[
     (
         "cartridge = 1\ndrive = 1\nx = 1\n",
@@ -48,7 +48,7 @@ fn second_drive(alloc: Global, values: &str) -> Option<ConfigError> {
     }
 }
 
-// The values of a drive that break several rules, and the rule that is told.
+// The values of a drive that break several rules, and the rule that is reported.
 static OF_A_DRIVE: &'static [(&'static str, Rule)] = &[
     ("numbre = 17, reservations = 1", Rule::OtherKey),
     (
@@ -74,7 +74,7 @@ fn keys_of_a_drive_come_before_what_is_double(rt: HostRuntime) {
     }
 }
 
-// The values of a cartridge that break several rules, and the rule that is told.
+// The values of a cartridge that break several rules, and the rule that is reported.
 static OF_A_CARTRIDGE: &'static [(&'static str, Rule)] = &[
     (
         "bar_code = \"B\", file = 1, capacities = [], home = 0",

@@ -1,18 +1,20 @@
 //! A command whose data are lent.
-ghost use Rattle.std.specs.Prelude.{◌≡◌, ◌≤◌, None, length};
+ghost use Rattle.std.specs.Prelude.{◌≡◌, ◌≤◌, ℕ, List, [], IfOk, None, false, true, length};
 ghost use Rattle.vtl_base.specs.declared.limits.TheConstants.{MAX_BLOCK};
 ghost use Rattle.drive_core.specs.State.{IsAtHand, machine_of, medium_in};
 ghost use Rattle.drive_core.specs.OnMedium.{OnMedium};
 ghost use Rattle.drive_core.specs.Write.{WriteWork};
 ghost use Rattle.drive_core.specs.Work.{Work};
-ghost use Rattle.drive_core.specs.Checks.{Executes, medium_denial};
+ghost use Rattle.drive_core.specs.Checks.{medium_denial, verdict};
 ghost use Rattle.drive_core.specs.Synchronize.{IsSynchronizing, Acknowledges, NothingPending};
 ghost use Rattle.drive_core.specs.Execute.{Takes, HonestIn, asked};
 ghost use Rattle.drive_core.specs.Data.{AnswersLent, data_left};
+ghost use Rattle.drive_core.specs.Alone.{alone_in, needs_disk, needs_disk_as, request_needs_disk};
 ghost use Rattle.drive_core.specs.Inner.Passing.{IsPassed};
 
 use super::Drive;
 use crate::bays::Bay;
+use crate::conditions::Denial;
 use crate::faults::Fault;
 use crate::writes::write;
 use pr_core::Keeper;
@@ -25,7 +27,8 @@ impl<M: Medium, K: Keeper> Drive<M, K> {
     /// Answers a command, as `execute` does. Its data are lent: where they become a block they are taken, and not
     /// copied; else they stay.
     pub fn execute_lent(&mut self, nexus: Nexus, cdb: &[u8], sent: &mut Bytes) -> Reply
-        requires hand { IsAtHand M.below.at_hand self.old.bay }
+        requires hand { request_needs_disk M.state K.kept M.alone self.old (asked nexus cdb.now sent.old) ≡ true
+            → IsAtHand M.below.at_hand self.old.bay }
         ensures step { AnswersLent M.state M.below K.kept K.below
             self.old (asked nexus cdb.now sent.old) result self.new sent.new }
 
@@ -34,24 +37,33 @@ impl<M: Medium, K: Keeper> Drive<M, K> {
             → Acknowledges result → NothingPending (HonestIn M.below (medium_in self.old.bay))
             (machine_of M.state K.kept self.new) }
     {
-        let alloc = self.alloc;
-        match self.check_lent(nexus, cdb, sent) {
-            Ok(reply) => reply,
-            Err(fault) => fault.reply(alloc),
-        }
+        let judged = self.verdict(nexus, cdb, sent.as_slice());
+        self.answer_lent(nexus, judged, sent)
     }
 
-    // Checks a command, and carries it out where it passes all checks.
-    fn check_lent(&mut self, nexus: Nexus, cdb: &[u8], sent: &mut Bytes) -> Result<Reply, Fault>
-        requires hand { IsAtHand M.below.at_hand self.old.bay }
-        ensures { (takes : Takes M.state M.below K.kept K.below
-            (Executes (HonestIn M.below (medium_in self.old.bay))
-            (asked nexus cdb.now sent.old) (machine_of M.state K.kept self.old))
-            self.old result self.new) × (sent.new ≡ data_left takes.made.changes sent.old) }
+    /// Answers a command that was judged so.
+    pub(super) fn answer_lent(
+        &mut self,
+        nexus: Nexus,
+        judged: Result<Command, Denial>,
+        sent: &mut Bytes,
+    ) -> Reply
+        requires passed { IfOk judged (λ command.
+            IsPassed (machine_of M.state K.kept self.old) command sent.old) }
+        requires hand { needs_disk_as (alone_in M.alone self.old.bay) self.old.buffered judged ≡ true
+            → IsAtHand M.below.at_hand self.old.bay }
+        ensures { (cdb : List ℕ)
+            → verdict (machine_of M.state K.kept self.old) (asked nexus cdb sent.old) ≡ judged
+            → AnswersLent M.state M.below K.kept K.below
+            self.old (asked nexus cdb sent.old) result self.new sent.new }
     {
-        match self.verdict(nexus, cdb, sent.as_slice()) {
-            Ok(command) => self.perform_lent(nexus, command, sent),
-            Err(denial) => Ok(self.deny(nexus, denial)),
+        let alloc = self.alloc;
+        match judged {
+            Ok(command) => match self.perform_lent(nexus, command, sent) {
+                Ok(reply) => reply,
+                Err(fault) => fault.reply(alloc),
+            },
+            Err(denial) => self.deny(nexus, denial),
         }
     }
 
@@ -62,7 +74,8 @@ impl<M: Medium, K: Keeper> Drive<M, K> {
         command: Command,
         sent: &mut Bytes,
     ) -> Result<Reply, Fault>
-        requires hand { IsAtHand M.below.at_hand self.old.bay }
+        requires hand { needs_disk (alone_in M.alone self.old.bay) self.old.buffered command ≡ true
+            → IsAtHand M.below.at_hand self.old.bay }
         requires passed { IsPassed (machine_of M.state K.kept self.old) command sent.old }
         ensures { (takes : Takes M.state M.below K.kept K.below
             (Work (HonestIn M.below (medium_in self.old.bay)) command nexus sent.old
@@ -77,7 +90,10 @@ impl<M: Medium, K: Keeper> Drive<M, K> {
 
     // The work of a WRITE.
     fn write_lent(&mut self, sent: &mut Bytes) -> Result<Reply, Fault>
-        requires hand { IsAtHand M.below.at_hand self.old.bay }
+        requires settled { (sent.old ≡ [] → ⊥) → self.old.buffered ≡ false
+            → IsAtHand M.below.at_hand self.old.bay }
+        requires room { (sent.old ≡ [] → ⊥) → alone_in M.alone self.old.bay (length sent.old) ≡ false
+            → IsAtHand M.below.at_hand self.old.bay }
         requires medium { medium_denial (machine_of M.state K.kept self.old).bay ≡ None }
         requires short { length sent.old ≤ MAX_BLOCK }
         ensures { (takes : Takes M.state M.below K.kept K.below

@@ -6,6 +6,7 @@ ghost use Rattle.drive_core.specs.State.{IsAtHand, machine_of, medium_in};
 ghost use Rattle.drive_core.specs.OnMedium.{OnMedium};
 ghost use Rattle.drive_core.specs.Work.{MediumWork, DriveWork, Work};
 ghost use Rattle.drive_core.specs.RequestSense.{RequestSenseWork, once_reported, sense_due};
+ghost use Rattle.drive_core.specs.Alone.{alone_in, needs_disk};
 ghost use Rattle.drive_core.specs.Execute.{Takes, HonestIn};
 ghost use Rattle.drive_core.specs.Inner.Passing.{IsPassed};
 
@@ -29,7 +30,8 @@ impl<M: Medium, K: Keeper> Drive<M, K> {
         command: Command,
         sent: &[u8],
     ) -> Result<Reply, Fault>
-        requires hand { IsAtHand M.below.at_hand self.old.bay }
+        requires hand { needs_disk (alone_in M.alone self.old.bay) self.old.buffered command ≡ true
+            → IsAtHand M.below.at_hand self.old.bay }
         requires passed { IsPassed (machine_of M.state K.kept self.old) command sent.now }
         ensures { Takes M.state M.below K.kept K.below
             (Work (HonestIn M.below (medium_in self.old.bay)) command nexus sent.now
@@ -45,7 +47,8 @@ impl<M: Medium, K: Keeper> Drive<M, K> {
 
     // The work of a command that needs a medium.
     fn on_medium(&mut self, command: Command, sent: &[u8]) -> Result<Reply, Fault>
-        requires hand { IsAtHand M.below.at_hand self.old.bay }
+        requires hand { needs_disk (alone_in M.alone self.old.bay) self.old.buffered command ≡ true
+            → IsAtHand M.below.at_hand self.old.bay }
         requires passed { IsPassed (machine_of M.state K.kept self.old) command sent.now }
         requires needs { needs_medium (code_of command) ≡ true }
         ensures { Takes M.state M.below K.kept K.below
@@ -69,7 +72,8 @@ impl<M: Medium, K: Keeper> Drive<M, K> {
 
     // The work of a command that needs none.
     fn on_drive(&mut self, nexus: Nexus, command: Command, sent: &[u8]) -> Result<Reply, Fault>
-        requires hand { IsAtHand M.below.at_hand self.old.bay }
+        requires hand { needs_disk (alone_in M.alone self.old.bay) self.old.buffered command ≡ true
+            → IsAtHand M.below.at_hand self.old.bay }
         requires needs { needs_medium (code_of command) ≡ false }
         ensures { Takes M.state M.below K.kept K.below
             (DriveWork (HonestIn M.below (medium_in self.old.bay)) command nexus sent.now

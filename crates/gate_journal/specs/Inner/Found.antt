@@ -38,14 +38,14 @@ FindsBytes (Ok found) old new =
     × (old.honest → (rest : List ℕ) × (old.seen ≡ take found.len found.bytes ++ rest))
 FindsBytes (Err error) old new = NotRead error (old.honest → IsNotOurs old.seen) (λ at. ⊥) ⊥ old new
 
--- the bytes of the front that the disk begins with, and what is told of it; or it begins with none (own)
+-- the bytes of the front that the disk begins with, and what is read in them; or it begins with none (own)
 abbrev pub FindsTold : Result (FrontBytes × ToldFront) JournalError → DiskState → DiskState → Type 0
 FindsTold (Ok found) old new =
     NoneFailed old new × (found.0.len ≤ HEADER_BYTES) × TellsFront (take found.0.len found.0.bytes) (Some found.1)
     × (old.honest → (rest : List ℕ) × (old.seen ≡ take found.0.len found.0.bytes ++ rest))
 FindsTold (Err error) old new = NotRead error (old.honest → IsNotOurs old.seen) (λ at. ⊥) ⊥ old new
 
--- what is told of the front that the disk begins with, or that it begins with none (own)
+-- what is read of the front that the disk begins with, or that it begins with none (own)
 abbrev pub FindsStart : Result ToldFront JournalError → DiskState → DiskState → Type 0
 FindsStart (Ok told) old new = NoneFailed old new × (old.honest → TellsFront old.seen (Some told))
 FindsStart (Err error) old new = NotRead error (old.honest → IsNotOurs old.seen) (λ at. ⊥) ⊥ old new

@@ -30,20 +30,20 @@ copied_size (Some copied) = 12
 abbrev pub BeginsWithFront : List ℕ → Type 0
 BeginsWithFront bytes = (front : Front) × (rest : List ℕ) × IsFront front × (bytes ≡ spell_front front ++ rest)
 
--- what is told of a front: its kind, its pair gate's byte, what it says of a copy, and how many bytes it takes (own)
+-- what is read of a front: its kind, its pair gate's byte, what it says of a copy, and how many bytes it takes (own)
 pub record IsToldFront (told : ToldFront) (front : Front) : Type 0 where
   pub kind : told.kind ≡ front.head.heading.kind
   pub pair : told.pair ≡ front.pair
   pub copied : told.copied ≡ front.head.copied
   pub size : told.size ≡ length (spell_front front)
 
--- what is told of the front that bytes begin with, or that they begin with none (own)
+-- what is read of the front that bytes begin with, or that they begin with none (own)
 abbrev pub TellsFront : List ℕ → Option ToldFront → Type 0
 TellsFront bytes None = BeginsWithFront bytes → ⊥
 TellsFront bytes (Some told) =
     (front : Front) × (rest : List ℕ) × IsFront front × (bytes ≡ spell_front front ++ rest) × IsToldFront told front
 
--- the heading in bytes of whose front that is told (own)
+-- the heading in the bytes of a front, of which this was read (own)
 abbrev pub heading_told : ToldFront → List ℕ → Heading
 heading_told told bytes = record {
   kind = told.kind;

@@ -40,12 +40,14 @@ impl Catalog for StagedMedium {
 }
 
 impl Medium for StagedMedium {
-    ghost use Rattle.std.specs.Prelude.{refl};
+    ghost use Rattle.std.specs.Prelude.{refl, nat_lt};
     ghost use Rattle.vtl_base.specs.Below.{advances_nowhere};
     ghost use Rattle.volume_core.specs.Stores.{stores_nowhere};
     ghost use Rattle.volume_core.specs.Staged.{staged_state, staged_below, staged_moves_nowhere, staged_moves_on};
 
     ghost below = { staged_below };
+
+    ghost alone = { λ medium bytes. nat_lt bytes medium.alone_below };
 
     fn accept(&mut self, change: Change) -> Result<(), NotAccepted> {
         if self.failed {
@@ -133,6 +135,10 @@ impl Medium for StagedMedium {
 
     fn has_room_for(&self, bytes: u32) -> bool {
         self.has_room_for_frame(15 + bytes as u64)
+    }
+
+    fn takes_alone(&self, bytes: u32) -> bool {
+        bytes < self.alone_below
     }
 
     fn pending(&self) -> usize {

@@ -29,7 +29,7 @@ pub const FAILED: (&str, u8) = (DEVICE, 2);
 
 pub const NO_MEMORY: (&str, u8) = ("vtl: out of memory\n", 3);
 
-fn words_of(alloc: Global, line: &str) -> Result<Vec<String>, Fail> {
+pub fn words_of(alloc: Global, line: &str) -> Result<Vec<String>, Fail> {
     let mut words = Vec::new(alloc);
     for word in line.split(' ') {
         words.push(String::from_str(alloc, word)?)?;

@@ -1,4 +1,4 @@
-//! A script over a disk of which one call fails: what is written, and which fault is told.
+//! A script over a disk of which one call fails: what is written, and which fault is reported.
 use super::streams::{BadReader, BadWriter};
 use aptpl_store::AptplStore;
 use assertions::assert_equal;

@@ -107,7 +107,7 @@ impl NotedFiles {
         }
     }
 
-    // The word for a disk that is handed back: whether it holds the side of this name.
+    // The word for a disk that is returned: whether it holds the side of this name.
     fn word_of(&self, disk: &OnceDisk<MemDisk>, name: &str) -> &'static str {
         if disk.inner().bytes() == self.side(name) {
             "back"

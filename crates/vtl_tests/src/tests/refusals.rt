@@ -1,4 +1,4 @@
-//! Sides that are refused: their disks are handed back.
+//! Sides that are refused: their disks are returned.
 use super::calls::{FAILED, Row, assert_rows};
 use super::noted_files::{CARTRIDGE, Failing};
 use std::test::Fail;

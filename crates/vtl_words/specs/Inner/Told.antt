@@ -7,7 +7,7 @@ use Rattle.vtl_words.specs.declared.orders.Order.{Order}
 use Rattle.vtl_words.specs.declared.orders.WordsError.{WordsError}
 use Rattle.vtl_words.specs.declared.orders.WordsError.TheVariants.{Help, Refused, NoMemory}
 
--- what an error of the parser is told as
+-- what an error of the parser is reported as
 abbrev pub Tells : ErrorKind → WordsError → Type 0
 Tells kind (Help text) = kind ≡ DisplayHelp
 Tells kind Refused = (kind ≢ DisplayHelp) × (kind ≢ OutOfMemory)

@@ -5,7 +5,7 @@ use Rattle.gate_journal.specs.declared.heads.Copied.{Copied}
 use Rattle.record_index.specs.Records.{spell_all}
 use Rattle.std.proofs.lemmas.List.{length-map}
 use Rattle.tape_disk.specs.Disk.{DiskState, IsDisk}
-use Rattle.tape_disk.specs.TwoDisks.{AreHonest, EachOfTwo, Images, MayLeave, TwoDisks, TwoLeave, two_weakened}
+use Rattle.tape_disk.specs.TwoDisks.{AreHonest, EachOfTwo, Images, MayLeave, TwoDisks, TwoLeave, seen_of_two, two_weakened}
 use Rattle.volume_core.specs.Volume.{IsVolume}
 use Rattle.record_index.specs.Indexes.{indexes_shape}
 use Rattle.volume_reclaim.specs.Reclaiming.{GivesCopy, MayReclaim}
@@ -16,7 +16,7 @@ use Rattle.cartridge.specs.Contents.{Contents, GivesContents, IsContents, bodies
 use Rattle.cartridge.specs.Disks.{OnlyOfTwo, disks_by}
 use Rattle.cartridge.specs.Lying.{LiesOnSide}
 use Rattle.cartridge.specs.Notes.{noted_as}
-use Rattle.cartridge.specs.Reclaiming.{GivesVolume, copy_frames, reclaimed_from}
+use Rattle.cartridge.specs.Reclaiming.{GivesVolume, KeepsOldSide, copy_frames, reclaimed_from}
 use Rattle.cartridge.specs.State.{ClosedCartridge, OpenCartridge}
 use Rattle.cartridge.proofs.CopiedLemmas.{copy_gives, may_hold, may_reclaim, reclaimed_volume, volume_of_shape}
 use Rattle.cartridge.proofs.reclaiming.copy_cartridge.Goals as goal
@@ -144,6 +144,60 @@ returns-in-Ok-clause-any_moment g c = λ honest.
     subst (λ (v : OpenCartridge g.row.D.Denot). TwoLeave state v.disks new (GivesVolume v.contents)) view from_old in
     subst (λ (d : TwoDisks g.row.D.Denot). TwoLeave state c.args.cartridge.disks d
     (GivesVolume c.args.cartridge.contents))
+    (sym (ap (λ (r : ClosedCartridge g.row.D.Denot). r.disks) c.with.ensures ∙ c.apart-counts.ensures)) seen
+
+pub returns-in-Ok-clause-sides : goal.returns-in-Ok-clause-sides
+returns-in-Ok-clause-sides g c = λ honest.
+    let state = g.D.Disk.state in
+    let laws = g.met.D.Disk.is_disk in
+    let i = c.cartridge.inside in
+    let view = c.cartridge.view_is in
+    let notes = i.noted.notes in
+    let side = i.journal in
+    let contents = noted_as i.which side.front.head.copied notes in
+    let disks = disks_by i.which side.disk i.spare in
+    let header = c.args.plan.header in
+    let copied = c.args.plan.copied in
+    let fine : side.failed ≡ false =
+    subst (λ (v : OpenCartridge g.row.D.Denot). v.failed ≡ false) (sym view) c.requires.fine in
+    let only : AreHonest state disks → OnlyOfTwo state disks disks =
+    subst (λ (v : OpenCartridge g.row.D.Denot). AreHonest state v.disks → OnlyOfTwo state v.disks v.disks) (sym view)
+    c.requires.sure in
+    let heading : heading_of header ≡ contents.head.heading =
+    subst (λ (v : OpenCartridge g.row.D.Denot). heading_of header ≡ v.contents.head.heading) (sym view)
+    c.requires.heading in
+    let epoch : copied.epoch ≡ epoch_of contents.head + 1 =
+    subst (λ (v : OpenCartridge g.row.D.Denot). copied.epoch ≡ epoch_of v.contents.head + 1) (sym view)
+    c.requires.epoch in
+    let base : copied.base ≡ length (copy_frames contents) =
+    subst (λ (v : OpenCartridge g.row.D.Denot). copied.base ≡ length (copy_frames v.contents)) (sym view)
+    c.requires.base in
+    let mid : TwoDisks g.row.D.Denot =
+    record { first = c.in_order-first.result.0; second = c.in_order-first.result.1 } in
+    let mid_is : mid ≡ disks = c.in_order-first.ensures ∙ ap (λ d. disks_by i.which d i.spare) c.close.ensures in
+    let ended = c.reclaim_volume-ended in
+    let new : TwoDisks g.row.D.Denot = record { first = ended.result.first; second = ended.result.second } in
+    let volume = volume_made contents in
+    let here : AreHonest state disks =
+    subst (λ (v : OpenCartridge g.row.D.Denot). AreHonest state v.disks) (sym view) honest in
+    let may = subst (λ (d : TwoDisks g.row.D.Denot). MayReclaim state d i.which header copied i.index contents.head
+    (bodies_of notes.frames) volume) (sym mid_is)
+    (may_reclaim state laws i.which side i.spare i.index notes header copied c.cartridge.invariant.0
+    c.cartridge.invariant.2 c.see_bodies.ensures fine only heading epoch base here) in
+    let each : EachOfTwo state new (KeepsOldSide contents (seen_of_two state mid)) =
+    subst (λ (r : Result Unit DevFault).
+    OnOk r (EachOfTwo state new (KeepsOldSide contents (seen_of_two state mid)))) c.in-Ok.is
+    (ended.ensures.sides (subst (AreHonest state) (sym mid_is) here) contents.head (bodies_of notes.frames) volume may)
+    in
+    let from_old : EachOfTwo state new (KeepsOldSide contents (seen_of_two state disks)) =
+    subst (λ (d : TwoDisks g.row.D.Denot). EachOfTwo state new (KeepsOldSide contents (seen_of_two state d))) mid_is
+    each in
+    let seen : EachOfTwo state new
+    (KeepsOldSide c.args.cartridge.contents (seen_of_two state c.args.cartridge.disks)) =
+    subst (λ (v : OpenCartridge g.row.D.Denot).
+    EachOfTwo state new (KeepsOldSide v.contents (seen_of_two state v.disks))) view from_old in
+    subst (λ (d : TwoDisks g.row.D.Denot). EachOfTwo state d
+    (KeepsOldSide c.args.cartridge.contents (seen_of_two state c.args.cartridge.disks)))
     (sym (ap (λ (r : ClosedCartridge g.row.D.Denot). r.disks) c.with.ensures ∙ c.apart-counts.ensures)) seen
 
 pub with-requires-clause-contents : goal.with-requires-clause-contents

@@ -1,5 +1,6 @@
 use Rattle.std.proofs.Common.{◌<◌, ◌^◌, arith}
-use Rattle.side_reclaim.proofs.TakingLemmas.{has_written, is_copy, mid_paired, mid_stands, taken, with_copy, without}
+use Rattle.std.proofs.lemmas.Result.{on_ok_weaker}
+use Rattle.side_reclaim.proofs.TakingLemmas.{alone, has_start, has_written, is_copy, mid_paired, mid_stands, taken, with_copy, without}
 use Rattle.side_reclaim.proofs.taking.copy_over.Goals as goal
 
 pub returns-in_err-write_copy-clause-any_moment : goal.returns-in_err-write_copy-clause-any_moment
@@ -29,6 +30,11 @@ returns-clause-ok g c =
     (mid_paired header copied which head bodies counts old mid may made.0 made.2 honest stands)
     (is_copy header copied which head bodies counts old mid may made.0 made.2 honest epoch_fits base_fits)
     (has_written header copied which head bodies counts old mid may made.0 made.2 honest)))
+    (λ honest which head bodies counts may.
+    on_ok_weaker c.open_copy.result
+    (λ opened. alone header copied which head bodies counts old mid may made.0 made.2 honest new opened.0 opened.1)
+    (c.open_copy.ensures.ok (c.write_copy.ensures.disk.stays_honest honest)
+    (has_start header copied which head bodies counts old mid may made.0 made.2 honest)))
 
 pub returns-clause-any_moment : goal.returns-clause-any_moment
 returns-clause-any_moment g c = λ honest which head bodies counts may.

@@ -7,7 +7,7 @@ use Rattle.volume_core.specs.Medium.{WakesFrom, met_fault}
 use Rattle.tape_disk.specs.TwoDisks.{AreHonest, seen_of_two}
 use Rattle.cartridge.specs.State.{ClosedCartridge}
 use Rattle.tape_buffer.specs.Inner.Waking.{wake_error_of}
-use Rattle.tape_buffer.specs.Moves.{LeavesAlone, buffer_below}
+use Rattle.tape_buffer.specs.Moves.{LeavesAlone, LeavesEachAlone, buffer_below}
 use Rattle.tape_buffer.specs.State.{IsSettledOn, closed_buffer, closed_state}
 use Rattle.tape_buffer.proofs.OpeningLemmas.{advances_opened, nothing_over, opens}
 use Rattle.tape_buffer.proofs.TwoLemmas.{read_now, stay_honest}
@@ -32,6 +32,7 @@ returns-in-Ok-clause-ok g c =
       advances_opened disk g.met.D.Disk.is_disk one old new told.disks told.ok.0 told.ok.1 told.gives told.any_moment
           told.ok.2,
       told.any_moment,
+      told.each,
     )
 
 pub returns-in-Err-clause-err : goal.returns-in-Err-clause-err
@@ -47,12 +48,14 @@ returns-in-Err-clause-err g c =
     subst (λ (error : MediumError). (error ≢ Media.Device → IsSettledOn disk new)
     × WakesFrom (AreHonest disk old.disks) false (closed_state disk old) (Err error) (closed_state disk new)
     × Advances (buffer_below disk) (closed_buffer old) [] (met_fault (Err error)) (closed_buffer new)
-    × LeavesAlone disk (closed_buffer old) (closed_buffer new))
+    × LeavesAlone disk (closed_buffer old) (closed_buffer new)
+    × LeavesEachAlone disk (closed_buffer old) (closed_buffer new))
     (sym c.wake_error.ensures)
     (subst (λ (s : ClosedCartridge _). (wake_error_of c.in-Err.refused.error ≢ Media.Device → IsSettledOn disk s)
     × WakesFrom (AreHonest disk old.disks) false (closed_state disk old) (Err (wake_error_of c.in-Err.refused.error))
     (closed_state disk s)
     × Advances (buffer_below disk) (closed_buffer old) [] (met_fault (Err (wake_error_of c.in-Err.refused.error)))
     (closed_buffer s)
-    × LeavesAlone disk (closed_buffer old) (closed_buffer s)) (sym told.same)
-    (stays.0, stays.1, stays.2, told.any_moment))
+    × LeavesAlone disk (closed_buffer old) (closed_buffer s)
+    × LeavesEachAlone disk (closed_buffer old) (closed_buffer s)) (sym told.same)
+    (stays.0, stays.1, stays.2, told.any_moment, told.each))

@@ -29,7 +29,7 @@ use Rattle.volume_reclaim.specs.Inner.Giving.{SourceFails, SourceGives, disk_of,
 use Rattle.volume_reclaim.specs.Reading.{LiesOnDisk, OnlyRead}
 use Rattle.volume_reclaim.specs.Reclaiming.{GivesCopy, MayReclaim, copy_bodies, two_by}
 use Rattle.volume_reclaim.proofs.GivenLemmas.{all_given, all_read}
-use Rattle.volume_reclaim.proofs.SidesLemmas.{Rests, both_move, each_of_two, honest_by, lies_by, may_take, rests, stands_as, sure_by, takes_as}
+use Rattle.volume_reclaim.proofs.SidesLemmas.{Rests, both_move, each_of_two, honest_by, kept_beside, lies_by, may_take, rests, stands_as, sure_by, takes_as}
 use Rattle.volume_reclaim.proofs.reclaiming.copy_sides.Goals as goal
 
 -- what is left of the copy at its beginning
@@ -148,6 +148,29 @@ returns-clause-ok g c = λ honest head bodies volume may ready.
     (copy_given state laws old copied.new.source c.args.index volume taken.0 c.args.copied.base
     (whole c.args.index c.start.result.part c.start.result.at c.start.ensures.part c.start.ensures.at) both.0
     (lies_by state which counts spare c.args.index volume may.lies) may.base taken.1.gave taken.1.count_is) taken.1)
+    copied.ensures.ok
+
+pub returns-clause-sides : goal.returns-clause-sides
+returns-clause-sides g c = λ honest head bodies volume may ready.
+    let state = g.D.Disk.state in
+    let laws = g.met.D.Disk.is_disk in
+    let which = c.args.which in
+    let counts = c.args.counts in
+    let spare = c.args.spare in
+    let old : Source g.row.D.Denot =
+    record { blocks = record { disk = counts }; index = c.args.index; cursor = c.start.result } in
+    let copied = c.copy_over-result in
+    let rest = rested state laws copied.result c.args.header.now c.args.copied old copied.new.source
+    (state spare) (state copied.new.spare) copied.ensures.ok copied.ensures.err in
+    let both = honest_by state which counts spare honest in
+    on_ok_weaker copied.result
+    (λ taken. kept_beside state which counts copied.new.source.blocks.disk spare copied.new.spare head bodies volume
+    taken.0 may.gives (rest.unwritten both.0)
+    (copy_given state laws old copied.new.source c.args.index volume taken.0 c.args.copied.base
+    (whole c.args.index c.start.result.part c.start.result.at c.start.ensures.part c.start.ensures.at) both.0
+    (lies_by state which counts spare c.args.index volume may.lies) may.base taken.1.gave taken.1.count_is)
+    (taken.1.alone both.1 which head bodies (state counts).seen
+    (may_take state which counts spare c.args.header.now c.args.copied c.args.index head bodies volume may ready)))
     copied.ensures.ok
 
 pub returns-clause-any_moment : goal.returns-clause-any_moment

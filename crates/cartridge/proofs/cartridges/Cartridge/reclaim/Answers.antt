@@ -1,8 +1,9 @@
 use Rattle.std.proofs.Common.{◌≡◌, ◌⊎◌, inl, inr, List, ℕ, refl, sym, subst, ap, ◌∙◌}
 use Rattle.tape_disk.specs.TwoDisks.{AreHonest, Images, MayLeave, TwoDisks, TwoLeave, two_in_sequence, seen_of_two, two_weakened}
 use Rattle.cartridge.specs.Contents.{GivesContents}
-use Rattle.cartridge.specs.Reclaiming.{GivesVolume, IsNotReclaimed, LeavesVolume, disks_reclaimed}
+use Rattle.cartridge.specs.Reclaiming.{GivesVolume, IsNotReclaimed, IsUntouched, LeavesVolume, disks_reclaimed}
 use Rattle.cartridge.specs.State.{ClosedCartridge}
+use Rattle.cartridge.proofs.UntouchedLemmas.{broken_untouched, copied_since, not_opened, stays_sure, sure_untouched}
 use Rattle.cartridge.proofs.cartridges.Cartridge.reclaim.Goals as goal
 
 pub copy_cartridge-requires-clause-sure : goal.copy_cartridge-requires-clause-sure
@@ -16,6 +17,19 @@ copy_cartridge-requires-clause-sure g c = λ honest images left.
     let only = (c.in-Ok.ensures.gives old).1 in
     only images left
     ∙ sym (only (seen_of_two state now) ((laws now.first honest.0).reads, (laws now.second honest.1).reads))
+
+pub returns-in-Ok-plan_copy-clause-copy : goal.returns-in-Ok-plan_copy-clause-copy
+returns-in-Ok-plan_copy-clause-copy g c =
+    let state = g.D.Disk.state in
+    let old = c.args.shelved.disks in
+    let mid = c.in-Ok.cartridge.disks in
+    let keeps = c.in-Ok.ensures.disks in
+    copied_since state old mid c.in-Ok.cartridge.contents c.copy_cartridge.result c.copy_cartridge.ensures.ok
+    c.copy_cartridge.ensures.volume c.copy_cartridge.ensures.sides c.in-Ok-plan_copy.ensures.fits
+    (λ honest. (keeps.0.stays_honest honest.0, keeps.1.stays_honest honest.1))
+    (λ honest. (c.in-Ok.ensures.gives honest).0)
+    (λ honest. (stays_sure state g.met.D.Disk.is_disk old mid honest keeps (c.in-Ok.ensures.any_moment honest)
+    (c.in-Ok.ensures.gives honest).1).0.seen)
 
 pub returns-in-Ok-plan_copy-clause-any_moment : goal.returns-in-Ok-plan_copy-clause-any_moment
 returns-in-Ok-plan_copy-clause-any_moment g c = λ honest.
@@ -63,3 +77,24 @@ returns-in-Err-clause-any_moment g c = λ honest.
     let new = c.in-Err.refused.shelved.disks in
     let P = λ (images : Images). LeavesVolume (MayLeave state old) (seen_of_two state old) images in
     two_weakened state old new (MayLeave state old) P (c.in-Err.ensures.any_moment honest) (λ images left. inl left)
+
+pub returns-in-Ok-plan_copy-clause-untouched : goal.returns-in-Ok-plan_copy-clause-untouched
+returns-in-Ok-plan_copy-clause-untouched g c =
+    broken_untouched g.D.Disk.state c.args.shelved.disks c.in-Ok.cartridge.disks c.copy_cartridge.result
+    c.copy_cartridge.ensures.err
+
+pub returns-in-Err-plan_copy-clause-untouched : goal.returns-in-Err-plan_copy-clause-untouched
+returns-in-Err-plan_copy-clause-untouched g c = λ honest.
+    let state = g.D.Disk.state in
+    let old = c.args.shelved.disks in
+    let mid = c.in-Ok.cartridge.disks in
+    let sure = stays_sure state g.met.D.Disk.is_disk old mid honest c.in-Ok.ensures.disks
+    (c.in-Ok.ensures.any_moment honest) (c.in-Ok.ensures.gives honest).1 in
+    subst (λ (d : TwoDisks g.row.D.Denot). IsUntouched state c.in-Err-plan_copy.error old d)
+    (sym (ap (λ (s : ClosedCartridge g.row.D.Denot). s.disks) c.shelve.ensures))
+    (sure_untouched state old mid c.in-Err-plan_copy.error sure)
+
+pub returns-in-Err-clause-untouched : goal.returns-in-Err-clause-untouched
+returns-in-Err-clause-untouched g c = λ honest.
+    not_opened g.D.Disk.state g.met.D.Disk.is_disk c.args.shelved.disks c.in-Err.refused.shelved.disks honest
+    c.in-Err.ensures.disks (c.in-Err.ensures.any_moment honest) c.in-Err.refused.error c.in-Err.ensures.refused

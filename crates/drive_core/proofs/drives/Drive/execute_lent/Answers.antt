@@ -1,31 +1,23 @@
-use Rattle.std.proofs.Common.{Ok, Err, refl}
-use Rattle.drive_core.specs.State.{machine_of, medium_in}
-use Rattle.drive_core.specs.Execute.{HonestIn, asked}
-use Rattle.drive_core.proofs.SettledLemmas.{settled}
+use Rattle.std.proofs.Common.{◌∙◌, ℕ, List, sym, ap}
+use Rattle.drive_core.specs.State.{machine_of}
+use Rattle.drive_core.specs.Checks.{verdict}
+use Rattle.drive_core.specs.Execute.{asked}
+use Rattle.drive_core.proofs.AloneLemmas.{answers_settled}
 use Rattle.drive_core.proofs.drives.Drive.execute_lent.Goals as goal
 
-pub returns-in-Ok-clause-step : goal.returns-in-Ok-clause-step
-returns-in-Ok-clause-step g c =
-    let lent = rw c.in-Ok.is at c.check_lent.ensures in
-    record {
-      step = record { answer = Ok c.in-Ok.reply; replied = refl; taken = lent.0 };
-      data_is = lent.1;
-    }
+pub returns-clause-step : goal.returns-clause-step
+returns-clause-step g c =
+    let machine = machine_of g.M.Catalog.state g.K.Keeper.kept c.args.self.now in
+    c.answer_lent.ensures c.args.cdb.now
+    (sym (c.verdict-judged.ensures.verdict
+    ∙ ap (λ (s : List ℕ). verdict machine (asked c.args.nexus c.args.cdb.now s)) c.as_slice.ensures))
 
-pub returns-in-Err-clause-step : goal.returns-in-Err-clause-step
-returns-in-Err-clause-step g c =
-    let lent = rw c.in-Err.is at c.check_lent.ensures in
-    record {
-      step = record { answer = Err c.in-Err.fault; replied = c.reply.ensures; taken = lent.0 };
-      data_is = lent.1;
-    }
-
-pub returns-in-Ok-clause-settled : goal.returns-in-Ok-clause-settled
-returns-in-Ok-clause-settled g c =
-    let state = g.M.Catalog.state in
-    let lent = rw c.in-Ok.is at c.check_lent.ensures in
-    settled (HonestIn g.M.Medium.below (medium_in c.args.self.now.bay)) (machine_of state g.K.Keeper.kept
-    c.args.self.now)
-    (asked c.args.nexus c.args.cdb.now c.args.sent.now) c.in-Ok.reply lent.0.made (machine_of state g.K.Keeper.kept
-    c.check_lent.new.self)
-    lent.0.step
+pub returns-clause-settled : goal.returns-clause-settled
+returns-clause-settled g c =
+    let machine = machine_of g.M.Catalog.state g.K.Keeper.kept c.args.self.now in
+    let answers =
+    c.answer_lent.ensures c.args.cdb.now
+    (sym (c.verdict-judged.ensures.verdict
+    ∙ ap (λ (s : List ℕ). verdict machine (asked c.args.nexus c.args.cdb.now s)) c.as_slice.ensures)) in
+    answers_settled g.M.Catalog.state g.M.Medium.below g.K.Keeper.kept g.K.Keeper.below c.args.self.now
+    c.answer_lent.new.self (asked c.args.nexus c.args.cdb.now c.args.sent.now) c.answer_lent.result answers.step

@@ -1,4 +1,4 @@
-use Rattle.tape_buffer.specs.Moves.{leaves_alone_nowhere}
+use Rattle.tape_buffer.specs.Moves.{leaves_alone_nowhere, leaves_each_alone_nowhere}
 use Rattle.tape_buffer.proofs.CoreLemmas.{rests}
 use Rattle.tape_buffer.proofs.media.BufferedMedium.wake.Goals as goal
 
@@ -14,3 +14,11 @@ returns-then-has_failed-clause-alone g c =
 
 pub returns-in-Open-clause-alone : goal.returns-in-Open-clause-alone
 returns-in-Open-clause-alone g c = leaves_alone_nowhere g.D.Disk.state c.args.self.now
+
+pub returns-then-has_failed-clause-each : goal.returns-then-has_failed-clause-each
+returns-then-has_failed-clause-each g c =
+    leaves_each_alone_nowhere g.D.Disk.state g.met.D.Disk.is_disk c.args.self.now
+
+pub returns-in-Open-clause-each : goal.returns-in-Open-clause-each
+returns-in-Open-clause-each g c =
+    leaves_each_alone_nowhere g.D.Disk.state g.met.D.Disk.is_disk c.args.self.now

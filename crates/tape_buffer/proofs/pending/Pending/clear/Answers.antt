@@ -1,6 +1,7 @@
 use Rattle.std.proofs.Common.{◌≡◌, List, arith, refl, subst, sum_by, sym}
 use Rattle.volume_core.specs.declared.changes.Change.{Change}
-use Rattle.tape_buffer.specs.Limits.{FitsBuffer, block_bytes}
+use Rattle.volume_core.specs.Medium.{block_bytes}
+use Rattle.tape_buffer.specs.Limits.{FitsBuffer}
 use Rattle.tape_buffer.specs.Tail.{IsTailOf}
 use Rattle.tape_buffer.proofs.TailLemmas.{nothing_waits}
 use Rattle.tape_buffer.proofs.pending.Pending.clear.Goals as goal

@@ -2,9 +2,10 @@ use Rattle.std.proofs.Common.{◌≡◌, ◌+◌, ◌++◌, ◌∙◌, ℕ, List
 use Rattle.std.proofs.lemmas.List.Sums.{sum_by-append}
 use Rattle.volume_core.specs.declared.changes.Change.{Change}
 use Rattle.volume_core.specs.Volume.{part_of}
+use Rattle.volume_core.specs.Medium.{block_bytes}
 use Rattle.record_index.specs.Places.{placed_after, placed_objects, reserved_of}
 use Rattle.record_index.specs.Records.{record_of}
-use Rattle.tape_buffer.specs.Limits.{FitsBuffer, block_bytes}
+use Rattle.tape_buffer.specs.Limits.{FitsBuffer}
 use Rattle.tape_buffer.specs.Tail.{AreWide, IsTailOf, TailState, shifted, kept_in}
 use Rattle.tape_buffer.proofs.PutLemmas.{applies_behind, formed, tail_put}
 use Rattle.tape_buffer.proofs.TailLemmas.{stays_opened, stays_reserved, wide_with}

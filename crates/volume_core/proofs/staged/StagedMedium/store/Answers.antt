@@ -22,6 +22,7 @@ returns-then-blows c =
               awake = inside.awake;
               failed = inside.failed;
               room = inside.room;
+              alone_below = inside.alone_below;
               faults = _;
             })
             inside.tears

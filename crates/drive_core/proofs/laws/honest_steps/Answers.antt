@@ -1,6 +1,0 @@
-use Rattle.drive_core.proofs.StepLemmas.{step_where}
-use Rattle.drive_core.proofs.laws.honest_steps.Goals as goal
-
-pub returns : goal.returns
-returns g c medium old input output made new honest step =
-    step_where (Unit {0}) (g.M.Medium.below.honest medium) (λ u. honest) old input output made new step

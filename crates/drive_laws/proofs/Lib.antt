@@ -1,0 +1,14 @@
+pub mod CountLemmas
+pub mod AlikeLemmas
+pub mod CommandLemmas
+pub mod DeterminedLoads
+pub mod DeterminedParks
+pub mod DeterminedOrders
+pub mod DeterminedVerdicts
+pub mod DeterminedWorks
+pub mod DeterminedChecks
+pub mod DeterminedLemmas
+pub mod DeterminedRuns
+pub mod ToldLemmas
+pub mod StepLemmas
+pub mod RunLemmas

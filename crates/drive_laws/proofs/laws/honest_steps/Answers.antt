@@ -1,0 +1,6 @@
+use Rattle.drive_laws.proofs.StepLemmas.{step_where}
+use Rattle.drive_laws.proofs.laws.honest_steps.Goals as goal
+
+pub returns : goal.returns
+returns g c medium old input output made new honest step =
+    step_where (Unit {0}) (g.M.Medium.below.honest medium) (λ u. honest) old input output made new step

@@ -1,0 +1,7 @@
+//! The tests of vtl_explain: each answer, and the line that was written for it by hand.
+#![tactic(auto)]
+
+#[cfg(test)]
+mod answers;
+#[cfg(test)]
+mod asserted;

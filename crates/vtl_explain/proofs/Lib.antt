@@ -1,0 +1,3 @@
+mod FitLemmas
+mod LawLemmas
+pub mod TextLemmas

@@ -1,0 +1,164 @@
+//! Sense data in words.
+ghost use Rattle.std.specs.Prelude.{◌≡◌, if◌then◌else◌, []};
+ghost use Rattle.vtl_explain.specs.SenseTexts.{words_in};
+
+use crate::conditions::Condition;
+use scsi_sense::Sense;
+use std::fmt;
+
+/// What INFORMATION counts: of READ and WRITE bytes, of SPACE and WRITE FILEMARKS blocks or filemarks (SSC-4).
+#[derive(Clone, Copy, PartialEq, Eq, Debug)]
+pub enum Counted {
+    Bytes,
+    Blocks,
+    Filemarks,
+}
+
+// A byte as two digits in hexadecimal.
+#[derive(Clone, Copy)]
+struct Hex(u8);
+
+impl fmt::Display for Hex {
+    ghost use Rattle.std.specs.Prelude.{Some};
+    ghost use Rattle.vtl_explain.specs.SenseTexts.{hex};
+
+    ghost output = { λ byte. Some (hex byte.0) };
+
+    #[tactic(auto, using(crate::proofs::TextLemmas::hex_printed))]
+    fn fmt<W: fmt::Write>(&self, f: &mut fmt::Formatter<W>) -> fmt::Result {
+        let byte = self.0;
+        write!(f, "{byte:02X}")
+    }
+}
+
+// So many bytes.
+#[derive(Clone, Copy)]
+struct Size(u32);
+
+impl fmt::Display for Size {
+    ghost use Rattle.std.specs.Prelude.{Some};
+    ghost use Rattle.vtl_explain.specs.SenseTexts.{size};
+
+    ghost output = { λ bytes. Some (size bytes.0) };
+
+    fn fmt<W: fmt::Write>(&self, f: &mut fmt::Formatter<W>) -> fmt::Result {
+        match self.0 {
+            1 => write!(f, "1 byte"),
+            number => write!(f, "{number} bytes"),
+        }
+    }
+}
+
+// So many of what is counted were left.
+#[derive(Clone, Copy)]
+struct Left {
+    number: u32,
+    counted: Counted,
+}
+
+impl fmt::Display for Left {
+    ghost use Rattle.std.specs.Prelude.{Some};
+    ghost use Rattle.vtl_explain.specs.SenseTexts.{left};
+
+    ghost output = { λ it. Some (left it.number it.counted) };
+
+    fn fmt<W: fmt::Write>(&self, f: &mut fmt::Formatter<W>) -> fmt::Result {
+        let number = self.number;
+        match self.counted {
+            Counted::Bytes if number == 1 => write!(f, "1 byte of the length was left"),
+            Counted::Bytes => write!(f, "{number} bytes of the length were left"),
+            Counted::Blocks if number == 1 => write!(f, "1 block of the count was left"),
+            Counted::Blocks => write!(f, "{number} blocks of the count were left"),
+            Counted::Filemarks if number == 1 => write!(f, "1 filemark of the count was left"),
+            Counted::Filemarks => write!(f, "{number} filemarks of the count were left"),
+        }
+    }
+}
+
+// What INFORMATION says, behind the words.
+#[derive(Clone, Copy)]
+struct Rest {
+    information: Option<u32>,
+    incorrect_length: bool,
+    counted: Counted,
+}
+
+impl fmt::Display for Rest {
+    ghost use Rattle.std.specs.Prelude.{Some};
+    ghost use Rattle.vtl_explain.specs.SenseTexts.{rest};
+
+    ghost output = { λ it. Some (rest it.information it.incorrect_length it.counted) };
+
+    fn fmt<W: fmt::Write>(&self, f: &mut fmt::Formatter<W>) -> fmt::Result {
+        match self.information {
+            None | Some(0) => Ok(()),
+            Some(number) if self.incorrect_length => {
+                if number < 0x8000_0000 {
+                    let shorter = Size(number);
+                    write!(f, ", it is {shorter} shorter")
+                } else {
+                    let longer = Size(u32::MAX - number + 1);
+                    write!(f, ", it is {longer} longer")
+                }
+            }
+            Some(number) => {
+                let left = Left {
+                    number,
+                    counted: self.counted,
+                };
+                write!(f, ", {left}")
+            }
+        }
+    }
+}
+
+// A text where this is so, and else none.
+fn text_if(is_so: bool, text: &'static str) -> &'static str
+    ensures { result.now ≡ if is_so then text.now else [] }
+{
+    if is_so { text } else { "" }
+}
+
+// The words of the condition that sense data report, or that they report none.
+fn words_in(sense: &Sense) -> &'static str
+    ensures { result.now ≡ words_in sense.now }
+{
+    match Condition::of(sense) {
+        Some(condition) => condition.words(),
+        None => "sense data of another kind",
+    }
+}
+
+/// Sense data in one line of plain English, with no line feed. It takes no memory.
+#[derive(Clone, Copy, PartialEq, Eq, Debug)]
+pub struct SenseText {
+    pub sense: Sense,
+    pub counted: Counted,
+}
+
+impl fmt::Display for SenseText {
+    ghost use Rattle.std.specs.Prelude.{Some};
+    ghost use Rattle.vtl_explain.specs.SenseTexts.{sense_line};
+
+    ghost output = { λ it. Some (sense_line it.sense it.counted) };
+
+    fn fmt<W: fmt::Write>(&self, f: &mut fmt::Formatter<W>) -> fmt::Result {
+        let sense = self.sense;
+        let before = text_if(sense.deferred, "after an earlier command: ");
+        let words = words_in(&sense);
+        let rest = Rest {
+            information: sense.information,
+            incorrect_length: sense.incorrect_length,
+            counted: self.counted,
+        };
+        let filemark = text_if(sense.filemark, "FILEMARK, ");
+        let end = text_if(sense.end_of_medium, "EOM, ");
+        let length = text_if(sense.incorrect_length, "ILI, ");
+        let code = Hex(sense.code);
+        let qualifier = Hex(sense.qualifier);
+        write!(
+            f,
+            "{before}{words}{rest} ({filemark}{end}{length}{code}/{qualifier})"
+        )
+    }
+}

@@ -1,0 +1,2 @@
+pub mod OneBay
+pub mod OneHost

@@ -1,0 +1,96 @@
+//! A drive that one thread holds, and serves.
+ghost use Rattle.std.specs.Prelude.{◌≡◌, OnOk};
+ghost use Rattle.vtl_wire.specs.Serving.{ServesInput};
+ghost use Rattle.vtl_serve.specs.OneBay.{AnswersOf, BayAnswers, is_for};
+
+use aptpl_store::AptplStore;
+use bays::Bay;
+use drive_laws::served_hosts_run;
+use std::alloc::Global;
+use std::io::{Read, Write};
+use std::marker::Model;
+use tape_buffer::Buffered;
+use tape_disk::Disk;
+use vtl_base::{DriveNo, NoMemory};
+use vtl_wire::{Answer, Request, Server, WireFault, serve_requests};
+
+/// A drive, and the number by which requests name it.
+#[derive(Drop)]
+pub struct OneBay<D: Disk> {
+    number: DriveNo,
+    bay: Bay<D>,
+}
+
+impl<D: Disk> Model for OneBay<D> {
+    ghost use Rattle.vtl_serve.specs.OneBay.{OneBayState};
+
+    ghost Value = { OneBayState D };
+
+    ghost view = { λ b. record { number = b.number; bay = b.bay } };
+}
+
+impl<D: Disk> OneBay<D> {
+    /// A drive that requests name by this number.
+    pub fn new(number: DriveNo, bay: Bay<D>) -> OneBay<D>
+        ensures { result ≡ record { number = number; bay = bay } }
+    {
+        OneBay { number, bay }
+    }
+
+    /// The drive.
+    pub fn into_bay(self) -> Bay<D>
+        ensures { result ≡ self.bay }
+    {
+        self.bay
+    }
+}
+
+impl<D: Disk> Server for OneBay<D> {
+    ghost is_taken = { λ served request. is_for served.number request };
+
+    ghost answers = { AnswersOf D.state };
+
+    fn takes(&self, request: &Request) -> bool {
+        match request {
+            Request::Command { drive, .. } => *drive == self.number,
+            Request::Move { .. } | Request::Inventory { .. } => false,
+        }
+    }
+
+    fn serve(&mut self, _alloc: Global, request: Request) -> Result<Answer, NoMemory> {
+        match request {
+            Request::Command {
+                host,
+                drive: _,
+                cdb,
+                mut sent,
+                tag,
+            } => {
+                let reply = self.bay.execute_lent(host, cdb.as_slice(), &mut sent);
+                Ok(Answer::Command { host, reply, tag })
+            }
+            Request::Move { .. } | Request::Inventory { .. } => unreachable!(),
+        }
+    }
+}
+
+/// Serves a drive: reads commands up to the end of the input, or to the first frame that is refused, carries each out
+/// before the next is read, and writes its answer. A frame of another drive is refused, and so is a move and an
+/// inventory. Up to the end of the input, what is written is the frames of the replies that the drive's machine gives
+/// to the commands that were read, in order, and nothing else.
+pub fn serve_bay<D: Disk + Drop, R: Read, W: Write>(
+    alloc: Global,
+    served: &mut OneBay<D>,
+    reader: &mut R,
+    writer: &mut W,
+) -> Result<(), WireFault>
+    ensures serves { ServesInput (λ bay request. is_for bay.number request) (AnswersOf D.state) served.old
+        (R.remaining reader.old) (W.contents writer.old) served.new (R.remaining reader.new) (W.contents writer.new)
+        result }
+    ensures answers { OnOk result (BayAnswers D.state served.old.bay (R.remaining reader.old)
+        (W.contents writer.old) served.new.bay (W.contents writer.new)) }
+{
+    // The law of the machine, for the proof alone.
+    served_hosts_run::<Buffered<D>, AptplStore<D>>();
+    serve_requests(alloc, served, reader, writer)
+}

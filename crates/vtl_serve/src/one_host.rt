@@ -1,0 +1,98 @@
+//! One host of a library that threads share, which is served.
+ghost use Rattle.std.specs.Prelude.{◌≡◌, OnOk};
+ghost use Rattle.vtl_wire.specs.Serving.{ServesInput};
+ghost use Rattle.vtl_serve.specs.OneHost.{AnswersHost, HostAnswers, is_from};
+
+use ledgers::{Parties, Seat};
+use library::Library;
+use std::alloc::Global;
+use std::io::{Read, Write};
+use std::marker::Model;
+use std::sync::Wait;
+use tape_disk::Disk;
+use vtl_base::NoMemory;
+use vtl_wire::{Answer, Request, Server, WireFault, serve_requests};
+
+/// A host's seat at a library that threads share. To a contract it is which drives there are, and the seat.
+#[derive(Drop)]
+pub struct OneHost<'a, D: Disk, B: Parties, H: Parties, R> {
+    rt: &'a R,
+    library: &'a Library<D, B, H>,
+    seat: Seat<H>,
+}
+
+impl<'a, D: Disk, B: Parties, H: Parties, R> Model for OneHost<'a, D, B, H, R> {
+    ghost use Rattle.vtl_serve.specs.OneHost.{OneHostState};
+
+    ghost Value = { OneHostState };
+
+    ghost view = { λ h. record { drives = h.library.now; seat = h.seat } };
+}
+
+impl<'a, D: Disk + Drop, B: Parties, H: Parties, R> OneHost<'a, D, B, H, R> {
+    /// The host of this seat.
+    pub fn new(rt: &'a R, library: &'a Library<D, B, H>, seat: Seat<H>) -> OneHost<'a, D, B, H, R>
+        ensures { result ≡ record { drives = library.now; seat = seat } }
+    {
+        OneHost { rt, library, seat }
+    }
+
+    /// The seat.
+    pub fn into_seat(self) -> Seat<H>
+        ensures { result ≡ self.entry.seat }
+    {
+        self.seat
+    }
+}
+
+impl<'a, D: Disk + Drop, B: Parties, H: Parties, R: Wait> Server for OneHost<'a, D, B, H, R> {
+    ghost is_taken = { λ served request. is_from served.drives served.seat.nexus request };
+
+    ghost answers = { AnswersHost D.state };
+
+    fn takes(&self, request: &Request) -> bool {
+        match request {
+            Request::Command { host, drive, .. } => {
+                *host == self.seat.nexus() && self.library.configured(*drive)
+            }
+            Request::Move { .. } | Request::Inventory { .. } => false,
+        }
+    }
+
+    fn serve(&mut self, _alloc: Global, request: Request) -> Result<Answer, NoMemory> {
+        match request {
+            Request::Command {
+                host,
+                drive,
+                cdb,
+                mut sent,
+                tag,
+            } => {
+                let rt = self.rt;
+                let library = self.library;
+                let seat = &mut self.seat;
+                let reply = library.command_lent(rt, seat, drive, cdb.as_slice(), &mut sent);
+                Ok(Answer::Command { host, reply, tag })
+            }
+            Request::Move { .. } | Request::Inventory { .. } => unreachable!(),
+        }
+    }
+}
+
+/// Serves one host of a library: reads its commands up to the end of the input, or to the first frame that is refused,
+/// carries each out before the next is read, and writes its answer. A frame of another host or of a drive that is not
+/// configured is refused, and so is a move and an inventory. Other threads may serve other hosts meanwhile.
+pub fn serve_host<'a, D: Disk + Drop, B: Parties, H: Parties, R: Wait, I: Read, O: Write>(
+    alloc: Global,
+    served: &mut OneHost<'a, D, B, H, R>,
+    reader: &mut I,
+    writer: &mut O,
+) -> Result<(), WireFault>
+    ensures serves { ServesInput (λ host request. is_from host.drives host.seat.nexus request) (AnswersHost D.state)
+        served.old (I.remaining reader.old) (O.contents writer.old) served.new (I.remaining reader.new)
+        (O.contents writer.new) result }
+    ensures answers { OnOk result (HostAnswers D.state served.old.seat served.new.seat (I.remaining reader.old)
+        (O.contents writer.old) (O.contents writer.new)) }
+{
+    serve_requests(alloc, served, reader, writer)
+}

@@ -1,0 +1,12 @@
+pub mod AnswerLemmas
+pub mod EntryLemmas
+pub mod FillLemmas
+pub mod FrameLemmas
+pub mod HeadLemmas
+pub mod HeaderLemmas
+pub mod LawLemmas
+pub mod ReaderLemmas
+pub mod RequestLemmas
+pub mod SenseLemmas
+pub mod ServeLemmas
+pub mod WriteLemmas

@@ -1,0 +1,92 @@
+-- What a front end is answered, in bytes (own).
+use Rattle.std.specs.Prelude.{◌≡◌, ◌≢◌, ℕ, ◌≤◌, ◌<◌, ◌*◌, ◌^◌, List, [], ◌++◌, length, take, flat_map, replicate, Option, None, Some, IfSome}
+use Rattle.std.specs.List.{All}
+use Rattle.std.specs.Int.{to_be_bytes, w32}
+use Rattle.vtl_base.specs.declared.limits.TheConstants.{NEXUSES, MAX_BARCODE}
+use Rattle.vtl_base.specs.Barcode.{IsBarcode}
+use Rattle.scsi_sense.specs.declared.replies.Reply.{Reply}
+use Rattle.scsi_sense.specs.declared.replies.Status.TheVariants.{Check}
+use Rattle.scsi_sense.specs.declared.sense_data.Sense.{Sense}
+use Rattle.scsi_sense.specs.Replies.{status_code}
+use Rattle.scsi_sense.specs.SenseData.{sense_bytes}
+use Rattle.vtl_wire.specs.declared.frames.TheConstants.{ENTRY_BYTES, MOST_DATA}
+use Rattle.vtl_wire.specs.declared.frames.FrameKind.{FrameKind}
+use Rattle.vtl_wire.specs.declared.frames.FrameKind.TheVariants as kinds
+use Rattle.vtl_wire.specs.declared.answers.Answer.{Answer}
+use Rattle.vtl_wire.specs.declared.answers.Answer.TheVariants.{Command, Move, Inventory}
+use Rattle.vtl_wire.specs.declared.answers.Entry.{Entry}
+use Rattle.vtl_wire.specs.Frames.{Frame, spell_frame}
+
+-- the sense data of an answer, 18 bytes where it has some (own)
+abbrev pub sense_front : Option Sense → List ℕ
+sense_front None = []
+sense_front (Some sense) = sense_bytes sense
+
+-- a barcode, which has at most 16 bytes, in 16: with spaces behind it; 16 bytes of 00h where nothing is there (own)
+abbrev pub spell_barcode : Option (List ℕ) → List ℕ
+spell_barcode None = replicate MAX_BARCODE 0
+spell_barcode (Some barcode) = take MAX_BARCODE (barcode ++ replicate MAX_BARCODE 32)
+
+-- an entry of an inventory in 20 bytes: the element address, 4 bytes, the highest first, and the barcode (own)
+abbrev pub spell_entry : Entry → List ℕ
+spell_entry entry = to_be_bytes w32 entry.address ++ spell_barcode entry.barcode
+
+-- the frame of a reply, to a request of this kind: its status, its sense data and its bytes (own)
+abbrev pub frame_of_reply : FrameKind → ℕ → Reply → ℕ → Frame
+frame_of_reply kind host reply tag = record {
+  kind = kind;
+  host = host;
+  detail = status_code reply.status;
+  tag = tag;
+  front = sense_front reply.sense;
+  payload = reply.bytes;
+}
+
+-- the frame of an answer: to a command its host and its reply, to a move its reply, to an inventory status 00h and the
+-- entries; all with the tag of the request (own)
+abbrev pub frame_of_answer : Answer → Frame
+frame_of_answer (Command host reply tag) = frame_of_reply kinds.Command host reply tag
+frame_of_answer (Move reply tag) = frame_of_reply kinds.Move 0 reply tag
+frame_of_answer (Inventory entries tag) = record {
+  kind = kinds.Inventory;
+  host = 0;
+  detail = 0;
+  tag = tag;
+  front = [];
+  payload = flat_map spell_entry entries;
+}
+
+-- a reply that a frame holds: only CHECK CONDITION has sense data, and at most 1,100,000 bytes go to the host (own)
+pub record FitsReply (reply : Reply) : Type 0 where
+  pub sense : reply.status ≢ Check → reply.sense ≡ None
+  pub bytes : length reply.bytes ≤ MOST_DATA
+
+-- an answer that a frame holds: of an inventory at most 55,000 entries (own)
+abbrev pub FitsAnswer : Answer → Type 0
+FitsAnswer (Command host reply tag) = FitsReply reply
+FitsAnswer (Move reply tag) = FitsReply reply
+FitsAnswer (Inventory entries tag) = ENTRY_BYTES * length entries ≤ MOST_DATA
+
+-- an answer in bytes (own)
+abbrev pub spell_answer : Answer → List ℕ
+spell_answer answer = spell_frame (frame_of_answer answer)
+
+-- an entry of an inventory: any number of four bytes, and a barcode where something is there (own)
+pub record IsEntry (entry : Entry) : Type 0 where
+  pub address : entry.address < 2 ^ 32
+  pub barcode : IfSome entry.barcode IsBarcode
+
+-- sense data whose information, where there is some, is a number of four bytes (own)
+abbrev pub IsSense : Sense → Type 0
+IsSense sense = IfSome sense.information (λ number. number < 2 ^ 32)
+
+-- the numbers of an answer are of their width, and its entries are entries (own)
+abbrev pub HasNumbers : Answer → Type 0
+HasNumbers (Command host reply tag) =
+    (1 ≤ host) × (host ≤ NEXUSES) × IfSome reply.sense IsSense × (tag < 2 ^ 32)
+HasNumbers (Move reply tag) = IfSome reply.sense IsSense × (tag < 2 ^ 32)
+HasNumbers (Inventory entries tag) = All IsEntry entries × (tag < 2 ^ 32)
+
+-- an answer that has a spelling (own)
+abbrev pub IsAnswer : Answer → Type 0
+IsAnswer answer = FitsAnswer answer × HasNumbers answer

@@ -1,0 +1,176 @@
+//! Answers, written frame by frame.
+ghost use Rattle.std.specs.Prelude.{◌≡◌, ◌≤◌, ◌-◌, ◌++◌, length, take, flat_map, replicate, IfErr, OnOk, OnErr};
+ghost use Rattle.std.specs.Io.KnownBytes.{Appends};
+ghost use Rattle.vtl_wire.specs.Answers.{FitsAnswer, FitsReply, frame_of_answer, frame_of_reply, sense_front, spell_answer, spell_barcode, spell_entry};
+ghost use Rattle.vtl_wire.specs.Frames.{header_of, spell_header};
+ghost use Rattle.vtl_base.specs.declared.limits.TheConstants.{MAX_BARCODE};
+ghost use Rattle.vtl_wire.specs.Writes.{AppendsFront};
+
+use crate::answers::{Answer, Entry};
+use crate::faults::WireFault;
+use crate::frames::{ENTRY_BYTES, FrameKind, SENSE_BYTES};
+use crate::headers::Header;
+use crate::writing::{flush, write_bytes, write_frame};
+use scsi_sense::{Reply, Sense};
+use std::io::Write;
+use vtl_base::Barcode;
+use vtl_base::limits::MAX_BARCODE;
+
+// How many bytes of sense data an answer has.
+fn sense_len(sense: &Option<Sense>) -> u8
+    ensures { result ≡ length (sense_front sense.now) }
+{
+    match sense {
+        Some(_) => SENSE_BYTES as u8,
+        None => 0,
+    }
+}
+
+// The header of a reply's frame.
+fn reply_header(kind: FrameKind, host: u8, reply: &Reply, tag: u32) -> Header
+    requires { FitsReply reply.now }
+    ensures { result ≡ header_of (frame_of_reply kind host reply.now tag) }
+{
+    Header {
+        kind,
+        host,
+        detail: reply.status.code(),
+        front: sense_len(&reply.sense),
+        payload: reply.bytes.len() as u32,
+        tag,
+    }
+}
+
+// The header of an answer's frame.
+fn answer_header(answer: &Answer) -> Header
+    requires { FitsAnswer answer.now }
+    ensures { result ≡ header_of (frame_of_answer answer.now) }
+{
+    match answer {
+        Answer::Command { host, reply, tag } => {
+            reply_header(FrameKind::Command, host.number(), reply, *tag)
+        }
+        Answer::Move { reply, tag } => reply_header(FrameKind::Move, 0, reply, *tag),
+        Answer::Inventory { entries, tag } => Header {
+            kind: FrameKind::Inventory,
+            host: 0,
+            detail: 0,
+            front: 0,
+            payload: (ENTRY_BYTES * entries.as_slice().len()) as u32,
+            tag: *tag,
+        },
+    }
+}
+
+// Writes a header, and the sense data and the bytes of a reply.
+fn write_reply<W: Write>(writer: &mut W, header: Header, reply: &Reply) -> Result<(), WireFault>
+    ensures ok { OnOk result (Appends (W.contents writer.old) (W.contents writer.new)
+        (spell_header header ++ (sense_front reply.now.sense ++ reply.now.bytes))) }
+    ensures err { OnErr result (AppendsFront (W.contents writer.old) (W.contents writer.new)
+        (spell_header header ++ (sense_front reply.now.sense ++ reply.now.bytes))) }
+    ensures fault { IfErr result (λ fault. fault ≡ WireFault.WriteFault) }
+{
+    match &reply.sense {
+        Some(sense) => write_frame(writer, header, &sense.bytes(), reply.bytes.as_slice()),
+        None => write_frame(writer, header, &[], reply.bytes.as_slice()),
+    }
+}
+
+// These bytes, and spaces behind them up to 16.
+fn with_spaces(symbols: &[u8]) -> [u8; MAX_BARCODE]
+    requires { length symbols.now ≤ MAX_BARCODE }
+    ensures { result ≡ symbols.now ++ replicate (MAX_BARCODE - length symbols.now) 32 }
+{
+    let mut bytes = [b' '; MAX_BARCODE];
+    bytes[..symbols.len()].copy_from_slice(symbols);
+    bytes
+}
+
+// The first 16 of these bytes and spaces.
+fn padded(symbols: &[u8]) -> [u8; MAX_BARCODE]
+    requires { length symbols.now ≤ MAX_BARCODE }
+    ensures { result ≡ take MAX_BARCODE (symbols.now ++ replicate MAX_BARCODE 32) }
+{
+    with_spaces(symbols)
+}
+
+// The 16 bytes of a barcode, or of none.
+fn barcode_bytes(barcode: &Option<Barcode>) -> [u8; MAX_BARCODE]
+    ensures { result ≡ spell_barcode barcode.now }
+{
+    match barcode {
+        Some(barcode) => padded(barcode.as_bytes()),
+        None => [0; MAX_BARCODE],
+    }
+}
+
+// The 20 bytes of an entry.
+fn entry_bytes(entry: &Entry) -> [u8; ENTRY_BYTES]
+    ensures { result ≡ spell_entry entry.now }
+{
+    let mut bytes = [0; ENTRY_BYTES];
+    bytes[..4].copy_from_slice(&entry.address.to_be_bytes());
+    bytes[4..].copy_from_slice(&barcode_bytes(&entry.barcode));
+    bytes
+}
+
+// Writes the entries of an inventory.
+fn write_entries<W: Write>(writer: &mut W, entries: &[Entry]) -> Result<(), WireFault>
+    ensures ok { OnOk result
+        (Appends (W.contents writer.old) (W.contents writer.new) (flat_map spell_entry entries.now)) }
+    ensures err { OnErr result
+        (AppendsFront (W.contents writer.old) (W.contents writer.new) (flat_map spell_entry entries.now)) }
+    ensures fault { IfErr result (λ fault. fault ≡ WireFault.WriteFault) }
+{
+    for entry in entries {
+        write_bytes(writer, &entry_bytes(entry))?;
+    }
+    Ok(())
+}
+
+// Writes the frame of an inventory.
+fn write_inventory<W: Write>(
+    writer: &mut W,
+    header: Header,
+    entries: &[Entry],
+) -> Result<(), WireFault>
+    ensures ok { OnOk result (Appends (W.contents writer.old) (W.contents writer.new)
+        (spell_header header ++ flat_map spell_entry entries.now)) }
+    ensures err { OnErr result (AppendsFront (W.contents writer.old) (W.contents writer.new)
+        (spell_header header ++ flat_map spell_entry entries.now)) }
+    ensures fault { IfErr result (λ fault. fault ≡ WireFault.WriteFault) }
+{
+    write_bytes(writer, &header.bytes())?;
+    write_entries(writer, entries)
+}
+
+// Writes the frame of an answer.
+fn write_whole<W: Write>(writer: &mut W, answer: &Answer) -> Result<(), WireFault>
+    requires { FitsAnswer answer.now }
+    ensures ok { OnOk result (Appends (W.contents writer.old) (W.contents writer.new) (spell_answer answer.now)) }
+    ensures err { OnErr result
+        (AppendsFront (W.contents writer.old) (W.contents writer.new) (spell_answer answer.now)) }
+    ensures fault { IfErr result (λ fault. fault ≡ WireFault.WriteFault) }
+{
+    let header = answer_header(answer);
+    match answer {
+        Answer::Command { reply, .. } | Answer::Move { reply, .. } => write_reply(
+            writer, header, reply,
+        ),
+        Answer::Inventory { entries, .. } => write_inventory(writer, header, entries.as_slice()),
+    }
+}
+
+/// Writes the frame of an answer, and flushes it. Where a write or the flush fails, which is a `WriteFault`, a
+/// beginning of it is written. An interrupted write is made again. It takes no memory. `Answer::fits_frame` tests the
+/// condition.
+pub fn write_answer<W: Write>(writer: &mut W, answer: &Answer) -> Result<(), WireFault>
+    requires { FitsAnswer answer.now }
+    ensures ok { OnOk result (Appends (W.contents writer.old) (W.contents writer.new) (spell_answer answer.now)) }
+    ensures err { OnErr result
+        (AppendsFront (W.contents writer.old) (W.contents writer.new) (spell_answer answer.now)) }
+    ensures fault { IfErr result (λ fault. fault ≡ WireFault.WriteFault) }
+{
+    write_whole(writer, answer)?;
+    flush(writer)
+}

@@ -1,0 +1,79 @@
+//! What a front end is answered.
+ghost use Rattle.std.specs.Prelude.{◌≡◌, ◌↔◌, IsTrue};
+ghost use Rattle.vtl_wire.specs.Answers.{FitsAnswer, FitsReply};
+
+use crate::frames::{ENTRY_BYTES, MOST_DATA};
+use scsi_sense::{Reply, Status};
+use std::marker::Model;
+use vtl_base::{Barcode, Nexus};
+
+/// An element address, and the barcode of what is there.
+#[derive(Drop)]
+pub struct Entry {
+    pub address: u32,
+    pub barcode: Option<Barcode>,
+}
+
+/// The entries of an inventory. To a contract they are a list.
+#[derive(Drop)]
+pub struct Entries {
+    entries: Vec<Entry>,
+}
+
+impl Model for Entries {
+    ghost use Rattle.std.specs.Prelude.{List};
+    ghost use Rattle.vtl_wire.specs.declared.answers.Entry.{Entry};
+
+    ghost Value = { List Entry };
+
+    ghost view = { λ entries. entries.entries.items };
+}
+
+impl Entries {
+    /// The entries of a `Vec`, which takes no memory.
+    pub fn from_vec(entries: Vec<Entry>) -> Self
+        ensures { result ≡ entries.items }
+    {
+        Entries { entries }
+    }
+
+    /// The entries, to be read.
+    pub fn as_slice(&self) -> &[Entry]
+        ensures { result.now ≡ self.now }
+    {
+        self.entries.as_slice()
+    }
+}
+
+/// What a front end is answered, with the tag of its request.
+#[derive(Drop)]
+pub enum Answer {
+    /// To a command: its host, and the reply.
+    Command { host: Nexus, reply: Reply, tag: u32 },
+    /// To a move.
+    Move { reply: Reply, tag: u32 },
+    /// To an inventory.
+    Inventory { entries: Entries, tag: u32 },
+}
+
+// Whether a frame holds a reply.
+fn holds_reply(reply: &Reply) -> bool
+    ensures { IsTrue result ↔ FitsReply reply.now }
+{
+    (reply.sense.is_none() || reply.status == Status::Check)
+        && reply.bytes.len() <= MOST_DATA as usize
+}
+
+impl Answer {
+    /// Whether a frame holds it: it has at most 1,100,000 bytes of data, and sense data only with CHECK CONDITION.
+    pub fn fits_frame(&self) -> bool
+        ensures { IsTrue result ↔ FitsAnswer self.now }
+    {
+        match self {
+            Answer::Command { reply, .. } | Answer::Move { reply, .. } => holds_reply(reply),
+            Answer::Inventory { entries, .. } => {
+                entries.as_slice().len() <= MOST_DATA as usize / ENTRY_BYTES
+            }
+        }
+    }
+}

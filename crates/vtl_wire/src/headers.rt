@@ -1,0 +1,84 @@
+//! The header of a frame, which a request and an answer share.
+ghost use Rattle.std.specs.Prelude.{◌≡◌, IfSome, IfNone, length};
+ghost use Rattle.vtl_wire.specs.Frames.{IsHeader, spell_header};
+ghost use Rattle.vtl_wire.specs.declared.frames.TheConstants.{HEADER_BYTES};
+ghost use Rattle.vtl_wire.specs.declared.headers.Header.{Header};
+ghost use Rattle.vtl_wire.specs.Inner.Headers.{header_at};
+
+use crate::frames::{FrameKind, HEADER_BYTES};
+use byteorder::{BigEndian, ByteOrder};
+
+/// The header of a frame (own).
+#[derive(Clone, Copy, PartialEq, Eq, Debug)]
+pub struct Header {
+    /// What is asked for, or answered.
+    pub kind: FrameKind,
+    /// The host, 0 where there is none.
+    pub host: u8,
+    /// The drive of a request, 0 where there is none, or the status of an answer.
+    pub detail: u8,
+    /// How many bytes stand first: a command block, two element addresses, or sense data.
+    pub front: u8,
+    /// How many bytes of data stand behind them.
+    pub payload: u32,
+    /// The tag of the request.
+    pub tag: u32,
+}
+
+impl Header {
+    // Its bytes.
+    pub(crate) fn bytes(self) -> [u8; HEADER_BYTES]
+        ensures { result ≡ spell_header self }
+    {
+        let [a, b, c, d] = self.payload.to_be_bytes();
+        let [e, f, g, h] = self.tag.to_be_bytes();
+        let kind = self.kind.code();
+        [
+            kind,
+            self.host,
+            self.detail,
+            self.front,
+            a,
+            b,
+            c,
+            d,
+            e,
+            f,
+            g,
+            h,
+            0,
+            0,
+            0,
+            0,
+        ]
+    }
+
+    // The header that these bytes are, if they are one.
+    pub(crate) fn read(bytes: &[u8]) -> Option<Self>
+        requires { length bytes.now ≡ HEADER_BYTES }
+        ensures found { IfSome result (λ header. IsHeader header × (bytes.now ≡ spell_header header)) }
+        ensures none { IfNone result
+            ((header : Header) → IsHeader header → bytes.now ≡ spell_header header → ⊥) }
+    {
+        header_at(bytes)
+    }
+}
+
+// The header that these bytes are, by their places.
+fn header_at(bytes: &[u8]) -> Option<Header>
+    requires { length bytes.now ≡ HEADER_BYTES }
+    ensures { result ≡ header_at bytes.now }
+{
+    let kind = FrameKind::with(bytes[0])?;
+    if BigEndian::read_u32(&bytes[12..]) != 0 {
+        return None;
+    }
+    Some(Header {
+        kind,
+        host: bytes[1],
+        detail: bytes[2],
+        front: bytes[3],
+        payload: BigEndian::read_u32(&bytes[4..]),
+        tag: BigEndian::read_u32(&bytes[8..]),
+    })
+}

@@ -1,0 +1,39 @@
+//! The two parts of a frame behind its header.
+ghost use Rattle.std.specs.Prelude.{◌≤◌, IfOk, IfErr};
+ghost use Rattle.vtl_base.specs.declared.bytes.TheConstants.{INLINE_BYTES};
+ghost use Rattle.vtl_wire.specs.Inner.Reading.{ReadsParts, MissesParts};
+
+use crate::faults::WireFault;
+use crate::headers::Header;
+use crate::reading::read_bytes;
+use std::alloc::Global;
+use std::io::Read;
+use vtl_base::Bytes;
+
+/// What stands behind a header: a command block, two element addresses or sense data; and data.
+#[derive(Drop)]
+pub(crate) struct Parts {
+    pub(crate) front: Bytes,
+    pub(crate) payload: Bytes,
+}
+
+// The parts that a header counts, or None where the input ends within them.
+pub(crate) fn read_parts<R: Read>(
+    alloc: Global,
+    reader: &mut R,
+    header: Header,
+) -> Result<Option<Parts>, WireFault>
+    requires { header.front ≤ INLINE_BYTES }
+    ensures parts { IfOk result
+        (ReadsParts (R.remaining reader.old) (R.remaining reader.new) header.front header.payload) }
+    ensures fault { IfErr result
+        (MissesParts (R.remaining reader.old) (R.remaining reader.new) header.front header.payload) }
+{
+    let Some(front) = read_bytes(alloc, reader, header.front as usize)? else {
+        return Ok(None);
+    };
+    match read_bytes(alloc, reader, header.payload as usize)? {
+        Some(payload) => Ok(Some(Parts { front, payload })),
+        None => Ok(None),
+    }
+}

@@ -1,0 +1,111 @@
+//! Requests, read from an input frame by frame.
+ghost use Rattle.std.specs.Prelude.{◌≡◌, ◌≢◌, ℕ, IfOk, IfErr, IfSome, Err, OnErr, Some, None};
+ghost use Rattle.vtl_base.specs.Steps.{ticked};
+ghost use Rattle.vtl_wire.specs.Requests.{IsRefusedAt, SpellsRequests};
+ghost use Rattle.vtl_wire.specs.Reads.{MissesRequest, ReadsRequest, count_after};
+ghost use Rattle.vtl_wire.specs.Inner.Reading.{FindsRequest, MissesFrame};
+
+use crate::faults::WireFault;
+use crate::parts::read_parts;
+use crate::reading::{Found, read_header};
+use crate::request_heads::{request_head, request_in};
+use crate::requests::Request;
+use std::alloc::Global;
+use std::io::Read;
+use std::marker::Model;
+
+/// A reader of requests, which counts them. The number is held at its greatest value. To a contract it is the number
+/// of requests that were read.
+#[derive(Drop)]
+pub struct RequestReader {
+    frames: u64,
+}
+
+impl Model for RequestReader {
+    ghost use Rattle.std.specs.Prelude.{ℕ};
+
+    ghost Value = { ℕ };
+
+    ghost view = { λ reader. reader.frames };
+}
+
+// What stands next in an input.
+fn find_request<R: Read>(alloc: Global, reader: &mut R) -> Result<Found<Request>, WireFault>
+    ensures found { IfOk result (FindsRequest (R.remaining reader.old) (R.remaining reader.new)) }
+    ensures fault { IfErr result (MissesFrame (R.remaining reader.old) (R.remaining reader.new)) }
+{
+    let header = match read_header(reader)? {
+        Found::Frame(header) => header,
+        Found::Ended => return Ok(Found::Ended),
+        Found::Refused => return Ok(Found::Refused),
+    };
+    let Some(head) = request_head(header) else {
+        return Ok(Found::Refused);
+    };
+    match read_parts(alloc, reader, header)? {
+        Some(parts) => Ok(Found::Frame(request_in(header, head, parts))),
+        None => Ok(Found::Refused),
+    }
+}
+
+impl RequestReader {
+    /// Nothing was read yet.
+    pub fn new() -> Self
+        ensures { result ≡ 0 }
+    {
+        RequestReader { frames: 0 }
+    }
+
+    /// How many requests were read.
+    pub fn frames(&self) -> u64
+        ensures { result ≡ self.now }
+    {
+        self.frames
+    }
+
+    /// The next request, or None where the input has ended. No byte behind it is read, however the input is cut.
+    /// Memory is asked for only where its header and its command block were read and may stand there, and only for
+    /// its data. After an `Err` the input is inside a frame, or behind a header that is refused, so that no other can
+    /// be read.
+    pub fn next<R: Read>(
+        &mut self,
+        alloc: Global,
+        reader: &mut R,
+    ) -> Result<Option<Request>, WireFault>
+        ensures ok { IfOk result (ReadsRequest (R.remaining reader.old) (R.remaining reader.new)) }
+        ensures count { IfOk result (λ found. self.new ≡ count_after self.old found) }
+        ensures err { IfErr result (MissesRequest (R.remaining reader.old) (R.remaining reader.new) self.old) }
+        ensures same { OnErr result (self.new ≡ self.old) }
+    {
+        match find_request(alloc, reader)? {
+            Found::Frame(request) => {
+                self.frames = self.frames.saturating_add(1);
+                Ok(Some(request))
+            }
+            Found::Ended => Ok(None),
+            Found::Refused => Err(WireFault::BadFrame {
+                frame: self.frames.saturating_add(1),
+            }),
+        }
+    }
+}
+
+/// All requests of an input, up to its end, or the number of the first frame that is refused. It is what the grammar
+/// gives, however the input is cut.
+pub fn read_requests<R: Read>(alloc: Global, reader: &mut R) -> Result<Vec<Request>, WireFault>
+    ensures ok { IfOk result (λ requests.
+        IfSome (R.remaining reader.old) (λ bytes. SpellsRequests bytes requests.items)) }
+    ensures refused { (number : ℕ) → result ≡ Err (WireFault.BadFrame number) →
+        IfSome (R.remaining reader.old) (λ bytes. IsRefusedAt bytes number) }
+    ensures fault { IfErr result (λ fault. fault ≢ WireFault.WriteFault) }
+{
+    let mut requests = Vec::new(alloc);
+    let mut frames = RequestReader::new();
+    for _ in 0..u64::MAX {
+        match frames.next(alloc, reader)? {
+            Some(request) => requests.push(request)?,
+            None => return Ok(requests),
+        }
+    }
+    Err(WireFault::NoMemory)
+}

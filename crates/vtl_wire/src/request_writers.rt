@@ -1,0 +1,96 @@
+//! Requests, written frame by frame: the front end's half.
+ghost use Rattle.std.specs.Prelude.{◌≡◌, ◌++◌, IfErr, OnOk, OnErr};
+ghost use Rattle.std.specs.Int.{to_be_bytes, w32};
+ghost use Rattle.std.specs.Io.KnownBytes.{Appends};
+ghost use Rattle.vtl_wire.specs.Frames.{header_of};
+ghost use Rattle.vtl_wire.specs.Requests.{FitsRequest, frame_of_request, spell_request};
+ghost use Rattle.vtl_wire.specs.Writes.{AppendsFront};
+
+use crate::faults::WireFault;
+use crate::frames::{FrameKind, MOVE_BYTES};
+use crate::headers::Header;
+use crate::requests::Request;
+use crate::writing::{flush, write_frame};
+use std::io::Write;
+
+// The header of a request's frame.
+fn request_header(request: &Request) -> Header
+    requires { FitsRequest request.now }
+    ensures { result ≡ header_of (frame_of_request request.now) }
+{
+    match request {
+        Request::Command {
+            host,
+            drive,
+            cdb,
+            sent,
+            tag,
+        } => Header {
+            kind: FrameKind::Command,
+            host: host.number(),
+            detail: drive.number(),
+            front: cdb.len() as u8,
+            payload: sent.len() as u32,
+            tag: *tag,
+        },
+        Request::Move { tag, .. } => Header {
+            kind: FrameKind::Move,
+            host: 0,
+            detail: 0,
+            front: MOVE_BYTES as u8,
+            payload: 0,
+            tag: *tag,
+        },
+        Request::Inventory { tag } => Header {
+            kind: FrameKind::Inventory,
+            host: 0,
+            detail: 0,
+            front: 0,
+            payload: 0,
+            tag: *tag,
+        },
+    }
+}
+
+// The eight bytes of two element addresses.
+fn address_bytes(from: u32, to: u32) -> [u8; MOVE_BYTES]
+    ensures { result ≡ to_be_bytes w32 from ++ to_be_bytes w32 to }
+{
+    let [a, b, c, d] = from.to_be_bytes();
+    let [e, f, g, h] = to.to_be_bytes();
+    [a, b, c, d, e, f, g, h]
+}
+
+// Writes the frame of a request.
+fn write_request_whole<W: Write>(writer: &mut W, request: &Request) -> Result<(), WireFault>
+    requires { FitsRequest request.now }
+    ensures ok { OnOk result (Appends (W.contents writer.old) (W.contents writer.new) (spell_request request.now)) }
+    ensures err { OnErr result
+        (AppendsFront (W.contents writer.old) (W.contents writer.new) (spell_request request.now)) }
+    ensures fault { IfErr result (λ fault. fault ≡ WireFault.WriteFault) }
+{
+    let header = request_header(request);
+    match request {
+        Request::Command { cdb, sent, .. } => {
+            write_frame(writer, header, cdb.as_slice(), sent.as_slice())
+        }
+        Request::Move { from, to, .. } => {
+            write_frame(writer, header, &address_bytes(*from, *to), &[])
+        }
+        Request::Inventory { .. } => write_frame(writer, header, &[], &[]),
+    }
+}
+
+/// Writes the frame of a request, and flushes it. Where a write or the flush fails, which is a `WriteFault`, a
+/// beginning of it is written. An interrupted write is made again. It takes no memory. `Request::fits_frame` tests the
+/// condition.
+pub fn write_request<W: Write>(writer: &mut W, request: &Request) -> Result<(), WireFault>
+    requires { FitsRequest request.now }
+    ensures ok { OnOk result (Appends (W.contents writer.old) (W.contents writer.new) (spell_request request.now)) }
+    ensures err { OnErr result
+        (AppendsFront (W.contents writer.old) (W.contents writer.new) (spell_request request.now)) }
+    ensures fault { IfErr result (λ fault. fault ≡ WireFault.WriteFault) }
+{
+    write_request_whole(writer, request)?;
+    flush(writer)
+}

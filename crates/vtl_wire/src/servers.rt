@@ -1,0 +1,28 @@
+//! What serves requests.
+ghost use Rattle.std.specs.Prelude.{◌≡◌, true, Bool, IfOk, OnErr};
+ghost use Rattle.vtl_wire.specs.declared.answers.Answer.{Answer};
+ghost use Rattle.vtl_wire.specs.declared.requests.Request.{Request};
+
+use crate::answers::Answer;
+use crate::requests::Request;
+use std::alloc::Global;
+use vtl_base::NoMemory;
+
+/// What serves requests, one after another.
+pub trait Server {
+    /// Whether it takes a request.
+    ghost is_taken: { Self → Request → Bool };
+
+    /// A request may be answered so from the first value on, which leaves the last.
+    ghost answers: { Self → Request → Answer → Self → Type 0 };
+
+    /// Whether it takes this request. It does not take a command to a drive that is not configured.
+    fn takes(&self, request: &Request) -> bool
+        ensures { result ≡ is_taken self.now request.now };
+
+    /// Serves a request that it takes. Where memory runs out nothing is done.
+    fn serve(&mut self, alloc: Global, request: Request) -> Result<Answer, NoMemory>
+        requires { is_taken self.old request ≡ true }
+        ensures ok { IfOk result (λ answer. answers self.old request answer self.new) }
+        ensures err { OnErr result (self.new ≡ self.old) };
+}

@@ -1,0 +1,21 @@
+//! The tests of vtl_wire, over frames that were worked by hand.
+#![tactic(auto)]
+
+#[cfg(test)]
+mod answers;
+#[cfg(test)]
+mod asserted;
+#[cfg(test)]
+mod cuttings;
+#[cfg(test)]
+mod failing;
+#[cfg(test)]
+mod lengths;
+#[cfg(test)]
+mod pipes;
+#[cfg(test)]
+mod refusals;
+#[cfg(test)]
+mod requests;
+#[cfg(test)]
+mod served;
