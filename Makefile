@@ -2,7 +2,7 @@
 RT := $(shell command -v rt)
 
 .PHONY: demo vtl check wrong rows rows-wrong nomemory mutants faults hostile asked endings examples stops kills bench \
-	gate fmt definitions need-rt
+	gate fmt definitions install manual need-rt
 .DEFAULT_GOAL := demo
 
 need-rt:
@@ -14,9 +14,25 @@ endif
 demo: need-rt
 	@python3 bench/demo.py
 
+# Where `make install` puts things; DESTDIR stands before it for a package.
+PREFIX = /usr/local
+DOC = $(DESTDIR)$(PREFIX)/share/doc/vtl
+
 vtl: need-rt
 	@cd crates/vtl && rt run -- run < stdin > /dev/null
 	@echo "the proved program is crates/vtl/out/vtl"
+
+# The program that is there: whoever installs may lack rt.
+crates/vtl/out/vtl:
+	$(MAKE) vtl
+
+install: crates/vtl/out/vtl
+	install -D -m 755 crates/vtl/out/vtl $(DESTDIR)$(PREFIX)/bin/vtl
+	install -D -m 644 docs/vtl.1 $(DESTDIR)$(PREFIX)/share/man/man1/vtl.1
+	install -d $(DOC)/docs $(DOC)/examples
+	install -m 644 README.md $(DOC)
+	install -m 644 docs/*.md $(DOC)/docs
+	install -m 644 examples/* $(DOC)/examples
 
 check: need-rt
 	.ci/run
@@ -59,6 +75,10 @@ endings: vtl
 
 examples: vtl
 	python3 bench/examples.py
+
+manual: vtl
+	python3 bench/manual.py --selftest
+	python3 bench/manual.py
 
 stops: vtl
 	python3 bench/stops.py --selftest
