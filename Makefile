@@ -12,7 +12,7 @@ ifeq ($(RT),)
 endif
 
 demo: need-rt
-	@python3 bench/demo.py
+	@python3 checks/demo.py
 
 # Where `make install` puts things; DESTDIR stands before it for a package.
 PREFIX = /usr/local
@@ -38,55 +38,55 @@ check: need-rt
 	.ci/run
 
 wrong: need-rt
-	python3 bench/wrong.py --selftest
-	python3 bench/wrong.py $(if $(RESULTS),--into $(RESULTS)) $(CRATE) $(EDIT)
+	python3 checks/wrong.py --selftest
+	python3 checks/wrong.py $(if $(RESULTS),--into $(RESULTS)) $(CRATE) $(EDIT)
 
 rows: $(if $(PROGRAM),,vtl)
-	python3 bench/rows.py --selftest
-	python3 bench/cells.py --check
-	python3 bench/rows.py $(if $(PROGRAM),--program $(PROGRAM))
+	python3 checks/rows.py --selftest
+	python3 checks/cells.py --check
+	python3 checks/rows.py $(if $(PROGRAM),--program $(PROGRAM))
 
 rows-wrong: need-rt
-	python3 bench/rows_wrong.py $(EDIT)
+	python3 checks/rows_wrong.py $(EDIT)
 
 nomemory: vtl
-	python3 bench/nomemory.py --selftest
-	python3 bench/nomemory.py
-	python3 bench/faults.py --stored
+	python3 checks/nomemory.py --selftest
+	python3 checks/nomemory.py
+	python3 checks/faults.py --stored
 
 mutants: need-rt
-	python3 bench/mutants.py
+	python3 checks/mutants.py
 
 faults: vtl
 	@for crate in journal_bench cartridge_bench buffer_bench; do (cd crates/$$crate && rt run > /dev/null) || exit 1; done
-	python3 bench/faults.py --selftest
-	python3 bench/faults.py
+	python3 checks/faults.py --selftest
+	python3 checks/faults.py
 
 hostile: $(if $(PROGRAM),,vtl)
-	python3 bench/hostile.py --selftest
-	python3 bench/hostile.py --heads $(if $(PROGRAM),--program $(PROGRAM))
-	python3 bench/hostile.py $(if $(PROGRAM),--program $(PROGRAM)) $(if $(COUNT),--count $(COUNT)) $(if $(SEED),--seed $(SEED))
+	python3 checks/hostile.py --selftest
+	python3 checks/hostile.py --heads $(if $(PROGRAM),--program $(PROGRAM))
+	python3 checks/hostile.py $(if $(PROGRAM),--program $(PROGRAM)) $(if $(COUNT),--count $(COUNT)) $(if $(SEED),--seed $(SEED))
 
 asked: vtl
-	python3 bench/asked.py
+	python3 checks/asked.py
 
 endings: vtl
-	python3 bench/endings.py
+	python3 checks/endings.py
 
 examples: vtl
-	python3 bench/examples.py
+	python3 checks/examples.py
 
 manual: vtl
-	python3 bench/manual.py --selftest
-	python3 bench/manual.py
+	python3 checks/manual.py --selftest
+	python3 checks/manual.py
 
 stops: vtl
-	python3 bench/stops.py --selftest
-	python3 bench/stops.py
+	python3 checks/stops.py --selftest
+	python3 checks/stops.py
 
 kills: vtl
-	python3 bench/kills.py --selftest
-	python3 bench/kills.py $(if $(COUNT),--count $(COUNT)) $(if $(SEED),--seed $(SEED))
+	python3 checks/kills.py --selftest
+	python3 checks/kills.py $(if $(COUNT),--count $(COUNT)) $(if $(SEED),--seed $(SEED))
 
 bench: need-rt
 	python3 bench/script.py
@@ -107,5 +107,5 @@ fmt: need-rt
 	for crate in crates/*/; do (cd $$crate && rt fmt) || exit 1; done
 
 definitions:
-	python3 docs/definitions.py
-	python3 docs/edits.py
+	python3 checks/definitions.py
+	python3 checks/edits.py

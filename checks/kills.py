@@ -27,7 +27,7 @@ import time
 
 import reclaiming
 from kill_script import TAPES, Script
-from life import PROVED, Life, end_of, files_of, is_cut, read
+from real_library import PROVED, RealLibrary, end_of, files_of, is_cut, read
 
 LIVES = 10
 
@@ -83,53 +83,53 @@ class Found:
         self.copies += killed and is_copied
 
 
-def reclaim_some(life, chance, found, seconds):
+def reclaim_some(library, chance, found, seconds):
     """Reclaims a cartridge now and then, mostly killed within twice the time that one took; how long one takes."""
-    if life.wrong or not reclaiming.reclaims(life.program) or chance.random() < 0.3:
+    if library.wrong or not reclaiming.reclaims(library.program) or chance.random() < 0.3:
         return seconds
     name, began = chance.choice(list(TAPES)), time.monotonic()
     delay = chance.random() * 2 * seconds if seconds and chance.random() < 0.8 else None
-    killed, is_copied = life.reclaim(name, delay)
+    killed, is_copied = library.reclaim(name, delay)
     took = time.monotonic() - began
     found.add_reclaim(killed, is_copied)
-    life.keeps(name)
+    library.keeps(name)
     return seconds if killed else took if seconds is None else seconds + 0.2 * (took - seconds)
 
 
-def compared(life, told, script):
+def compared(library, told, script):
     wanted = script.answers[:len(told)]
     if told != wanted:
         at = next((at for at, pair in enumerate(zip(told, wanted)) if pair[0] != pair[1]), len(wanted))
-        life.wrong.append(f"answer {at + 1}: {told[at]} in the place of {wanted[at:at + 1]}")
+        library.wrong.append(f"answer {at + 1}: {told[at]} in the place of {wanted[at:at + 1]}")
 
 
 def live(program, seed, kills):
     """So many kills on one library, after a first script that runs to its end."""
     chance, found = random.Random(seed), Found()
     with tempfile.TemporaryDirectory(prefix="vtl-kills-") as room:
-        life = Life(program, room)
+        library = RealLibrary(program, room)
         began = time.monotonic()
-        life.ended(["run", "--config", "drive.toml"])
+        library.ended(["run", "--config", "drive.toml"])
         opening = time.monotonic() - began
         pace = reclaim_takes = None
         for _ in range(kills * 4 + 1):
-            if found.kills == kills or life.wrong:
+            if found.kills == kills or library.wrong:
                 break
-            script = Script(chance, life.volumes, life.reservations)
+            script = Script(chance, library.volumes, library.reservations)
             before = [read(path) for path in files_of(room)]
             began = time.monotonic()
-            told, killed = life.run(script, pace.moment(chance, script) if pace else None)
+            told, killed = library.run(script, pace.moment(chance, script) if pace else None)
             seconds = time.monotonic() - began
             pace = pace or Pace(opening, seconds, script)
             pace.learn(seconds, len(told) / len(script.answers), script)
-            compared(life, told, script)
+            compared(library, told, script)
             cut = any([is_cut(read(path), old) for path, old in zip(files_of(room), before)])
             if not killed and len(told) < len(script.answers):
-                life.wrong.append(f"it ended by itself after {len(told)} of {len(script.answers)} answers")
-            parts = life.judge(script, len(told), killed)
-            found.add(killed, len(told), cut, parts, any(it.keys for it in life.reservations.values()))
-            reclaim_takes = reclaim_some(life, chance, found, reclaim_takes)
-        found.wrong = [f"seed {seed}, kill {found.kills}: {wrong}" for wrong in life.wrong]
+                library.wrong.append(f"it ended by itself after {len(told)} of {len(script.answers)} answers")
+            parts = library.judge(script, len(told), killed)
+            found.add(killed, len(told), cut, parts, any(it.keys for it in library.reservations.values()))
+            reclaim_takes = reclaim_some(library, chance, found, reclaim_takes)
+        found.wrong = [f"seed {seed}, kill {found.kills}: {wrong}" for wrong in library.wrong]
     return found
 
 
@@ -145,14 +145,14 @@ def doctored(program):
     for way, change in ways.items():
         for name in ("KILL1L6.tape", "drive1.pr"):
             with tempfile.TemporaryDirectory(prefix="vtl-kills-") as room:
-                life = Life(program, room)
-                script = Script(random.Random(1), life.volumes, life.reservations)
-                life.run(script, None)
+                library = RealLibrary(program, room)
+                script = Script(random.Random(1), library.volumes, library.reservations)
+                library.run(script, None)
                 rewrite(os.path.join(room, name), change)
-                life.judge(script, len(script.answers), False)
+                library.judge(script, len(script.answers), False)
                 tried += 1
-                if bool(life.wrong) != (way != "nothing"):
-                    missed.append(f"{name}: {way}: {life.wrong or 'not found'}")
+                if bool(library.wrong) != (way != "nothing"):
+                    missed.append(f"{name}: {way}: {library.wrong or 'not found'}")
     return tried, missed
 
 
@@ -169,11 +169,11 @@ def reclaimed_and_doctored(program):
     missed = []
     for way, (which, change) in ways.items():
         with tempfile.TemporaryDirectory(prefix="vtl-kills-") as room:
-            life, name = Life(program, room), "KILL1L6"
-            script = Script(random.Random(1), life.volumes, life.reservations)
-            life.run(script, None)
-            life.judge(script, len(script.answers), False)
-            life.reclaim(name)
+            library, name = RealLibrary(program, room), "KILL1L6"
+            script = Script(random.Random(1), library.volumes, library.reservations)
+            library.run(script, None)
+            library.judge(script, len(script.answers), False)
+            library.reclaim(name)
             path = os.path.join(room, f"{name}.tape")
             if way.startswith("the copy is closed, and the old"):
                 # which holds the same, so nothing may be found
@@ -181,9 +181,9 @@ def reclaimed_and_doctored(program):
             if "a frame of the old side" in way:
                 rewrite(path, lambda side: close(end_of(side)[0])(side))
             rewrite(path + which, change)
-            life.keeps(name)
-            if bool(life.wrong) != (change is not bytes):
-                missed.append(f"{name}, reclaimed: {way}: {life.wrong or 'not found'}")
+            library.keeps(name)
+            if bool(library.wrong) != (change is not bytes):
+                missed.append(f"{name}, reclaimed: {way}: {library.wrong or 'not found'}")
     return len(ways), missed
 
 
@@ -202,15 +202,15 @@ def stood_in(program):
     missed = []
     for way, end in ends.items():
         with tempfile.TemporaryDirectory(prefix="vtl-kills-") as room:
-            life, path = Life(program, room), os.path.join(room, "stand-in")
+            library, path = RealLibrary(program, room), os.path.join(room, "stand-in")
             with open(path, "w", encoding="utf-8") as file:
                 file.write(f'#!/bin/sh\n{shlex.quote(program)} "$@"{end}\n')
             os.chmod(path, 0o700)
-            life.program = path
-            script = Script(random.Random(1), life.volumes, life.reservations)
-            compared(life, life.run(script, None)[0], script)
-            if bool(life.wrong) != bool(end):
-                missed.append(f"an end: {way}: {life.wrong or 'not found'}")
+            library.program = path
+            script = Script(random.Random(1), library.volumes, library.reservations)
+            compared(library, library.run(script, None)[0], script)
+            if bool(library.wrong) != bool(end):
+                missed.append(f"an end: {way}: {library.wrong or 'not found'}")
     return len(ends), missed
 
 

@@ -10,14 +10,14 @@ import sys
 
 from definitions import crates, read
 
-HERE = os.path.dirname(os.path.abspath(__file__))
-TOP = os.path.dirname(HERE)
+TOP = os.path.dirname(os.path.dirname(os.path.abspath(__file__)))
+DOCS = os.path.join(TOP, "docs")
 HEAD = """# Edits
 
-An index, made by `docs/edits.py` from `crates/*/must-fail` and `crates/*/wrong`. Each edit makes a function wrong, and
-the prover has to refuse the crate with it. Its text is the file `NAME.edit`. The gate tries the edits of `must-fail/`,
-which stand here in bold. `make wrong` tries those of `wrong/`; `make wrong CRATE=name EDIT=name` tries one. An edit
-that changes several functions stands under each. [CLAIMS.md](CLAIMS.md) names one edit for each claim.
+An index, made by `checks/edits.py` from `crates/*/must-fail` and `crates/*/wrong`. Each edit makes a function wrong,
+and the prover has to refuse the crate with it. Its text is the file `NAME.edit`. The gate tries the edits of
+`must-fail/`, which stand here in bold. `make wrong` tries those of `wrong/`; `make wrong CRATE=name EDIT=name` tries
+one. An edit that changes several functions stands under each. [CLAIMS.md](CLAIMS.md) names one edit for each claim.
 """
 
 
@@ -94,11 +94,11 @@ def whole():
 
 
 def main(words):
-    path = os.path.join(HERE, "EDITS.md")
+    path = os.path.join(DOCS, "EDITS.md")
     if words == ["--check"]:
         is_same = os.path.isfile(path) and read(path) == whole()
         print("edits: docs/EDITS.md is as it is made" if is_same else
-              "docs/EDITS.md is not what docs/edits.py makes: run it")
+              "docs/EDITS.md is not what checks/edits.py makes: run it")
         return 0 if is_same else 1
     if words:
         sys.exit(__doc__)

@@ -56,8 +56,8 @@ def copied(room):
         shutil.copy(os.path.join(TOP, name), room)
     shutil.copytree(os.path.join(TOP, "crates"), os.path.join(room, "crates"),
                     ignore=shutil.ignore_patterns("out", "must-fail", "wrong"))
-    os.makedirs(os.path.join(room, "bench"))
-    shutil.copy(os.path.join(TOP, "bench", "unproved.py"), os.path.join(room, "bench"))
+    os.makedirs(os.path.join(room, "checks"))
+    shutil.copy(os.path.join(TOP, "checks", "unproved.py"), os.path.join(room, "checks"))
     subprocess.run(["git", "init", "-q", room], check=True)
 
 
@@ -78,7 +78,7 @@ def tried(rooms, name, ordered):
     """Whether a row found the edit; without one, whether no row differs."""
     room = rooms.get()
     texts = edited(room, name) if name else {}
-    built = subprocess.run([sys.executable, os.path.join(room, "bench", "unproved.py"), "--new"], cwd=room,
+    built = subprocess.run([sys.executable, os.path.join(room, "checks", "unproved.py"), "--new"], cwd=room,
                            capture_output=True, text=True)
     said = None
     if not built.returncode:

@@ -28,12 +28,12 @@ import subprocess
 import sys
 import tempfile
 
-import fault_invented
+import faults_selftest
 import reclaiming
 from drive_model import MARK
 from fault_script import (ABORTED, ANSWERED, DEFERRED, FIRST, HAS_FAILED, NOT_PRESENT, RESERVED, RIGHT, SCRIPT, SECOND,
                           STATUS, WRITE_ERROR, misanswered)
-from life import LONGEST, PROVED, TOP, objects_of
+from real_library import LONGEST, PROVED, TOP, objects_of
 from reclaiming import content
 
 STORE = "DRIVE1"
@@ -279,7 +279,7 @@ def made(tools, folder):
 def selftest(tools, new):
     """Writes are lost behind the program's back, and ends of runs are invented."""
     found = sweep(tools, new, "vtl run", serve, "lost")
-    count, misjudged = fault_invented.misjudged()
+    count, misjudged = faults_selftest.misjudged()
     print("\n".join([*found, f"self-test: {len(found)} of these were found wrong", *misjudged,
                      f"self-test: {count} ends were invented, {len(misjudged)} not judged as they should be"]))
     return 1 if misjudged or not found else 0
@@ -315,7 +315,7 @@ def main():
         sys.exit(f"{missing[0]} is not there; build the programs first, as make faults does")
     with tempfile.TemporaryDirectory(prefix="vtl-faults-") as folder:
         shim = os.path.join(folder, "faults.so")
-        source = os.path.join(TOP, "bench", "faults.c")
+        source = os.path.join(TOP, "checks", "faults.c")
         subprocess.run(["cc", "-O1", "-shared", "-fPIC", "-o", shim, source], check=True)
         tools = os.path.abspath(said.program), shim
         rooms = made(tools, folder)

@@ -1,4 +1,4 @@
-"""What no script reaches, and the tests that have it: a name of a test function of crates/, or of a file of bench/."""
+"""What no script reaches, and the tests that have it: a name of a test function of crates/, or of a file of checks/."""
 import os
 import re
 
@@ -107,6 +107,6 @@ def missing():
             if name.endswith(".rt"):
                 with open(os.path.join(folder, name), encoding="utf-8") as lines:
                     tests |= set(re.findall(r"#\[test\]\nfn (\w+)\(", lines.read()))
-    benches = set(os.listdir(os.path.join(TOP, "bench")))
+    benches = set(os.listdir(os.path.join(TOP, "checks")))
     return [f"elsewhere: {cell}: there is no test {name}" for cell, names in CELLS.items()
             for name in names if name not in tests | benches]

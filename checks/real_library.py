@@ -15,7 +15,7 @@ PROVED = os.path.join(TOP, "crates", "vtl", "out", "vtl")
 READER, LONGEST = 64, bytes.fromhex("080210000000")
 
 
-class Life:
+class RealLibrary:
     """A library in a folder, and what it is known to hold."""
 
     def __init__(self, program, room):

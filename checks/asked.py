@@ -78,7 +78,7 @@ def main():
     program, wrong = os.path.abspath(given.program), 0
     with tempfile.TemporaryDirectory(prefix="vtl-asked-") as folder:
         shim = os.path.join(folder, "shim.so")
-        source = os.path.join(TOP, "bench", "faults.c")
+        source = os.path.join(TOP, "checks", "faults.c")
         subprocess.run(["cc", "-shared", "-fPIC", "-O2", "-o", shim, source], check=True)
         for name, figure, limit in figures(program, shim, folder):
             wrong += figure > limit

@@ -456,11 +456,11 @@ def rows_failed(room, names):
     """Those of the rows that fail as they stand, with the program of the copy."""
     if not names:
         return set()
-    built = subprocess.run([sys.executable, os.path.join(room, "bench", "unproved.py"), "--new"], cwd=room,
+    built = subprocess.run([sys.executable, os.path.join(room, "checks", "unproved.py"), "--new"], cwd=room,
                            capture_output=True, text=True)
     if built.returncode:
         sys.exit(f"the program was not built\n{built.stderr}")
-    run = [sys.executable, os.path.join(TOP, "bench", "rows.py"), "--first", "--program",
+    run = [sys.executable, os.path.join(TOP, "checks", "rows.py"), "--first", "--program",
            os.path.join(room, ".unproved", "vtl")]
     missing = [name for name in names if not os.path.isfile(os.path.join(TOP, name))]
     if missing:
@@ -514,8 +514,8 @@ def main():
         shutil.copy(os.path.join(TOP, "HANDLES"), room)
         shutil.copytree(os.path.join(TOP, "crates"), os.path.join(room, "crates"),
                         ignore=shutil.ignore_patterns("out", "must-fail", "wrong"))
-        os.makedirs(os.path.join(room, "bench"))
-        shutil.copy(os.path.join(TOP, "bench", "unproved.py"), os.path.join(room, "bench"))
+        os.makedirs(os.path.join(room, "checks"))
+        shutil.copy(os.path.join(TOP, "checks", "unproved.py"), os.path.join(room, "checks"))
         subprocess.run(["git", "init", "-q", room], check=True)
         for edit in edits:
             failed = failed_in(room, edit)

@@ -32,7 +32,7 @@ from drive_model import MARK, good
 from fault_script import FIRST, MARKED, SCRIPT, write
 from faults import EACH_FILE, FILES, NEW, Room, brief, content, judged, made, read_back
 from kill_script import TAPES, Script
-from life import PROVED, TOP, Life, objects_of
+from real_library import PROVED, TOP, RealLibrary, objects_of
 from lost_power import OPENED, Disk, World, noted
 from reclaiming import SECOND, reclaims
 
@@ -188,12 +188,12 @@ def healed(tools, pristine, chance, images, again="W"):
     return wrong
 
 
-def life(tools, chance, images, forgets=lambda: False, first=0):
+def random_stops(tools, chance, images, forgets=lambda: False, first=0):
     """Stops a random script of kill_script.py, over a library that holds nothing yet, behind each call; or over one
     that has gone through other scripts, so many, and reclaims."""
     files = [*(f"{name}.tape{end}" for name in TAPES for end in ("", SECOND)), "drive1.pr", "drive2.pr"]
     with tempfile.TemporaryDirectory(prefix="vtl-stops-") as room:
-        lived = Life(tools[0], room)
+        lived = RealLibrary(tools[0], room)
         for _ in range(first):
             script = Script(chance, lived.volumes, lived.reservations)
             lived.run(script, None)
@@ -209,7 +209,7 @@ def life(tools, chance, images, forgets=lambda: False, first=0):
             with tempfile.TemporaryDirectory(prefix="vtl-stops-") as folder:
                 others = {file: bytes_of for file, bytes_of in before.items() if file not in files}
                 put(folder, [*before, *files], {**others, **images_of})
-                again = Life.__new__(Life)
+                again = RealLibrary.__new__(RealLibrary)
                 again.program, again.room, again.wrong = tools[0], folder, []
                 again.volumes, again.reservations = dict(lived.volumes), copy.deepcopy(held)
                 again.judge(script, out.count("\n"), True)
@@ -232,7 +232,7 @@ def main():
     chance, script = random.Random(said.seed), "".join(line.text + "\n" for line in SCRIPT)
     with tempfile.TemporaryDirectory(prefix="vtl-stops-") as folder:
         shim = os.path.join(folder, "faults.so")
-        source = os.path.join(TOP, "bench", "faults.c")
+        source = os.path.join(TOP, "checks", "faults.c")
         subprocess.run(["cc", "-O1", "-shared", "-fPIC", "-o", shim, source], check=True)
         tools = os.path.abspath(said.program), shim
         bare, new, used = made(tools, folder)
@@ -241,7 +241,7 @@ def main():
         create = (bare, ["create", "--config", "lib.toml"], after_create, "")
         if said.selftest:
             found = [stop(tools, *what, chance, said.images, lambda: chance.random() < 0.2) for what in (run, create)]
-            found.append(life(tools, chance, 3, lambda: chance.random() < 0.2))
+            found.append(random_stops(tools, chance, 3, lambda: chance.random() < 0.2))
             counts = ", ".join(str(len(it)) for it in found)
             print(f"self-test: where one sync in five is forgotten {counts} were found wrong")
             found.append(healed(tools, new, chance, 1, again=""))
@@ -250,7 +250,7 @@ def main():
         wrong = stop(tools, *run, chance, said.images) + stop(tools, *create, chance, said.images)
         wrong += openings(tools, used, chance, said.images) + healed(tools, new, chance, 3)
         for at in range(said.scripts):
-            wrong += life(tools, chance, 3, first=at % 3 if reclaims(tools[0]) else 0)
+            wrong += random_stops(tools, chance, 3, first=at % 3 if reclaims(tools[0]) else 0)
         if reclaims(tools[0]):
             import reclaim_stops
             wrong += reclaim_stops.all_of(tools, used, chance, said.images)

@@ -12,14 +12,14 @@ import os
 import re
 import sys
 
-from words import WORDS
+from index_words import WORDS
 
-HERE = os.path.dirname(os.path.abspath(__file__))
-TOP = os.path.dirname(HERE)
+TOP = os.path.dirname(os.path.dirname(os.path.abspath(__file__)))
+DOCS = os.path.join(TOP, "docs")
 WIDTH = 120
 HEAD = """# Definitions
 
-An index, made by `docs/definitions.py` from the comment over each definition; it holds no second copy. Listed are the
+An index, made by `checks/definitions.py` from the comment over each definition; it holds no second copy. Listed are the
 definitions of `crates/*/specs` that a public contract or a law reaches, the limits, and the laws. What only private
 functions' contracts use stands in `crates/*/specs/Inner` and is not listed. A file is named below `crates/`. *From*
 names the standard and the command or section, or *own* for a rule of this project.
@@ -236,14 +236,14 @@ def unreached():
 
 def check():
     text, faults = whole()
-    path = os.path.join(HERE, "DEFINITIONS.md")
+    path = os.path.join(DOCS, "DEFINITIONS.md")
     has = read(path) if os.path.isfile(path) else ""
     differs = list(difflib.unified_diff(has.splitlines(), text.splitlines(), "docs/DEFINITIONS.md", "as it is made",
                                         n=0, lineterm=""))
     faults += long_lines()
     print("\n".join([*[line[:200] for line in differs[:60]], *faults]), end="\n" if differs or faults else "")
     if differs:
-        print("docs/DEFINITIONS.md is not what docs/definitions.py makes: run it")
+        print("docs/DEFINITIONS.md is not what checks/definitions.py makes: run it")
     print(f"definitions: {len(differs)} lines differ, {len(faults)} faults")
     return 1 if differs or faults else 0
 
@@ -257,7 +257,7 @@ def main(words):
     if words:
         sys.exit(__doc__)
     text, faults = whole()
-    with open(os.path.join(HERE, "DEFINITIONS.md"), "w", encoding="utf-8") as file:
+    with open(os.path.join(DOCS, "DEFINITIONS.md"), "w", encoding="utf-8") as file:
         file.write(text)
     print("\n".join(faults), end="\n" if faults else "")
     return 0

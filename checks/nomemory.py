@@ -26,7 +26,7 @@ import sys
 import tempfile
 import threading
 
-from life import PROVED, TOP, read
+from real_library import PROVED, TOP, read
 from nomemory_rows import ABORTED, SCRIPTS, held
 
 ERRORS = {0: "", 2: "vtl: device fault\n", 3: "vtl: out of memory\n"}
@@ -170,7 +170,7 @@ def shim_in(folder):
     path = os.path.join(folder, "faults.so")
     if not shutil.which("cc"):
         sys.exit("cc was not found: install a C compiler")
-    subprocess.run(["cc", "-O1", "-shared", "-fPIC", "-o", path, os.path.join(TOP, "bench", "faults.c")], check=True)
+    subprocess.run(["cc", "-O1", "-shared", "-fPIC", "-o", path, os.path.join(TOP, "checks", "faults.c")], check=True)
     return path
 
 
