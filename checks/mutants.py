@@ -104,14 +104,14 @@ EDITS = [
      ["reads_that_would_block_or_time_out"]),
     ("any read that failed is made again", "vtl_script", "src/read_buffers.rt",
      "        Err(_) => Err(ScriptFault::ReadFault),",
-     "        Err(_) => Ok(None),", ["reads_that_fail", "reads_that_would_block_or_time_out"]),
+     "        Err(_) => Ok(None),", ["script_tests::reads_that_fail", "reads_that_would_block_or_time_out"]),
     ("a write that timed out is made again", "vtl_script", "src/texts.rt",
      "            Err(e) if is_interrupted(e.kind()) => {}",
      "            Err(e) if is_interrupted(e.kind()) || e.kind() == std::io::ErrorKind::TimedOut => {}",
      ["writes_that_would_block_or_time_out"]),
     ("answers are not flushed", "vtl_script", "src/texts.rt",
      "    if writer.flush().is_err() {\n        return Err(ScriptFault::WriteFault);\n    }\n", "",
-     ["reads_that_fail", "writes_that_fail"]),
+     ["script_tests::reads_that_fail", "script_tests::writes_that_fail"]),
     ("a line that is far too long is a read that failed", "vtl_script", "src/phases.rt",
      "        Found::TooLong => Err(ScriptFault::BadLine { line: number }),",
      "        Found::TooLong => Err(ScriptFault::ReadFault),",
@@ -275,7 +275,7 @@ EDITS = [
      "            held.enter(rt, &mut self.share, seat);\n        }\n",
      ["a_change_is_entered_while_another_drive_stores"]),
     ("the ledgers are locked while a drive carries a command out whose data are lent", "library", "src/places.rt",
-     "        laws::replies_tell_changes::<Buffered<D>, AptplStore<D>>();\n"
+     "        drive_laws::replies_tell_changes::<Buffered<D>, AptplStore<D>>();\n"
      "        let before = self.count_below_limit(rt);\n        known_drive(&self.bay);\n"
      "        let reply = self.bay.execute_lent(seat.nexus(), cdb, sent);\n        known_drive(&self.bay);\n"
      "        let after = self.bay.accepted();\n"
@@ -476,9 +476,9 @@ def write_texts(room, crate, texts):
             lines.write(text)
 
 
-def failed_in(room, edit):
-    """The tests that fail with the edit, of the crates in which those stand that must, and the rows that must."""
-    what, crate, files, old, new, names = edit
+def turned_by(room, edit):
+    """The files of an edit's crate that it changes, as they stand and as it leaves them."""
+    what, crate, files, old, new, _ = edit
     if isinstance(old, str):
         old, new = (old,), (new,)
     if isinstance(files, str):
@@ -491,6 +491,13 @@ def failed_in(room, edit):
         if turned[file].count(one) != 1:
             sys.exit(f"{what}: its old text stands in {crate}/{file} {turned[file].count(one)} times")
         turned[file] = turned[file].replace(one, other)
+    return texts, turned
+
+
+def failed_in(room, edit):
+    """The tests that fail with the edit, of the crates in which those stand that must, and the rows that must."""
+    what, crate, names = edit[0], edit[1], edit[-1]
+    texts, turned = turned_by(room, edit)
     write_texts(room, crate, turned)
     rows = [name for name in names if name.startswith("rows/")]
     failed = rows_failed(room, rows)
@@ -505,7 +512,24 @@ def failed_in(room, edit):
     return failed
 
 
+def lint():
+    """Each body has its place, and each test and row that must fail is there."""
+    names = {name for edit in EDITS + STOPS for name in edit[-1]}
+    for edit in EDITS + STOPS:
+        turned_by(TOP, edit)
+    for name in names:
+        if name.startswith("rows/"):
+            if not os.path.isfile(os.path.join(TOP, name)):
+                sys.exit(f"there is no row {name}")
+        else:
+            crate_of(TOP, name)
+    print(f"mutants: {len(EDITS + STOPS)} bodies have their places, {len(names)} tests and rows are there")
+    return 0
+
+
 def main():
+    if sys.argv[1:] == ["--lint"]:
+        return lint()
     crates = set(sys.argv[1:])
     edits = [edit for edit in EDITS + STOPS if not crates or edit[1] in crates]
     wrong = 0
