@@ -187,7 +187,7 @@ fn each_fault_in_words(rt: HostRuntime) -> Result<(), Fail> {
         (
             Sense::insufficient_resources(),
             counted,
-            "line 7: memory ran out, and nothing changed (55/03)",
+            "line 7: memory ran out, and contents and reservations are as they were (55/03)",
         ),
         (other, counted, "line 7: sense data of another kind (3B/0E)"),
     ];

@@ -30,5 +30,5 @@ words_of is.RegistrationsPreempted = codes "not carried out: another host remove
 words_of is.ReservationsReleased = codes "not carried out: another host released the reservation or changed its type"
 words_of is.ModeChanged = codes "not carried out: another host changed the mode"
 words_of is.EndOfData = codes "the end of data was reached"
-words_of is.NoMemory = codes "memory ran out, and nothing changed"
+words_of is.NoMemory = codes "memory ran out, and contents and reservations are as they were"
 words_of is.NoRoom = codes "there is no room, and nothing changed"

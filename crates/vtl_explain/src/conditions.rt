@@ -221,7 +221,7 @@ impl Condition {
             }
             Condition::ModeChanged => "not carried out: another host changed the mode",
             Condition::EndOfData => "the end of data was reached",
-            Condition::NoMemory => "memory ran out, and nothing changed",
+            Condition::NoMemory => "memory ran out, and contents and reservations are as they were",
             Condition::NoRoom => "there is no room, and nothing changed",
         }
     }

@@ -1,6 +1,8 @@
 -- What a drive answers, request by request, is a run of its machine.
-use Rattle.std.proofs.Common.{◌≡◌, ℕ, List, [], ◌∷◌, Option, Result, Ok, Err, OnOk, map, refl, sym, ap, subst}
+use Rattle.std.proofs.Common.{◌≡◌, ◌==◌, ℕ, true, List, [], ◌∷◌, Option, Result, Ok, Err, OnOk, map, refl, sym, ap, ◌∙◌, subst}
+use Rattle.std.specs.List.{All}
 use Rattle.std.specs.Io.KnownBytes.{Appends}
+use Rattle.std.proofs.lemmas.List.Elements.{All-cons, All-nil}
 use Rattle.tape_disk.specs.Disk.{DiskState}
 use Rattle.scsi_sense.specs.declared.replies.Reply.{Reply}
 use Rattle.drive_core.specs.Faults.{reply_of}
@@ -45,12 +47,28 @@ module _ {D : Type 0} (state : D → DiskState) where
   replied old new [] (one ∷ answers) each = absurd each
   replied old new (request ∷ requests) [] each = absurd each
 
+  -- each request that was taken is a command to the drive
+  taken_each : (number : ℕ) (old new : OneBayState D) (requests : List Request) (answers : List Answer)
+      → old.number ≡ number
+      → AnswersEach (λ bay request. is_for bay.number request) (AnswersOf state) old requests answers new
+      → All (λ request. is_for number request ≡ true) requests
+  taken_each number old new [] [] same each = All-nil (λ request. is_for number request ≡ true)
+  taken_each number old new (Command host drive cdb sent tag ∷ requests) (one ∷ answers) same each =
+      All-cons (λ request. is_for number request ≡ true) (Command host drive cdb sent tag) requests
+      (subst (λ (n : ℕ). is_for n (Command host drive cdb sent tag) ≡ true) same each.1)
+      (taken_each number each.0 new requests answers (each.2.2 ∙ same) each.3)
+  taken_each number old new (Move from to tag ∷ requests) (one ∷ answers) same each = absurd each.2
+  taken_each number old new (Inventory tag ∷ requests) (one ∷ answers) same each = absurd each.2
+  taken_each number old new [] (one ∷ answers) same each = absurd each
+  taken_each number old new (request ∷ requests) [] same each = absurd each
+
   pub bay_answers :
       ServedByRuns (state_of state) (buffer_below state) store_kept (store_below state)
       → (old : OneBayState D) (left before : Option (List ℕ)) (new : OneBayState D) (left' now : Option (List ℕ))
       (result : Result (Unit {0}) WireFault)
-      → ServesInput (λ bay request. is_for bay.number request) (AnswersOf state) old left before new left' now result
-      → OnOk result (BayAnswers state old.bay left before new.bay now)
+      → ServesInput (λ bay request. is_for bay.number request) (AnswersOf state) (λ bay request. ⊥) old left before new
+      left' now result
+      → OnOk result (BayAnswers state old left before new now)
   bay_answers law old left before new left' now (Err fault) serves = tt
   bay_answers law old left before new left' now (Ok done) serves =
       let came = replied old serves.mid serves.requests serves.replies serves.answered in
@@ -63,6 +81,7 @@ module _ {D : Type 0} (state : D → DiskState) where
       let run = law old.bay new.bay (all_asked serves.requests) came.replies all in
       record {
         requests = serves.requests;
+        commands = taken_each old.number old serves.mid serves.requests serves.replies refl serves.answered;
         spelled =
             spelled_whole left serves.behind left' serves.requests serves.read serves.spelled serves.ended.0;
         answers = run.answers;

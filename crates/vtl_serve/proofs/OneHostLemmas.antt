@@ -1,7 +1,9 @@
 -- What a host is answered, request by request.
-use Rattle.std.proofs.Common.{◌≡◌, ◌&&◌, ℕ, nat_eq, Bool, true, false, List, [], ◌∷◌, Option, Result, Ok, Err, OnOk, refl, sym, ap, subst, arith}
+use Rattle.std.proofs.Common.{◌≡◌, ◌&&◌, ℕ, nat_eq, Bool, true, false, List, [], ◌∷◌, Option, Result, Ok, Err, OnOk, refl, sym, ap, ◌∙◌, subst, arith}
 use Rattle.std.proofs.lemmas.Bool.Decides.{nat_tests}
+use Rattle.std.specs.List.{All}
 use Rattle.std.specs.Io.KnownBytes.{Appends}
+use Rattle.std.proofs.lemmas.List.Elements.{All-cons, All-nil}
 use Rattle.tape_disk.specs.Disk.{DiskState}
 use Rattle.ledgers.specs.Ledgers.{SeatState}
 use Rattle.scsi_sense.specs.declared.replies.Reply.{Reply}
@@ -9,7 +11,7 @@ use Rattle.drive_core.specs.Execute.{asked}
 use Rattle.library.specs.Counts.{has_drive}
 use Rattle.library.specs.Served.{IsServed}
 use Rattle.vtl_wire.specs.declared.answers.Answer.TheVariants as answer
-use Rattle.vtl_wire.specs.declared.requests.Request.TheVariants.{Command}
+use Rattle.vtl_wire.specs.declared.requests.Request.TheVariants.{Command, Move, Inventory}
 use Rattle.vtl_wire.specs.declared.answers.Answer.{Answer}
 use Rattle.vtl_wire.specs.declared.faults.WireFault.{WireFault}
 use Rattle.vtl_wire.specs.declared.requests.Request.{Request}
@@ -64,6 +66,13 @@ module _ {D : Type 0} (state : D → DiskState) where
       (subst (λ (s : SeatState). IsServed state (asked s.nexus cdb sent) s reply seat') before
       (subst (λ (l : List ℕ). IsServed state (asked seat.nexus l sent) seat reply seat') block served)))
 
+  -- a seat stays its host's
+  same_host : (before after : SeatState) (request : Request) (one : Answer)
+      → AnswersCommand state before request one after → after.nexus ≡ before.nexus
+  same_host before after (Command host drive cdb sent tag) one answered = answered.2.answers.nexus
+  same_host before after (Move from to tag) one answered = absurd answered
+  same_host before after (Inventory tag) one answered = absurd answered
+
   commands_answered : (old new : OneHostState) (requests : List Request) (answers : List Answer)
       → AnswersEach (λ (host : OneHostState) (request : Request). is_from host.drives host.seat.nexus request)
       (AnswersHost state) old requests answers new
@@ -74,14 +83,32 @@ module _ {D : Type 0} (state : D → DiskState) where
   commands_answered old new [] (one ∷ answers) each = absurd each
   commands_answered old new (request ∷ requests) [] each = absurd each
 
+  -- each request that was taken is a command of the host
+  taken_each : (drives : List Bool) (nexus : ℕ) (old new : OneHostState) (requests : List Request)
+      (answers : List Answer) → old.drives ≡ drives → old.seat.nexus ≡ nexus
+      → AnswersEach (λ (host : OneHostState) (request : Request). is_from host.drives host.seat.nexus request)
+      (AnswersHost state) old requests answers new
+      → All (λ request. is_from drives nexus request ≡ true) requests
+  taken_each drives nexus old new [] [] same own each = All-nil (λ request. is_from drives nexus request ≡ true)
+  taken_each drives nexus old new (request ∷ requests) (one ∷ answers) same own each =
+      All-cons (λ request. is_from drives nexus request ≡ true) request requests
+      (subst (λ (n : ℕ). is_from drives n request ≡ true) own
+      (subst (λ (d : List Bool). is_from d old.seat.nexus request ≡ true) same each.1))
+      (taken_each drives nexus each.0 new requests answers (each.2.drives ∙ same)
+      (same_host old.seat each.0.seat request one each.2.command ∙ own) each.3)
+  taken_each drives nexus old new [] (one ∷ answers) same own each = absurd each
+  taken_each drives nexus old new (request ∷ requests) [] same own each = absurd each
+
   pub host_answers : (old : OneHostState) (left before : Option (List ℕ)) (new : OneHostState)
       (left' now : Option (List ℕ)) (result : Result (Unit {0}) WireFault)
       → ServesInput (λ (host : OneHostState) (request : Request). is_from host.drives host.seat.nexus request)
-      (AnswersHost state) old left before new left' now result
-      → OnOk result (HostAnswers state old.seat new.seat left before now)
+      (AnswersHost state) (λ (host : OneHostState) (request : Request). ⊥) old left before new left' now result
+      → OnOk result (HostAnswers state old new left before now)
   host_answers old left before new left' now (Err fault) serves = tt
   host_answers old left before new left' now (Ok done) serves = record {
     requests = serves.requests;
+    commands =
+        taken_each old.drives old.seat.nexus old serves.mid serves.requests serves.replies refl refl serves.answered;
     spelled = spelled_whole left serves.behind left' serves.requests serves.read serves.spelled serves.ended.0;
     answers = serves.replies;
     answered =

@@ -1,5 +1,6 @@
 -- A drive that one thread holds, and serves.
-use Rattle.std.specs.Prelude.{◌≡◌, ℕ, ◌==◌, Bool, false, List, [], ◌∷◌, Option, Result, IfSome, map}
+use Rattle.std.specs.Prelude.{◌≡◌, ℕ, ◌==◌, Bool, true, false, List, [], ◌∷◌, Option, Result, IfSome, map}
+use Rattle.std.specs.List.{All}
 use Rattle.std.specs.Io.KnownBytes.{Appends}
 use Rattle.tape_disk.specs.Disk.{DiskState}
 use Rattle.scsi_sense.specs.declared.replies.Reply.{Reply}
@@ -57,15 +58,18 @@ module _ {D : Type 0} (state : D → DiskState) where
   AnswersOf old (Move from to tag) answered new = ⊥
   AnswersOf old (Inventory tag) answered new = ⊥
 
-  -- An input that was read to its end by a drive: it spells these commands. The drive answered them, in their order, by
-  -- a run of its machine, and the frames of these answers were written, in this order, and nothing else (own).
-  pub record BayAnswers (old : BayState D) (left before : Option (List ℕ)) (new : BayState D) (now : Option (List ℕ))
-      : Type 0 where
+  -- An input that was read to its end by a drive: it spells these requests, each of them a command to this drive. The
+  -- drive answered them, in their order, by a run of its machine, and the frames of these answers were written, in this
+  -- order, and nothing else (own).
+  pub record BayAnswers
+      (old : OneBayState D) (left before : Option (List ℕ)) (new : OneBayState D) (now : Option (List ℕ)) : Type
+      0 where
     pub requests : List Request
+    pub commands : All (λ request. is_for old.number request ≡ true) requests
     pub spelled : IfSome left (λ bytes. SpellsRequests bytes requests)
     pub answers : List (Result Reply Fault)
     pub made : Made
     pub run :
-        Run (HonestIn (buffer_below state) (medium_in old.bay)) (machine_of (state_of state) store_kept old)
-        (map Execute (all_asked requests)) (map Answered answers) made (machine_of (state_of state) store_kept new)
+        Run (HonestIn (buffer_below state) (medium_in old.bay.bay)) (machine_of (state_of state) store_kept old.bay)
+        (map Execute (all_asked requests)) (map Answered answers) made (machine_of (state_of state) store_kept new.bay)
     pub written : Appends before now (spell_answers (answers_with requests (map reply_of answers)))

@@ -1,5 +1,6 @@
 -- One host of a library that threads share, which is served.
-use Rattle.std.specs.Prelude.{◌≡◌, ◌&&◌, ℕ, nat_eq, Bool, false, List, [], ◌∷◌, Option, IfSome}
+use Rattle.std.specs.Prelude.{◌≡◌, ◌&&◌, ℕ, nat_eq, Bool, true, false, List, [], ◌∷◌, Option, IfSome}
+use Rattle.std.specs.List.{All}
 use Rattle.std.specs.Io.KnownBytes.{Appends}
 use Rattle.tape_disk.specs.Disk.{DiskState}
 use Rattle.ledgers.specs.Ledgers.{SeatState}
@@ -48,11 +49,13 @@ module _ {D : Type 0} (state : D → DiskState) where
   AnswersCommands before [] (answered ∷ answers) after = ⊥
   AnswersCommands before (request ∷ requests) [] after = ⊥
 
-  -- An input of one host that was read to its end: it spells these commands, each was answered for the host of the
-  -- seat, in their order, and the frames of these answers were written, in this order, and nothing else (own).
-  pub record HostAnswers (before after : SeatState) (left written_before written : Option (List ℕ)) : Type 0 where
+  -- An input of one host that was read to its end: it spells these requests, each of them a command of this host to a
+  -- drive that there is. Each was answered for the host of the seat, in their order, and the frames of these answers
+  -- were written, in this order, and nothing else (own).
+  pub record HostAnswers (old new : OneHostState) (left written_before written : Option (List ℕ)) : Type 0 where
     pub requests : List Request
+    pub commands : All (λ request. is_from old.drives old.seat.nexus request ≡ true) requests
     pub spelled : IfSome left (λ bytes. SpellsRequests bytes requests)
     pub answers : List Answer
-    pub answered : AnswersCommands before requests answers after
+    pub answered : AnswersCommands old.seat requests answers new.seat
     pub appended : Appends written_before written (spell_answers answers)

@@ -50,6 +50,8 @@ impl<D: Disk> Server for OneBay<D> {
 
     ghost answers = { AnswersOf D.state };
 
+    ghost lacks = { λ served request. ⊥ };
+
     fn takes(&self, request: &Request) -> bool {
         match request {
             Request::Command { drive, .. } => *drive == self.number,
@@ -77,18 +79,19 @@ impl<D: Disk> Server for OneBay<D> {
 /// Serves a drive: reads commands up to the end of the input, or to the first frame that is refused, carries each out
 /// before the next is read, and writes its answer. A frame of another drive is refused, and so is a move and an
 /// inventory. Up to the end of the input, what is written is the frames of the replies that the drive's machine gives
-/// to the commands that were read, in order, and nothing else.
+/// to the commands that were read, in order, and nothing else. Memory runs out for the data of a command alone, before
+/// it is carried out.
 pub fn serve_bay<D: Disk + Drop, R: Read, W: Write>(
     alloc: Global,
     served: &mut OneBay<D>,
     reader: &mut R,
     writer: &mut W,
 ) -> Result<(), WireFault>
-    ensures serves { ServesInput (λ bay request. is_for bay.number request) (AnswersOf D.state) served.old
-        (R.remaining reader.old) (W.contents writer.old) served.new (R.remaining reader.new) (W.contents writer.new)
-        result }
-    ensures answers { OnOk result (BayAnswers D.state served.old.bay (R.remaining reader.old)
-        (W.contents writer.old) served.new.bay (W.contents writer.new)) }
+    ensures serves { ServesInput (λ bay request. is_for bay.number request) (AnswersOf D.state) (λ bay request. ⊥)
+        served.old (R.remaining reader.old) (W.contents writer.old) served.new (R.remaining reader.new)
+        (W.contents writer.new) result }
+    ensures answers { OnOk result (BayAnswers D.state served.old (R.remaining reader.old)
+        (W.contents writer.old) served.new (W.contents writer.new)) }
 {
     // The law of the machine, for the proof alone.
     served_hosts_run::<Buffered<D>, AptplStore<D>>();

@@ -50,6 +50,8 @@ impl<'a, D: Disk + Drop, B: Parties, H: Parties, R: Wait> Server for OneHost<'a,
 
     ghost answers = { AnswersHost D.state };
 
+    ghost lacks = { λ served request. ⊥ };
+
     fn takes(&self, request: &Request) -> bool {
         match request {
             Request::Command { host, drive, .. } => {
@@ -89,9 +91,9 @@ pub fn serve_host<'a, D: Disk + Drop, B: Parties, H: Parties, R: Wait, I: Read, 
     writer: &mut O,
 ) -> Result<(), WireFault>
     ensures serves { ServesInput (λ host request. is_from host.drives host.seat.nexus request) (AnswersHost D.state)
-        served.old (I.remaining reader.old) (O.contents writer.old) served.new (I.remaining reader.new)
-        (O.contents writer.new) result }
-    ensures answers { OnOk result (HostAnswers D.state served.old.seat served.new.seat (I.remaining reader.old)
+        (λ host request. ⊥) served.old (I.remaining reader.old) (O.contents writer.old) served.new
+        (I.remaining reader.new) (O.contents writer.new) result }
+    ensures answers { OnOk result (HostAnswers D.state served.old served.new (I.remaining reader.old)
         (O.contents writer.old) (O.contents writer.new)) }
 {
     serve_requests(alloc, served, reader, writer)

@@ -1,10 +1,9 @@
 -- Bytes that are read in so many as are wanted.
-use Rattle.std.proofs.Common.{◌≡◌, ℕ, ◌+◌, ◌<◌, ◌≤◌, List, ◌++◌, length, take, drop, Option, sym, subst, arith, length-append}
+use Rattle.std.proofs.Common.{◌≡◌, ℕ, ◌+◌, ◌<◌, ◌≤◌, List, ◌++◌, length, take, drop, Option, sym, subst, arith, length-append, length-take}
 use Rattle.std.proofs.KnownBytes.{Consumes-nil, Consumes-trans}
 use Rattle.std.proofs.Math.Seq.{take-add}
 use Rattle.std.specs.Io.KnownBytes.{Consumes, IsAtEnd}
-use Rattle.vtl_wire.specs.Reads.{TakesSome}
-use Rattle.vtl_wire.specs.Inner.Reading.{EndsWithin}
+use Rattle.vtl_wire.specs.Inner.Reading.{EndsWithin, TakesFewer}
 
 -- the first bytes of a slice were read
 pub record IsFilled (left left' : Option (List ℕ)) (slice : List ℕ) (filled : ℕ) : Type 0 where
@@ -56,7 +55,19 @@ ends_later left mid left' first count taken ends = record {
   ended = ends.ended;
 }
 
-pub takes_on : (left mid left' : Option (List ℕ)) (first : List ℕ) → Consumes left mid first → TakesSome mid left'
-    → TakesSome left left'
-takes_on left mid left' first taken more =
-    (first ++ more.0, Consumes-trans left mid left' first more.0 taken more.1)
+-- a read failed within the bytes of a slice
+pub fewer_filled : (left mid left' : Option (List ℕ)) (old new : List ℕ) (filled : ℕ)
+    → IsFilled left mid old filled → filled < length new → take filled new ≡ take filled old
+    → Consumes mid left' (take 0 (drop filled new)) → TakesFewer left left' (length new)
+fewer_filled left mid left' old new filled so short same none =
+    let kept = filled_kept left mid left' old new filled so same (omega (arith, short)) none in
+    (take filled new, omega (arith, short, length-take filled new), kept.taken)
+
+-- what was read before is counted too
+pub fewer_later : (left mid left' : Option (List ℕ)) (first : List ℕ) (count : ℕ) → Consumes left mid first
+    → TakesFewer mid left' count → TakesFewer left left' (length first + count)
+fewer_later left mid left' first count taken more = (
+  first ++ more.0,
+  omega (arith, more.1, length-append first more.0),
+  Consumes-trans left mid left' first more.0 taken more.2,
+)

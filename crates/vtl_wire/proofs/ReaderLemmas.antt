@@ -10,6 +10,7 @@ use Rattle.vtl_base.specs.declared.bytes.TheConstants.{INLINE_BYTES}
 use Rattle.vtl_base.specs.Steps.{ticked}
 use Rattle.vtl_wire.specs.declared.faults.WireFault.{WireFault}
 use Rattle.vtl_wire.specs.declared.faults.WireFault.TheVariants.{BadFrame, ReadFault, WriteFault, NoMemory}
+use Rattle.vtl_wire.specs.declared.frames.TheConstants.{HEADER_BYTES}
 use Rattle.vtl_wire.specs.declared.headers.Header.{Header}
 use Rattle.vtl_wire.specs.declared.request_heads.RequestHead.{RequestHead}
 use Rattle.vtl_wire.specs.declared.requests.Request.{Request}
@@ -18,9 +19,9 @@ use Rattle.vtl_wire.specs.Frames.{IsHeader, spell_frame, spell_header}
 use Rattle.vtl_wire.specs.Requests.{BeginsWithRequest, IsRefusedAt, IsRequest, SpellsRequests, frame_of_request, spell_request, spell_requests}
 use Rattle.vtl_wire.specs.Reads.{BeginNoRequest, LacksData, MissesRequest, ReadsRequest, RefusesRequest, TakesSome}
 use Rattle.vtl_wire.specs.Inner.Headers.{frame_with}
-use Rattle.vtl_wire.specs.Inner.Reading.{AreNoHeader, EndsWithin, MissesBytes, MissesFrame, MissesParts}
+use Rattle.vtl_wire.specs.Inner.Reading.{AreNoHeader, EndsWithin, MissesBytes, MissesFrame, MissesParts, TakesFewer}
 use Rattle.vtl_wire.specs.Inner.Requested.{request_head}
-use Rattle.vtl_wire.proofs.FillLemmas.{takes_on}
+use Rattle.vtl_wire.proofs.FillLemmas.{fewer_later}
 use Rattle.vtl_wire.proofs.FrameLemmas.{length-header, spelled_with}
 use Rattle.vtl_wire.proofs.HeadLemmas.{counts_data}
 use Rattle.vtl_wire.proofs.RequestLemmas.{cut_begins, no_head_begins, none_begin, short_begins}
@@ -29,7 +30,8 @@ use Rattle.vtl_wire.proofs.RequestLemmas.{cut_begins, no_head_begins, none_begin
 pub missed_first : (left left' : Option (List ℕ)) (front payload : ℕ) (fault : WireFault) → front ≤ INLINE_BYTES
     → MissesBytes left left' front fault → MissesParts left left' front payload fault
 missed_first left left' front payload (BadFrame number) few misses = absurd misses
-missed_first left left' front payload ReadFault few misses = misses
+missed_first left left' front payload ReadFault few misses =
+    (misses.0, omega (arith, misses.1), misses.2)
 missed_first left left' front payload WriteFault few misses = absurd misses
 missed_first left left' front payload NoMemory few misses = absurd (omega (arith, few, misses.0))
 
@@ -39,7 +41,7 @@ pub missed_second : (left mid left' : Option (List ℕ)) (bytes : List ℕ) (fro
     → MissesParts left left' front payload fault
 missed_second left mid left' bytes front payload (BadFrame number) long taken misses = absurd misses
 missed_second left mid left' bytes front payload ReadFault long taken misses =
-    takes_on left mid left' bytes taken misses
+    subst (λ (n : ℕ). TakesFewer left left' (n + payload)) long (fewer_later left mid left' bytes payload taken misses)
 missed_second left mid left' bytes front payload WriteFault long taken misses = absurd misses
 missed_second left mid left' bytes front payload NoMemory long taken misses = (
   misses.0,
@@ -137,16 +139,19 @@ pub missed_frame : (left mid left' : Option (List ℕ)) (header : Header) (head 
     → IsHeader header → request_head header ≡ Some head → Consumes left mid (spell_header header)
     → MissesParts mid left' header.front header.payload fault → MissesFrame left left' fault
 missed_frame left mid left' header head (BadFrame number) fits is taken misses = absurd misses
-missed_frame left mid left' header head ReadFault fits is taken misses =
-    takes_on left mid left' (spell_header header) taken misses
+missed_frame left mid left' header head ReadFault fits is taken misses = (
+  spell_header header ++ misses.0,
+  Consumes-trans left mid left' (spell_header header) misses.0 taken misses.2,
+  cut_begins header misses.0 fits misses.1,
+)
 missed_frame left mid left' header head WriteFault fits is taken misses = absurd misses
 missed_frame left mid left' header head NoMemory fits is taken misses =
     lacks_data left mid left' header head misses.1.0 fits is taken misses.0 misses.1.1 misses.1.2
 
 -- a read fault before the header is whole
-pub missed_header : (left left' : Option (List ℕ)) (fault : WireFault) → fault ≡ ReadFault → TakesSome left left'
-    → MissesFrame left left' fault
-missed_header left left' fault is some = rw is some
+pub missed_header : (left left' : Option (List ℕ)) (fault : WireFault) → fault ≡ ReadFault
+    → TakesFewer left left' HEADER_BYTES → MissesFrame left left' fault
+missed_header left left' fault is few = rw is (few.0, few.2, short_begins few.0 few.1)
 
 -- and so where the frames are counted
 pub missed_request : (left left' : Option (List ℕ)) (before : ℕ) (fault : WireFault) → MissesFrame left left' fault

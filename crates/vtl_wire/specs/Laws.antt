@@ -1,5 +1,6 @@
 -- Laws of frames (own).
 use Rattle.std.specs.Prelude.{◌≡◌, ℕ, List, ◌++◌}
+use Rattle.vtl_base.specs.declared.bytes.TheConstants.{INLINE_BYTES}
 use Rattle.vtl_wire.specs.declared.frames.FrameKind.TheVariants.{Command, Move, Inventory}
 use Rattle.vtl_wire.specs.declared.frames.TheConstants.{HEADER_BYTES, MOST_CDB, MOVE_BYTES, SENSE_BYTES, MOST_DATA, ENTRY_BYTES}
 use Rattle.vtl_wire.specs.declared.answers.Answer.{Answer}
@@ -8,7 +9,7 @@ use Rattle.vtl_wire.specs.Answers.{IsAnswer, spell_answer}
 use Rattle.vtl_wire.specs.Frames.{code_of_kind}
 use Rattle.vtl_wire.specs.Requests.{IsRefusedAt, IsRequest, SpellsRequests, spell_request}
 
--- each number of frames as a number (own)
+-- each number of frames as a number, and how many bytes of data are read without memory (own)
 pub record FramesInNumbers : Type 0 where
   pub header : HEADER_BYTES ≡ 16
   pub block : MOST_CDB ≡ 16
@@ -16,6 +17,7 @@ pub record FramesInNumbers : Type 0 where
   pub sense : SENSE_BYTES ≡ 18
   pub payload : MOST_DATA ≡ 1_100_000
   pub entry : ENTRY_BYTES ≡ 20
+  pub inline : INLINE_BYTES ≡ 24
   pub command : code_of_kind Command ≡ 1
   pub move : code_of_kind Move ≡ 2
   pub inventory : code_of_kind Inventory ≡ 3

@@ -19,9 +19,9 @@ abbrev pub count_after : {T : Type 0} → ℕ → Option T → ℕ
 count_after before (Some frame) = ticked before
 count_after before None = before
 
--- some bytes were read (own)
+-- some bytes were read, and no whole request is among them (own)
 abbrev pub TakesSome : Option (List ℕ) → Option (List ℕ) → Type 0
-TakesSome left left' = (read : List ℕ) × Consumes left left' read
+TakesSome left left' = (read : List ℕ) × Consumes left left' read × (BeginsWithRequest read → ⊥)
 
 -- these bytes begin with no request: they are a header's, and don't however they go on; or the input ended with them
 -- (own)
@@ -49,7 +49,8 @@ pub record LacksData (left left' : Option (List ℕ)) : Type 0 where
       (sent : List ℕ) → length sent ≡ count
       → (request : Request) × IsRequest request × (read ++ sent ≡ spell_request request)
 
--- why no request is read behind so many frames: the next is refused; a read failed; or memory ran out (own)
+-- why no request is read behind so many frames: the next is refused; a read failed before its last byte; or memory ran
+-- out (own)
 abbrev pub MissesRequest : Option (List ℕ) → Option (List ℕ) → ℕ → WireFault → Type 0
 MissesRequest left left' before (BadFrame number) = (number ≡ ticked before) × RefusesRequest left left'
 MissesRequest left left' before ReadFault = TakesSome left left'

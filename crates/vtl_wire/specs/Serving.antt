@@ -7,7 +7,7 @@ use Rattle.vtl_wire.specs.declared.answers.Answer.{Answer}
 use Rattle.vtl_wire.specs.declared.faults.WireFault.{WireFault}
 use Rattle.vtl_wire.specs.declared.faults.WireFault.TheVariants.{BadFrame, ReadFault, WriteFault, NoMemory}
 use Rattle.vtl_wire.specs.declared.requests.Request.{Request}
-use Rattle.vtl_wire.specs.Answers.{spell_answer}
+use Rattle.vtl_wire.specs.Answers.{FitsAnswer, spell_answer}
 use Rattle.vtl_wire.specs.Reads.{LacksData, ReadsRequest, RefusesRequest, TakesSome}
 use Rattle.vtl_wire.specs.Requests.{IsRequest, spell_requests}
 use Rattle.vtl_wire.specs.Writes.{AppendsFront}
@@ -36,57 +36,68 @@ RefusesNext takes left left' =
 abbrev pub Rests : {S : Type 0} → S → Option (List ℕ) → S → Option (List ℕ) → Type 0
 Rests mid before new now = (new ≡ mid) × (now ≡ before)
 
+-- an answer was written whole, which a frame holds (own)
+abbrev pub WritesAnswer : Option (List ℕ) → Option (List ℕ) → Answer → Type 0
+WritesAnswer before now answer = FitsAnswer answer × Appends before now (spell_answer answer)
+
+-- a beginning of an answer was written, and nothing of one that no frame holds (own)
+abbrev pub WritesFront : Option (List ℕ) → Option (List ℕ) → Answer → Type 0
+WritesFront before now answer =
+    AppendsFront before now (spell_answer answer) × ((FitsAnswer answer → ⊥) → now ≡ before)
+
 -- a request was served, and its answer written whole, or a beginning of it (own)
 pub record ServesOne {S : Type 0} (takes : S → Request → Bool) (answers : S → Request → Answer → S → Type 0)
-    (writes : Option (List ℕ) → Option (List ℕ) → List ℕ → Type 0)
+    (writes : Option (List ℕ) → Option (List ℕ) → Answer → Type 0)
     (old : S) (left before : Option (List ℕ)) (new : S) (left' now : Option (List ℕ)) : Type 0 where
   pub request : Request
   pub read : ReadsRequest left left' (Some request)
   pub taken : takes old request ≡ true
   pub answer : Answer
   pub answered : answers old request answer new
-  pub written : writes before now (spell_answer answer)
+  pub written : writes before now answer
 
--- why there was no memory: for the data of the next request, or for its answer; or the number of requests is at its
--- greatest value (own)
-abbrev pub IsOutOfMemory : ℕ → Option (List ℕ) → Option (List ℕ) → Type 0
-IsOutOfMemory count left left' =
-    LacksData left left' ⊎ (((request : Request) × ReadsRequest left left' (Some request))
+-- why there was no memory: for the data of the next request; or as it was served, if it is one that is taken; or the
+-- number of requests is at its greatest value (own)
+abbrev pub IsOutOfMemory : (Request → Bool) → (Request → Type 0) → ℕ → Option (List ℕ) → Option (List ℕ) → Type 0
+IsOutOfMemory takes lacks count left left' =
+    LacksData left left'
+    ⊎ (((request : Request) × ReadsRequest left left' (Some request) × (takes request ≡ true) × lacks request)
     ⊎ ((2 ^ 64 ≤ count + 1) × (left' ≡ left)))
 
 -- how the serving of an input ends behind so many requests that were served, which left `mid` (own)
-abbrev pub ServingEnds : {S : Type 0} → (S → Request → Bool) → (S → Request → Answer → S → Type 0) → ℕ
-    → S → Option (List ℕ) → Option (List ℕ) → S → Option (List ℕ) → Option (List ℕ)
+abbrev pub ServingEnds : {S : Type 0} → (S → Request → Bool) → (S → Request → Answer → S → Type 0)
+    → (S → Request → Type 0) → ℕ → S → Option (List ℕ) → Option (List ℕ) → S → Option (List ℕ) → Option (List ℕ)
     → Result (Unit {0}) WireFault → Type 0
 -- the input has ended
-ServingEnds takes answers count mid left before new left' now (Ok done) =
+ServingEnds takes answers lacks count mid left before new left' now (Ok done) =
     ReadsRequest left left' None × Rests mid before new now
 -- the next frame is refused, and this is its number
-ServingEnds takes answers count mid left before new left' now (Err (BadFrame number)) =
+ServingEnds takes answers lacks count mid left before new left' now (Err (BadFrame number)) =
     (number ≡ ticked count) × RefusesNext (takes mid) left left' × Rests mid before new now
--- a read failed
-ServingEnds takes answers count mid left before new left' now (Err ReadFault) =
+-- a read failed, before the last byte of the next
+ServingEnds takes answers lacks count mid left before new left' now (Err ReadFault) =
     TakesSome left left' × Rests mid before new now
 -- one more was served, and its answer was not written, or not known to be
-ServingEnds takes answers count mid left before new left' now (Err WriteFault) =
-    ServesOne takes answers AppendsFront mid left before new left' now
+ServingEnds takes answers lacks count mid left before new left' now (Err WriteFault) =
+    ServesOne takes answers WritesFront mid left before new left' now
 -- there was no memory for the next
-ServingEnds takes answers count mid left before new left' now (Err NoMemory) =
-    IsOutOfMemory count left left' × Rests mid before new now
+ServingEnds takes answers lacks count mid left before new left' now (Err NoMemory) =
+    IsOutOfMemory (takes mid) (lacks mid) count left left' × Rests mid before new now
 
 -- an input was read, served and answered (own)
 pub record ServesInput {S : Type 0} (takes : S → Request → Bool) (answers : S → Request → Answer → S → Type 0)
-    (old : S) (left before : Option (List ℕ)) (new : S) (left' now : Option (List ℕ))
+    (lacks : S → Request → Type 0) (old : S) (left before : Option (List ℕ)) (new : S) (left' now : Option (List ℕ))
     (result : Result (Unit {0}) WireFault) : Type 0 where
   -- the requests that were served and answered whole, and the answers
   pub requests : List Request
   pub replies : List Answer
   pub mid : S
   pub answered : AnswersEach takes answers old requests replies mid
-  -- what was read of them, and written
+  -- what was read of them, and written: frames that hold them
   pub behind : Option (List ℕ)
   pub between : Option (List ℕ)
   pub read : Consumes left behind (spell_requests requests)
   pub spelled : All IsRequest requests
+  pub fit : All FitsAnswer replies
   pub written : Appends before between (spell_answers replies)
-  pub ended : ServingEnds takes answers (length requests) mid behind between new left' now result
+  pub ended : ServingEnds takes answers lacks (length requests) mid behind between new left' now result

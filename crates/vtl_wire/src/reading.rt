@@ -2,8 +2,8 @@
 ghost use Rattle.std.specs.Prelude.{◌≡◌, ℕ, ◌<◌, ◌≤◌, ◌+◌, length, take, drop, Some, Ok, IfOk, IfErr, OnErr};
 ghost use Rattle.std.specs.Io.KnownBytes.{Consumes, IsAtEnd};
 ghost use Rattle.vtl_base.specs.declared.bytes.TheConstants.{INLINE_BYTES};
-ghost use Rattle.vtl_wire.specs.Reads.{TakesSome};
-ghost use Rattle.vtl_wire.specs.Inner.Reading.{count_read, ReadsWhole, ReadsBytes, MissesBytes, ReadsHeader};
+ghost use Rattle.vtl_wire.specs.declared.frames.TheConstants.{HEADER_BYTES};
+ghost use Rattle.vtl_wire.specs.Inner.Reading.{count_read, ReadsWhole, ReadsBytes, MissesBytes, ReadsHeader, TakesFewer};
 
 use crate::faults::WireFault;
 use crate::frames::HEADER_BYTES;
@@ -57,13 +57,14 @@ fn read_behind<R: Read>(
     read_once(reader, &mut slice[filled..])
 }
 
-// Fills a slice: how many bytes came, fewer than it has only where the input has ended.
+// Fills a slice: how many bytes came, fewer than it has only where the input has ended. A read that fails is not made
+// again, and no more are asked for than it has.
 pub(crate) fn fill<R: Read>(reader: &mut R, slice: &mut [u8]) -> Result<usize, WireFault>
     ensures taken { IfOk result (λ count.
         Consumes (R.remaining reader.old) (R.remaining reader.new) (take count slice.new)) }
     ensures within { IfOk result (λ count. count ≤ length slice.new) }
     ensures ended { IfOk result (λ count. count < length slice.new → IsAtEnd (R.remaining reader.new)) }
-    ensures part { OnErr result (TakesSome (R.remaining reader.old) (R.remaining reader.new)) }
+    ensures part { OnErr result (TakesFewer (R.remaining reader.old) (R.remaining reader.new) (length slice.new)) }
     ensures fault { IfErr result (λ fault. fault ≡ WireFault.ReadFault) }
 {
     let mut filled = 0;
@@ -77,13 +78,16 @@ pub(crate) fn fill<R: Read>(reader: &mut R, slice: &mut [u8]) -> Result<usize, W
             None => {}
         }
     }
+    if filled == slice.len() {
+        return Ok(filled);
+    }
     Err(WireFault::ReadFault)
 }
 
 // Fills a slice, and tells whether the input did not end before.
 pub(crate) fn fill_whole<R: Read>(reader: &mut R, slice: &mut [u8]) -> Result<bool, WireFault>
     ensures whole { IfOk result (ReadsWhole (R.remaining reader.old) (R.remaining reader.new) slice.new) }
-    ensures part { OnErr result (TakesSome (R.remaining reader.old) (R.remaining reader.new)) }
+    ensures part { OnErr result (TakesFewer (R.remaining reader.old) (R.remaining reader.new) (length slice.new)) }
     ensures fault { IfErr result (λ fault. fault ≡ WireFault.ReadFault) }
 {
     let count = fill(reader, slice)?;
@@ -98,7 +102,7 @@ fn read_few<R: Read>(
 ) -> Result<Option<Bytes>, WireFault>
     requires { count ≤ INLINE_BYTES }
     ensures bytes { IfOk result (ReadsBytes (R.remaining reader.old) (R.remaining reader.new) count) }
-    ensures part { OnErr result (TakesSome (R.remaining reader.old) (R.remaining reader.new)) }
+    ensures part { OnErr result (TakesFewer (R.remaining reader.old) (R.remaining reader.new) count) }
     ensures fault { IfErr result (λ fault. fault ≡ WireFault.ReadFault) }
 {
     let mut room = [0; INLINE_BYTES];
@@ -149,7 +153,7 @@ pub(crate) fn read_bytes<R: Read>(
 // The header of a frame.
 pub(crate) fn read_header<R: Read>(reader: &mut R) -> Result<Found<Header>, WireFault>
     ensures header { IfOk result (ReadsHeader (R.remaining reader.old) (R.remaining reader.new)) }
-    ensures part { OnErr result (TakesSome (R.remaining reader.old) (R.remaining reader.new)) }
+    ensures part { OnErr result (TakesFewer (R.remaining reader.old) (R.remaining reader.new) HEADER_BYTES) }
     ensures fault { IfErr result (λ fault. fault ≡ WireFault.ReadFault) }
 {
     let mut bytes = [0; HEADER_BYTES];

@@ -16,6 +16,9 @@ pub trait Server {
     /// A request may be answered so from the first value on, which leaves the last.
     ghost answers: { Self → Request → Answer → Self → Type 0 };
 
+    /// Why memory may run out as a request is served. Where it never does this is empty.
+    ghost lacks: { Self → Request → Type 0 };
+
     /// Whether it takes this request. It does not take a command to a drive that is not configured.
     fn takes(&self, request: &Request) -> bool
         ensures { result ≡ is_taken self.now request.now };
@@ -24,5 +27,5 @@ pub trait Server {
     fn serve(&mut self, alloc: Global, request: Request) -> Result<Answer, NoMemory>
         requires { is_taken self.old request ≡ true }
         ensures ok { IfOk result (λ answer. answers self.old request answer self.new) }
-        ensures err { OnErr result (self.new ≡ self.old) };
+        ensures err { OnErr result (lacks self.old request × (self.new ≡ self.old)) };
 }

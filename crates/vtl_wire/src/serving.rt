@@ -1,7 +1,7 @@
 //! Requests that are read, served and answered.
 ghost use Rattle.std.specs.Prelude.{◌≡◌, true, IfErr, OnOk, OnErr};
 ghost use Rattle.std.specs.Io.KnownBytes.{Appends};
-ghost use Rattle.vtl_wire.specs.Answers.{spell_answer};
+ghost use Rattle.vtl_wire.specs.Answers.{FitsAnswer, spell_answer};
 ghost use Rattle.vtl_wire.specs.Serving.{ServesInput};
 ghost use Rattle.vtl_wire.specs.Writes.{AppendsFront};
 ghost use Rattle.vtl_wire.specs.Inner.Served.{AnswersRequest, ServesNext};
@@ -15,11 +15,14 @@ use crate::servers::Server;
 use std::alloc::Global;
 use std::io::{Read, Write};
 
-/// Writes the frame of an answer, as `write_answer` does, where a frame holds it. Else it is a write fault.
+/// Writes the frame of an answer, as `write_answer` does, where a frame holds it. Else it is a write fault, and nothing
+/// is written.
 pub fn write_if_fits<W: Write>(writer: &mut W, answer: &Answer) -> Result<(), WireFault>
     ensures ok { OnOk result (Appends (W.contents writer.old) (W.contents writer.new) (spell_answer answer.now)) }
     ensures err { OnErr result
         (AppendsFront (W.contents writer.old) (W.contents writer.new) (spell_answer answer.now)) }
+    ensures fits { OnOk result (FitsAnswer answer.now) }
+    ensures unfit { (FitsAnswer answer.now → ⊥) → W.contents writer.new ≡ W.contents writer.old }
     ensures fault { IfErr result (λ fault. fault ≡ WireFault.WriteFault) }
 {
     if !answer.fits_frame() {
@@ -36,8 +39,8 @@ fn answer_request<S: Server, W: Write>(
     writer: &mut W,
 ) -> Result<(), WireFault>
     requires { S.is_taken server.old request ≡ true }
-    ensures { AnswersRequest S.answers server.old request (W.contents writer.old) server.new (W.contents writer.new)
-        result }
+    ensures { AnswersRequest S.answers S.lacks server.old request (W.contents writer.old) server.new
+        (W.contents writer.new) result }
 {
     let answer = server.serve(alloc, request)?;
     write_if_fits(writer, &answer)
@@ -51,8 +54,8 @@ fn serve_next<S: Server, R: Read, W: Write>(
     reader: &mut R,
     writer: &mut W,
 ) -> Result<bool, WireFault>
-    ensures { ServesNext S.is_taken S.answers frames.old server.old (R.remaining reader.old) (W.contents writer.old)
-        frames.new server.new (R.remaining reader.new) (W.contents writer.new) result }
+    ensures { ServesNext S.is_taken S.answers S.lacks frames.old server.old (R.remaining reader.old)
+        (W.contents writer.old) frames.new server.new (R.remaining reader.new) (W.contents writer.new) result }
 {
     let Some(request) = frames.next(alloc, reader)? else {
         return Ok(false);
@@ -74,7 +77,7 @@ pub fn serve_requests<S: Server, R: Read, W: Write>(
     reader: &mut R,
     writer: &mut W,
 ) -> Result<(), WireFault>
-    ensures { ServesInput S.is_taken S.answers server.old (R.remaining reader.old) (W.contents writer.old)
+    ensures { ServesInput S.is_taken S.answers S.lacks server.old (R.remaining reader.old) (W.contents writer.old)
         server.new (R.remaining reader.new) (W.contents writer.new) result }
 {
     let mut frames = RequestReader::new();

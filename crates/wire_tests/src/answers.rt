@@ -1,4 +1,5 @@
 //! Answers that are written, over frames that were worked by hand.
+use crate::failing::FAULTS;
 use crate::pipes::{PipeWriter, Plan};
 use crate::requests::bytes;
 use assertions::{assert_equal, assert_holds};
@@ -122,40 +123,55 @@ fn each_answer(rt: HostRuntime) -> Result<(), Fail> {
     Ok(())
 }
 
-// Each call fails in turn, writes and the flush: there is a fault just where not all was flushed, and what was written
-// is a beginning of the frame.
+// How many calls of a writer an answer takes, in pieces of seven bytes.
+fn calls_of(alloc: Global, answer: &Answer) -> Result<u32, WireFault> {
+    let mut writer = PipeWriter::new(alloc, Plan::pieces(7));
+    write_fitting(&mut writer, answer)?;
+    Ok(writer.calls())
+}
+
+// Each call fails in turn, writes and the flush: it is the last call, and what was written is a beginning of the frame.
 #[test]
 fn writes_that_fail(rt: HostRuntime) -> Result<(), Fail> {
     let rows = rows(rt.alloc())?;
     for row in &rows {
         let frame = bytes(rt.alloc(), row.frame)?;
-        for call in 1..20 {
-            let plan = Plan {
-                piece: 7,
-                bad: Some((call, ErrorKind::Other)),
-            };
-            let mut writer = PipeWriter::new(rt.alloc(), plan);
-            let end = write_fitting(&mut writer, &row.answer);
-            let failed = writer.flushed() < frame.len();
-            assert_equal!(rt; end.is_err(), failed; (row.frame, call));
-            assert_holds!(rt; frame.as_slice().starts_with(writer.written()); (row.frame, call));
+        let calls = calls_of(rt.alloc(), &row.answer)?;
+        for kind in FAULTS {
+            for call in 1..calls.saturating_add(1) {
+                let plan = Plan {
+                    piece: 7,
+                    bad: Some((call, *kind)),
+                };
+                let mut writer = PipeWriter::new(rt.alloc(), plan);
+                let end = write_fitting(&mut writer, &row.answer);
+                assert_equal!(rt; end, Err(WireFault::WriteFault); (row.frame, call));
+                assert_equal!(rt; writer.calls(), call; (row.frame, call));
+                assert_equal!(rt; writer.flushed(), 0; (row.frame, call));
+                assert_holds!(rt; frame.as_slice().starts_with(writer.written()); (row.frame, call));
+            }
         }
     }
     Ok(())
 }
 
+// Each write is interrupted in turn, and made again.
 #[test]
 fn writes_that_are_interrupted(rt: HostRuntime) -> Result<(), Fail> {
     let rows = rows(rt.alloc())?;
     for row in &rows {
         let frame = bytes(rt.alloc(), row.frame)?;
-        let plan = Plan {
-            piece: 7,
-            bad: Some((2, ErrorKind::Interrupted)),
-        };
-        let mut writer = PipeWriter::new(rt.alloc(), plan);
-        write_fitting(&mut writer, &row.answer)?;
-        assert_equal!(rt; writer.written(), frame.as_slice(); row.frame);
+        let calls = calls_of(rt.alloc(), &row.answer)?;
+        for call in 1..calls {
+            let plan = Plan {
+                piece: 7,
+                bad: Some((call, ErrorKind::Interrupted)),
+            };
+            let mut writer = PipeWriter::new(rt.alloc(), plan);
+            write_fitting(&mut writer, &row.answer)?;
+            assert_equal!(rt; writer.written(), frame.as_slice(); (row.frame, call));
+            assert_equal!(rt; writer.calls(), calls.saturating_add(1); (row.frame, call));
+        }
     }
     Ok(())
 }

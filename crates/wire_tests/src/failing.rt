@@ -6,8 +6,8 @@ use std::io::ErrorKind;
 use std::test::Fail;
 use vtl_wire::WireFault;
 
-// The kinds of fault after which a read is not made again.
-static FAULTS: &'static [ErrorKind] = &[
+/// The kinds of fault after which a read or a write is not made again.
+pub static FAULTS: &'static [ErrorKind] = &[
     ErrorKind::Other,
     ErrorKind::WouldBlock,
     ErrorKind::TimedOut,

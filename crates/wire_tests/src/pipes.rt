@@ -90,6 +90,11 @@ impl PipeWriter {
         self.written.as_slice()
     }
 
+    /// How many writes and flushes were asked for.
+    pub fn calls(&self) -> u32 {
+        self.calls
+    }
+
     /// How many bytes had been written at the last flush.
     pub fn flushed(&self) -> usize {
         self.flushed

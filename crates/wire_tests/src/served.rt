@@ -22,6 +22,8 @@ impl Server for Shop {
 
     ghost answers = { λ _ _ _ _. Unit {0} };
 
+    ghost lacks = { λ _ _. ⊥ };
+
     fn takes(&self, _request: &Request) -> bool {
         self.left >= 1
     }

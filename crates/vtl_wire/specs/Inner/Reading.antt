@@ -26,15 +26,20 @@ pub record EndsWithin (left left' : Option (List ℕ)) (count : ℕ) : Type 0 wh
   pub short : length read < count
   pub ended : IsAtEnd left'
 
+-- fewer than so many bytes were read (own)
+abbrev pub TakesFewer : Option (List ℕ) → Option (List ℕ) → ℕ → Type 0
+TakesFewer left left' count = (read : List ℕ) × (length read < count) × Consumes left left' read
+
 -- these bytes were read, or the input ended within them (own)
 abbrev pub ReadsWhole : Option (List ℕ) → Option (List ℕ) → List ℕ → Bool → Type 0
 ReadsWhole left left' bytes true = Consumes left left' bytes
 ReadsWhole left left' bytes false = EndsWithin left left' (length bytes)
 
--- why bytes are not read: a read failed; or there is no memory for so many, and none of them is read (own)
+-- why bytes are not read: a read failed before the last of them; or there is no memory for so many, and none of them is
+-- read (own)
 abbrev pub MissesBytes : Option (List ℕ) → Option (List ℕ) → ℕ → WireFault → Type 0
 MissesBytes left left' count (BadFrame number) = ⊥
-MissesBytes left left' count ReadFault = TakesSome left left'
+MissesBytes left left' count ReadFault = TakesFewer left left' count
 MissesBytes left left' count WriteFault = ⊥
 MissesBytes left left' count NoMemory = (INLINE_BYTES < count) × Consumes left left' []
 
@@ -50,10 +55,11 @@ ReadsParts left left' front payload (Some parts) =
     × Consumes left left' (parts.front ++ parts.payload)
 ReadsParts left left' front payload None = EndsWithin left left' (front + payload)
 
--- why the two parts are not read: a read failed; or there is no memory for the second, of which nothing is read (own)
+-- why the two parts are not read: a read failed before their last byte; or there is no memory for the second, of which
+-- nothing is read (own)
 abbrev pub MissesParts : Option (List ℕ) → Option (List ℕ) → ℕ → ℕ → WireFault → Type 0
 MissesParts left left' front payload (BadFrame number) = ⊥
-MissesParts left left' front payload ReadFault = TakesSome left left'
+MissesParts left left' front payload ReadFault = TakesFewer left left' (front + payload)
 MissesParts left left' front payload WriteFault = ⊥
 MissesParts left left' front payload NoMemory =
     (INLINE_BYTES < payload) × ((read : List ℕ) × (length read ≡ front) × Consumes left left' read)
@@ -77,7 +83,7 @@ FindsRequest left left' (Frame request) = ReadsRequest left left' (Some request)
 FindsRequest left left' Ended = ReadsRequest left left' None
 FindsRequest left left' Refused = RefusesRequest left left'
 
--- why nothing is found out: a read failed, or memory ran out (own)
+-- why nothing is found out: a read failed before a whole request was read, or memory ran out (own)
 abbrev pub MissesFrame : Option (List ℕ) → Option (List ℕ) → WireFault → Type 0
 MissesFrame left left' (BadFrame number) = ⊥
 MissesFrame left left' ReadFault = TakesSome left left'

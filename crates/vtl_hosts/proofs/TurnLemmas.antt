@@ -1,0 +1,287 @@
+-- Turns, one after another.
+use Rattle.std.proofs.Common.{◌≡◌, ◌+◌, inl, inr, ℕ, Bool, true, false, not, List, [], ◌∷◌, ◌++◌, Option, Result, Ok, Err, refl, sym, ap, ◌∙◌, subst, append_assoc}
+use Rattle.std.proofs.lemmas.List.{append-nil}
+use Rattle.std.proofs.lemmas.List.Elements.{All-append, All-nil, All-push}
+use Rattle.std.proofs.KnownBytes.{Appends-nil, Appends-trans, Consumes-nil, Consumes-trans}
+use Rattle.std.specs.List.{All}
+use Rattle.std.specs.Io.KnownBytes.{Appends, Consumes}
+use Rattle.vtl_wire.specs.declared.answers.Answer.{Answer}
+use Rattle.vtl_wire.specs.declared.faults.WireFault.{WireFault}
+use Rattle.vtl_wire.specs.declared.faults.WireFault.TheVariants.{BadFrame, ReadFault, WriteFault, NoMemory}
+use Rattle.vtl_wire.specs.declared.requests.Request.{Request}
+use Rattle.vtl_wire.specs.Answers.{spell_answer}
+use Rattle.vtl_wire.specs.Requests.{IsRequest, spell_request, spell_requests}
+use Rattle.vtl_hosts.specs.declared.reading.Break.{Break}
+use Rattle.vtl_hosts.specs.declared.reading.Break.TheVariants.{Ended, Stopped, Next}
+use Rattle.vtl_hosts.specs.Rounds.{AnswersHosts, AnswersUpTo, Given, of_host, of_place, spell_given}
+use Rattle.vtl_hosts.specs.Turns.{AnswersTurns, HostsState, ServesHosts, ServesPart, ServesWhole, Turn, count_on, requests_of, spell_turns}
+use Rattle.vtl_hosts.specs.Inner.Idle.{RunsRound}
+use Rattle.vtl_hosts.specs.Inner.Serving.{AnswersAlone, EndsServing, ServesTurns}
+use Rattle.vtl_hosts.proofs.ReadLemmas.{count_append, spelled_append}
+use Rattle.vtl_hosts.proofs.WriteLemmas.{front_whole}
+
+pub is_so : (b : Bool) → not b ≡ false → b ≡ true
+is_so true is = refl
+is_so false is = absurd (cc)
+
+requests_append : (xs ys : List Turn) → requests_of (xs ++ ys) ≡ requests_of xs ++ requests_of ys
+requests_append [] ys = refl
+requests_append (x ∷ xs) ys =
+    ap (λ (l : List Request). x.commands ++ x.request ∷ l) (requests_append xs ys)
+    ∙ sym (append_assoc x.commands (x.request ∷ requests_of xs) (requests_of ys))
+
+turns_append : (xs ys : List Turn) → spell_turns (xs ++ ys) ≡ spell_turns xs ++ spell_turns ys
+turns_append [] ys = refl
+turns_append (x ∷ xs) ys =
+    ap (λ (l : List ℕ). spell_given x.given ++ (spell_answer x.answer ++ l)) (turns_append xs ys)
+    ∙ ap (λ (l : List ℕ). spell_given x.given ++ l)
+    (sym (append_assoc (spell_answer x.answer) (spell_turns xs) (spell_turns ys)))
+    ∙ sym (append_assoc (spell_given x.given) (spell_answer x.answer ++ spell_turns xs) (spell_turns ys))
+
+module _ {S : Type 0} (serves : S → Request → Answer → S → Type 0) where
+  -- all were answered, so some were
+  some_of_all : (old new : List S) (commands : List Request) (given : List Given)
+      → AnswersHosts serves old commands given new → AnswersUpTo serves old commands given new
+  some_of_all old new commands given all = record {
+    long = all.long;
+    each = λ k d less. record {
+      done = of_host (k + 1) commands;
+      left = [];
+      commands_are = sym (append-nil (of_host (k + 1) commands));
+      made = of_place k given;
+      kept = [];
+      made_are = sym (append-nil (of_place k given));
+      answered = all.each k d less;
+    };
+    others = all.others;
+  }
+
+module _ {S G : Type 0} (serves : S → Request → Answer → S → Type 0) (takes : G → Request → Bool)
+    (answers : G → Request → Answer → G → Type 0) where
+  part_of_whole : (old new : HostsState S G) (left before left' now : Option (List ℕ))
+      → ServesWhole serves takes answers old left before new left' now
+      → ServesPart serves takes answers old left before new left' now
+  part_of_whole old new left before left' now whole = record {
+    commands = whole.commands;
+    given = whole.given;
+    read = whole.read;
+    spelled = whole.spelled;
+    taken = whole.taken;
+    hosts = some_of_all serves old.hosts new.hosts whole.commands whole.given whole.hosts;
+    written = front_whole before now (spell_given whole.given) whole.written;
+  }
+
+  turns_on_from : (old mid new : HostsState S G) (xs ys : List Turn) → AnswersTurns serves takes answers old xs mid
+      → AnswersTurns serves takes answers mid ys new → AnswersTurns serves takes answers old (xs ++ ys) new
+  turns_on_from old mid new [] ys same two =
+      subst (λ (s : HostsState S G). AnswersTurns serves takes answers s ys new) same two
+  turns_on_from old mid new (x ∷ xs) ys one two = (one.0, one.1, turns_on_from one.0 mid new xs ys one.2 two)
+
+  pub turns_none : (count : ℕ) (old : HostsState S G) (left before : Option (List ℕ))
+      → ServesTurns serves takes answers count old left before count old left before
+  turns_none count old left before = record {
+    turns = [];
+    answered = refl;
+    read = Consumes-nil left;
+    spelled = All-nil IsRequest;
+    written = Appends-nil before;
+    counted = refl;
+  }
+
+  pub turns_on : (count mid_count count' : ℕ) (old mid new : HostsState S G)
+      (left behind left' before between now : Option (List ℕ))
+      → ServesTurns serves takes answers count old left before mid_count mid behind between
+      → ServesTurns serves takes answers mid_count mid behind between count' new left' now
+      → ServesTurns serves takes answers count old left before count' new left' now
+  turns_on count mid_count count' old mid new left behind left' before between now one two = record {
+    turns = one.turns ++ two.turns;
+    answered = turns_on_from old mid new one.turns two.turns one.answered two.answered;
+    read =
+        subst (Consumes left left')
+        (sym (ap spell_requests (requests_append one.turns two.turns)
+        ∙ spelled_append (requests_of one.turns) (requests_of two.turns)))
+        (Consumes-trans left behind left' (spell_requests (requests_of one.turns))
+        (spell_requests (requests_of two.turns)) one.read two.read);
+    spelled =
+        subst (All IsRequest) (sym (requests_append one.turns two.turns))
+        (All-append IsRequest (requests_of one.turns) (requests_of two.turns) one.spelled two.spelled);
+    written =
+        subst (Appends before now) (sym (turns_append one.turns two.turns))
+        (Appends-trans before between now (spell_turns one.turns) (spell_turns two.turns) one.written two.written);
+    counted =
+        two.counted ∙ ap (λ (n : ℕ). count_on n (requests_of two.turns)) one.counted
+        ∙ sym (count_append count (requests_of one.turns) (requests_of two.turns))
+        ∙ ap (count_on count) (sym (requests_append one.turns two.turns));
+  }
+
+  module _ (count : ℕ) (old : HostsState S G) (left before : Option (List ℕ)) (hosts : List S) where
+    -- a write failed
+    pub turn_failed : (count' : ℕ) (left' now : Option (List ℕ)) (read : Result Break WireFault)
+        → RunsRound serves takes answers count old left before count' (record { hosts = hosts; desk = old.desk }) left'
+        now read false
+        → EndsServing serves takes answers count old left before (record { hosts = hosts; desk = old.desk }) left' now
+        (Err WriteFault)
+    turn_failed count' left' now read runs =
+        inr (record { behind = runs.0; desk = refl; part = runs.1; result_is = refl })
+
+    pub turn_stopped : (count' : ℕ) (left' now : Option (List ℕ))
+        → RunsRound serves takes answers count old left before count' (record { hosts = hosts; desk = old.desk }) left'
+        now (Ok Stopped) true
+        → EndsServing serves takes answers count old left before (record { hosts = hosts; desk = old.desk }) left' now
+        (Err WriteFault)
+    turn_stopped count' left' now runs =
+        inr (record {
+          behind = runs.0;
+          desk = refl;
+          part = part_of_whole old (record { hosts = hosts; desk = old.desk }) left before runs.0 now runs.1;
+          result_is = refl;
+        })
+
+    pub turn_ended : (count' : ℕ) (left' now : Option (List ℕ))
+        → RunsRound serves takes answers count old left before count' (record { hosts = hosts; desk = old.desk }) left'
+        now (Ok Ended) true
+        → EndsServing serves takes answers count old left before (record { hosts = hosts; desk = old.desk }) left' now
+        (Ok tt)
+    turn_ended count' left' now runs =
+        inl (record {
+          mid = record { hosts = hosts; desk = old.desk };
+          behind = runs.0;
+          between = now;
+          desk = refl;
+          whole = runs.1;
+          ended = (runs.2, refl, refl);
+        })
+
+    -- why no more was read
+    pub turn_missed : (count' : ℕ) (left' now : Option (List ℕ)) (fault : WireFault)
+        → RunsRound serves takes answers count old left before count' (record { hosts = hosts; desk = old.desk }) left'
+        now (Err fault) true
+        → EndsServing serves takes answers count old left before (record { hosts = hosts; desk = old.desk }) left' now
+        (Err fault)
+    turn_missed count' left' now (BadFrame number) runs =
+        inl (record {
+          mid = record { hosts = hosts; desk = old.desk };
+          behind = runs.0;
+          between = now;
+          desk = refl;
+          whole = runs.1;
+          ended = (runs.2.0, runs.2.1, refl, refl);
+        })
+    turn_missed count' left' now ReadFault runs =
+        inl (record {
+          mid = record { hosts = hosts; desk = old.desk };
+          behind = runs.0;
+          between = now;
+          desk = refl;
+          whole = runs.1;
+          ended = (runs.2, refl, refl);
+        })
+    turn_missed count' left' now WriteFault runs = absurd runs.2
+    turn_missed count' left' now NoMemory runs =
+        inl (record {
+          mid = record { hosts = hosts; desk = old.desk };
+          behind = runs.0;
+          between = now;
+          desk = refl;
+          whole = runs.1;
+          ended = (inl runs.2, refl, refl);
+        })
+
+    module _ (count' : ℕ) (left' between now : Option (List ℕ)) (request : Request) (desk : G)
+        (runs : RunsRound serves takes answers count old left before count'
+        (record { hosts = hosts; desk = old.desk }) left' between (Ok (Next request)) true) where
+      -- a move or an inventory was not answered, or its answer not written
+      pub turn_cut : (fault : WireFault)
+          → AnswersAlone answers old.desk request between desk now (Err fault)
+          → EndsServing serves takes answers count old left before (record { hosts = hosts; desk = desk }) left' now
+          (Err fault)
+      turn_cut (BadFrame number) alone = absurd alone
+      turn_cut ReadFault alone = absurd alone
+      turn_cut WriteFault alone =
+          inl (record {
+            mid = record { hosts = hosts; desk = old.desk };
+            behind = runs.0;
+            between = between;
+            desk = refl;
+            whole = runs.1;
+            ended = (
+              refl,
+              record {
+                reads = record {
+                  request = request;
+                  read = runs.2.0;
+                  alone = record { taken = runs.2.1; host = runs.2.2 };
+                };
+                answer = alone.0;
+                answered = alone.1;
+                part = alone.2;
+              },
+            );
+          })
+      turn_cut NoMemory alone =
+          inl (record {
+            mid = record { hosts = hosts; desk = old.desk };
+            behind = runs.0;
+            between = between;
+            desk = refl;
+            whole = runs.1;
+            ended = (
+              inr (record {
+                request = request;
+                read = runs.2.0;
+                alone = record { taken = runs.2.1; host = runs.2.2 };
+              }),
+              ap (λ (g : G). record { hosts = hosts; desk = g }) alone.0,
+              alone.1,
+            );
+          })
+
+      pub turn_done : AnswersAlone answers old.desk request between desk now (Ok tt)
+          → ServesTurns serves takes answers count old left before count' (record { hosts = hosts; desk = desk }) left'
+          now
+      turn_done alone = record {
+        turns =
+            record { commands = runs.1.commands; given = runs.1.given; request = request; answer = alone.0 } ∷ [];
+        answered = (
+          record { hosts = hosts; desk = desk },
+          record {
+            commands = runs.1.taken;
+            hosts = runs.1.hosts;
+            alone = record { taken = runs.2.1; host = runs.2.2 };
+            answered = alone.1;
+          },
+          refl,
+        );
+        read =
+            subst (Consumes left left')
+            (sym (spelled_append runs.1.commands (request ∷ [])
+            ∙ ap (λ (l : List ℕ). spell_requests runs.1.commands ++ l) (append-nil (spell_request request))))
+            (Consumes-trans left runs.0 left' (spell_requests runs.1.commands) (spell_request request) runs.1.read
+            runs.2.0.1);
+        spelled = All-push IsRequest runs.1.commands request runs.1.spelled runs.2.0.0;
+        written =
+            Appends-trans before between now (spell_given runs.1.given) (spell_answer alone.0 ++ []) runs.1.written
+            (subst (Appends between now) (sym (append-nil (spell_answer alone.0))) alone.2);
+        counted = runs.2.3 ∙ sym (count_append count runs.1.commands (request ∷ []));
+      }
+
+  -- turns, and how the serving ends behind them
+  pub serves_all : (mid_count : ℕ) (old mid new : HostsState S G)
+      (left behind left' before between now : Option (List ℕ))
+      (result : Result (Unit {0}) WireFault)
+      → ServesTurns serves takes answers 0 old left before mid_count mid behind between
+      → EndsServing serves takes answers mid_count mid behind between new left' now result
+      → ServesHosts serves takes answers old left before new left' now result
+  serves_all mid_count old mid new left behind left' before between now result turns ends = record {
+    turns = turns.turns;
+    mid = mid;
+    behind = behind;
+    between = between;
+    answered = turns.answered;
+    read = turns.read;
+    spelled = turns.spelled;
+    written = turns.written;
+    ended =
+        subst (λ (n : ℕ). EndsServing serves takes answers n mid behind between new left' now result) turns.counted
+        ends;
+  }

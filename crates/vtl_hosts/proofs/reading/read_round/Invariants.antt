@@ -1,0 +1,8 @@
+use Rattle.vtl_hosts.specs.Inner.Reading.{ReadsCommands}
+use Rattle.vtl_hosts.proofs.reading.read_round.Given as goal
+
+-- the commands so far were read and dealt
+abbrev pub invariant-loop : goal.invariant-loop
+invariant-loop g l =
+    ReadsCommands (g.G.Desk.is_taken l.desk) l.fn.frames l.fn.rings (g.I.Read.remaining l.fn.reader) l.frames l.rings
+    (g.I.Read.remaining l.reader)

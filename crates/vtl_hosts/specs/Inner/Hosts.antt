@@ -1,0 +1,44 @@
+-- The thread of a host.
+use Rattle.std.specs.Prelude.{◌≡◌, ℕ, ◌<◌, false, List, [], ◌++◌, length, slice_index_or}
+use Rattle.rtrb.specs.Ring.{SameConsumer, SameProducer, received, sent}
+use Rattle.vtl_wire.specs.declared.answers.Answer.{Answer}
+use Rattle.vtl_wire.specs.declared.requests.Request.{Request}
+use Rattle.vtl_hosts.specs.declared.hosts.HostEnd.{HostEnd}
+use Rattle.vtl_hosts.specs.declared.hosts.Turn.{Turn}
+use Rattle.vtl_hosts.specs.declared.hosts.Turn.TheVariants.{Served, Empty, Stray}
+use Rattle.vtl_hosts.specs.Rounds.{AnswersAll}
+
+module _ {S : Type 0} (answers : S → Request → Answer → S → Type 0) where
+  -- requests were taken from one ring and answered, and the answers put into the other
+  pub record IsHostServed (old new : HostEnd S) : Type 0 where
+    pub requests : List Request
+    pub given : List Answer
+    pub same_requests : SameConsumer old.requests new.requests
+    pub same_answers : SameProducer old.answers new.answers
+    pub received : received new.requests ≡ received old.requests ++ requests
+    pub sent : sent new.answers ≡ sent old.answers ++ given
+    pub answered : AnswersAll answers old.server requests given new.server
+
+  -- the same, but for some requests that were taken last, of which it is noted that they were dropped
+  pub record IsHostDone (old new : HostEnd S) : Type 0 where
+    pub requests : List Request
+    pub stray : List Request
+    pub given : List Answer
+    pub same_requests : SameConsumer old.requests new.requests
+    pub same_answers : SameProducer old.answers new.answers
+    pub received : received new.requests ≡ received old.requests ++ (requests ++ stray)
+    pub sent : sent new.answers ≡ sent old.answers ++ given
+    pub answered : AnswersAll answers old.server requests given new.server
+    pub strays : new.strayed ≡ false → stray ≡ []
+
+  -- one request was answered, or there was none; or one was dropped
+  abbrev pub IsHostTurn : HostEnd S → Turn → HostEnd S → Type 0
+  IsHostTurn old Served new = IsHostServed old new
+  IsHostTurn old Empty new = IsHostServed old new
+  IsHostTurn old Stray new = IsHostDone old new
+
+  -- each host's thread has ended so
+  pub record AreHostsDone (old new : List (HostEnd S)) : Type 0 where
+    pub long : length new ≡ length old
+    pub each :
+        (k : ℕ) (d : HostEnd S) → k < length old → IsHostDone (slice_index_or old k d) (slice_index_or new k d)

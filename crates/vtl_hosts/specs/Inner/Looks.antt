@@ -1,0 +1,48 @@
+-- What is left in the rings once all threads are joined.
+use Rattle.std.specs.Prelude.{◌≡◌, ℕ, ◌<◌, Bool, true, false, List, [], ◌++◌, length, slice_index_or}
+use Rattle.rtrb.specs.Ring.{IsPair, known_items, received, sent}
+use Rattle.vtl_hosts.specs.declared.hosts.HostEnd.{HostEnd}
+use Rattle.vtl_hosts.specs.Inner.Rings.{Answers, Requests}
+
+module _ {S : Type 0} where
+  -- the ends are those of the rings of one host
+  pub record ArePairsAt (host : HostEnd S) (requests : Requests) (answers : Answers) : Type 0 where
+    pub requests_pair : IsPair requests host.requests
+    pub answers_pair : IsPair host.answers answers
+
+  -- so are those of each host
+  pub record ArePairs (hosts : List (HostEnd S)) (requests : List Requests) (answers : List Answers) : Type 0 where
+    pub as_many_requests : length requests ≡ length hosts
+    pub as_many_answers : length answers ≡ length hosts
+    pub each :
+        (k : ℕ) (h : HostEnd S) (r : Requests) (a : Answers) → k < length hosts
+        → ArePairsAt (slice_index_or hosts k h) (slice_index_or requests k r) (slice_index_or answers k a)
+
+  -- A host's rings were looked at, and are the same: what was taken from each, and what is left in it, is what was put
+  -- into it. At `true` nothing is left, and no request was dropped.
+  pub record LooksAt (host : HostEnd S) (requests : Requests) (answers : Answers)
+      (host' : HostEnd S) (requests' : Requests) (answers' : Answers) (empty : Bool) : Type 0 where
+    pub server : host'.server ≡ host.server
+    pub strayed : host'.strayed ≡ host.strayed
+    pub pairs : ArePairsAt host' requests' answers'
+    pub put_requests : sent requests' ≡ sent requests
+    pub taken_requests : received host'.requests ≡ received host.requests
+    pub put_answers : sent host'.answers ≡ sent host.answers
+    pub taken_answers : received answers' ≡ received answers
+    pub all_requests : received host'.requests ++ known_items host'.requests ≡ sent requests'
+    pub all_answers : received answers' ++ known_items answers' ≡ sent host'.answers
+    pub no_request : empty ≡ true → known_items host'.requests ≡ []
+    pub no_answer : empty ≡ true → known_items answers' ≡ []
+    pub no_stray : empty ≡ true → host'.strayed ≡ false
+
+  -- so were those of each host
+  pub record LooksAll (hosts : List (HostEnd S)) (requests : List Requests) (answers : List Answers)
+      (hosts' : List (HostEnd S)) (requests' : List Requests) (answers' : List Answers) (empty : Bool) : Type
+      0 where
+    pub long : length hosts' ≡ length hosts
+    pub as_many_requests : length requests' ≡ length hosts
+    pub as_many_answers : length answers' ≡ length hosts
+    pub each :
+        (k : ℕ) (h : HostEnd S) (r : Requests) (a : Answers) → k < length hosts
+        → LooksAt (slice_index_or hosts k h) (slice_index_or requests k r) (slice_index_or answers k a)
+        (slice_index_or hosts' k h) (slice_index_or requests' k r) (slice_index_or answers' k a) empty

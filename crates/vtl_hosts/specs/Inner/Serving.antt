@@ -1,0 +1,59 @@
+-- Rounds one after another, with moves and inventories between them.
+use Rattle.std.specs.Prelude.{◌≡◌, ◌⊎◌, ℕ, Bool, true, false, List, Option, Result, Ok, Err}
+use Rattle.std.specs.List.{All}
+use Rattle.std.specs.Io.KnownBytes.{Appends, Consumes}
+use Rattle.vtl_wire.specs.declared.answers.Answer.{Answer}
+use Rattle.vtl_wire.specs.declared.faults.WireFault.{WireFault}
+use Rattle.vtl_wire.specs.declared.faults.WireFault.TheVariants.{BadFrame, ReadFault, WriteFault, NoMemory}
+use Rattle.vtl_wire.specs.declared.requests.Request.{Request}
+use Rattle.vtl_wire.specs.Answers.{spell_answer}
+use Rattle.vtl_wire.specs.Requests.{IsRequest, spell_requests}
+use Rattle.vtl_wire.specs.Writes.{AppendsFront}
+use Rattle.vtl_hosts.specs.Turns.{AnswersTurns, EndsPart, EndsWhole, HostsState, Turn, count_on, requests_of, spell_turns}
+
+-- a move or an inventory was answered, and this is written of the answer
+abbrev pub AnswersAndWrites : {G : Type 0} → (Option (List ℕ) → Option (List ℕ) → List ℕ → Type 0)
+    → (G → Request → Answer → G → Type 0) → G → Request → Option (List ℕ) → G → Option (List ℕ) → Type 0
+AnswersAndWrites writes answers old request before new now =
+    (answer : Answer) × answers old request answer new × writes before now (spell_answer answer)
+
+-- a move or an inventory was answered, and its answer written; or a write failed, or there was no memory, and nothing
+-- was done
+abbrev pub AnswersAlone : {G : Type 0} → (G → Request → Answer → G → Type 0) → G → Request → Option (List ℕ) → G
+    → Option (List ℕ) → Result (Unit {0}) WireFault → Type 0
+AnswersAlone answers old request before new now (Ok done) =
+    AnswersAndWrites Appends answers old request before new now
+AnswersAlone answers old request before new now (Err (BadFrame number)) = ⊥
+AnswersAlone answers old request before new now (Err ReadFault) = ⊥
+AnswersAlone answers old request before new now (Err WriteFault) =
+    AnswersAndWrites AppendsFront answers old request before new now
+AnswersAlone answers old request before new now (Err NoMemory) = (new ≡ old) × (now ≡ before)
+
+module _ {S G : Type 0} (serves : S → Request → Answer → S → Type 0) (takes : G → Request → Bool)
+    (answers : G → Request → Answer → G → Type 0) where
+  -- turns were read, answered and written, and their frames counted
+  pub record ServesTurns (count : ℕ) (old : HostsState S G) (left before : Option (List ℕ)) (count' : ℕ)
+      (new : HostsState S G) (left' now : Option (List ℕ)) : Type 0 where
+    pub turns : List Turn
+    pub answered : AnswersTurns serves takes answers old turns new
+    pub read : Consumes left left' (spell_requests (requests_of turns))
+    pub spelled : All IsRequest (requests_of turns)
+    pub written : Appends before now (spell_turns turns)
+    pub counted : count' ≡ count_on count (requests_of turns)
+
+  -- the serving ends behind the last turn
+  abbrev pub EndsServing : ℕ → HostsState S G → Option (List ℕ) → Option (List ℕ) → HostsState S G
+      → Option (List ℕ) → Option (List ℕ) → Result (Unit {0}) WireFault → Type 0
+  EndsServing count old left before new left' now result =
+      EndsWhole serves takes answers count old left before new left' now result
+      ⊎ EndsPart serves takes answers old left before new left' now result
+
+  -- one more turn, or the serving ends
+  abbrev pub ServesNext : ℕ → HostsState S G → Option (List ℕ) → Option (List ℕ) → ℕ → HostsState S G
+      → Option (List ℕ) → Option (List ℕ) → Result Bool WireFault → Type 0
+  ServesNext count old left before count' new left' now (Ok true) =
+      ServesTurns count old left before count' new left' now
+  ServesNext count old left before count' new left' now (Ok false) =
+      EndsServing count old left before new left' now (Ok tt)
+  ServesNext count old left before count' new left' now (Err fault) =
+      EndsServing count old left before new left' now (Err fault)

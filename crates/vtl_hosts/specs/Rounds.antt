@@ -1,0 +1,74 @@
+-- What hosts at once are answered over one pipe (own).
+use Rattle.std.specs.Prelude.{◌≡◌, ℕ, ◌==◌, ◌<◌, ◌+◌, List, [], ◌∷◌, ◌++◌, filter, flat_map, length, slice_index_or, if◌then◌else◌}
+use Rattle.std.specs.List.{All}
+use Rattle.vtl_wire.specs.declared.answers.Answer.{Answer}
+use Rattle.vtl_wire.specs.declared.requests.Request.{Request}
+use Rattle.vtl_wire.specs.declared.requests.Request.TheVariants.{Command, Move, Inventory}
+use Rattle.vtl_wire.specs.Answers.{spell_answer}
+
+-- the host of a command; 0 of a move and of an inventory (own)
+abbrev pub host_in : Request → ℕ
+host_in (Command host drive cdb sent tag) = host
+host_in (Move from to tag) = 0
+host_in (Inventory tag) = 0
+
+-- the commands of a host, in their order (own)
+abbrev pub of_host : ℕ → List Request → List Request
+of_host host requests = filter (λ request. host_in request == host) requests
+
+-- requests are answered one after another, each from where the one before left what serves them (own)
+abbrev pub AnswersAll : {S : Type 0} → (S → Request → Answer → S → Type 0) → S → List Request → List Answer → S
+    → Type 0
+AnswersAll answers old [] [] new = new ≡ old
+AnswersAll {S} answers old (request ∷ requests) (one ∷ others) new =
+    (mid : S) × answers old request one mid × AnswersAll answers mid requests others new
+AnswersAll answers old [] (one ∷ others) new = ⊥
+AnswersAll answers old (request ∷ requests) [] new = ⊥
+
+-- an answer, with the place of the host that gave it, which is the host's number less one (own)
+pub record Given : Type 0 where
+  pub place : ℕ
+  pub answer : Answer
+
+-- the answers that the host at this place gave, in their order (own)
+abbrev pub of_place : ℕ → List Given → List Answer
+of_place place [] = []
+of_place place (one ∷ others) =
+    if one.place == place then one.answer ∷ of_place place others else of_place place others
+
+-- answers in bytes, one after the other (own)
+abbrev pub spell_given : List Given → List ℕ
+spell_given given = flat_map (λ one. spell_answer one.answer) given
+
+-- The commands of a host were answered up to some place, each once and in their order, and a beginning of these answers
+-- was given on (own).
+pub record AnswersBegun {S : Type 0} (answers : S → Request → Answer → S → Type 0)
+    (old : S) (commands : List Request) (given : List Answer) (new : S) : Type 0 where
+  pub done : List Request
+  pub left : List Request
+  pub commands_are : commands ≡ done ++ left
+  pub made : List Answer
+  pub kept : List Answer
+  pub made_are : made ≡ given ++ kept
+  pub answered : AnswersAll answers old done made new
+
+-- of each host, whose place is its number less one, all commands were answered, each once and in their order, and there
+-- are no other answers (own)
+pub record AnswersHosts {S : Type 0} (answers : S → Request → Answer → S → Type 0)
+    (old : List S) (commands : List Request) (given : List Given) (new : List S) : Type 0 where
+  pub long : length new ≡ length old
+  pub each :
+      (place : ℕ) (d : S) → place < length old
+      → AnswersAll answers (slice_index_or old place d) (of_host (place + 1) commands) (of_place place given)
+      (slice_index_or new place d)
+  pub others : All (λ one. one.place < length old) given
+
+-- the same up to some command of each host (own)
+pub record AnswersUpTo {S : Type 0} (answers : S → Request → Answer → S → Type 0)
+    (old : List S) (commands : List Request) (given : List Given) (new : List S) : Type 0 where
+  pub long : length new ≡ length old
+  pub each :
+      (place : ℕ) (d : S) → place < length old
+      → AnswersBegun answers (slice_index_or old place d) (of_host (place + 1) commands) (of_place place given)
+      (slice_index_or new place d)
+  pub others : All (λ one. one.place < length old) given

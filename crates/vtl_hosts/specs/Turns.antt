@@ -1,0 +1,163 @@
+-- Hosts that are served over one pipe, with moves and inventories between their commands (own).
+use Rattle.std.specs.Prelude.{◌≡◌, ◌⊎◌, ℕ, ◌+◌, ◌<◌, Bool, true, List, [], ◌∷◌, ◌++◌, Option, None, Some, Result, Ok, Err}
+use Rattle.std.specs.List.{All}
+use Rattle.std.specs.Io.KnownBytes.{Appends, Consumes}
+use Rattle.vtl_base.specs.Steps.{ticked}
+use Rattle.vtl_base.specs.declared.limits.TheConstants.{NEXUSES}
+use Rattle.vtl_wire.specs.declared.answers.Answer.{Answer}
+use Rattle.vtl_wire.specs.declared.faults.WireFault.{WireFault}
+use Rattle.vtl_wire.specs.declared.faults.WireFault.TheVariants.{BadFrame, ReadFault, WriteFault, NoMemory}
+use Rattle.vtl_wire.specs.declared.requests.Request.{Request}
+use Rattle.vtl_wire.specs.Answers.{spell_answer}
+use Rattle.vtl_wire.specs.Reads.{LacksData, ReadsRequest, TakesSome}
+use Rattle.vtl_wire.specs.Requests.{IsRequest, spell_requests}
+use Rattle.vtl_wire.specs.Serving.{RefusesNext}
+use Rattle.vtl_wire.specs.Writes.{AppendsFront}
+use Rattle.vtl_hosts.specs.Rounds.{AnswersHosts, AnswersUpTo, Given, host_in, spell_given}
+
+-- how many frames there are behind so many and these; the number is held at its greatest value (own)
+abbrev pub count_on : ℕ → List Request → ℕ
+count_on count [] = count
+count_on count (request ∷ requests) = count_on (ticked count) requests
+
+-- a request is a command of a host, from 1 to 64, and is taken (own)
+pub record IsCommand (takes : Request → Bool) (request : Request) : Type 0 where
+  pub taken : takes request ≡ true
+  pub place : ℕ
+  pub host : host_in request ≡ place + 1
+  pub within : place < NEXUSES
+
+-- a request is of no host, and is taken: a move or an inventory (own)
+pub record IsAlone (takes : Request → Bool) (request : Request) : Type 0 where
+  pub taken : takes request ≡ true
+  pub host : host_in request ≡ 0
+
+-- what serves hosts, each in its place, and what serves the requests that are of none (own)
+pub record HostsState (S G : Type 0) : Type 0 where
+  pub hosts : List S
+  pub desk : G
+
+-- a turn: commands of hosts, their answers in the order in which they were written, and the move or the inventory
+-- behind them with its answer (own)
+pub record Turn : Type 0 where
+  pub commands : List Request
+  pub given : List Given
+  pub request : Request
+  pub answer : Answer
+
+-- the requests of turns, in their order (own)
+abbrev pub requests_of : List Turn → List Request
+requests_of [] = []
+requests_of (turn ∷ turns) = turn.commands ++ turn.request ∷ requests_of turns
+
+-- the answers of turns in bytes, in the order in which they were written (own)
+abbrev pub spell_turns : List Turn → List ℕ
+spell_turns [] = []
+spell_turns (turn ∷ turns) = spell_given turn.given ++ (spell_answer turn.answer ++ spell_turns turns)
+
+module _ {S G : Type 0} (serves : S → Request → Answer → S → Type 0) (takes : G → Request → Bool)
+    (answers : G → Request → Answer → G → Type 0) where
+  -- A turn: commands of hosts that are taken are answered, all of each host in their order. Then a move or an
+  -- inventory that is taken is answered (own).
+  pub record AnswersTurn (old : HostsState S G) (turn : Turn) (new : HostsState S G) : Type 0 where
+    pub commands : All (IsCommand (takes old.desk)) turn.commands
+    pub hosts : AnswersHosts serves old.hosts turn.commands turn.given new.hosts
+    pub alone : IsAlone (takes old.desk) turn.request
+    pub answered : answers old.desk turn.request turn.answer new.desk
+
+  -- turns, one after another (own)
+  abbrev pub AnswersTurns : HostsState S G → List Turn → HostsState S G → Type 0
+  AnswersTurns old [] new = new ≡ old
+  AnswersTurns old (turn ∷ turns) new = (mid : HostsState S G) × AnswersTurn old turn mid × AnswersTurns mid turns new
+
+  -- The commands behind the last turn: they were read, and of each host some were answered, from the first on; and some
+  -- of these answers were given on (own).
+  pub record ServesLast (Writes : List Given → Type 0)
+      (Answered : List S → List Request → List Given → List S → Type 0)
+      (old : HostsState S G) (left : Option (List ℕ)) (new : HostsState S G) (left' : Option (List ℕ)) : Type 0 where
+    pub commands : List Request
+    pub given : List Given
+    pub read : Consumes left left' (spell_requests commands)
+    pub spelled : All IsRequest commands
+    pub taken : All (IsCommand (takes old.desk)) commands
+    pub hosts : Answered old.hosts commands given new.hosts
+    pub written : Writes given
+
+  -- all were answered, and the answers written (own)
+  abbrev pub ServesWhole : HostsState S G → Option (List ℕ) → Option (List ℕ) → HostsState S G → Option (List ℕ)
+      → Option (List ℕ) → Type 0
+  ServesWhole old left before new left' now =
+      ServesLast (λ given. Appends before now (spell_given given)) (AnswersHosts serves) old left new left'
+
+  -- a beginning of the answers was written (own)
+  abbrev pub ServesPart : HostsState S G → Option (List ℕ) → Option (List ℕ) → HostsState S G → Option (List ℕ)
+      → Option (List ℕ) → Type 0
+  ServesPart old left before new left' now =
+      ServesLast (λ given. AppendsFront before now (spell_given given)) (AnswersUpTo serves) old left new left'
+
+  -- a move or an inventory was read, and is taken (own)
+  pub record ReadsAlone (desk : G) (left left' : Option (List ℕ)) : Type 0 where
+    pub request : Request
+    pub read : ReadsRequest left left' (Some request)
+    pub alone : IsAlone (takes desk) request
+
+  -- it was answered, and a beginning of the answer was written (own)
+  pub record ServesAlonePart (old : G) (left before : Option (List ℕ)) (new : G) (left' now : Option (List ℕ)) : Type
+      0 where
+    pub reads : ReadsAlone old left left'
+    pub answer : Answer
+    pub answered : answers old reads.request answer new
+    pub part : AppendsFront before now (spell_answer answer)
+
+  -- what comes behind the commands that were answered, so that no more is served (own)
+  abbrev pub EndsBehind : ℕ → HostsState S G → Option (List ℕ) → Option (List ℕ) → HostsState S G → Option (List ℕ)
+      → Option (List ℕ) → Result (Unit {0}) WireFault → Type 0
+  -- the input has ended
+  EndsBehind count old left before new left' now (Ok done) =
+      ReadsRequest left left' None × (new ≡ old) × (now ≡ before)
+  -- the next frame is refused, and this is its number
+  EndsBehind count old left before new left' now (Err (BadFrame number)) =
+      (number ≡ ticked count) × RefusesNext (takes old.desk) left left' × (new ≡ old) × (now ≡ before)
+  -- a read failed
+  EndsBehind count old left before new left' now (Err ReadFault) =
+      TakesSome left left' × (new ≡ old) × (now ≡ before)
+  -- a move or an inventory was served, and its answer not written whole, or not known to be
+  EndsBehind count old left before new left' now (Err WriteFault) =
+      (new.hosts ≡ old.hosts) × ServesAlonePart old.desk left before new.desk left' now
+  -- there was no memory for the data of a command, or for the answer to a move or an inventory
+  EndsBehind count old left before new left' now (Err NoMemory) =
+      (LacksData left left' ⊎ ReadsAlone old.desk left left') × (new ≡ old) × (now ≡ before)
+
+  -- how the serving ends behind so many frames and the last turn: the commands behind it were all answered, and what
+  -- follows ends it; or a write failed (own)
+  pub record EndsWhole (count : ℕ) (old : HostsState S G) (left before : Option (List ℕ)) (new : HostsState S G)
+      (left' now : Option (List ℕ)) (result : Result (Unit {0}) WireFault) : Type 0 where
+    pub mid : HostsState S G
+    pub behind : Option (List ℕ)
+    pub between : Option (List ℕ)
+    pub desk : mid.desk ≡ old.desk
+    pub whole : ServesWhole old left before mid behind between
+    pub ended : EndsBehind (count_on count whole.commands) mid behind between new left' now result
+
+  -- a write failed: what was read behind the commands is not said (own)
+  pub record EndsPart (old : HostsState S G) (left before : Option (List ℕ)) (new : HostsState S G)
+      (left' now : Option (List ℕ)) (result : Result (Unit {0}) WireFault) : Type 0 where
+    pub behind : Option (List ℕ)
+    pub desk : new.desk ≡ old.desk
+    pub part : ServesPart old left before new behind now
+    pub result_is : result ≡ Err WriteFault
+
+  -- An input was read, and its requests were served: turns, and what is behind them (own).
+  pub record ServesHosts (old : HostsState S G) (left before : Option (List ℕ)) (new : HostsState S G)
+      (left' now : Option (List ℕ)) (result : Result (Unit {0}) WireFault) : Type 0 where
+    pub turns : List Turn
+    pub mid : HostsState S G
+    pub behind : Option (List ℕ)
+    pub between : Option (List ℕ)
+    pub answered : AnswersTurns old turns mid
+    pub read : Consumes left behind (spell_requests (requests_of turns))
+    pub spelled : All IsRequest (requests_of turns)
+    pub written : Appends before between (spell_turns turns)
+    pub ended :
+        EndsWhole (count_on 0 (requests_of turns)) mid behind between new left' now result
+        ⊎ EndsPart mid behind between new left' now result

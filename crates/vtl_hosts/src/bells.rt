@@ -1,0 +1,163 @@
+//! Bells, by which threads that wait for each other are woken. No contract speaks of them.
+use std::alloc::{AllocError, Global};
+use std::sync::atomic::{AtomicBool, Ordering};
+use std::sync::{Condvar, Mutex, Wait};
+
+// How often a bell rang, whether nothing more comes, and whether a thread waits.
+#[derive(Clone, Copy, Drop)]
+struct Rung {
+    count: u64,
+    closed: bool,
+    waiting: bool,
+}
+
+/// A bell. Who looks at its count first, and then at what it waits for, misses nothing. One thread waits for it.
+#[derive(Drop)]
+pub(crate) struct Bell {
+    rung: Mutex<Rung>,
+    moved: Condvar,
+}
+
+impl Bell {
+    pub(crate) fn new() -> Bell {
+        Bell {
+            rung: Mutex::new(Rung {
+                count: 0,
+                closed: false,
+                waiting: false,
+            }),
+            moved: Condvar::new(),
+        }
+    }
+
+    // Rings once, and says whether more comes.
+    fn strike<R: Wait>(&self, rt: &R, closed: Option<bool>) {
+        let mut rung = self.rung.lock(rt);
+        rung.count = rung.count.wrapping_add(1);
+        if let Some(closed) = closed {
+            rung.closed = closed;
+        }
+        if rung.waiting {
+            self.moved.notify_all();
+        }
+    }
+
+    /// Wakes who waits.
+    pub(crate) fn ring<R: Wait>(&self, rt: &R) {
+        self.strike(rt, None);
+    }
+
+    /// Nothing more comes.
+    pub(crate) fn close<R: Wait>(&self, rt: &R) {
+        self.strike(rt, Some(true));
+    }
+
+    /// Something may come again.
+    pub(crate) fn reopen<R: Wait>(&self, rt: &R) {
+        self.strike(rt, Some(false));
+    }
+
+    /// How often it rang.
+    pub(crate) fn count<R: Wait>(&self, rt: &R) -> u64 {
+        self.rung.lock(rt).count
+    }
+
+    /// Waits until it rang once more.
+    pub(crate) fn wait<R: Wait>(&self, rt: &R, count: u64) {
+        let mut held = self.rung.lock(rt);
+        held.waiting = true;
+        let mut rung = self.moved.wait_while(rt, held, |rung| rung.count == count);
+        rung.waiting = false;
+    }
+
+    /// Waits until it rang once more or nothing more comes, and says whether nothing does.
+    pub(crate) fn wait_for_more<R: Wait>(&self, rt: &R, count: u64) -> bool {
+        let mut held = self.rung.lock(rt);
+        held.waiting = true;
+        let mut rung = self
+            .moved
+            .wait_while(rt, held, |rung| rung.count == count && !rung.closed);
+        rung.waiting = false;
+        rung.closed
+    }
+}
+
+/// The bells of a host: for its commands, and for room for its answers.
+#[derive(Drop)]
+pub(crate) struct HostBells {
+    pub(crate) commands: Bell,
+    pub(crate) room: Bell,
+}
+
+/// The bells of all threads: of each host, by its place, of who reads and of who writes; and whether a write failed.
+#[derive(Drop)]
+pub(crate) struct Bells {
+    hosts: Vec<HostBells>,
+    pub(crate) reader: Bell,
+    pub(crate) writer: Bell,
+    stopped: AtomicBool,
+}
+
+impl Bells {
+    /// Bells for so many hosts.
+    pub(crate) fn new(alloc: Global, count: usize) -> Result<Bells, AllocError> {
+        let mut hosts = Vec::with_capacity(alloc, count)?;
+        for _ in 0..count {
+            hosts.push(HostBells {
+                commands: Bell::new(),
+                room: Bell::new(),
+            })?;
+        }
+        Ok(Bells {
+            hosts,
+            reader: Bell::new(),
+            writer: Bell::new(),
+            stopped: AtomicBool::new(false),
+        })
+    }
+
+    /// The bells of the host at this place.
+    pub(crate) fn host(&self, place: usize) -> Option<&HostBells> {
+        self.hosts.get(place)
+    }
+
+    /// A command came for the host at this place.
+    pub(crate) fn ring_command<R: Wait>(&self, rt: &R, place: usize) {
+        if let Some(bells) = self.hosts.get(place) {
+            bells.commands.ring(rt);
+        }
+    }
+
+    /// There is room for an answer of the host at this place.
+    pub(crate) fn ring_room<R: Wait>(&self, rt: &R, place: usize) {
+        if let Some(bells) = self.hosts.get(place) {
+            bells.room.ring(rt);
+        }
+    }
+
+    /// A round begins: something may come.
+    pub(crate) fn reopen<R: Wait>(&self, rt: &R) {
+        self.writer.reopen(rt);
+        for bells in &self.hosts {
+            bells.commands.reopen(rt);
+        }
+    }
+
+    /// Nothing more comes for any host.
+    pub(crate) fn close_hosts<R: Wait>(&self, rt: &R) {
+        for bells in &self.hosts {
+            bells.commands.close(rt);
+        }
+    }
+
+    /// A write failed: nothing more is to be read.
+    pub(crate) fn stop<R: Wait>(&self, rt: &R) {
+        self.stopped.store(true, Ordering::SeqCst);
+        self.reader.ring(rt);
+    }
+
+    /// Whether a write failed.
+    pub(crate) fn is_stopped(&self) -> bool {
+        self.stopped.load(Ordering::SeqCst)
+    }
+}

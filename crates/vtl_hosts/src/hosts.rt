@@ -1,0 +1,81 @@
+//! The thread of a host: its commands are taken from a ring, carried out, and answered into another.
+ghost use Rattle.vtl_hosts.specs.Inner.Hosts.{IsHostDone, IsHostTurn};
+
+use crate::bells::{Bells, HostBells};
+use crate::pushing::push_waiting;
+use crate::servers::Host;
+use rtrb::{Consumer, Producer};
+use std::sync::Wait;
+use vtl_wire::{Answer, Request};
+
+/// What a host's thread has: what serves the host, its requests, its answers, and whether a request came that is not
+/// taken, which then was dropped.
+#[derive(Drop)]
+pub(crate) struct HostEnd<S: Host> {
+    pub(crate) server: S,
+    pub(crate) requests: Consumer<Request>,
+    pub(crate) answers: Producer<Answer>,
+    pub(crate) strayed: bool,
+}
+
+// What was done.
+pub(crate) enum Turn {
+    // One request was answered.
+    Served,
+    // There was none.
+    Empty,
+    // One is not taken.
+    Stray,
+}
+
+// Answers the next request, where there is one.
+fn answer_next<S: Host, R: Wait>(
+    rt: &R,
+    bells: &Bells,
+    own: &HostBells,
+    host: &mut HostEnd<S>,
+) -> Turn
+    ensures { IsHostTurn S.answers host.old result host.new }
+{
+    let Ok(request) = host.requests.pop() else {
+        return Turn::Empty;
+    };
+    bells.reader.ring(rt);
+    if !host.server.takes(&request) {
+        host.strayed = true;
+        return Turn::Stray;
+    }
+    let answer = host.server.answer(request);
+    push_waiting(rt, &own.room, &mut host.answers, answer);
+    bells.writer.ring(rt);
+    Turn::Served
+}
+
+/// Answers the requests of the host at this place, in their order, until nothing more comes.
+pub(crate) fn answer_all<S: Host, R: Wait>(
+    rt: &R,
+    bells: &Bells,
+    place: usize,
+    host: &mut HostEnd<S>,
+)
+    ensures { IsHostDone S.answers host.old host.new }
+{
+    let Some(own) = bells.host(place) else {
+        return;
+    };
+    let mut is_last = false;
+    for _ in rt.forever() {
+        let count = own.commands.count(rt);
+        match answer_next(rt, bells, own, host) {
+            Turn::Served => {}
+            Turn::Stray => return,
+            Turn::Empty => {
+                if is_last {
+                    return;
+                }
+                is_last = own.commands.wait_for_more(rt, count);
+            }
+        }
+    }
+    unreachable!()
+}

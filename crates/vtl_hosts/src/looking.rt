@@ -1,0 +1,49 @@
+//! What is left in the rings once all threads are joined.
+ghost use Rattle.std.specs.Prelude.{◌≡◌, ◌&&◌, length};
+ghost use Rattle.rtrb.specs.Ring.{IsPair};
+ghost use Rattle.vtl_hosts.specs.Inner.Looks.{ArePairs, LooksAll, LooksAt};
+
+use crate::hosts::HostEnd;
+use crate::servers::Host;
+use rtrb::{Consumer, Producer};
+use vtl_wire::{Answer, Request};
+
+// Whether nothing is left in a host's rings, and no request was dropped.
+fn is_empty_at<S: Host>(
+    host: &mut HostEnd<S>,
+    requests: &mut Producer<Request>,
+    answers: &mut Consumer<Answer>,
+) -> bool
+    requires requests { IsPair requests.old host.old.requests }
+    requires answers { IsPair host.old.answers answers.old }
+    ensures { LooksAt host.old requests.old answers.old host.new requests.new answers.new result }
+{
+    let waiting = host.requests.slots_beside(requests);
+    let unwritten = answers.slots_beside(&mut host.answers);
+    waiting == 0 && unwritten == 0 && !host.strayed
+}
+
+// Whether both are so.
+fn both(one: bool, other: bool) -> bool
+    ensures { result ≡ (one && other) }
+{
+    one && other
+}
+
+/// Whether nothing is left in the rings of any host, and no request was dropped. It is so where every thread did its
+/// work to the end, and is looked at so that no contract has to speak of that.
+pub(crate) fn are_empty<S: Host>(
+    hosts: &mut [HostEnd<S>],
+    requests: &mut [Producer<Request>],
+    answers: &mut [Consumer<Answer>],
+) -> bool
+    requires { ArePairs hosts.old requests.old answers.old }
+    ensures { LooksAll hosts.old requests.old answers.old hosts.new requests.new answers.new result }
+{
+    let mut empty = true;
+    for place in 0..hosts.len() {
+        let here = is_empty_at(&mut hosts[place], &mut requests[place], &mut answers[place]);
+        empty = both(empty, here);
+    }
+    empty
+}

@@ -1,0 +1,92 @@
+//! The thread that reads: each command goes to its host's ring.
+ghost use Rattle.std.specs.Prelude.{◌≡◌, ◌<◌, ◌+◌, IfSome, IfNone, length};
+ghost use Rattle.vtl_base.specs.declared.limits.TheConstants.{NEXUSES};
+ghost use Rattle.vtl_hosts.specs.Rounds.{host_in};
+ghost use Rattle.vtl_hosts.specs.Inner.Reading.{ReadsNext, ReadsRound};
+
+use crate::bells::Bells;
+use crate::pushing::push_waiting;
+use crate::servers::Desk;
+use rtrb::Producer;
+use std::alloc::Global;
+use std::io::Read;
+use std::sync::Wait;
+use vtl_wire::{Request, RequestReader, WireFault};
+
+/// Why no more commands are read.
+#[derive(Drop)]
+pub(crate) enum Break {
+    /// The input has ended.
+    Ended,
+    /// A write failed.
+    Stopped,
+    /// A move or an inventory came.
+    Next(Request),
+}
+
+// The place of a command's host.
+fn place_of(request: &Request) -> Option<usize>
+    ensures some { IfSome result (λ place. (host_in request.now ≡ place + 1) × (place < NEXUSES)) }
+    ensures none { IfNone result (host_in request.now ≡ 0) }
+{
+    match request {
+        Request::Command { host, .. } => Some(usize::from(host.number()) - 1),
+        Request::Move { .. } | Request::Inventory { .. } => None,
+    }
+}
+
+// Reads a request. A command goes to its host, and then there is no break.
+fn read_next<G: Desk, I: Read, R: Wait>(
+    rt: &R,
+    alloc: Global,
+    desk: &G,
+    bells: &Bells,
+    frames: &mut RequestReader,
+    reader: &mut I,
+    rings: &mut [Producer<Request>],
+) -> Result<Option<Break>, WireFault>
+    requires { length rings.old ≡ NEXUSES }
+    ensures { ReadsNext (G.is_taken desk.now) frames.old rings.old (I.remaining reader.old) frames.new rings.new
+        (I.remaining reader.new) result }
+{
+    if bells.is_stopped() {
+        return Ok(Some(Break::Stopped));
+    }
+    let Some(request) = frames.next(alloc, reader)? else {
+        return Ok(Some(Break::Ended));
+    };
+    if !desk.takes(&request) {
+        return Err(WireFault::BadFrame {
+            frame: frames.frames(),
+        });
+    }
+    let Some(place) = place_of(&request) else {
+        return Ok(Some(Break::Next(request)));
+    };
+    push_waiting(rt, &bells.reader, &mut rings[place], request);
+    bells.ring_command(rt, place);
+    Ok(None)
+}
+
+/// Reads commands, each of which goes to its host, up to something else.
+pub(crate) fn read_round<G: Desk, I: Read, R: Wait>(
+    rt: &R,
+    alloc: Global,
+    desk: &G,
+    bells: &Bells,
+    frames: &mut RequestReader,
+    reader: &mut I,
+    rings: &mut [Producer<Request>],
+) -> Result<Break, WireFault>
+    requires { length rings.old ≡ NEXUSES }
+    ensures { ReadsRound (G.is_taken desk.now) frames.old rings.old (I.remaining reader.old) frames.new rings.new
+        (I.remaining reader.new) result }
+{
+    for _ in rt.forever() {
+        match read_next(rt, alloc, desk, bells, frames, reader, rings)? {
+            Some(found) => return Ok(found),
+            None => {}
+        }
+    }
+    unreachable!()
+}

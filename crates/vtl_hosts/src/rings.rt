@@ -1,0 +1,46 @@
+//! The rings between the threads.
+ghost use Rattle.std.specs.Prelude.{◌≡◌, [], length, IfOk};
+ghost use Rattle.rtrb.specs.Ring.{IsPair, received, sent};
+ghost use Rattle.vtl_base.specs.declared.limits.TheConstants.{NEXUSES};
+
+use rtrb::{Consumer, Producer, RingBuffer};
+use std::alloc::{AllocError, Global};
+use vtl_base::limits::NEXUSES;
+use vtl_wire::{Answer, Request};
+
+/// The two rings of a host, each with room for one: a request that waits while another is carried out, and an answer
+/// that is not written yet. Nothing went through them.
+#[derive(Drop)]
+pub(crate) struct Rings {
+    pub(crate) requests: Producer<Request>,
+    pub(crate) to_host: Consumer<Request>,
+    pub(crate) from_host: Producer<Answer>,
+    pub(crate) answers: Consumer<Answer>,
+    ghost requests_pair: { IsPair requests to_host },
+    ghost answers_pair: { IsPair from_host answers },
+    ghost no_request: { (sent requests ≡ []) × (received to_host ≡ []) },
+    ghost no_answer: { (sent from_host ≡ []) × (received answers ≡ []) },
+}
+
+// Rings with nothing in them.
+fn new_rings(alloc: Global) -> Result<Rings, AllocError> {
+    let (requests, to_host) = RingBuffer::new(alloc, 1)?;
+    let (from_host, answers) = RingBuffer::new(alloc, 1)?;
+    Ok(Rings {
+        requests,
+        to_host,
+        from_host,
+        answers,
+    })
+}
+
+/// The rings of all hosts.
+pub(crate) fn make_rings(alloc: Global) -> Result<Vec<Rings>, AllocError>
+    ensures { IfOk result (λ rings. length rings.items ≡ NEXUSES) }
+{
+    let mut rings = Vec::with_capacity(alloc, NEXUSES as usize)?;
+    for _ in 0..NEXUSES {
+        rings.push(new_rings(alloc)?)?;
+    }
+    Ok(rings)
+}

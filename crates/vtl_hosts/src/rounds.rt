@@ -1,0 +1,213 @@
+//! A round: commands are read, carried out and answered at once, up to a move, an inventory or the end.
+ghost use Rattle.std.specs.Prelude.{◌≡◌, ◌&&◌, not, length, false, true};
+ghost use Rattle.vtl_base.specs.declared.limits.TheConstants.{NEXUSES};
+ghost use Rattle.vtl_hosts.specs.Inner.Hosts.{AreHostsDone, IsHostDone};
+ghost use Rattle.vtl_hosts.specs.Inner.Reading.{ReadsRound};
+ghost use Rattle.vtl_hosts.specs.Inner.Writing.{WritesAll};
+ghost use Rattle.vtl_hosts.specs.Inner.Idle.{AreIdle, RunsRound, servers_of};
+
+use crate::bells::Bells;
+use crate::ends::Ends;
+use crate::hosts::{HostEnd, answer_all};
+use crate::looking::are_empty;
+use crate::reading::{Break, read_round};
+use crate::servers::{Desk, Host};
+use crate::writing::write_round;
+use rtrb::{Consumer, Producer};
+use std::alloc::Global;
+use std::io::{Read, Write};
+use std::marker::{Send, Sync};
+use std::sync::Wait;
+use std::thread;
+use std::thread::Threads;
+use vtl_wire::{Answer, Request, RequestReader, WireFault};
+
+/// How a round ended: why no more was read, and whether all commands were answered and all answers written.
+#[derive(Drop)]
+pub(crate) struct Round {
+    pub(crate) read: Result<Break, WireFault>,
+    pub(crate) whole: bool,
+}
+
+// Answers the commands of each host in a thread of its own, until nothing more comes, and then lets the writer end.
+fn answer_hosts<S: Host + Send, R: Threads + Wait + Sync>(
+    rt: &R,
+    bells: &Bells,
+    hosts: &mut [HostEnd<S>],
+)
+    ensures { AreHostsDone S.answers hosts.old hosts.new }
+{
+    let answer = |place: usize, host: &mut HostEnd<S>|
+        ensures { IsHostDone S.answers host.entry.now host.exit.now }
+    { answer_all(rt, bells, place, host) };
+    thread::for_each_mut(rt, hosts, 64, &answer);
+    bells.writer.close(rt);
+}
+
+// Reads, and then lets the hosts end.
+fn read_and_close<G: Desk, I: Read, R: Wait>(
+    rt: &R,
+    alloc: Global,
+    desk: &G,
+    bells: &Bells,
+    frames: &mut RequestReader,
+    reader: &mut I,
+    rings: &mut [Producer<Request>],
+) -> Result<Break, WireFault>
+    requires { length rings.old ≡ NEXUSES }
+    ensures { ReadsRound (G.is_taken desk.now) frames.old rings.old (I.remaining reader.old) frames.new rings.new
+        (I.remaining reader.new) result }
+{
+    let read = read_round(rt, alloc, desk, bells, frames, reader, rings);
+    bells.close_hosts(rt);
+    read
+}
+
+// Answers and writes at once, and says whether a write failed.
+fn answer_and_write<S: Host + Send, W: Write, R: Threads + Wait + Sync>(
+    rt: &R,
+    bells: &Bells,
+    writer: &mut W,
+    answers: &mut [Consumer<Answer>],
+    hosts: &mut [HostEnd<S>],
+) -> bool
+    ensures hosts { AreHostsDone S.answers hosts.old hosts.new }
+    ensures written { WritesAll answers.old (W.contents writer.old) false answers.new (W.contents writer.new) result }
+{
+    let mut answer = ||
+        ensures { AreHostsDone S.answers hosts.entry.now hosts.exit.now }
+    { answer_hosts(rt, bells, hosts) };
+    let mut write = || -> bool
+        ensures { WritesAll answers.entry.now (W.contents writer.entry.now) false answers.exit.now
+            (W.contents writer.exit.now) result }
+    { write_round(rt, bells, writer, answers) };
+    let (_, failed) = thread::join_mut(rt, &mut answer, &mut write);
+    failed
+}
+
+// What the threads of a round say: why no more was read, and whether a write failed.
+#[derive(Drop)]
+struct Said {
+    read: Result<Break, WireFault>,
+    failed: bool,
+}
+
+// Reads, answers and writes at once.
+fn run_threads<S: Host + Send, G: Desk, R: Threads + Wait + Sync, I: Read, W: Write + Send>(
+    rt: &R,
+    alloc: Global,
+    desk: &G,
+    bells: &Bells,
+    frames: &mut RequestReader,
+    reader: &mut I,
+    writer: &mut W,
+    answers: &mut [Consumer<Answer>],
+    requests: &mut [Producer<Request>],
+    hosts: &mut [HostEnd<S>],
+) -> Said
+    requires { length requests.old ≡ NEXUSES }
+    ensures read { ReadsRound (G.is_taken desk.now) frames.old requests.old (I.remaining reader.old) frames.new
+        requests.new (I.remaining reader.new) result.read }
+    ensures hosts { AreHostsDone S.answers hosts.old hosts.new }
+    ensures written { WritesAll answers.old (W.contents writer.old) false answers.new (W.contents writer.new)
+        result.failed }
+{
+    let mut serve = || -> bool
+        ensures hosts { AreHostsDone S.answers hosts.entry.now hosts.exit.now }
+        ensures written { WritesAll answers.entry.now (W.contents writer.entry.now) false answers.exit.now
+            (W.contents writer.exit.now) result }
+    { answer_and_write(rt, bells, writer, answers, hosts) };
+    let mut read = || -> Result<Break, WireFault>
+        requires { length requests.now ≡ NEXUSES }
+        ensures { ReadsRound (G.is_taken desk.entry.now) frames.entry.now requests.entry.now
+            (I.remaining reader.entry.now) frames.exit.now requests.exit.now (I.remaining reader.exit.now) result }
+    { read_and_close(rt, alloc, desk, bells, frames, reader, requests) };
+    let (failed, read) = thread::join_mut(rt, &mut serve, &mut read);
+    Said { read, failed }
+}
+
+// Reads, answers and writes at once, and looks at what is left.
+fn run_round<S: Host + Send, G: Desk, R: Threads + Wait + Sync, I: Read, W: Write + Send>(
+    rt: &R,
+    alloc: Global,
+    desk: &G,
+    bells: &Bells,
+    frames: &mut RequestReader,
+    reader: &mut I,
+    writer: &mut W,
+    answers: &mut [Consumer<Answer>],
+    requests: &mut [Producer<Request>],
+    hosts: &mut [HostEnd<S>],
+) -> Round
+    requires idle { AreIdle hosts.old requests.old answers.old }
+    requires all { length hosts.old ≡ NEXUSES }
+    ensures runs { RunsRound S.answers G.is_taken G.answers frames.old
+        (record { hosts = servers_of hosts.old; desk = desk.now }) (I.remaining reader.old) (W.contents writer.old)
+        frames.new (record { hosts = servers_of hosts.new; desk = desk.now }) (I.remaining reader.new)
+        (W.contents writer.new) result.read result.whole }
+    ensures idle { result.whole ≡ true → AreIdle hosts.new requests.new answers.new }
+{
+    let said = run_threads(
+        rt, alloc, desk, bells, frames, reader, writer, answers, requests, hosts,
+    );
+    let empty = are_empty(hosts, requests, answers);
+    Round {
+        read: said.read,
+        whole: is_whole(said.failed, empty),
+    }
+}
+
+// Whether no write failed, and nothing is left.
+fn is_whole(failed: bool, empty: bool) -> bool
+    ensures { result ≡ (not failed && empty) }
+{
+    !failed && empty
+}
+
+/// Reads commands, and answers each host's in a thread of its own, up to a move, an inventory, the end of the input or
+/// a frame that is refused. All commands that were read are answered before it returns.
+pub(crate) fn serve_round<
+    S: Host + Send,
+    G: Desk,
+    R: Threads + Wait + Sync,
+    I: Read,
+    W: Write + Send,
+>(
+    rt: &R,
+    alloc: Global,
+    desk: &G,
+    ends: &mut Ends<S>,
+    frames: &mut RequestReader,
+    reader: &mut I,
+    writer: &mut W,
+) -> Round
+    requires idle { AreIdle ends.old.hosts.items ends.old.requests.items ends.old.answers.items }
+    requires all { length ends.old.hosts.items ≡ NEXUSES }
+    ensures runs { RunsRound S.answers G.is_taken G.answers frames.old
+        (record { hosts = servers_of ends.old.hosts.items; desk = desk.now }) (I.remaining reader.old)
+        (W.contents writer.old) frames.new (record { hosts = servers_of ends.new.hosts.items; desk = desk.now })
+        (I.remaining reader.new) (W.contents writer.new) result.read result.whole }
+    ensures idle { result.whole ≡ true
+        → AreIdle ends.new.hosts.items ends.new.requests.items ends.new.answers.items }
+    ensures all { length ends.new.hosts.items ≡ NEXUSES }
+{
+    let Ends {
+        hosts,
+        requests,
+        answers,
+        bells,
+    } = ends;
+    bells.reopen(rt);
+    run_round(
+        rt,
+        alloc,
+        desk,
+        bells,
+        frames,
+        reader,
+        writer,
+        answers.as_mut_slice(),
+        requests.as_mut_slice(),
+        hosts.as_mut_slice(),
+    )
+}

@@ -1,0 +1,146 @@
+//! Rounds one after another, with moves and inventories between them.
+ghost use Rattle.std.specs.Prelude.{◌≡◌, ◌≤◌, [], length, true, IfOk, IfErr, vec_capacity};
+ghost use Rattle.vtl_base.specs.declared.limits.TheConstants.{NEXUSES};
+ghost use Rattle.vtl_hosts.specs.Rounds.{host_in};
+ghost use Rattle.vtl_hosts.specs.Turns.{ServesHosts};
+ghost use Rattle.vtl_hosts.specs.Inner.Idle.{AreIdle, servers_of};
+ghost use Rattle.vtl_hosts.specs.Inner.Serving.{AnswersAlone, ServesNext};
+
+use crate::ends::{Ends, make_rooms};
+use crate::reading::Break;
+use crate::rounds::serve_round;
+use crate::servers::{Desk, Host};
+use std::alloc::Global;
+use std::io::{Read, Write};
+use std::marker::{Send, Sync};
+use std::sync::Wait;
+use std::thread::Threads;
+use vtl_base::limits::NEXUSES;
+use vtl_wire::{Request, RequestReader, WireFault, write_if_fits};
+
+/// What serves the hosts once no more is served, and how that came.
+#[derive(Drop)]
+pub struct Served<S> {
+    /// What serves the hosts, each in its place.
+    pub servers: Vec<S>,
+    /// Whether the input was served to its end.
+    pub outcome: Result<(), WireFault>,
+}
+
+// Serves a move or an inventory, and writes its answer.
+fn serve_alone<G: Desk, W: Write>(
+    alloc: Global,
+    desk: &mut G,
+    request: Request,
+    writer: &mut W,
+) -> Result<(), WireFault>
+    requires taken { G.is_taken desk.old request ≡ true }
+    requires host { host_in request ≡ 0 }
+    ensures { AnswersAlone G.answers desk.old request (W.contents writer.old) desk.new (W.contents writer.new)
+        result }
+{
+    let answer = desk.serve(alloc, request)?;
+    write_if_fits(writer, &answer)
+}
+
+// Serves a round, and the move or the inventory behind it. At `false` the input has ended.
+fn serve_turn<S: Host + Send, G: Desk, R: Threads + Wait + Sync, I: Read, W: Write + Send>(
+    rt: &R,
+    alloc: Global,
+    desk: &mut G,
+    ends: &mut Ends<S>,
+    frames: &mut RequestReader,
+    reader: &mut I,
+    writer: &mut W,
+) -> Result<bool, WireFault>
+    requires idle { AreIdle ends.old.hosts.items ends.old.requests.items ends.old.answers.items }
+    requires all { length ends.old.hosts.items ≡ NEXUSES }
+    ensures serves { ServesNext S.answers G.is_taken G.answers frames.old
+        (record { hosts = servers_of ends.old.hosts.items; desk = desk.old }) (I.remaining reader.old)
+        (W.contents writer.old) frames.new (record { hosts = servers_of ends.new.hosts.items; desk = desk.new })
+        (I.remaining reader.new) (W.contents writer.new) result }
+    ensures idle { IfOk result (λ more. more ≡ true
+        → AreIdle ends.new.hosts.items ends.new.requests.items ends.new.answers.items) }
+    ensures all { length ends.new.hosts.items ≡ NEXUSES }
+{
+    let round = serve_round(rt, alloc, desk, ends, frames, reader, writer);
+    if !round.whole {
+        return Err(WireFault::WriteFault);
+    }
+    match round.read? {
+        Break::Ended => Ok(false),
+        Break::Stopped => Err(WireFault::WriteFault),
+        Break::Next(request) => {
+            serve_alone(alloc, desk, request, writer)?;
+            Ok(true)
+        }
+    }
+}
+
+// Serves rounds, and the moves and inventories between them, up to the end of the input.
+fn serve_turns<S: Host + Send, G: Desk, R: Threads + Wait + Sync, I: Read, W: Write + Send>(
+    rt: &R,
+    alloc: Global,
+    desk: &mut G,
+    ends: &mut Ends<S>,
+    reader: &mut I,
+    writer: &mut W,
+) -> Result<(), WireFault>
+    requires idle { AreIdle ends.old.hosts.items ends.old.requests.items ends.old.answers.items }
+    requires all { length ends.old.hosts.items ≡ NEXUSES }
+    ensures serves { ServesHosts S.answers G.is_taken G.answers
+        (record { hosts = servers_of ends.old.hosts.items; desk = desk.old }) (I.remaining reader.old)
+        (W.contents writer.old) (record { hosts = servers_of ends.new.hosts.items; desk = desk.new })
+        (I.remaining reader.new) (W.contents writer.new) result }
+    ensures all { length ends.new.hosts.items ≡ NEXUSES }
+{
+    let mut frames = RequestReader::new();
+    for _ in rt.forever() {
+        if !serve_turn(rt, alloc, desk, ends, &mut frames, reader, writer)? {
+            return Ok(());
+        }
+    }
+    unreachable!()
+}
+
+/// Serves hosts over one pipe: reads requests up to the end of the input, or to the first frame that is refused, or
+/// until a write fails. The commands of each host are answered in their order, in a thread of its own; one is carried
+/// out and one waits, and then the reader waits. A move and an inventory are served once all commands before them are
+/// answered, and before more is read. Each answer is written and flushed once it is made. Whatever ends it, all that
+/// was read and taken is answered. Where memory runs out before the first read, the servers are returned.
+pub fn serve_hosts<
+    S: Host + Drop + Send,
+    G: Desk,
+    R: Threads + Wait + Sync,
+    I: Read,
+    W: Write + Send,
+>(
+    rt: &R,
+    alloc: Global,
+    servers: Vec<S>,
+    desk: &mut G,
+    reader: &mut I,
+    writer: &mut W,
+) -> Result<Served<S>, Vec<S>>
+    requires { length servers.items ≡ NEXUSES }
+    ensures serves { IfOk result (λ served. ServesHosts S.answers G.is_taken G.answers
+        (record { hosts = servers.items; desk = desk.old }) (I.remaining reader.old) (W.contents writer.old)
+        (record { hosts = served.servers.items; desk = desk.new }) (I.remaining reader.new) (W.contents writer.new)
+        served.outcome) }
+    ensures all { IfOk result (λ served. length served.servers.items ≡ NEXUSES) }
+    ensures back { IfErr result (λ back. (back ≡ servers) × (desk.new ≡ desk.old) × (reader.new ≡ reader.old)
+        × (writer.new ≡ writer.old)) }
+{
+    let Ok(rooms) = make_rooms(alloc) else {
+        return Err(servers);
+    };
+    let Ok(room) = Vec::with_capacity(alloc, NEXUSES as usize) else {
+        return Err(servers);
+    };
+    let mut ends = Ends::of(rooms, servers);
+    let outcome = serve_turns(rt, alloc, desk, &mut ends, reader, writer);
+    Ok(Served {
+        servers: ends.into_servers(room),
+        outcome,
+    })
+}

@@ -1,0 +1,85 @@
+//! The thread that writes: answers come from the hosts' rings.
+ghost use Rattle.std.specs.Prelude.{false};
+ghost use Rattle.vtl_hosts.specs.Inner.Writing.{WritesAll, WritesAnswer, WritesNext};
+
+use crate::bells::Bells;
+use rtrb::Consumer;
+use std::io::Write;
+use std::sync::Wait;
+use vtl_wire::{Answer, write_if_fits};
+
+// Writes an answer, unless a write failed before, and says whether one did now.
+fn write_unless<W: Write>(writer: &mut W, failed: bool, answer: &Answer) -> bool
+    ensures { WritesAnswer (W.contents writer.old) failed (W.contents writer.new) result answer.now }
+{
+    if failed {
+        return true;
+    }
+    write_if_fits(writer, answer).is_err()
+}
+
+// Writes the next answer of a host, where there is one. Once a write failed nothing more is written.
+fn write_next<W: Write, R: Wait>(
+    rt: &R,
+    bells: &Bells,
+    place: usize,
+    ring: &mut Consumer<Answer>,
+    writer: &mut W,
+    failed: &mut bool,
+) -> bool
+    ensures { WritesNext ring.old (W.contents writer.old) failed.old ring.new (W.contents writer.new) failed.new
+        result }
+{
+    let Ok(answer) = ring.pop() else {
+        return false;
+    };
+    bells.ring_room(rt, place);
+    *failed = write_unless(writer, *failed, &answer);
+    if *failed {
+        bells.stop(rt);
+    }
+    true
+}
+
+// Writes an answer of each host that has one, and says whether there was one.
+fn write_some<W: Write, R: Wait>(
+    rt: &R,
+    bells: &Bells,
+    writer: &mut W,
+    failed: &mut bool,
+    rings: &mut [Consumer<Answer>],
+) -> bool
+    ensures { WritesAll rings.old (W.contents writer.old) failed.old rings.new (W.contents writer.new) failed.new }
+{
+    let mut some = false;
+    for place in 0..rings.len() {
+        if write_next(rt, bells, place, &mut rings[place], writer, failed) {
+            some = true;
+        }
+    }
+    some
+}
+
+/// Takes the hosts' answers and writes them, until nothing more comes. Once a write failed the others are dropped. It
+/// says whether one failed.
+pub(crate) fn write_round<W: Write, R: Wait>(
+    rt: &R,
+    bells: &Bells,
+    writer: &mut W,
+    rings: &mut [Consumer<Answer>],
+) -> bool
+    ensures { WritesAll rings.old (W.contents writer.old) false rings.new (W.contents writer.new) result }
+{
+    let mut failed = false;
+    let mut is_last = false;
+    for _ in rt.forever() {
+        let count = bells.writer.count(rt);
+        if !write_some(rt, bells, writer, &mut failed, rings) {
+            if is_last {
+                return failed;
+            }
+            is_last = bells.writer.wait_for_more(rt, count);
+        }
+    }
+    unreachable!()
+}
