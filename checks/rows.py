@@ -8,6 +8,7 @@ the proved one. --first: only as it stands. --show: prints what the program answ
 import argparse
 import concurrent.futures
 import os
+import re
 import shutil
 import subprocess
 import sys
@@ -176,10 +177,17 @@ class Room:
         error = b"" if run.error is None else run.error + b"\n"
         if refused is not None:
             error = b"vtl: script line %d refused\n" % refused
+        error += b"".join(line + b"\n" for line in run.because)
+        # what the answers mean names lines of the script as it stands
+        stderr = done.stderr
+        if self.way == WAYS[0]:
+            error = b"".join(line + b"\n" for line in run.means) + error
+        else:
+            stderr = re.sub(rb"(?m)^line \d+: .*\n", b"", stderr)
         if done.returncode != run.status:
             self.tell(run.status_at, f"status {done.returncode} in the place of {run.status}")
-        if done.stderr != error:
-            self.tell(run.error_at, f"standard error {done.stderr!r} in the place of {error!r}")
+        if stderr != error:
+            self.tell(run.error_at, f"standard error {stderr!r} in the place of {error!r}")
 
     def compare(self, run, owed, found):
         for (number, answer), line in zip(owed, found):

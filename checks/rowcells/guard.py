@@ -13,7 +13,7 @@ LINES = {
     "The cases of PREEMPT": [5], "When 2A/04 is established": [3], "READ KEYS and READ RESERVATION": [3],
     "Mode lists": [6, 3, 2], "Sense data": [6], "Unit attention conditions": [6],
     "Sense data in words": [28, 5], "Moves": [4, 5, 3],
-    "When a move puts the cartridge back": [2], "Scripts": [3, 5], "Frames": [8, 9], "The command line": [5, 4],
+    "When a move puts the cartridge back": [2], "Scripts": [3, 5], "Frames": [8, 9], "The command line": [7, 4],
     "What created and kept mean": [2], "Exit status": [11], "The exit status at a damaged cartridge": [4],
     "The header": [9], "Which file counts": [2, 12, 8], "What a reclaim does": [5], "A cartridge's file": [6, 3],
     "A reservation store's file": [6, 5],

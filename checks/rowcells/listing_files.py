@@ -52,12 +52,16 @@ def of_words():
         "run", "run --memory", "run --config FILE", "run --memory --config FILE", "run --config FILE --memory",
         "run --config=FILE", "create --config FILE", "create --config=FILE", "check FILE", "check -- FILE",
         "reclaim --config FILE BARCODE", "reclaim --config=FILE", "reclaim -- BARCODE",
-        "behind -- a word like an option is a file", "an empty name is a name", "--help", "-h")]
+        "behind -- a word like an option is a file", "an empty name is a name", "--help", "-h", "--version",
+        "-V",
+        "run --explain", "create --config FILE --explain", "check FILE --explain",
+        "reclaim --config FILE BARCODE --explain")]
     cells += [f"words | {word} {option}" for word in ("run", "create", "check", "reclaim")
               for option in ("--help", "-h")]
     cells += [f"words | refused: {why}" for why in (
         "no word", "help", "version", "another word", "another option in its place", "a shortened word",
-        "run, --memory twice", "run, --config twice", "create, --config twice", "run, a word too many",
+        "run, --memory twice", "run, --explain twice", "run, --config twice", "create, --config twice",
+        "run, a word too many",
         "create, a word too many", "check, a word too many", "check, a word too many behind --",
         "run, another option", "create, another option", "check, another option", "create, --memory", "check, --memory",
         "check, --config", "run, a shortened name", "create, a shortened name", "run, a flag with a value",

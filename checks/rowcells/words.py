@@ -2,8 +2,9 @@
 import re
 import tomllib
 
-WORDS = {b"run": {b"--memory": False, b"--config": True}, b"create": {b"--config": True}, b"check": {},
-         b"reclaim": {b"--config": True}}
+WORDS = {b"run": {b"--memory": False, b"--config": True, b"--explain": False},
+         b"create": {b"--config": True, b"--explain": False}, b"check": {b"--explain": False},
+         b"reclaim": {b"--config": True, b"--explain": False}}
 # what stands behind these words
 NAMED = {b"check": "FILE", b"reclaim": "BARCODE"}
 KEYS = {"drive": {"number": int, "reservations": str},
@@ -24,7 +25,7 @@ def refused(why):
 
 
 def read(words):
-    if words and words[0] in (b"--help", b"-h"):
+    if words and words[0] in (b"--help", b"-h", b"--version", b"-V"):
         return Words("help", [f"words | {words[0].decode()}"])
     if not words:
         return refused("no word")
@@ -83,7 +84,8 @@ def options(word, rest):
     if word == b"check" and files[0].startswith(b"-"):
         cells.append("words | behind -- a word like an option is a file")
     names = " ".join([name, *(["--memory"] if b"--memory" in found else []),
-                      *(["--config FILE"] if b"--config" in found else []), *([NAMED[word]] if files else [])])
+                      *(["--config FILE"] if b"--config" in found else []), *([NAMED[word]] if files else []),
+                      *(["--explain"] if b"--explain" in found else [])])
     if list(found) == [b"--config", b"--memory"]:
         cells.append("words | run --config FILE --memory")
     return Words(name, [*cells, f"words | {names}"], found.get(b"--config"), b"--memory" in found,

@@ -1,11 +1,14 @@
 //! A virtual tape library: runs scripts of commands against drives, over cartridges in files or in memory.
 #![tactic(auto)]
 
+use answer_notes::{AnswerWriter, Answers};
 use std::env;
 use std::io::{self, ErrorKind};
 use std::process::ExitCode;
+use vtl_program::explaining::{asks, run_explained};
 use vtl_program::files::SystemFiles;
-use vtl_program::orders::run;
+use vtl_program::notes::Notes;
+use vtl_program::noting::NotingReader;
 use vtl_program::programs::VtlFault;
 use vtl_program::progress::GibLines;
 
@@ -27,20 +30,25 @@ fn words_of(rt: &HostRuntime) -> Result<Vec<String>, VtlFault> {
 }
 
 fn main(rt: HostRuntime) -> ExitCode {
-    let mut reader = rt.reader();
     let (stdout, stderr) = (rt.stdout(), rt.stderr());
-    let mut writer = io::writer(&stdout);
     let mut errors = io::writer(&stderr);
     let words = words_of(&rt);
     let progress = GibLines::new(&rt, &words);
+    let notes = Notes::new(asks(&words));
+    let answers = Answers::new(rt.alloc(), notes.is_on());
+    let mut reader = NotingReader::new(rt.reader(), rt.alloc(), &notes, &answers);
+    let (output, meanings) = (io::writer(&stdout), io::writer(&stderr));
+    let mut writer = AnswerWriter::new(output, meanings, rt.alloc(), &answers);
     let files = SystemFiles {
         rt: &rt,
         progress: &progress,
+        notes: &notes,
     };
-    let ended = run(
+    let ended = run_explained(
         &rt,
         rt.alloc(),
         &files,
+        &notes,
         words,
         &mut reader,
         &mut writer,

@@ -4,7 +4,6 @@ use Rattle.std.proofs.lemmas.List.{append-nil, map-append}
 use Rattle.std.proofs.KnownBytes.{Appends-kept, Appends-nil, Appends-trans}
 use Rattle.std.specs.Io.KnownBytes.{Appends}
 use Rattle.tape_disk.specs.Disk.{DiskState}
-use Rattle.file_disk.specs.declared.error.FileError.{FileError}
 use Rattle.vtl_program.specs.declared.creating.Fate.{Fate}
 use Rattle.vtl_program.specs.declared.programs.VtlFault.{VtlFault}
 use Rattle.vtl_program.specs.declared.programs.VtlFault.TheVariants.{Words, Config, Script, Device, NoMemory}

@@ -1,3 +1,4 @@
+mod ExplainLemmas
 mod BuiltInLemmas
 pub mod CheckLemmas
 mod CreatingLemmas

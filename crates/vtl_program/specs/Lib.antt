@@ -1,6 +1,7 @@
 pub mod Checks
 pub mod Configured
 pub mod Creating
+pub mod Explained
 pub mod Faults
 pub mod Files
 pub mod Fresh

@@ -6,11 +6,13 @@ ghost use Rattle.std.specs.declared.alloc.Global.{Global};
 ghost use Rattle.std.specs.declared.io.Error.{Error};
 ghost use Rattle.file_disk.specs.declared.error.FileError.{FileError};
 
+use crate::notes::Notes;
 use crate::progress::GibLines;
 use crate::starting::NotStarted;
 use crate::watched::Watched;
 use bays::Held;
 use file_disk::{FileDisk, FileError};
+use file_reasons::FileCall;
 use std::{fs, io};
 use tape_disk::Disk;
 use vtl_config::{FileName, UsedName};
@@ -132,6 +134,8 @@ pub struct SystemFiles<'a> {
     pub rt: &'a HostRuntime,
     /// Where writes are reported.
     pub progress: &'a GibLines<'a>,
+    /// Where the answers of calls are noted.
+    pub notes: &'a Notes,
 }
 
 /// A disk over a file of the operating system, whose writes are reported.
@@ -148,8 +152,14 @@ impl<'a> SystemFiles<'a> {
         }
     }
 
-    // The same, where there is one.
-    fn answer(&self, found: Result<FileDisk, FileError>) -> Result<SystemDisk<'a>, FileError> {
+    // The same, where there is one; what was answered is noted.
+    fn answer(
+        &self,
+        name: &str,
+        call: FileCall,
+        found: Result<FileDisk, FileError>,
+    ) -> Result<SystemDisk<'a>, FileError> {
+        self.notes.open(self.rt.alloc(), name, call, &found);
         match found {
             Ok(disk) => Ok(self.watched(disk)),
             Err(error) => Err(error),
@@ -161,7 +171,9 @@ impl<'a> TextFiles for SystemFiles<'a> {
     ghost reads = { λ name answer. Unit {0} };
 
     fn read(&self, name: &str) -> io::Result<Vec<u8>> {
-        fs::read(self.rt, name)
+        let read = fs::read(self.rt, name);
+        self.notes.read(self.rt.alloc(), name, &read);
+        read
     }
 }
 
@@ -171,7 +183,7 @@ impl<'a> ReadFiles<SystemDisk<'a>> for SystemFiles<'a> {
     ghost closes = { λ name disk. Unit {0} };
 
     fn open_to_read(&self, name: &str) -> Result<SystemDisk<'a>, FileError> {
-        self.answer(file_disk::open_to_read(self.rt, name))
+        self.answer(name, FileCall::Open, file_disk::open_to_read(self.rt, name))
     }
 
     fn close(&self, _: &str, disk: SystemDisk<'a>) {
@@ -179,6 +191,7 @@ impl<'a> ReadFiles<SystemDisk<'a>> for SystemFiles<'a> {
     }
 
     fn nothing(&self) -> SystemDisk<'a> {
+        self.notes.pass_over();
         self.watched(file_disk::no_file())
     }
 }
@@ -191,7 +204,8 @@ impl<'a> SecondFiles<SystemDisk<'a>> for SystemFiles<'a> {
     fn open_second(&self, name: FileName) -> (UsedName, Result<SystemDisk<'a>, FileError>) {
         let name = name.use_up();
         let opened = file_disk::open_or_create(self.rt, name.as_str());
-        (name, self.answer(opened))
+        let answer = self.answer(name.as_str(), FileCall::Open, opened);
+        (name, answer)
     }
 
     fn close_second(&self, _: UsedName, disk: SystemDisk<'a>) {
@@ -207,7 +221,8 @@ impl<'a> ChangeFiles<SystemDisk<'a>> for SystemFiles<'a> {
     fn open(&self, name: FileName) -> (UsedName, Result<SystemDisk<'a>, FileError>) {
         let name = name.use_up();
         let opened = file_disk::open(self.rt, name.as_str());
-        (name, self.answer(opened))
+        let answer = self.answer(name.as_str(), FileCall::Open, opened);
+        (name, answer)
     }
 
     fn hand_back(&self, _: UsedName, disk: SystemDisk<'a>) {
@@ -239,7 +254,8 @@ impl<'a> MakeFiles<SystemDisk<'a>> for SystemFiles<'a> {
     fn make(&self, name: FileName) -> (UsedName, Result<SystemDisk<'a>, FileError>) {
         let name = name.use_up();
         let made = file_disk::create(self.rt, name.as_str());
-        (name, self.answer(made))
+        let answer = self.answer(name.as_str(), FileCall::Make, made);
+        (name, answer)
     }
 
     fn leave(&self, _: UsedName, disk: SystemDisk<'a>) {

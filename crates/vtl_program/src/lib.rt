@@ -5,9 +5,12 @@
 pub mod checking;
 pub mod configs;
 pub mod creating;
+pub mod explaining;
 pub mod files;
 pub mod laws;
 pub mod lines;
+pub mod notes;
+pub mod noting;
 mod opened;
 pub mod orders;
 pub mod pace;

@@ -1,5 +1,5 @@
 -- The command line is one whose matches are known.
-use Rattle.std.proofs.Common.{◌≡◌, ◌⊎◌, inl, inr, ℕ, true, List, [], Option, Some, None, IfSome, option_map, Box, refl, sym, subst, ◌∙◌}
+use Rattle.std.proofs.Common.{◌≡◌, ◌⊎◌, inl, inr, ℕ, true, List, [], Option, Some, None, IfSome, option_map, Box, refl, subst}
 use Rattle.std.proofs.lemmas.Option.{same_Some}
 use Rattle.std.specs.Box.{box_value}
 use Rattle.clap.specs.Faults.{fault_of, is_simple_and_free}
@@ -15,7 +15,7 @@ use Rattle.clap.specs.declared.error.kind.ErrorKind.TheVariants.{OutOfMemory}
 use Rattle.vtl_base.specs.Barcode.{IsBarcode}
 use Rattle.vtl_words.specs.Commands.{vtl_command}
 use Rattle.vtl_words.specs.Inner.Told.{Tells, AsksNothing}
-use Rattle.vtl_words.specs.Orders.{Asked, reclaim, reclaim_by, HasForm, IsNoOrder, order_from, RefusesWords}
+use Rattle.vtl_words.specs.Orders.{Asked, reclaim_by, IsNoOrder, order_from, AreRefused, RefusesWords}
 use Rattle.vtl_words.specs.declared.orders.WordsError.{WordsError}
 use Rattle.vtl_words.specs.declared.orders.WordsError.TheVariants.{Help, Refused, NoMemory}
 
@@ -43,9 +43,9 @@ rows_from_parts (Some b) word rows named matched =
 pub told_refused :
     (words : List (List ℕ)) (kind : ErrorKind) (error : WordsError) → Tells kind error
     → (kind ≡ OutOfMemory) ⊎ IsAmong kind (fault_of vtl_command words) → RefusesWords words error
-told_refused words kind (Help text) tells (inl memory) = cc
-told_refused words kind (Help text) tells (inr among) =
-    subst (λ (k : ErrorKind). IsAmong k (fault_of vtl_command words)) tells among
+told_refused words kind (Help text) (inl help) (inl memory) = cc
+told_refused words kind (Help text) (inr version) (inl memory) = cc
+told_refused words kind (Help text) request (inr among) = (kind, request, among)
 told_refused words kind Refused tells (inl memory) = absurd (tells.1 memory)
 told_refused words kind Refused tells (inr among) = inl (kind, tells.0, among)
 told_refused words kind NoMemory tells has = tt
@@ -67,3 +67,12 @@ no_barcode None None wrong = tt
 no_barcode None (Some text) wrong = tt
 no_barcode (Some file) None wrong = tt
 no_barcode (Some file) (Some text) wrong = wrong
+
+-- and so they are where a reason is found
+pub reason_refused :
+    {R : Type 0} (words : List (List ℕ)) (asked : Option Asked) (reason : Option R) → fault_of vtl_command words ≡ []
+    → asked ≡ order_from (subcommand_of vtl_command words) → IfSome reason (λ _. IsNoOrder asked)
+    → IfSome reason (λ _. AreRefused words)
+reason_refused words asked None faultless same none = tt
+reason_refused words asked (Some found) faultless same none =
+    inr (faultless, subst (λ (order : Option Asked). IsNoOrder order) same none)

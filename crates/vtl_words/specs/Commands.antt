@@ -8,6 +8,10 @@ use Rattle.clap.specs.declared.builder.action.ArgAction.TheVariants.{Set, SetTru
 abbrev pub memory_flag : Rule
 memory_flag = record (new_rule (codes "memory")) { long = Some (codes "memory"); action = Some SetTrue }
 
+-- `--explain`, a flag (own)
+abbrev pub explain_flag : Rule
+explain_flag = record (new_rule (codes "explain")) { long = Some (codes "explain"); action = Some SetTrue }
+
 -- `--config FILE`, which may be left out (own)
 abbrev pub config_option : Rule
 config_option =
@@ -25,25 +29,28 @@ file_word = record (new_rule (codes "file")) { action = Some Set; value_names = 
 abbrev pub barcode_word : Rule
 barcode_word = record (new_rule (codes "barcode")) { action = Some Set; value_names = 1; required = true }
 
--- `run [--memory] [--config FILE]` (own)
+-- `run [--memory] [--config FILE] [--explain]` (own)
 abbrev pub run_command : App
-run_command = with_rule (with_rule (new_app (codes "run")) memory_flag) config_option
+run_command =
+    with_rule (with_rule (with_rule (new_app (codes "run")) memory_flag) config_option) explain_flag
 
--- `create --config FILE` (own)
+-- `create --config FILE [--explain]` (own)
 abbrev pub create_command : App
-create_command = with_rule (new_app (codes "create")) config_required
+create_command = with_rule (with_rule (new_app (codes "create")) config_required) explain_flag
 
--- `check FILE` (own)
+-- `check FILE [--explain]` (own)
 abbrev pub check_command : App
-check_command = with_rule (new_app (codes "check")) file_word
+check_command = with_rule (with_rule (new_app (codes "check")) file_word) explain_flag
 
--- `reclaim --config FILE BARCODE` (own)
+-- `reclaim --config FILE BARCODE [--explain]` (own)
 abbrev pub reclaim_command : App
-reclaim_command = with_rule (with_rule (new_app (codes "reclaim")) config_required) barcode_word
+reclaim_command =
+    with_rule (with_rule (with_rule (new_app (codes "reclaim")) config_required) barcode_word) explain_flag
 
--- a word has to follow, and `help` is none (own)
+-- a word has to follow, and `help` is none; there is a version (own)
 abbrev pub needs_a_word : Shape → Shape
-needs_a_word shape = record shape { subcommand_required = true; disable_help_subcommand = true }
+needs_a_word shape =
+    record shape { has_version = true; subcommand_required = true; disable_help_subcommand = true }
 
 -- `vtl`, with one of the four words behind it (own)
 abbrev pub vtl_command : App

@@ -1,3 +1,4 @@
 pub mod Commands
 pub mod Orders
+pub mod Explaining
 pub mod Inner

@@ -1,5 +1,5 @@
 -- What command words ask for, and when they are refused.
-use Rattle.std.specs.Prelude.{◌≡◌, ◌≢◌, ◌⊎◌, ℕ, Bool, false, List, [], Option, Some, None, String, string_bytes, option_map, if◌then◌else◌, codes, map, ⊤}
+use Rattle.std.specs.Prelude.{◌≡◌, ◌⊎◌, ℕ, Bool, false, List, [], Option, Some, None, String, string_bytes, option_map, if◌then◌else◌, codes, map, ⊤}
 use Rattle.std.specs.Option.{option_map_or}
 use Rattle.std.specs.Str.{bytes_eq}
 use Rattle.std.specs.declared.alloc.Global.{Global}
@@ -8,7 +8,7 @@ use Rattle.clap.specs.Kinds.{IsAmong}
 use Rattle.clap.specs.Simple.{subcommand_of}
 use Rattle.clap.specs.Walk.{Row, first_of}
 use Rattle.clap.specs.declared.error.kind.ErrorKind.{ErrorKind}
-use Rattle.clap.specs.declared.error.kind.ErrorKind.TheVariants.{DisplayHelp}
+use Rattle.clap.specs.declared.error.kind.ErrorKind.TheVariants.{DisplayHelp, DisplayVersion}
 use Rattle.vtl_base.specs.Barcode.{IsBarcode}
 use Rattle.vtl_words.specs.Commands.{vtl_command}
 use Rattle.vtl_words.specs.declared.orders.Order.{Order}
@@ -75,14 +75,22 @@ pub record Asks (words : List (List ℕ)) (asked : Asked) : Type 0 where
   pub matches : order_from (subcommand_of vtl_command words) ≡ Some asked
   pub form : HasForm asked
 
--- the parser finds a fault in the words that is no request for help, or none, and its matches give no order (own)
+-- what the parser reports is no fault of the words: they ask for help, or for the version (own)
+abbrev pub IsTextRequest : ErrorKind → Type 0
+IsTextRequest kind = (kind ≡ DisplayHelp) ⊎ (kind ≡ DisplayVersion)
+
+-- the words ask for help, or for the version (own)
+abbrev pub AskForText : List (List ℕ) → Type 0
+AskForText words = (kind : ErrorKind) × IsTextRequest kind × IsAmong kind (fault_of vtl_command words)
+
+-- the parser finds a fault in the words that is no such request, or none, and its matches give no order (own)
 abbrev pub AreRefused : List (List ℕ) → Type 0
 AreRefused words =
-    ((kind : ErrorKind) × (kind ≢ DisplayHelp) × IsAmong kind (fault_of vtl_command words))
+    ((kind : ErrorKind) × ¬ IsTextRequest kind × IsAmong kind (fault_of vtl_command words))
     ⊎ ((fault_of vtl_command words ≡ []) × IsNoOrder (order_from (subcommand_of vtl_command words)))
 
 -- why words give no order; memory may run out at any (own)
 abbrev pub RefusesWords : List (List ℕ) → WordsError → Type 0
-RefusesWords words (Help text) = IsAmong DisplayHelp (fault_of vtl_command words)
+RefusesWords words (Help text) = AskForText words
 RefusesWords words Refused = AreRefused words
 RefusesWords words NoMemory = ⊤

@@ -11,7 +11,14 @@ use std::alloc::{AllocError, Global};
 const ABOUT: &str =
     "A virtual tape library: runs scripts of drive commands over cartridges in files";
 
+/// The version of the program: the one place that names it.
+pub const VERSION: &str = "0.1.0";
+
 const AFTER_HELP: &str = "\
+To know:
+  --explain  behind a command says on standard error why something was refused
+  --help     behind a command explains its words; --version names the version
+
 Example:
   vtl create --config library.toml
   vtl run --config library.toml < backup.script
@@ -53,6 +60,10 @@ The file to look at: a store's, or the first of a cartridge,
 whose second has this name with .2 added and may be missing;
 no file is changed";
 
+const EXPLAIN_HELP: &str = "\
+Says on standard error why something was refused, in a
+few lines behind the one; nothing else changes";
+
 const BARCODE_HELP: &str =
     "The cartridge, by its barcode in the configuration; both of its files are opened";
 
@@ -64,6 +75,16 @@ fn memory_flag<'a>(alloc: Global) -> Arg<'a>
         .long("memory")
         .action(ArgAction::SetTrue);
     flag.help(MEMORY_HELP)
+}
+
+fn explain_flag<'a>(alloc: Global) -> Arg<'a>
+    ensures rule { rule_of result ≡ line.explain_flag }
+    ensures local { result.global ≡ false }
+{
+    let flag = Arg::new(alloc, "explain")
+        .long("explain")
+        .action(ArgAction::SetTrue);
+    flag.help(EXPLAIN_HELP)
 }
 
 fn config_option<'a>(alloc: Global) -> Arg<'a>
@@ -139,7 +160,8 @@ fn run_command<'a>(alloc: Global) -> Result<Command<'a>, AllocError>
     ensures local { IfOk result (λ r. (out-Command r).has_globals ≡ false) }
 {
     let flagged = with(named(alloc, "run", RUN_ABOUT), memory_flag(alloc))?;
-    let whole = with(flagged, config_option(alloc))?;
+    let configured = with(flagged, config_option(alloc))?;
+    let whole = with(configured, explain_flag(alloc))?;
     Ok(whole)
 }
 
@@ -147,7 +169,8 @@ fn create_command<'a>(alloc: Global) -> Result<Command<'a>, AllocError>
     ensures app { IfOk result (λ r. app_of r ≡ line.create_command) }
     ensures local { IfOk result (λ r. (out-Command r).has_globals ≡ false) }
 {
-    let whole = with(named(alloc, "create", CREATE_ABOUT), config_required(alloc))?;
+    let configured = with(named(alloc, "create", CREATE_ABOUT), config_required(alloc))?;
+    let whole = with(configured, explain_flag(alloc))?;
     Ok(whole)
 }
 
@@ -155,7 +178,8 @@ fn check_command<'a>(alloc: Global) -> Result<Command<'a>, AllocError>
     ensures app { IfOk result (λ r. app_of r ≡ line.check_command) }
     ensures local { IfOk result (λ r. (out-Command r).has_globals ≡ false) }
 {
-    let whole = with(named(alloc, "check", CHECK_ABOUT), file_word(alloc))?;
+    let filed = with(named(alloc, "check", CHECK_ABOUT), file_word(alloc))?;
+    let whole = with(filed, explain_flag(alloc))?;
     Ok(whole)
 }
 
@@ -167,7 +191,8 @@ fn reclaim_command<'a>(alloc: Global) -> Result<Command<'a>, AllocError>
         named(alloc, "reclaim", RECLAIM_ABOUT),
         config_required(alloc),
     )?;
-    let whole = with(configured, barcode_word(alloc))?;
+    let barcoded = with(configured, barcode_word(alloc))?;
+    let whole = with(barcoded, explain_flag(alloc))?;
     Ok(whole)
 }
 
@@ -178,6 +203,7 @@ fn program<'a>(alloc: Global) -> Command<'a>
 {
     let command = named(alloc, "vtl", ABOUT).after_help(AFTER_HELP);
     command
+        .version(VERSION)
         .subcommand_required(true)
         .disable_help_subcommand(true)
 }

@@ -2,8 +2,13 @@
 #![tactic(auto)]
 
 mod commands;
+mod explaining;
 mod orders;
 mod reading;
+mod refusals;
 
+pub use commands::VERSION;
+pub use explaining::asks_to_explain;
 pub use orders::{Order, WordsError};
 pub use reading::read_words;
+pub use refusals::WordsReason;

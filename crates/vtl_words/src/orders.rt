@@ -30,7 +30,7 @@ pub enum Order {
 /// Why command words give no order.
 #[derive(Debug, Drop, Error)]
 pub enum WordsError {
-    /// The words ask for help, which is this text.
+    /// The words ask for help or for the version, which is this text.
     #[error("{0}")]
     Help(String),
     /// The words are refused.

@@ -23,7 +23,7 @@ fn told(alloc: Global, error: &clap::Error) -> WordsError
 {
     match error.kind() {
         ErrorKind::OutOfMemory => WordsError::NoMemory,
-        ErrorKind::DisplayHelp => match format!(in alloc; "{error}") {
+        ErrorKind::DisplayHelp | ErrorKind::DisplayVersion => match format!(in alloc; "{error}") {
             Ok(text) => WordsError::Help(text),
             Err(_) => WordsError::NoMemory,
         },
@@ -31,7 +31,7 @@ fn told(alloc: Global, error: &clap::Error) -> WordsError
     }
 }
 
-fn parsed<'a>(alloc: Global, words: &'a [String]) -> Result<ArgMatches<'a>, WordsError>
+pub(crate) fn parsed<'a>(alloc: Global, words: &'a [String]) -> Result<ArgMatches<'a>, WordsError>
     ensures no_fault { IfOk result (λ _. fault_of vtl_command (texts_of words.now) ≡ []) }
     ensures ok { IfOk result (λ m. subcommand_rows_of m ≡ subcommand_of vtl_command (texts_of words.now)) }
     ensures err { IfErr result (RefusesWords (texts_of words.now)) }
@@ -46,7 +46,7 @@ fn parsed<'a>(alloc: Global, words: &'a [String]) -> Result<ArgMatches<'a>, Word
     }
 }
 
-fn value_of<'a>(matches: &ArgMatches<'a>, id: &str) -> Option<&'a str>
+pub(crate) fn value_of<'a>(matches: &ArgMatches<'a>, id: &str) -> Option<&'a str>
     ensures { option_map (λ value. value.now) result ≡ first_of id.now (rows_of (found_of matches.now)) }
 {
     matches.get_str(id)
@@ -161,7 +161,7 @@ fn order_by(alloc: Global, word: &str, matches: &ArgMatches<'_>) -> Result<Order
     Err(WordsError::Refused)
 }
 
-fn order_in(alloc: Global, matches: &ArgMatches<'_>) -> Result<Order, WordsError>
+pub(crate) fn order_in(alloc: Global, matches: &ArgMatches<'_>) -> Result<Order, WordsError>
     ensures ok { IfOk result (AsksFor (order_from (subcommand_rows_of matches.now))) }
     ensures err { IfErr result (AsksNothing (order_from (subcommand_rows_of matches.now))) }
 {

@@ -8,6 +8,8 @@ mod cartridges;
 #[cfg(test)]
 mod configs;
 #[cfg(test)]
+mod explained;
+#[cfg(test)]
 mod files;
 #[cfg(test)]
 mod orders;

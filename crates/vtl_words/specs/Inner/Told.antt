@@ -1,16 +1,16 @@
 -- What private functions say of errors.
 use Rattle.std.specs.Prelude.{◌≡◌, ◌≢◌, Option, Some, ⊤}
 use Rattle.clap.specs.declared.error.kind.ErrorKind.{ErrorKind}
-use Rattle.clap.specs.declared.error.kind.ErrorKind.TheVariants.{DisplayHelp, OutOfMemory}
-use Rattle.vtl_words.specs.Orders.{Asked, asked_of, HasForm, IsNoOrder}
+use Rattle.clap.specs.declared.error.kind.ErrorKind.TheVariants.{OutOfMemory}
+use Rattle.vtl_words.specs.Orders.{Asked, asked_of, HasForm, IsNoOrder, IsTextRequest}
 use Rattle.vtl_words.specs.declared.orders.Order.{Order}
 use Rattle.vtl_words.specs.declared.orders.WordsError.{WordsError}
 use Rattle.vtl_words.specs.declared.orders.WordsError.TheVariants.{Help, Refused, NoMemory}
 
 -- what an error of the parser is reported as
 abbrev pub Tells : ErrorKind → WordsError → Type 0
-Tells kind (Help text) = kind ≡ DisplayHelp
-Tells kind Refused = (kind ≢ DisplayHelp) × (kind ≢ OutOfMemory)
+Tells kind (Help text) = IsTextRequest kind
+Tells kind Refused = ¬ IsTextRequest kind × (kind ≢ OutOfMemory)
 Tells kind NoMemory = ⊤
 
 -- the order is what is asked for, and that has its form

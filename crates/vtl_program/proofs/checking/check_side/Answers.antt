@@ -1,4 +1,4 @@
-use Rattle.std.proofs.Common.{◌≡◌, sym, subst, IfOk}
+use Rattle.std.proofs.Common.{sym, subst, IfOk}
 use Rattle.tape_disk.specs.TwoDisks.{AreHonest, KeepsDisks, MayLeave, TwoLeave, seen_of_two}
 use Rattle.cartridge.specs.declared.error.CartridgeError.{CartridgeError}
 use Rattle.cartridge.specs.declared.error.CartridgeError.TheVariants.{NotOurs}

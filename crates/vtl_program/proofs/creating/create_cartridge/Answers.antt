@@ -1,5 +1,4 @@
 use Rattle.std.proofs.Common.{◌≡◌, ◌∙◌, [], List, ℕ, ap, sym, subst}
-use Rattle.tape_disk.specs.TwoDisks.{TwoDisks}
 use Rattle.side_pairs.specs.declared.which.Which.TheVariants.{First}
 use Rattle.cartridge.specs.Contents.{Contents, GivesContents, contents_from, heading_with, plain_head}
 use Rattle.vtl_program.specs.Checks.{both}

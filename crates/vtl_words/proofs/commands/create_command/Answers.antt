@@ -4,4 +4,6 @@ use Rattle.vtl_words.proofs.commands.create_command.Goals as goal
 
 pub returns-clause-app : goal.returns-clause-app
 returns-clause-app c =
-    c.in_ok-whole.ensures.app ∙ ap₂ with_rule c.named.ensures.app c.config_required.ensures.rule
+    c.in_ok-whole.ensures.app
+    ∙ ap₂ with_rule (c.in_ok-configured.ensures.app ∙ ap₂ with_rule c.named.ensures.app c.config_required.ensures.rule)
+    c.explain_flag.ensures.rule

@@ -1,0 +1,52 @@
+//! Sense data of their bytes.
+ghost use Rattle.std.specs.Prelude.{◌≡◌, IfSome};
+ghost use Rattle.scsi_sense.specs.SenseData.{sense_bytes};
+
+use scsi_sense::{Sense, SenseKey};
+
+// The sense key of this number, where drives and changers have it.
+fn key_of(number: u8) -> Option<SenseKey> {
+    match number {
+        0x0 => Some(SenseKey::NoSense),
+        0x2 => Some(SenseKey::NotReady),
+        0x3 => Some(SenseKey::MediumError),
+        0x4 => Some(SenseKey::HardwareError),
+        0x5 => Some(SenseKey::IllegalRequest),
+        0x6 => Some(SenseKey::UnitAttention),
+        0x8 => Some(SenseKey::BlankCheck),
+        0xb => Some(SenseKey::AbortedCommand),
+        0xd => Some(SenseKey::VolumeOverflow),
+        _ => None,
+    }
+}
+
+// Sense data that have these bytes, if any have.
+fn candidate(bytes: &[u8; 18]) -> Option<Sense> {
+    let information = u32::from_be_bytes([bytes[3], bytes[4], bytes[5], bytes[6]]);
+    Some(Sense {
+        key: key_of(bytes[2] & 0x0f)?,
+        code: bytes[12],
+        qualifier: bytes[13],
+        filemark: bytes[2] & 0x80 != 0,
+        end_of_medium: bytes[2] & 0x40 != 0,
+        incorrect_length: bytes[2] & 0x20 != 0,
+        information: if bytes[0] & 0x80 != 0 {
+            Some(information)
+        } else {
+            None
+        },
+        deferred: bytes[0] & 0x7f == 0x71,
+    })
+}
+
+/// The sense data in fixed format that have these bytes (SPC-4).
+pub fn sense_of(bytes: &[u8; 18]) -> Option<Sense>
+    ensures { IfSome result (λ sense. sense_bytes sense ≡ bytes.now) }
+{
+    let sense = candidate(bytes)?;
+    if sense.bytes() == *bytes {
+        Some(sense)
+    } else {
+        None
+    }
+}

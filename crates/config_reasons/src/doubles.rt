@@ -1,0 +1,155 @@
+//! Which entry before has the value that may not be double.
+ghost use Rattle.std.specs.Prelude.{◌≡◌, ◌≤◌, Some, IfSome, IsTrue};
+ghost use Rattle.std.specs.List.{Contains};
+ghost use Rattle.toml.specs.Data.{string, integer};
+ghost use Rattle.toml.specs.View.{table_view};
+ghost use Rattle.vtl_config.specs.FileNames.{both_names};
+ghost use Rattle.vtl_config.specs.Values.{value_at};
+ghost use Rattle.config_reasons.specs.Doubles.{HaveSame, SharesDriveFile, SharesCartridgeFile, Shares, IsOther, IsDriveBefore, IsCartridgeBefore, IsDouble};
+
+use crate::entries::{table_at, value_at};
+use std::alloc::Global;
+use toml::Table;
+use vtl_config::{Key, Place, second_file};
+
+fn number_of(table: &Table, key: Key) -> Option<i64>
+    ensures { IfSome result (λ number. value_at key (table_view table.now) ≡ Some (integer number)) }
+{
+    value_at(table, key)?.as_integer()
+}
+
+fn text_of<'a>(table: &'a Table, key: Key) -> Option<&'a str>
+    ensures { IfSome result (λ text. value_at key (table_view table.now) ≡ Some (string text.now)) }
+{
+    value_at(table, key)?.as_str()
+}
+
+fn has_same_number(here: &Table, there: &Table, key: Key) -> bool
+    ensures { IsTrue result → HaveSame key (table_view here.now) (table_view there.now) }
+{
+    match (number_of(here, key), number_of(there, key)) {
+        (Some(one), Some(other)) => one == other,
+        _ => false,
+    }
+}
+
+fn has_same_text(here: &Table, there: &Table, key: Key) -> bool
+    ensures { IsTrue result → HaveSame key (table_view here.now) (table_view there.now) }
+{
+    match (text_of(here, key), text_of(there, key)) {
+        (Some(one), Some(other)) => one == other,
+        _ => false,
+    }
+}
+
+// The name is that of one of a cartridge's two files. Where memory runs out, it is not.
+fn is_of_both(alloc: Global, file: &str, name: &str) -> bool
+    ensures { IsTrue result → Contains (both_names file.now) name.now }
+{
+    if name == file {
+        return true;
+    }
+    match second_file(alloc, file) {
+        Ok(second) => name == second.as_str(),
+        Err(_) => false,
+    }
+}
+
+fn shares_drive_file(alloc: Global, here: &Table, there: &Table) -> bool
+    ensures { IsTrue result → SharesDriveFile (table_view here.now) (table_view there.now) }
+{
+    match (text_of(here, Key::File), text_of(there, Key::Reservations)) {
+        (Some(file), Some(name)) => is_of_both(alloc, file, name),
+        _ => false,
+    }
+}
+
+fn shares_cartridge_file(alloc: Global, here: &Table, there: &Table) -> bool
+    ensures { IsTrue result → SharesCartridgeFile (table_view here.now) (table_view there.now) }
+{
+    match (text_of(here, Key::File), text_of(there, Key::File)) {
+        (Some(file), Some(other)) => {
+            is_of_both(alloc, file, other) || is_of_both(alloc, other, file)
+        }
+        _ => false,
+    }
+}
+
+// The value of a key stands in the table of another place.
+fn shares(alloc: Global, key: Key, other: Place, here: &Table, there: &Table) -> bool
+    ensures { IsTrue result → Shares key other (table_view here.now) (table_view there.now) }
+{
+    match key {
+        Key::File => match other {
+            Place::Drive(_) => shares_drive_file(alloc, here, there),
+            Place::Cartridge(_) => shares_cartridge_file(alloc, here, there),
+            Place::Top => false,
+        },
+        Key::Number | Key::Home => has_same_number(here, there, key),
+        Key::Barcode | Key::Reservations => has_same_text(here, there, key),
+        _ => false,
+    }
+}
+
+// The first of so many drives that has the value of the key.
+fn drive_before(alloc: Global, root: &Table, key: Key, here: &Table, before: usize) -> Option<Place>
+    ensures other { IfSome result (IsOther key (table_view root.now) (table_view here.now)) }
+    ensures earlier { IfSome result (IsDriveBefore before) }
+{
+    for place in 0..before {
+        let other = Place::Drive(place + 1);
+        if let Some(there) = table_at(root, other) {
+            if shares(alloc, key, other, here, there) {
+                return Some(other);
+            }
+        }
+    }
+    None
+}
+
+// The first of so many cartridges that has the value of the key.
+fn cartridge_before(
+    alloc: Global,
+    root: &Table,
+    key: Key,
+    here: &Table,
+    before: usize,
+) -> Option<Place>
+    ensures other { IfSome result (IsOther key (table_view root.now) (table_view here.now)) }
+    ensures earlier { IfSome result (IsCartridgeBefore before) }
+{
+    for place in 0..before {
+        let other = Place::Cartridge(place + 1);
+        if let Some(there) = table_at(root, other) {
+            if shares(alloc, key, other, here, there) {
+                return Some(other);
+            }
+        }
+    }
+    None
+}
+
+// How many drives are listed.
+fn count_drives(root: &Table) -> usize {
+    match value_at(root, Key::Drive) {
+        Some(value) => value.as_array().map_or(0, |items| items.len()),
+        None => 0,
+    }
+}
+
+// An entry before, in the order in which entries are read, that has the value of the key.
+pub(crate) fn double_of(alloc: Global, root: &Table, place: Place, key: Key) -> Option<Place>
+    ensures { IfSome result (IsDouble key place (table_view root.now)) }
+{
+    let here = table_at(root, place)?;
+    match place {
+        Place::Top => None,
+        Place::Drive(number) => drive_before(alloc, root, key, here, number.saturating_sub(1)),
+        Place::Cartridge(number) => {
+            match drive_before(alloc, root, key, here, count_drives(root)) {
+                Some(drive) => Some(drive),
+                None => cartridge_before(alloc, root, key, here, number.saturating_sub(1)),
+            }
+        }
+    }
+}

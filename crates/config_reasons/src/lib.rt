@@ -1,0 +1,17 @@
+//! Why a text is no configuration, in words.
+#![tactic(auto)]
+
+mod doubles;
+mod entries;
+mod lines;
+mod other_keys;
+mod reading;
+pub mod reasons;
+pub mod seen;
+pub mod spots;
+mod texts;
+
+pub use reading::reason_of;
+pub use reasons::{ConfigReason, Entry, Found};
+pub use seen::Seen;
+pub use spots::Spot;

@@ -1,0 +1,235 @@
+//! The words of a reason.
+ghost use Rattle.std.specs.Prelude.{◌≡◌};
+ghost use Rattle.config_reasons.specs.Texts.{subject_of, missing_of, keys_text, rule_fix};
+
+use crate::reasons::{ConfigReason, Entry, Found};
+use std::fmt;
+use vtl_base::limits::{
+    DRIVES, FIRST_SLOT, MAX_BARCODE, MAX_CAPACITY, MAX_PARTITIONS, MIN_CAPACITY, SLOTS,
+};
+use vtl_config::{Key, Place, Rule};
+
+// An entry by its number in its list, and by its barcode.
+#[derive(Clone, Copy)]
+pub(crate) struct EntryText<'a>(pub(crate) &'a Entry);
+
+// The barcode of an entry, where it has one.
+#[derive(Clone, Copy)]
+struct BarcodeText<'a>(&'a Option<String>);
+
+impl<'a> fmt::Display for BarcodeText<'a> {
+    ghost use Rattle.std.specs.Prelude.{Some};
+    ghost use Rattle.config_reasons.specs.Texts.{barcode_text};
+
+    ghost output = { λ it. Some (barcode_text it.0.now) };
+
+    fn fmt<W: fmt::Write>(&self, f: &mut fmt::Formatter<W>) -> fmt::Result {
+        match self.0 {
+            Some(barcode) => write!(f, ", {barcode}"),
+            None => Ok(()),
+        }
+    }
+}
+
+impl<'a> fmt::Display for EntryText<'a> {
+    ghost use Rattle.std.specs.Prelude.{Some};
+    ghost use Rattle.config_reasons.specs.Texts.{entry_text};
+
+    ghost output = { λ it. Some (entry_text it.0.now) };
+
+    fn fmt<W: fmt::Write>(&self, f: &mut fmt::Formatter<W>) -> fmt::Result {
+        let barcode = BarcodeText(&self.0.barcode);
+        match self.0.place {
+            Place::Top => write!(f, "outside all entries"),
+            Place::Drive(number) => write!(f, "drive entry {number}"),
+            Place::Cartridge(number) => write!(f, "cartridge entry {number}{barcode}"),
+        }
+    }
+}
+
+// What a rule is about.
+fn subject_of(rule: Rule) -> &'static str
+    ensures { result.now ≡ subject_of rule }
+{
+    match rule {
+        Rule::OtherKind(key) | Rule::OutOfRange(key) | Rule::Double(key) => key.name(),
+        Rule::NoSuchDrive => Key::Home.name(),
+        _ => "the entry",
+    }
+}
+
+// The key that is missing.
+fn missing_of(rule: Rule) -> &'static str
+    ensures { result.now ≡ missing_of rule }
+{
+    match rule {
+        Rule::Missing(key) => key.name(),
+        _ => "",
+    }
+}
+
+// What is refused.
+#[derive(Clone, Copy)]
+pub(crate) struct RefusedText<'a>(pub(crate) &'a ConfigReason);
+
+impl<'a> fmt::Display for RefusedText<'a> {
+    ghost use Rattle.std.specs.Prelude.{Some};
+    ghost use Rattle.config_reasons.specs.Texts.{refused_text};
+
+    ghost output = { λ it. Some (refused_text it.0.now.rule it.0.now.found) };
+
+    fn fmt<W: fmt::Write>(&self, f: &mut fmt::Formatter<W>) -> fmt::Result {
+        let (subject, missing) = (subject_of(self.0.rule), missing_of(self.0.rule));
+        match &self.0.found {
+            Found::NoText(_) => write!(f, "refused: the text is no UTF-8"),
+            Found::NoDocument { message, .. } => {
+                write!(f, "refused: the text is no TOML: {message}")
+            }
+            Found::OtherKey(name) => write!(f, "refused: the key {name}"),
+            Found::Nothing => write!(f, "refused: the key {missing} is missing"),
+            Found::Value(seen) => write!(f, "refused: {subject} is {seen}"),
+        }
+    }
+}
+
+// Where it stands, in the file of this name.
+#[derive(Clone, Copy)]
+pub(crate) struct WhereText<'a> {
+    pub(crate) file: &'a str,
+    pub(crate) reason: &'a ConfigReason,
+}
+
+impl<'a> fmt::Display for WhereText<'a> {
+    ghost use Rattle.std.specs.Prelude.{Some};
+    ghost use Rattle.config_reasons.specs.Texts.{where_text};
+
+    ghost output = { λ it. Some (where_text it.file.now it.reason.now) };
+
+    fn fmt<W: fmt::Write>(&self, f: &mut fmt::Formatter<W>) -> fmt::Result {
+        let file = self.file;
+        let entry = EntryText(&self.reason.entry);
+        match &self.reason.found {
+            Found::NoText(spot) | Found::NoDocument { spot, .. } => {
+                let (line, column) = (spot.line, spot.column);
+                write!(f, "where: {file}, line {line}, column {column}")
+            }
+            _ => write!(f, "where: {file}, {entry}"),
+        }
+    }
+}
+
+// The values that a key may have.
+#[derive(Clone, Copy)]
+struct ValuesText(Key);
+
+impl fmt::Display for ValuesText {
+    ghost use Rattle.std.specs.Prelude.{Some};
+    ghost use Rattle.config_reasons.specs.Texts.{values_text};
+
+    ghost output = { λ it. Some (values_text it.0) };
+
+    fn fmt<W: fmt::Write>(&self, f: &mut fmt::Formatter<W>) -> fmt::Result {
+        match self.0 {
+            Key::Cartridge => write!(f, "entries that begin with [[cartridge]]"),
+            Key::Drive => write!(f, "entries that begin with [[drive]]"),
+            Key::Barcode => write!(
+                f,
+                "a text of 1 to {MAX_BARCODE} characters, A to Z and 0 to 9"
+            ),
+            Key::File | Key::Reservations => write!(f, "a text, the name of a file"),
+            Key::Capacities => write!(
+                f,
+                "a list of 1 to {MAX_PARTITIONS} whole numbers, each of {MIN_CAPACITY} to {MAX_CAPACITY}"
+            ),
+            Key::Home => {
+                let last = FIRST_SLOT + SLOTS - 1;
+                write!(
+                    f,
+                    "a whole number: 1 to {DRIVES}, a drive, or {FIRST_SLOT} to {last}, a slot"
+                )
+            }
+            Key::Number => write!(f, "a whole number, 1 to {DRIVES}"),
+        }
+    }
+}
+
+// The keys of a place.
+fn keys_of(place: Place) -> &'static str
+    ensures { result.now ≡ keys_text place }
+{
+    match place {
+        Place::Top => "cartridge and drive",
+        Place::Drive(_) => "number and reservations",
+        Place::Cartridge(_) => "barcode, file, capacities and home",
+    }
+}
+
+// The entry that has a value which may not be double.
+#[derive(Clone, Copy)]
+struct OtherText<'a>(&'a Option<Entry>);
+
+impl<'a> fmt::Display for OtherText<'a> {
+    ghost use Rattle.std.specs.Prelude.{Some};
+    ghost use Rattle.config_reasons.specs.Texts.{other_text};
+
+    ghost output = { λ it. Some (other_text it.0.now) };
+
+    fn fmt<W: fmt::Write>(&self, f: &mut fmt::Formatter<W>) -> fmt::Result {
+        match self.0 {
+            Some(entry) => {
+                let entry = EntryText(entry);
+                write!(f, "; {entry} has this one")
+            }
+            None => Ok(()),
+        }
+    }
+}
+
+// What is allowed there.
+#[derive(Clone, Copy)]
+pub(crate) struct AllowedText<'a>(pub(crate) &'a ConfigReason);
+
+impl<'a> fmt::Display for AllowedText<'a> {
+    ghost use Rattle.std.specs.Prelude.{Some};
+    ghost use Rattle.config_reasons.specs.Texts.{allowed_text};
+
+    ghost output = { λ it. Some (allowed_text it.0.now) };
+
+    fn fmt<W: fmt::Write>(&self, f: &mut fmt::Formatter<W>) -> fmt::Result {
+        match self.0.rule {
+            Rule::NotUtf8 => write!(f, "allowed: UTF-8"),
+            Rule::NotToml => write!(f, "allowed: TOML"),
+            Rule::NotATable => write!(f, "allowed: a table"),
+            Rule::OtherKey => {
+                let keys = keys_of(self.0.entry.place);
+                write!(f, "allowed: {keys}")
+            }
+            Rule::Missing(key) | Rule::OtherKind(key) | Rule::OutOfRange(key) => {
+                let values = ValuesText(key);
+                write!(f, "allowed: {values}")
+            }
+            Rule::Double(_) => {
+                let other = OtherText(&self.0.other);
+                write!(f, "allowed: a value that no entry before has{other}")
+            }
+            Rule::NoSuchDrive => write!(f, "allowed: a slot, or a drive that has an entry"),
+        }
+    }
+}
+
+// What to do about a rule.
+pub(crate) fn rule_fix(rule: Rule) -> &'static str
+    ensures { result.now ≡ rule_fix rule }
+{
+    match rule {
+        Rule::NotUtf8 => "to do: save the file as UTF-8",
+        Rule::NotToml => "to do: correct the text there, or on the lines before",
+        Rule::NotATable =>
+            "to do: write the entry as [[cartridge]] or [[drive]], with its keys below",
+        Rule::OtherKey => "to do: remove the key, or correct its name",
+        Rule::Missing(_) => "to do: add the key to the entry",
+        Rule::OtherKind(_) | Rule::OutOfRange(_) => "to do: change the value",
+        Rule::Double(_) => "to do: change one of the two",
+        Rule::NoSuchDrive => "to do: add an entry of that drive, or choose another home",
+    }
+}

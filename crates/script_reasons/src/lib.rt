@@ -1,0 +1,10 @@
+//! Why a line of a script is refused, in words.
+#![tactic(auto)]
+
+mod drives;
+mod fields;
+pub mod reasons;
+mod texts;
+
+pub use drives::Drives;
+pub use reasons::{Fault, LineReason};

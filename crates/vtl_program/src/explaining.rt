@@ -1,0 +1,218 @@
+//! Why something was refused, on standard error behind the one line.
+ghost use Rattle.std.specs.Prelude.{◌≡◌, Result, Ok, Err, map};
+ghost use Rattle.vtl_words.specs.Orders.{texts_of};
+ghost use Rattle.vtl_program.specs.Explained.{Explains, RunsExplained, asks};
+ghost use Rattle.vtl_program.specs.Files.{answers_of};
+ghost use Rattle.vtl_program.specs.Orders.{given_words};
+
+use crate::files::{ChangeFiles, MakeFiles, ReadFiles, SecondFiles, TakesBack, TextFiles};
+use crate::notes::Notes;
+use crate::orders::run;
+use crate::programs::{Ended, VtlFault};
+use crate::starting::NotStarted;
+use bays::Held;
+use config_reasons::reason_of;
+use explanations::Explanation;
+use std::alloc::{AllocError, Global};
+use std::io::{Read, Write};
+use std::sync::Wait;
+use std::thread::Threads;
+use std::time::Clock;
+use tape_disk::Disk;
+use vtl_base::Barcode;
+use vtl_config::{Config, ConfigError, read_config};
+use vtl_script::write_text;
+use vtl_words::{Order, WordsReason, asks_to_explain, read_words};
+
+/// Whether the words that the system gave ask for an explanation.
+pub fn asks(words: &Result<Vec<String>, VtlFault>) -> bool
+    ensures { result ≡ asks (given_words words.now) }
+{
+    match words {
+        Ok(words) => asks_to_explain(words.as_slice()),
+        Err(_) => false,
+    }
+}
+
+// What may be refused of the words.
+#[derive(Drop)]
+enum Doubt {
+    // Nothing.
+    Nothing,
+    // They are refused.
+    Words(WordsReason),
+    // The configuration has to have this barcode.
+    Barcode(Barcode),
+}
+
+// The barcode of what is to be reclaimed.
+fn barcode_in(alloc: Global, words: &[String]) -> Option<Barcode> {
+    match read_words(alloc, words) {
+        Ok(order) => match order {
+            Order::Reclaim {
+                config: _config,
+                barcode,
+            } => Some(barcode),
+            _other => None,
+        },
+        Err(_error) => None,
+    }
+}
+
+// What may be refused of the words, where that is asked for.
+fn doubt_of(alloc: Global, asked: bool, words: &Result<Vec<String>, VtlFault>) -> Doubt {
+    let words = match words {
+        Ok(words) if asked => words.as_slice(),
+        _ => return Doubt::Nothing,
+    };
+    if let Some(reason) = WordsReason::of(alloc, words) {
+        return Doubt::Words(reason);
+    }
+    match barcode_in(alloc, words) {
+        Some(barcode) => Doubt::Barcode(barcode),
+        None => Doubt::Nothing,
+    }
+}
+
+// Adds the lines of a barcode that a configuration does not have.
+fn add_barcode(
+    alloc: Global,
+    barcode: &Barcode,
+    config: &Config,
+    lines: &mut Explanation,
+) -> Result<(), AllocError> {
+    for cartridge in config.cartridges.as_slice() {
+        if cartridge.barcode.as_bytes() == barcode.as_bytes() {
+            return Ok(());
+        }
+    }
+    let name = std::str::from_utf8(barcode.as_bytes()).unwrap_or("");
+    let refused = format!(in alloc; "refused: the barcode {name}")?;
+    lines.add(alloc, refused.as_str())?;
+    lines.add(
+        alloc,
+        "allowed: the barcode of a cartridge of the configuration",
+    )?;
+    lines.add(alloc, "to do: take one of them, or add a cartridge")
+}
+
+// Adds the lines of a refused configuration, or of a barcode that it does not have.
+fn add_config(
+    alloc: Global,
+    notes: &Notes,
+    doubt: &Doubt,
+    lines: &mut Explanation,
+) -> Result<(), AllocError> {
+    let Some(config) = notes.config() else {
+        return Ok(());
+    };
+    let text = config.text.as_slice();
+    match read_config(alloc, text) {
+        Err(ConfigError::Refused { place, rule }) => match reason_of(alloc, text, place, rule) {
+            Some(reason) => reason.add_to(alloc, config.file.as_str(), lines),
+            None => Ok(()),
+        },
+        Err(ConfigError::NoMemory) => Ok(()),
+        Ok(config) => match doubt {
+            Doubt::Barcode(barcode) => add_barcode(alloc, barcode, &config, lines),
+            _ => Ok(()),
+        },
+    }
+}
+
+// Adds the lines of a refused configuration, or of a refused line of the script: there is one of the two at most.
+fn add_text(
+    alloc: Global,
+    notes: &Notes,
+    doubt: &Doubt,
+    lines: &mut Explanation,
+) -> Result<(), AllocError> {
+    add_config(alloc, notes, doubt, lines)?;
+    if let Some(reason) = notes.refused() {
+        reason.add_to(alloc, lines)?;
+    }
+    Ok(())
+}
+
+// The lines for a status.
+fn lines_for(
+    alloc: Global,
+    status: u8,
+    doubt: &Doubt,
+    notes: &Notes,
+) -> Result<Explanation, AllocError> {
+    let mut lines = Explanation::new(alloc);
+    match status {
+        1 => match doubt {
+            Doubt::Words(reason) => reason.add_to(alloc, &mut lines)?,
+            _ => add_text(alloc, notes, doubt, &mut lines)?,
+        },
+        2 => {
+            if let Some(reason) = notes.failed() {
+                reason.add_to(alloc, &mut lines)?;
+            }
+        }
+        _ => {}
+    }
+    Ok(lines)
+}
+
+// Writes the lines for a status, where they are asked for. What cannot be written, or finds no memory, is left out.
+fn explain<E: Write>(
+    asked: bool,
+    alloc: Global,
+    status: u8,
+    doubt: &Doubt,
+    notes: &Notes,
+    errors: &mut E,
+)
+    ensures { Explains asked (E.contents errors.old) (E.contents errors.new) }
+{
+    if !asked {
+        return;
+    }
+    let lines = match lines_for(alloc, status, doubt, notes) {
+        Ok(lines) => lines,
+        Err(_) => return,
+    };
+    let _ = write_text(errors, lines.as_str().as_bytes());
+}
+
+/// The program as `run` runs it, and behind the line of its fault the lines that explain it, where the words ask for
+/// them: then the program has done all that it does, and its status stands.
+pub fn run_explained<
+    D: Disk + Drop + Send,
+    F: TextFiles
+        + ReadFiles<D>
+        + ChangeFiles<D>
+        + SecondFiles<D>
+        + TakesBack<Held<D>, NotStarted<D>>
+        + MakeFiles<D>,
+    R: Threads + Wait + Clock + Sync,
+    I: Read,
+    W: Write,
+    E: Write,
+>(
+    rt: &R,
+    alloc: Global,
+    files: &F,
+    notes: &Notes,
+    words: Result<Vec<String>, VtlFault>,
+    reader: &mut I,
+    writer: &mut W,
+    errors: &mut E,
+) -> Ended
+    ensures { RunsExplained D.state
+        (answers_of F.reads F.opens_to_read F.closes F.opens F.hands_back F.closes_all F.gives_up
+        F.opens_second F.closes_second F.makes F.leaves F.takes_away)
+        (given_words words)
+        (I.remaining reader.old) (I.remaining reader.new)
+        (W.contents writer.old) (W.contents writer.new)
+        (E.contents errors.old) (E.contents errors.new) result }
+{
+    let asked = asks(&words);
+    let doubt = doubt_of(alloc, asked, &words);
+    let ended = run::<D, F, R, I, W, E>(rt, alloc, files, words, reader, writer, errors);
+    explain(asked, alloc, ended.status, &doubt, notes, errors);
+    ended
+}

@@ -1,0 +1,101 @@
+//! Why command words are refused.
+ghost use Rattle.std.specs.Prelude.{IfSome};
+ghost use Rattle.clap.specs.Simple.{subcommand_rows_of};
+ghost use Rattle.vtl_words.specs.Orders.{texts_of, order_from, IsNoOrder, AreRefused};
+
+use crate::commands::vtl_command;
+use crate::orders::WordsError;
+use crate::reading::{order_in, parsed, value_of};
+use clap::ArgMatches;
+use explanations::Explanation;
+use std::alloc::{AllocError, Global};
+use vtl_base::limits::MAX_BARCODE;
+
+/// Why command words are refused.
+#[derive(Debug, Drop)]
+pub enum WordsReason {
+    /// The parser refuses them. Its text names the word that is wrong or missing, and the usage of the command.
+    Parser(String),
+    /// This word is no barcode.
+    Barcode(String),
+}
+
+// What the parser says of the fault of words.
+fn parser_reason(alloc: Global, words: &[String]) -> Option<WordsReason> {
+    let command = vtl_command(alloc).ok()?;
+    match command.try_get_matches_from(words) {
+        Ok(_) => None,
+        Err(error) => match format!(in alloc; "{error}") {
+            Ok(text) => Some(WordsReason::Parser(text)),
+            Err(_) => None,
+        },
+    }
+}
+
+// The word that stands for a barcode.
+fn barcode_word<'a>(matches: &ArgMatches<'a>) -> Option<&'a str> {
+    match matches.subcommand() {
+        Some(found) => value_of(found.1, "barcode"),
+        None => None,
+    }
+}
+
+// Why words that the parser takes give no order.
+fn form_reason(alloc: Global, matches: &ArgMatches<'_>) -> Option<WordsReason>
+    ensures { IfSome result (λ _. IsNoOrder (order_from (subcommand_rows_of matches.now))) }
+{
+    match order_in(alloc, matches) {
+        Err(WordsError::Refused) => match String::from_str(alloc, barcode_word(matches)?) {
+            Ok(word) => Some(WordsReason::Barcode(word)),
+            Err(_) => None,
+        },
+        _ => None,
+    }
+}
+
+impl WordsReason {
+    /// Why these words are refused. None where they are not, where they ask for help or for the version, and where
+    /// memory runs out. The words are parsed a second time.
+    pub fn of(alloc: Global, words: &[String]) -> Option<WordsReason>
+        ensures { IfSome result (λ _. AreRefused (texts_of words.now)) }
+    {
+        match parsed(alloc, words) {
+            Ok(matches) => form_reason(alloc, &matches),
+            Err(error) => match error {
+                WordsError::Refused => parser_reason(alloc, words),
+                _ => None,
+            },
+        }
+    }
+
+    /// Adds lines: what is refused, what is allowed, what to do. Where memory runs out, the first ones may be there.
+    pub fn add_to(&self, alloc: Global, lines: &mut Explanation) -> Result<(), AllocError> {
+        match self {
+            WordsReason::Parser(text) => add_parser(alloc, text.as_str(), lines),
+            WordsReason::Barcode(word) => {
+                let refused = format!(in alloc; "refused: the barcode {word}")?;
+                lines.add(alloc, refused.as_str())?;
+                let allowed = format!(in alloc;
+                    "allowed: 1 to {MAX_BARCODE} characters, A to Z and 0 to 9"
+                )?;
+                lines.add(alloc, allowed.as_str())?;
+                lines.add(alloc, "to do: take a barcode of the configuration")
+            }
+        }
+    }
+}
+
+// Adds the lines of the parser's text that are not empty.
+fn add_parser(alloc: Global, text: &str, lines: &mut Explanation) -> Result<(), AllocError> {
+    for line in text.split('\n') {
+        match line.strip_prefix("error: ") {
+            Some(what) => {
+                let refused = format!(in alloc; "refused: {what}")?;
+                lines.add(alloc, refused.as_str())?;
+            }
+            None if line.is_empty() => {}
+            None => lines.add(alloc, line)?,
+        }
+    }
+    Ok(())
+}
