@@ -1,4 +1,5 @@
 pub mod BesideLemmas
+pub mod CatalogLemmas
 pub mod ChoosingLemmas
 pub mod ContentsLemmas
 pub mod CreatedLemmas

@@ -58,6 +58,19 @@ LacksReserved old changes =
     (old.frames ≡ 0) ⊎ ((old.body < length (spell_all changes))
     ⊎ ((part : ℕ) × (slice_index_or old.entries part 0 < sum_by (entries_of part) changes)))
 
+-- so much is reserved: for so many frames, for bodies of so many bytes, and for so many blocks and runs of marks in
+-- each partition (own)
+pub record HasReserved (stores body entries : ℕ) (reserved : Reserved) : Type 0 where
+  pub frames : stores ≤ reserved.frames
+  pub longest : body ≤ reserved.body
+  pub each : (part : ℕ) → part < length reserved.entries → entries ≤ slice_index_or reserved.entries part 0
+
+-- less than that is reserved (own)
+abbrev pub LacksStores : Reserved → ℕ → ℕ → ℕ → Type 0
+LacksStores old stores body entries =
+    (old.frames < stores) ⊎ ((old.body < body)
+    ⊎ ((part : ℕ) × (part < length old.entries) × (slice_index_or old.entries part 0 < entries)))
+
 module _ {D : Type 0} where
   -- these changes were stored, as one frame (own)
   pub record HasStored (old : OpenCartridge D) (changes : List Change) (new : OpenCartridge D) : Type 0 where

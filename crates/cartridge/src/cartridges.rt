@@ -1,5 +1,5 @@
 //! An open cartridge.
-ghost use Rattle.std.specs.Prelude.{◌≡◌, ◌<◌, ◌≤◌, [], length, true, false};
+ghost use Rattle.std.specs.Prelude.{◌≡◌, ◌<◌, ◌≤◌, [], IfOk, length, true, false};
 ghost use Rattle.tape_disk.specs.TwoDisks.{AreHonest, EachOfTwo};
 ghost use Rattle.vtl_base.specs.declared.limits.TheConstants.{MAX_CAPACITY, MAX_OBJECTS, MAX_PARTITIONS};
 ghost use Rattle.volume_core.specs.Volume.{IsMarkOf, capacity_of, count_of, kind_at, mark_count, marks_upto, used_up_to};
@@ -8,6 +8,7 @@ ghost use Rattle.side_pairs.specs.Pairs.{gate_behind};
 ghost use Rattle.side_pairs.specs.Passes.{other};
 ghost use Rattle.cartridge.specs.Contents.{GivesContents, IsContents, ShowsContents, bodies_of, volume_made};
 ghost use Rattle.cartridge.specs.Disks.{disk_at};
+ghost use Rattle.record_index.specs.Shapes.{IsIndexOf};
 
 use crate::noted::Noted;
 use crate::shelved::Shelved;
@@ -16,10 +17,11 @@ use gate_journal::{Frame, Journal};
 use record_index::Index;
 use record_index::laws::a_volume_is_seen_by_its_shape;
 use side_pairs::Which;
+use std::alloc::Global;
 use std::marker::Model;
 use tape_disk::Disk;
 use volume_core::Kind;
-use vtl_base::{ObjNo, PartNo};
+use vtl_base::{NoMemory, ObjNo, PartNo};
 
 /// An open cartridge on two disks, of which the one is called on which the side lies that counts.
 /// After a device fault it has failed until it was closed and opened again.
@@ -169,6 +171,13 @@ impl<D: Disk> Cartridge<D> {
     {
         a_volume_is_seen_by_its_shape();
         self.index.mark_at(part, k)
+    }
+
+    /// A copy of its catalog, with nothing reserved: of the volume that it holds what no byte of a block decides.
+    pub fn catalog(&self, alloc: Global) -> Result<Index, NoMemory>
+        ensures { IfOk result (λ index. IsIndexOf index (volume_made self.now.contents)) }
+    {
+        self.index.copy(alloc)
     }
 
     /// Whether the disk failed: then nothing more is read or written.

@@ -13,6 +13,7 @@ mod opening;
 mod placing;
 pub mod reclaiming;
 mod recovering;
+mod reserving;
 pub mod shelved;
 mod sides;
 mod storing;

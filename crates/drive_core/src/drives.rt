@@ -14,6 +14,7 @@ mod lending;
 mod loading;
 mod looking;
 mod modes;
+mod parting;
 mod performing;
 mod reserving;
 mod verdicts;

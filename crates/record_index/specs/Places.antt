@@ -85,6 +85,10 @@ IsPlace (Runs.Marks count) = Unit {0}
 abbrev pub empty_placed : ℕ → PlacedPart
 empty_placed capacity = record { capacity = capacity; objects = []; reserved = 0 }
 
+-- a partition with nothing reserved (own)
+abbrev pub unreserved : PlacedPart → PlacedPart
+unreserved part = record { capacity = part.capacity; objects = part.objects; reserved = 0 }
+
 -- a partition with a run behind its objects, and so many runs reserved (own)
 abbrev pub with_run : PlacedPart → Run → ℕ → PlacedPart
 with_run part run reserved =

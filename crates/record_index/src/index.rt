@@ -4,7 +4,7 @@ ghost use Rattle.std.specs.Option.{option_copied};
 ghost use Rattle.vtl_base.specs.declared.limits.TheConstants.{MAX_CAPACITY, MAX_OBJECTS, MAX_PARTITIONS};
 ghost use Rattle.volume_core.specs.Volume.{AppliesUnless, IsMarkOf, IsVolume, are_capacities, capacity_of, count_of, kind_at, mark_count, marks_upto, refusal_of, used_up_to};
 ghost use Rattle.record_index.specs.MarkRuns.{AddsDigitsOfRuns, IsRunUpto, IsRunWith};
-ghost use Rattle.record_index.specs.Places.{CanAdd, empty_placed, objects_of_run, outline, outlined, record_part, placed_after, placed_objects, reserved_of, runs_of, with_objects};
+ghost use Rattle.record_index.specs.Places.{CanAdd, empty_placed, objects_of_run, outline, outlined, record_part, placed_after, placed_objects, reserved_of, runs_of, unreserved, with_objects};
 ghost use Rattle.volume_core.specs.declared.volumes.ApplyError.TheVariants as Errors;
 
 use crate::partitions::PlacedPartition;
@@ -46,6 +46,17 @@ impl Index {
         let mut partitions = Vec::with_capacity(alloc, capacities.len())?;
         for capacity in capacities {
             partitions.push_reserved(PlacedPartition::new(alloc, *capacity));
+        }
+        Ok(Index { partitions })
+    }
+
+    /// A copy of it, with nothing reserved.
+    pub fn copy(&self, alloc: Global) -> Result<Self, NoMemory>
+        ensures { IfOk result (λ copy. copy ≡ map unreserved self.now) }
+    {
+        let mut partitions = Vec::with_capacity(alloc, self.partitions.len())?;
+        for partition in &self.partitions {
+            partitions.push_reserved(partition.copy(alloc)?);
         }
         Ok(Index { partitions })
     }

@@ -1,11 +1,11 @@
 //! The partitions of an index.
-ghost use Rattle.std.specs.Prelude.{◌≡◌, ◌≤◌, ◌<◌, ◌+◌, ◌-◌, ◌^◌, ◌++◌, [], IsTrue, OnOk, OnErr, Some, Err, length, take, slice_get};
+ghost use Rattle.std.specs.Prelude.{◌≡◌, ◌≤◌, ◌<◌, ◌+◌, ◌-◌, ◌^◌, ◌++◌, [], IsTrue, IfOk, OnOk, OnErr, Some, Err, length, take, slice_get};
 ghost use Rattle.vtl_base.specs.declared.limits.TheConstants.{MAX_CAPACITY, MAX_OBJECTS};
 ghost use Rattle.vtl_base.specs.Limits.{is_capacity};
 ghost use Rattle.volume_core.specs.Volume.{AppliesUnless, IsPart, refusal_in, used_of};
 ghost use Rattle.volume_core.specs.declared.volumes.ApplyError.TheVariants as Errors;
 ghost use Rattle.record_index.specs.MarkRuns.{AddsDigitsOfRuns, IsRunUpto, IsRunWith};
-ghost use Rattle.record_index.specs.Places.{CanAdd, IsPlace, blank, empty_placed, filled_part, record_kept, objects_of_run, outlined, placed_by, runs_of, with_run};
+ghost use Rattle.record_index.specs.Places.{CanAdd, IsPlace, blank, empty_placed, filled_part, record_kept, objects_of_run, outlined, placed_by, runs_of, unreserved, with_run};
 
 use crate::places::{Placed, Run};
 use crate::records::Record;
@@ -54,6 +54,18 @@ impl PlacedPartition {
             capacity,
             table: ObjectTable::new(alloc),
         }
+    }
+
+    // A copy of it, with nothing reserved.
+    pub(crate) fn copy(&self, alloc: Global) -> Result<Self, AllocError>
+        ensures part { IfOk result (λ copy. copy ≡ unreserved self.now) }
+        ensures limits { IfOk result (λ copy. IsPart (filled_part blank copy)) }
+    {
+        let table = self.table.copy(alloc)?;
+        Ok(PlacedPartition {
+            capacity: self.capacity,
+            table,
+        })
     }
 
     pub(crate) fn capacity(&self) -> u64

@@ -1,5 +1,5 @@
 //! Runs of filemarks, in order.
-ghost use Rattle.std.specs.Prelude.{◌≡◌, ◌≤◌, ◌<◌, ◌+◌, ◌++◌, ◌∷◌, [], OnOk, Some, length, take, slice_get};
+ghost use Rattle.std.specs.Prelude.{◌≡◌, ◌≤◌, ◌<◌, ◌+◌, ◌++◌, ◌∷◌, [], IfOk, OnOk, Some, length, take, slice_get};
 ghost use Rattle.vtl_base.specs.Steps.{ticked};
 
 use std::alloc::{AllocError, Global};
@@ -45,6 +45,15 @@ impl Runs {
         Runs {
             entries: Vec::new(alloc),
         }
+    }
+
+    // A copy of them.
+    pub(crate) fn copy(&self, alloc: Global) -> Result<Self, AllocError>
+        ensures { IfOk result (λ copy. copy.runs ≡ self.now.runs) }
+    {
+        let mut entries = Vec::new(alloc);
+        entries.extend_from_slice(&self.entries)?;
+        Ok(Runs { entries })
     }
 
     /// How many there are.

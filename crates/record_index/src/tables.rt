@@ -1,5 +1,5 @@
 //! The two tables of a partition: one of its blocks, one of its runs of filemarks.
-ghost use Rattle.std.specs.Prelude.{◌≡◌, ◌≤◌, ◌<◌, ◌+◌, ◌^◌, ◌++◌, ◌∷◌, [], OnOk, OnErr, length, replicate, take, slice_get};
+ghost use Rattle.std.specs.Prelude.{◌≡◌, ◌≤◌, ◌<◌, ◌+◌, ◌^◌, ◌++◌, ◌∷◌, [], IfOk, OnOk, OnErr, length, replicate, take, slice_get};
 ghost use Rattle.record_index.specs.declared.places.Placed.TheVariants as Placeds;
 ghost use Rattle.record_index.specs.Places.{objects_of_run};
 ghost use Rattle.record_index.specs.MarkRuns.{AddsDigitsOfRuns, IsRunUpto, IsRunWith};
@@ -126,6 +126,21 @@ impl ObjectTable {
             count: 0,
             reserved: 0,
         }
+    }
+
+    // A copy of it, with nothing reserved.
+    pub(crate) fn copy(&self, alloc: Global) -> Result<Self, AllocError>
+        ensures { IfOk result (λ copy. copy ≡ record { objects = self.now.objects; reserved = 0 }) }
+    {
+        let mut blocks = Vec::new(alloc);
+        blocks.extend_from_slice(&self.blocks)?;
+        let runs = self.runs.copy(alloc)?;
+        Ok(ObjectTable {
+            blocks,
+            runs,
+            count: self.count,
+            reserved: 0,
+        })
     }
 
     pub(crate) fn count(&self) -> ObjNo

@@ -22,6 +22,14 @@ abbrev pub HasRoomWithin : List PlacedPart → List Change → Type 0
 HasRoomWithin index changes =
     (part : ℕ) → part < length index → sum_by (entries_of part) changes ≤ reserved_of index part
 
+-- in each partition that is there so much is reserved (own)
+abbrev pub HasEntries : List PlacedPart → ℕ → Type 0
+HasEntries index entries = (part : ℕ) → part < length index → entries ≤ reserved_of index part
+
+-- in some partition less is reserved (own)
+abbrev pub LacksEntries : List PlacedPart → ℕ → Type 0
+LacksEntries index entries = (part : ℕ) × (part < length index) × (reserved_of index part < entries)
+
 -- of what was reserved in each partition these changes have taken their entries at most (own)
 abbrev pub TakesEntries : List PlacedPart → List Change → List PlacedPart → Type 0
 TakesEntries old changes new =

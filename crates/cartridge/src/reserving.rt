@@ -1,0 +1,49 @@
+//! Room in memory is made for several later stores.
+ghost use Rattle.std.specs.Prelude.{◌≡◌, ◌≤◌, ◌<◌, OnOk, OnErr, IfErr, length};
+ghost use Rattle.vtl_base.specs.declared.limits.TheConstants.{MAX_PARTITIONS};
+ghost use Rattle.record_index.specs.Places.{reserved_of};
+ghost use Rattle.cartridge.specs.Answers.{HasReserved, KeepsReserved, LacksStores};
+ghost use Rattle.cartridge.specs.Inner.Growing.{HasEntries, IsGrown, LacksEntries};
+
+use crate::cartridges::Cartridge;
+use crate::error::CartridgeError;
+use record_index::Index;
+use tape_disk::Disk;
+use vtl_base::NoMemory;
+
+impl<D: Disk> Cartridge<D> {
+    /// Makes room in memory for so many later stores, which then take none: each of a body of so many bytes at most,
+    /// and all of them together of so many blocks and runs of marks in each partition, 24 bytes each.
+    pub fn reserve_stores(
+        &mut self,
+        stores: usize,
+        body: usize,
+        entries: usize,
+    ) -> Result<(), CartridgeError>
+        ensures same { self.new ≡ record self.old { reserved = self.new.reserved } }
+        ensures grows { KeepsReserved self.old.reserved self.new.reserved }
+        ensures ok { OnOk result (HasReserved stores body entries self.new.reserved) }
+        ensures refused { IfErr result (λ error. (error ≡ CartridgeError.NoMemory)
+            × LacksStores self.old.reserved stores body entries) }
+    {
+        self.frame.reserve(body)?;
+        reserve_each(&mut self.index, entries)?;
+        let Ok(()) = self.journal.reserve_extents(stores) else {
+            return Err(CartridgeError::NoMemory);
+        };
+        Ok(())
+    }
+}
+
+// Makes room for so many blocks and runs of marks in each partition.
+fn reserve_each(index: &mut Index, entries: usize) -> Result<(), NoMemory>
+    ensures few { length index.old ≤ MAX_PARTITIONS }
+    ensures grown { IsGrown index.old index.new }
+    ensures ok { OnOk result (HasEntries index.new entries) }
+    ensures err { OnErr result (LacksEntries index.old entries) }
+{
+    for part in 0..index.parts() {
+        index.reserve(part, entries)?;
+    }
+    Ok(())
+}

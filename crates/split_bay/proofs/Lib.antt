@@ -1,0 +1,10 @@
+pub mod BothLemmas
+pub mod EnterLemmas
+pub mod JoinedLemmas
+pub mod LoadingLemmas
+pub mod NearLemmas
+pub mod RefusalLemmas
+pub mod RingLemmas
+pub mod SpanLemmas
+pub mod StoreLemmas
+pub mod TurnLemmas

@@ -1,0 +1,143 @@
+-- Spans, and what is sent in them.
+use Rattle.std.proofs.Common.{◌≡◌, ◌≤◌, ◌+◌, ◌++◌, ◌-◌, ◌%◌, ◌^◌, ℕ, List, [], ◌∷◌, length, map, sum_by, None, true, refl, sym, ◌∙◌, ap, subst, arith, append_assoc, length-append}
+use Rattle.std.proofs.lemmas.Bool.{and_parts, leb-true, ltb-true}
+use Rattle.std.proofs.lemmas.List.{append-nil}
+use Rattle.std.proofs.lemmas.List.Sums.{sum_by-append}
+use Rattle.volume_core.specs.declared.changes.Change.{Change}
+use Rattle.volume_core.specs.declared.changes.Change.TheVariants.{Put, Marks, Erase}
+use Rattle.volume_core.specs.Medium.{block_bytes, frame_size}
+use Rattle.volume_core.specs.Volume.{AllApply, Part, after, changed, refusal_of}
+use Rattle.split_bay.specs.declared.items.Item.{Item}
+use Rattle.split_bay.specs.declared.items.Item.TheVariants.{Sent}
+use Rattle.split_bay.specs.Rings.{IsCounted}
+use Rattle.split_bay.specs.Spans.{KeepsLimits, Span, begins, no_span, span_after, span_of, span_with, spans_in, takes_more, volume_seen}
+
+pub span_append : (span : Span) (xs ys : List Item)
+    → span_after span (xs ++ ys) ≡ span_after (span_after span xs) ys
+span_append span [] ys = refl
+span_append span (x ∷ xs) ys = span_append (span_with span x) xs ys
+
+-- one item more
+pub span_next : (items : List Item) (item : Item) → span_of (items ++ item ∷ []) ≡ span_with (span_of items) item
+span_next items item = span_append no_span items (item ∷ [])
+
+pub span_changes : (span : Span) (changes : List Change)
+    → span_after span (map Sent changes) ≡ record { begin = span.begin; since = span.since ++ changes }
+span_changes span [] = λ i. record { begin = span.begin; since = sym (append-nil span.since) i }
+span_changes span (c ∷ cs) =
+    span_changes (span_with span (Sent c)) cs
+    ∙ (λ i. record { begin = span.begin; since = append_assoc span.since (c ∷ []) cs i })
+
+-- some changes more
+pub span_more : (items : List Item) (changes : List Change)
+    → span_of (items ++ map Sent changes)
+    ≡ record { begin = (span_of items).begin; since = (span_of items).since ++ changes }
+span_more items changes = span_append no_span items (map Sent changes) ∙ span_changes (span_of items) changes
+
+-- of changes that all apply the last ones apply to what the first ones make
+pub apply_rest : (volume : List Part) (xs ys : List Change) → AllApply volume (xs ++ ys)
+    → AllApply (after volume xs) ys
+apply_rest volume [] ys all = all
+apply_rest volume (x ∷ xs) ys all = apply_rest (changed volume x) xs ys all.1
+
+-- one that applies behind others applies with them
+pub apply_more : (volume : List Part) (xs : List Change) (change : Change) → AllApply volume xs
+    → refusal_of (after volume xs) change ≡ None → AllApply volume (xs ++ change ∷ [])
+apply_more volume [] change all none = (none, tt)
+apply_more volume (x ∷ xs) change all none = (all.0, apply_more (changed volume x) xs change all.1 none)
+
+-- a frame has 15 bytes and its block's
+pub frame_of : (change : Change) → frame_size change ≡ 15 + block_bytes change
+frame_of (Put part at block) = refl
+frame_of (Marks part at count) = refl
+frame_of (Erase part at) = refl
+
+-- what it means that one change more is taken
+pub record Takes (span : Span) (bytes : ℕ) : Type 0 where
+  pub few : length span.since + 1 ≤ span.begin.left
+  pub short : sum_by block_bytes span.since + bytes ≤ 4194304
+  pub fits : sum_by frame_size span.since + (15 + bytes) ≤ span.begin.room
+
+pub taken : (span : Span) (bytes : ℕ) → takes_more span bytes ≡ true → Takes span bytes
+taken span bytes is =
+    let parts = and_parts _ _ is in
+    let more = and_parts _ _ parts.1 in
+    record {
+      few = omega (arith, ltb-true (length span.since) span.begin.left parts.0);
+      short = leb-true (sum_by block_bytes span.since + bytes) 4194304 more.0;
+      fits = leb-true (sum_by frame_size span.since + (15 + bytes)) span.begin.room more.1;
+    }
+
+-- a span with one change more keeps its limits
+pub within_more : (span : Span) (change : Change) → KeepsLimits span → refusal_of (volume_seen span) change ≡ None
+    → Takes span (block_bytes change) → KeepsLimits (span_with span (Sent change))
+within_more span change is none takes =
+    record {
+      limit = is.limit;
+      apply = apply_more span.begin.volume span.since change is.apply none;
+      few = omega (arith, takes.few, length-append span.since (change ∷ []));
+      short = omega (arith, takes.short, sum_by-append block_bytes span.since (change ∷ []));
+      fits = omega (arith, takes.fits, frame_of change, sum_by-append frame_size span.since (change ∷ []));
+    }
+
+-- no span begins with a change
+pub no_more_spans : (items : List Item) (change : Change) → spans_in (items ++ Sent change ∷ []) ≡ spans_in items
+no_more_spans items change = omega (arith, sum_by-append begins items (Sent change ∷ []))
+
+-- the counts, once a change is sent
+pub counted_more : (items : List Item) (change : Change) (spans left bytes room size : ℕ)
+    → IsCounted items spans left bytes room → refusal_of (volume_seen (span_of items)) change ≡ None
+    → Takes (span_of items) (block_bytes change) → size ≡ frame_size change
+    → IsCounted (items ++ Sent change ∷ []) spans (left - 1) (bytes - (size - 15)) (room - size)
+counted_more items change spans left bytes room size counted none takes is =
+    let span = span_of items in
+    let next = span_next items (Sent change) in
+    record {
+      within = subst KeepsLimits (sym next) (within_more span change counted.within none takes);
+      spans_are = counted.spans_are ∙ ap (λ (n : ℕ). n % 2 ^ 64) (sym (no_more_spans items change));
+      left_is =
+          omega (
+            arith,
+            counted.left_is,
+            takes.few,
+            ap (λ (s : Span). length s.since) next,
+            ap (λ (s : Span). s.begin.left) next,
+            length-append span.since (change ∷ []),
+          );
+      bytes_are =
+          omega (
+            arith,
+            counted.bytes_are,
+            takes.short,
+            is,
+            frame_of change,
+            ap (λ (s : Span). sum_by block_bytes s.since) next,
+            sum_by-append block_bytes span.since (change ∷ []),
+          );
+      room_is =
+          omega (
+            arith,
+            counted.room_is,
+            takes.fits,
+            is,
+            frame_of change,
+            ap (λ (s : Span). sum_by frame_size s.since) next,
+            ap (λ (s : Span). s.begin.room) next,
+            sum_by-append frame_size span.since (change ∷ []),
+          );
+    }
+
+-- while changes are received in a span, no more of them are taken than the ring has places
+pub place_for_one : (before items now : List Item) (taken : List Change) (change : Change)
+    → items ≡ before ++ map Sent taken → now ≡ items ++ Sent change ∷ [] → KeepsLimits (span_of now)
+    → length taken + 1 ≤ 256
+place_for_one before items now taken change so_far one within =
+    omega (
+      arith,
+      within.few,
+      within.limit,
+      ap (λ (s : Span). length s.since) (ap span_of one ∙ span_next items (Sent change)),
+      length-append (span_of items).since (change ∷ []),
+      ap (λ (s : Span). length s.since) (ap span_of so_far ∙ span_more before taken),
+      length-append (span_of before).since taken,
+    )

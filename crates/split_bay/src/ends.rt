@@ -1,0 +1,236 @@
+//! The two ends of the ring through which changes go from the hosts' half of a bay to the disk's.
+ghost use Rattle.std.specs.Prelude.{◌≡◌, ◌+◌, ◌<◌, ◌≤◌, ◌++◌, ◌↔◌, [], ◌∷◌, IsTrue, None, true, length, map, vec_capacity};
+ghost use mathlib.Core.List.{IsPrefix};
+ghost use Rattle.rtrb.specs.Ring.{known_free, known_items, producer_capacity, received, sent};
+ghost use Rattle.volume_core.specs.Medium.{block_bytes};
+ghost use Rattle.volume_core.specs.Volume.{refusal_of};
+ghost use Rattle.split_bay.specs.declared.items.TheConstants.{RING_RECORDS};
+ghost use Rattle.split_bay.specs.declared.items.Item.TheVariants as Items;
+ghost use Rattle.split_bay.specs.Rings.{AreEnds, ReceivesFrom, SendsInto};
+ghost use Rattle.split_bay.specs.Spans.{IsChangeFirst, KeepsLimits, NoChangeFirst, span_of, takes_more, volume_seen};
+
+use crate::items::{Item, RING_RECORDS};
+use crate::noted::NotedBeginning;
+use crate::protocol::InSpans;
+use rtrb::{Consumer, Producer};
+use std::alloc::Global;
+use std::marker::{Brand, Model, PhantomData};
+use volume_core::Change;
+use vtl_base::DriveNo;
+use vtl_base::limits::BUFFER_BYTES;
+
+/// Which ring each drive has, by its number. One name gives all of them, so all bays have one type.
+pub trait Rings {
+    ghost use Rattle.std.specs.Prelude.{ℕ, Option};
+    ghost use Rattle.split_bay.specs.Rings.{Sender};
+
+    /// The ring of a drive, by the end that sends.
+    ghost ring: { ℕ → Option Sender };
+}
+
+impl Rings for Brand {
+    ghost use Rattle.std.specs.Prelude.{None};
+
+    ghost ring = { λ number. None };
+}
+
+/// The hosts' end of a drive's ring.
+#[derive(Drop)]
+pub struct Sending<R: Rings> {
+    pub(crate) number: DriveNo,
+    pub(crate) producer: Producer<Item, Global, InSpans>,
+    // How many spans began, modulo 2^64.
+    pub(crate) spans: u64,
+    // How many records and bytes of blocks may still be sent in this span, and how much room is left.
+    pub(crate) left: usize,
+    pub(crate) bytes: u64,
+    pub(crate) room: u64,
+    of: PhantomData<R>,
+}
+
+impl<R: Rings> Model for Sending<R> {
+    ghost use Rattle.std.specs.Prelude.{◌≡◌, ◌≤◌};
+    ghost use Rattle.rtrb.specs.Ring.{known_free, producer_capacity, sent};
+    ghost use Rattle.split_bay.specs.declared.items.TheConstants.{RING_RECORDS};
+    ghost use Rattle.split_bay.specs.Rings.{IsCounted, SendingState, SendsInto};
+
+    ghost Value = { SendingState };
+
+    ghost view = { λ s. record { number = s.number; sent = sent s.producer } };
+
+    ghost invariant = { λ s. SendsInto (R.ring s.number) s.producer
+        × (producer_capacity s.producer ≡ RING_RECORDS)
+        × (s.left ≤ known_free s.producer)
+        × IsCounted (sent s.producer) s.spans s.left s.bytes s.room };
+}
+
+/// The disk's end of a drive's ring.
+#[derive(Drop)]
+pub struct Receiving<R: Rings> {
+    pub(crate) number: DriveNo,
+    pub(crate) consumer: Consumer<Item, Global, InSpans>,
+    // How many spans began, modulo 2^64.
+    pub(crate) spans: u64,
+    of: PhantomData<R>,
+}
+
+impl<R: Rings> Model for Receiving<R> {
+    ghost use Rattle.std.specs.Prelude.{◌≡◌, ◌%◌, ◌^◌};
+    ghost use Rattle.rtrb.specs.Ring.{known_items, received};
+    ghost use Rattle.split_bay.specs.Rings.{ReceivesFrom, ReceivingState};
+    ghost use Rattle.split_bay.specs.Spans.{KeepsLimits, span_of, spans_in};
+
+    ghost Value = { ReceivingState };
+
+    ghost view = { λ r. record {
+      number = r.number;
+      received = received r.consumer;
+      waiting = known_items r.consumer;
+    } };
+
+    ghost invariant = { λ r. ReceivesFrom (R.ring r.number) r.consumer
+        × KeepsLimits (span_of (received r.consumer))
+        × (r.spans ≡ spans_in (received r.consumer) % 2 ^ 64) };
+}
+
+impl<R: Rings> Sending<R> {
+    /// The hosts' end of the ring of this drive, into which nothing was sent yet.
+    pub fn new(number: DriveNo, producer: Producer<Item, Global, InSpans>) -> Self
+        requires ring { SendsInto (R.ring number) producer }
+        requires places { producer_capacity producer ≡ RING_RECORDS }
+        requires none { sent producer ≡ [] }
+        ensures { result ≡ record { number = number; sent = [] } }
+    {
+        Sending {
+            number,
+            producer,
+            spans: 0,
+            left: 0,
+            bytes: BUFFER_BYTES as u64,
+            room: 0,
+            of: PhantomData,
+        }
+    }
+
+    /// The number of its drive.
+    pub(crate) fn number(&self) -> DriveNo
+        ensures { result ≡ self.now.number }
+    {
+        self.number
+    }
+
+    /// How many records may be sent until memory is taken for more, 256 at most.
+    pub(crate) fn left(&self) -> usize
+        ensures left { result + length (span_of self.now.sent).since ≡ (span_of self.now.sent).begin.left }
+        ensures most { result ≤ RING_RECORDS }
+    {
+        self.left
+    }
+
+    /// Whether a change is sent within the limits of its span whose block has so many bytes, 0 for a change with no
+    /// block.
+    pub(crate) fn takes(&self, bytes: u32) -> bool
+        ensures { result ≡ takes_more (span_of self.now.sent) bytes }
+    {
+        let bytes = bytes as u64;
+        self.left > 0 && bytes <= self.bytes && 15 + bytes <= self.room
+    }
+
+    /// Sends a change, within the limits of its span. It takes no memory, and waits for nothing.
+    pub(crate) fn send(&mut self, change: Change)
+        requires applies { refusal_of (volume_seen (span_of self.old.sent)) change ≡ None }
+        requires within { takes_more (span_of self.old.sent) (block_bytes change) ≡ true }
+        ensures { self.new ≡ record self.old { sent = self.old.sent ++ Items.Sent change ∷ [] } }
+    {
+        let size = change.frame_size();
+        self.left -= 1;
+        self.bytes -= size - 15;
+        self.room -= size;
+        self.producer.push_reserved(Item::Sent(change));
+    }
+}
+
+impl<R: Rings> Receiving<R> {
+    /// The disk's end of the ring of this drive, from which nothing was received yet.
+    pub fn new(number: DriveNo, consumer: Consumer<Item, Global, InSpans>) -> Self
+        requires ring { ReceivesFrom (R.ring number) consumer }
+        requires none { received consumer ≡ [] }
+        ensures { result ≡ record { number = number; received = []; waiting = known_items consumer } }
+    {
+        Receiving {
+            number,
+            consumer,
+            spans: 0,
+            of: PhantomData,
+        }
+    }
+
+    /// The number of its drive.
+    pub(crate) fn number(&self) -> DriveNo
+        ensures { result ≡ self.now.number }
+    {
+        self.number
+    }
+
+    /// What was received keeps the limits of its span.
+    pub(crate) fn known(&self)
+        ensures { KeepsLimits (span_of self.now.received) }
+    {
+        // Looked at for the proof's sake: the fact is the type's.
+        let _ = &self.consumer;
+    }
+
+    /// Looks at what waits.
+    pub(crate) fn look(&mut self)
+        ensures same { self.new ≡ record self.old { waiting = self.new.waiting } }
+        ensures more { IsPrefix self.old.waiting self.new.waiting }
+    {
+        let _ = self.consumer.slots();
+    }
+
+    /// Whether a change is known to wait, in front of all else.
+    pub(crate) fn has_change(&self) -> bool
+        ensures yes { IsTrue result → IsChangeFirst self.now.waiting }
+        ensures no { (IsTrue result → ⊥) → NoChangeFirst self.now.waiting }
+    {
+        if self.consumer.cached_slots() == 0 {
+            return false;
+        }
+        match self.consumer.peek_known() {
+            Item::Sent(_) => true,
+            Item::Begins(_) => false,
+        }
+    }
+
+    /// Receives the change that waits in front.
+    pub(crate) fn receive(&mut self) -> Change
+        requires { IsChangeFirst self.old.waiting }
+        ensures number { self.new.number ≡ self.old.number }
+        ensures received { self.new.received ≡ self.old.received ++ Items.Sent result ∷ [] }
+        ensures waiting { self.old.waiting ≡ Items.Sent result ∷ self.new.waiting }
+        ensures within { KeepsLimits (span_of self.new.received) }
+    {
+        match self.consumer.pop_known() {
+            Item::Sent(change) => change,
+            Item::Begins(_) => unreachable!(),
+        }
+    }
+
+    /// Receives all changes that are known to wait, up to where the next span begins. It takes no memory.
+    pub(crate) fn take_changes(&mut self, into: &mut Vec<Change>)
+        requires empty { into.old.items ≡ [] }
+        requires places { RING_RECORDS ≤ vec_capacity into.old }
+        ensures number { self.new.number ≡ self.old.number }
+        ensures received { self.new.received ≡ self.old.received ++ map Items.Sent into.new.items }
+        ensures waiting { self.old.waiting ≡ map Items.Sent into.new.items ++ self.new.waiting }
+        ensures all { NoChangeFirst self.new.waiting }
+        ensures within { KeepsLimits (span_of self.new.received) }
+        ensures places { vec_capacity into.new ≡ vec_capacity into.old }
+    {
+        self.known();
+        'changes: while self.has_change() {
+            let change = self.receive();
+            into.push_reserved(change);
+        }
+    }
+}

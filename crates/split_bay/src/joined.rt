@@ -1,0 +1,74 @@
+//! What is done with both ends of a ring.
+ghost use Rattle.std.specs.Prelude.{◌≡◌, ◌≤◌, ◌↔◌, ◌++◌, [], ◌∷◌, IsTrue};
+ghost use Rattle.split_bay.specs.declared.items.TheConstants.{RING_RECORDS};
+ghost use Rattle.split_bay.specs.declared.items.Item.TheVariants as Items;
+ghost use Rattle.split_bay.specs.Rings.{AreEnds};
+ghost use Rattle.split_bay.specs.Spans.{spans_in};
+
+use crate::ends::{Receiving, Rings, Sending};
+use crate::items::Item;
+use crate::noted::NotedBeginning;
+use vtl_base::limits::BUFFER_BYTES;
+
+// Whether the two are the ends of one drive's ring, in each of which as many spans began.
+pub(crate) fn are_ends<R: Rings>(sending: &Sending<R>, receiving: &Receiving<R>) -> bool
+    ensures { IsTrue result ↔ AreEnds sending.now receiving.now.number receiving.now.received }
+{
+    sending.number == receiving.number && sending.spans == receiving.spans
+}
+
+// Looks at both ends: what waits is all that was sent and not received, and no span begins in it.
+pub(crate) fn look_both<R: Rings>(sending: &mut Sending<R>, receiving: &mut Receiving<R>)
+    requires { AreEnds sending.old receiving.old.number receiving.old.received }
+    ensures sending { sending.new ≡ sending.old }
+    ensures same { receiving.new ≡ record receiving.old { waiting = receiving.new.waiting } }
+    ensures fifo { receiving.new.received ++ receiving.new.waiting ≡ sending.new.sent }
+    ensures changes { spans_in receiving.new.waiting ≡ 0 }
+{
+    sending.producer.slots_beside(&mut receiving.consumer);
+    receiving.consumer.slots_beside(&mut sending.producer);
+}
+
+// Receives all that waits, and lets it go.
+pub(crate) fn give_up<R: Rings>(sending: &mut Sending<R>, receiving: &mut Receiving<R>)
+    requires { AreEnds sending.old receiving.old.number receiving.old.received }
+    ensures sending { sending.new ≡ sending.old }
+    ensures number { receiving.new.number ≡ receiving.old.number }
+    ensures level { receiving.new.received ≡ sending.new.sent }
+{
+    look_both(sending, receiving);
+    'changes: while receiving.has_change() {
+        let _ = receiving.receive();
+    }
+}
+
+// A span begins, where all that was sent is received.
+pub(crate) fn begin_span<R: Rings>(
+    sending: &mut Sending<R>,
+    receiving: &mut Receiving<R>,
+    noted: NotedBeginning,
+    left: usize,
+    room: u64,
+)
+    requires number { sending.old.number ≡ receiving.old.number }
+    requires level { receiving.old.received ≡ sending.old.sent }
+    requires limit { left ≤ RING_RECORDS }
+    requires left { noted.begin.left ≡ left }
+    requires room { noted.begin.room ≡ room }
+    ensures sending { sending.new ≡ record sending.old {
+      sent = sending.old.sent ++ Items.Begins noted ∷ [];
+    } }
+    ensures number { receiving.new.number ≡ receiving.old.number }
+    ensures received { receiving.new.received ≡ receiving.old.received ++ Items.Begins noted ∷ [] }
+{
+    sending.producer.slots_beside(&mut receiving.consumer);
+    sending.producer.push_reserved(Item::Begins(noted));
+    receiving.consumer.slots_beside(&mut sending.producer);
+    let _ = receiving.consumer.pop_known();
+    sending.producer.slots_beside(&mut receiving.consumer);
+    sending.spans = sending.spans.wrapping_add(1);
+    receiving.spans = receiving.spans.wrapping_add(1);
+    sending.left = left;
+    sending.bytes = BUFFER_BYTES as u64;
+    sending.room = room;
+}
