@@ -55,6 +55,7 @@ fn cause_of(answer: &[u8], counted: Counted) -> Option<Cause> {
 pub struct Answers {
     alloc: Global,
     drives: Drives,
+    is_on: bool,
     queue: Cell<Option<Queue>>,
 }
 
@@ -64,8 +65,14 @@ impl Answers {
         Answers {
             alloc,
             drives: every_drive(),
+            is_on,
             queue: Cell::new(if is_on { Some(Queue::new(alloc)) } else { None }),
         }
+    }
+
+    /// Whether lines are added.
+    pub fn is_on(&self) -> bool {
+        self.is_on
     }
 
     /// A line of the script was read, of this number.
