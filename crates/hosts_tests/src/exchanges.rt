@@ -6,6 +6,7 @@ use std::alloc::Global;
 use std::sync::Wait;
 use std::test::Fail;
 use std::thread::Threads;
+use std::time::Clock;
 use vtl_hosts::serve_hosts;
 use vtl_wire::WireFault;
 
@@ -46,7 +47,7 @@ struct Came {
     served: u32,
 }
 
-fn serving<R: Threads + Wait + Sync>(
+fn serving<R: Threads + Wait + Clock + Sync>(
     rt: &R,
     alloc: Global,
     input: &[u8],

@@ -6,6 +6,7 @@ use std::alloc::Global;
 use std::sync::Wait;
 use std::test::Fail;
 use std::thread::Threads;
+use std::time::Clock;
 use vtl_hosts::serve_hosts;
 use vtl_wire::WireFault;
 
@@ -21,7 +22,7 @@ static MEETING: &'static [&'static str] = &[
 // The answer to the move.
 const MOVED: [u8; 16] = [2, 0, 0, 0, 0, 0, 0, 0, 0, 0, 0, 0x31, 0, 0, 0, 0];
 
-fn serving<R: Threads + Wait + Sync>(
+fn serving<R: Threads + Wait + Clock + Sync>(
     rt: &R,
     alloc: Global,
     input: &[u8],

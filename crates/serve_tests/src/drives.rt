@@ -1,4 +1,5 @@
 //! A drive that is served, over frames that were worked by hand.
+use crate::frames::{add_bytes, exchange};
 use crate::samples::{bay, drive_no};
 use assertions::assert_equal;
 use std::alloc::Global;
@@ -39,29 +40,6 @@ static REFUSED: &'static [&'static str] = &[
     "03 00 00 00 00000000 0000000c 00000000",
 ];
 
-// Adds the bytes that these hex digits spell; spaces don't count.
-fn add_bytes(alloc: Global, bytes: &mut Vec<u8>, text: &str) -> Result<(), Fail> {
-    let mut digits = Vec::new(alloc);
-    for digit in text.as_bytes() {
-        if *digit != b' ' {
-            digits.push(*digit)?;
-        }
-    }
-    bytes.extend_from_slice(hex::decode(alloc, digits.as_slice())?.as_slice())?;
-    Ok(())
-}
-
-// The commands, and their answers.
-fn exchange(alloc: Global) -> Result<(Vec<u8>, Vec<u8>), Fail> {
-    let mut input = Vec::new(alloc);
-    let mut output = Vec::new(alloc);
-    for (request, answer) in EXCHANGE {
-        add_bytes(alloc, &mut input, request)?;
-        add_bytes(alloc, &mut output, answer)?;
-    }
-    Ok((input, output))
-}
-
 // What a drive writes for an input, and how that ends.
 fn serving<D: Disk + Drop>(
     alloc: Global,
@@ -76,7 +54,7 @@ fn serving<D: Disk + Drop>(
 
 #[test]
 fn a_drive_is_served(rt: HostRuntime) -> Result<(), Fail> {
-    let (input, output) = exchange(rt.alloc())?;
+    let (input, output) = exchange(rt.alloc(), EXCHANGE)?;
     let number = drive_no(2)?;
     let mut served = OneBay::new(number, bay(rt.alloc(), number)?);
     let (end, written) = serving(rt.alloc(), &mut served, input.as_slice());
@@ -89,7 +67,7 @@ fn a_drive_is_served(rt: HostRuntime) -> Result<(), Fail> {
 #[test]
 fn a_frame_of_another_drive_is_refused(rt: HostRuntime) -> Result<(), Fail> {
     for frame in REFUSED {
-        let (mut input, output) = exchange(rt.alloc())?;
+        let (mut input, output) = exchange(rt.alloc(), EXCHANGE)?;
         add_bytes(rt.alloc(), &mut input, frame)?;
         let number = drive_no(2)?;
         let mut served = OneBay::new(number, bay(rt.alloc(), number)?);

@@ -6,4 +6,12 @@ mod asserted;
 #[cfg(test)]
 mod drives;
 #[cfg(test)]
+mod frames;
+#[cfg(test)]
+mod hosts;
+#[cfg(test)]
+mod opening;
+#[cfg(test)]
 mod samples;
+#[cfg(test)]
+mod shared;

@@ -58,3 +58,17 @@ pub fn drive_no(number: u8) -> Result<DriveNo, Fail> {
         None => Err(Fail::from("no drive")),
     }
 }
+
+/// So many drives from number 1 on, each just switched on with a new cartridge in it, in a row of sixteen places.
+pub fn row(alloc: Global, count: u8) -> Result<Vec<Option<Bay<MemDisk>>>, Fail> {
+    let mut bays = Vec::new(alloc);
+    for number in 1..17 {
+        if number <= count {
+            let bay = bay(alloc, drive_no(number)?)?;
+            bays.push(Some(bay))?;
+        } else {
+            bays.push(None)?;
+        }
+    }
+    Ok(bays)
+}

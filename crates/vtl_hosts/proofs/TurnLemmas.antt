@@ -1,5 +1,5 @@
 -- Turns, one after another.
-use Rattle.std.proofs.Common.{◌≡◌, ◌+◌, inl, inr, ℕ, Bool, true, false, not, List, [], ◌∷◌, ◌++◌, Option, Result, Ok, Err, refl, sym, ap, ◌∙◌, subst, append_assoc}
+use Rattle.std.proofs.Common.{◌≡◌, ◌+◌, inl, inr, ℕ, Bool, true, false, not, List, [], ◌∷◌, ◌++◌, Option, None, Some, Result, Ok, Err, refl, sym, ap, ◌∙◌, subst, append_assoc}
 use Rattle.std.proofs.lemmas.List.{append-nil}
 use Rattle.std.proofs.lemmas.List.Elements.{All-append, All-nil, All-push}
 use Rattle.std.proofs.KnownBytes.{Appends-nil, Appends-trans, Consumes-nil, Consumes-trans}
@@ -12,9 +12,9 @@ use Rattle.vtl_wire.specs.declared.requests.Request.{Request}
 use Rattle.vtl_wire.specs.Answers.{spell_answer}
 use Rattle.vtl_wire.specs.Requests.{IsRequest, spell_request, spell_requests}
 use Rattle.vtl_hosts.specs.declared.reading.Break.{Break}
-use Rattle.vtl_hosts.specs.declared.reading.Break.TheVariants.{Ended, Stopped, Next}
+use Rattle.vtl_hosts.specs.declared.reading.Break.TheVariants.{Ended, Stopped, Again, Next}
 use Rattle.vtl_hosts.specs.Rounds.{AnswersHosts, AnswersUpTo, Given, of_host, of_place, spell_given}
-use Rattle.vtl_hosts.specs.Turns.{AnswersTurns, HostsState, ServesHosts, ServesPart, ServesWhole, Turn, count_on, requests_of, spell_turns}
+use Rattle.vtl_hosts.specs.Turns.{AnswersTurns, HostsState, ServesHosts, ServesPart, ServesWhole, Turn, count_on, request_in, requests_of, spell_alone, spell_turns}
 use Rattle.vtl_hosts.specs.Inner.Idle.{RunsRound}
 use Rattle.vtl_hosts.specs.Inner.Serving.{AnswersAlone, EndsServing, ServesTurns}
 use Rattle.vtl_hosts.proofs.ReadLemmas.{count_append, spelled_append}
@@ -27,16 +27,18 @@ is_so false is = absurd (cc)
 requests_append : (xs ys : List Turn) → requests_of (xs ++ ys) ≡ requests_of xs ++ requests_of ys
 requests_append [] ys = refl
 requests_append (x ∷ xs) ys =
-    ap (λ (l : List Request). x.commands ++ x.request ∷ l) (requests_append xs ys)
-    ∙ sym (append_assoc x.commands (x.request ∷ requests_of xs) (requests_of ys))
+    ap (λ (l : List Request). x.commands ++ (request_in x.alone ++ l)) (requests_append xs ys)
+    ∙ ap (λ (l : List Request). x.commands ++ l)
+    (sym (append_assoc (request_in x.alone) (requests_of xs) (requests_of ys)))
+    ∙ sym (append_assoc x.commands (request_in x.alone ++ requests_of xs) (requests_of ys))
 
 turns_append : (xs ys : List Turn) → spell_turns (xs ++ ys) ≡ spell_turns xs ++ spell_turns ys
 turns_append [] ys = refl
 turns_append (x ∷ xs) ys =
-    ap (λ (l : List ℕ). spell_given x.given ++ (spell_answer x.answer ++ l)) (turns_append xs ys)
+    ap (λ (l : List ℕ). spell_given x.given ++ (spell_alone x.alone ++ l)) (turns_append xs ys)
     ∙ ap (λ (l : List ℕ). spell_given x.given ++ l)
-    (sym (append_assoc (spell_answer x.answer) (spell_turns xs) (spell_turns ys)))
-    ∙ sym (append_assoc (spell_given x.given) (spell_answer x.answer ++ spell_turns xs) (spell_turns ys))
+    (sym (append_assoc (spell_alone x.alone) (spell_turns xs) (spell_turns ys)))
+    ∙ sym (append_assoc (spell_given x.given) (spell_alone x.alone ++ spell_turns xs) (spell_turns ys))
 
 module _ {S : Type 0} (serves : S → Request → Answer → S → Type 0) where
   -- all were answered, so some were
@@ -152,6 +154,31 @@ module _ {S G : Type 0} (serves : S → Request → Answer → S → Type 0) (ta
           ended = (runs.2, refl, refl);
         })
 
+    -- threads are missing, and the next turn begins
+    pub turn_again : (count' : ℕ) (left' now : Option (List ℕ))
+        → RunsRound serves takes answers count old left before count' (record { hosts = hosts; desk = old.desk }) left'
+        now (Ok Again) true
+        → ServesTurns serves takes answers count old left before count' (record { hosts = hosts; desk = old.desk })
+        left' now
+    turn_again count' left' now runs =
+        let none : runs.1.commands ++ [] ≡ runs.1.commands = append-nil runs.1.commands in
+        record {
+          turns = record { commands = runs.1.commands; given = runs.1.given; alone = None } ∷ [];
+          answered = (
+            record { hosts = hosts; desk = old.desk },
+            record { commands = runs.1.taken; hosts = runs.1.hosts; alone = refl },
+            refl,
+          );
+          read =
+              subst (λ (l : List Request). Consumes left left' (spell_requests l)) (sym none)
+              (subst (λ (o : Option (List ℕ)). Consumes left o (spell_requests runs.1.commands)) (sym runs.2.0)
+              runs.1.read);
+          spelled = subst (All IsRequest) (sym none) runs.1.spelled;
+          written =
+              subst (Appends before now) (sym (append-nil (spell_given runs.1.given))) runs.1.written;
+          counted = runs.2.1 ∙ ap (count_on count) (sym none);
+        }
+
     -- why no more was read
     pub turn_missed : (count' : ℕ) (left' now : Option (List ℕ)) (fault : WireFault)
         → RunsRound serves takes answers count old left before count' (record { hosts = hosts; desk = old.desk }) left'
@@ -241,14 +268,17 @@ module _ {S G : Type 0} (serves : S → Request → Answer → S → Type 0) (ta
           now
       turn_done alone = record {
         turns =
-            record { commands = runs.1.commands; given = runs.1.given; request = request; answer = alone.0 } ∷ [];
+            record {
+              commands = runs.1.commands;
+              given = runs.1.given;
+              alone = Some (record { request = request; answer = alone.0 });
+            } ∷ [];
         answered = (
           record { hosts = hosts; desk = desk },
           record {
             commands = runs.1.taken;
             hosts = runs.1.hosts;
-            alone = record { taken = runs.2.1; host = runs.2.2 };
-            answered = alone.1;
+            alone = (record { taken = runs.2.1; host = runs.2.2 }, alone.1);
           },
           refl,
         );

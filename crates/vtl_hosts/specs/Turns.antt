@@ -37,33 +37,51 @@ pub record HostsState (S G : Type 0) : Type 0 where
   pub hosts : List S
   pub desk : G
 
+-- a move or an inventory, with its answer (own)
+pub record Alone : Type 0 where
+  pub request : Request
+  pub answer : Answer
+
 -- a turn: commands of hosts, their answers in the order in which they were written, and the move or the inventory
--- behind them with its answer (own)
+-- behind them, if there is one (own)
 pub record Turn : Type 0 where
   pub commands : List Request
   pub given : List Given
-  pub request : Request
-  pub answer : Answer
+  pub alone : Option Alone
+
+-- the request of a move or an inventory, where there is one (own)
+abbrev pub request_in : Option Alone → List Request
+request_in None = []
+request_in (Some one) = one.request ∷ []
+
+-- its answer in bytes (own)
+abbrev pub spell_alone : Option Alone → List ℕ
+spell_alone None = []
+spell_alone (Some one) = spell_answer one.answer
 
 -- the requests of turns, in their order (own)
 abbrev pub requests_of : List Turn → List Request
 requests_of [] = []
-requests_of (turn ∷ turns) = turn.commands ++ turn.request ∷ requests_of turns
+requests_of (turn ∷ turns) = turn.commands ++ (request_in turn.alone ++ requests_of turns)
 
 -- the answers of turns in bytes, in the order in which they were written (own)
 abbrev pub spell_turns : List Turn → List ℕ
 spell_turns [] = []
-spell_turns (turn ∷ turns) = spell_given turn.given ++ (spell_answer turn.answer ++ spell_turns turns)
+spell_turns (turn ∷ turns) = spell_given turn.given ++ (spell_alone turn.alone ++ spell_turns turns)
 
 module _ {S G : Type 0} (serves : S → Request → Answer → S → Type 0) (takes : G → Request → Bool)
     (answers : G → Request → Answer → G → Type 0) where
+  -- a move or an inventory that is taken is answered, where there is one (own)
+  abbrev pub AnswersIfAny : G → Option Alone → G → Type 0
+  AnswersIfAny old None new = new ≡ old
+  AnswersIfAny old (Some one) new = IsAlone (takes old) one.request × answers old one.request one.answer new
+
   -- A turn: commands of hosts that are taken are answered, all of each host in their order. Then a move or an
-  -- inventory that is taken is answered (own).
+  -- inventory is answered, where there is one (own).
   pub record AnswersTurn (old : HostsState S G) (turn : Turn) (new : HostsState S G) : Type 0 where
     pub commands : All (IsCommand (takes old.desk)) turn.commands
     pub hosts : AnswersHosts serves old.hosts turn.commands turn.given new.hosts
-    pub alone : IsAlone (takes old.desk) turn.request
-    pub answered : answers old.desk turn.request turn.answer new.desk
+    pub alone : AnswersIfAny old.desk turn.alone new.desk
 
   -- turns, one after another (own)
   abbrev pub AnswersTurns : HostsState S G → List Turn → HostsState S G → Type 0

@@ -2,6 +2,7 @@
 use std::alloc::{AllocError, Global};
 use std::sync::atomic::{AtomicBool, Ordering};
 use std::sync::{Condvar, Mutex, Wait};
+use std::time::{Clock, Duration};
 
 // How often a bell rang, whether nothing more comes, and whether a thread waits.
 #[derive(Clone, Copy, Drop)]
@@ -89,10 +90,16 @@ pub(crate) struct HostBells {
     pub(crate) room: Bell,
 }
 
-/// The bells of all threads: of each host, by its place, of who reads and of who writes; and whether a write failed.
+// How long the threads of a round may take to begin, in seconds.
+const BEGINNING: u64 = 1;
+
+/// The bells of all threads: of each host, by its place, of who reads and of who writes; how many threads have begun;
+/// and whether a write failed.
 #[derive(Drop)]
 pub(crate) struct Bells {
     hosts: Vec<HostBells>,
+    begun: Mutex<usize>,
+    one_begun: Condvar,
     pub(crate) reader: Bell,
     pub(crate) writer: Bell,
     stopped: AtomicBool,
@@ -110,6 +117,8 @@ impl Bells {
         }
         Ok(Bells {
             hosts,
+            begun: Mutex::new(0),
+            one_begun: Condvar::new(),
             reader: Bell::new(),
             writer: Bell::new(),
             stopped: AtomicBool::new(false),
@@ -135,12 +144,32 @@ impl Bells {
         }
     }
 
-    /// A round begins: something may come.
+    /// A round begins: something may come, and no thread has begun.
     pub(crate) fn reopen<R: Wait>(&self, rt: &R) {
+        *self.begun.lock(rt) = 0;
         self.writer.reopen(rt);
         for bells in &self.hosts {
             bells.commands.reopen(rt);
         }
+    }
+
+    /// A thread has begun: that of a host, or the one that writes.
+    pub(crate) fn begin<R: Wait>(&self, rt: &R) {
+        let mut begun = self.begun.lock(rt);
+        *begun = begun.saturating_add(1);
+        self.one_begun.notify_all();
+    }
+
+    /// Waits until all these threads have begun, a second at most, and says whether they have. Where no thread can be
+    /// made for one it begins only once the others have ended.
+    pub(crate) fn have_begun<R: Wait + Clock>(&self, rt: &R) -> bool {
+        let all = self.hosts.len().saturating_add(1);
+        let held = self.begun.lock(rt);
+        let wait = Duration::from_secs(BEGINNING);
+        let (begun, _) = self
+            .one_begun
+            .wait_timeout_while(rt, held, wait, |begun| *begun < all);
+        *begun >= all
     }
 
     /// Nothing more comes for any host.

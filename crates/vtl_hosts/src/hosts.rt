@@ -63,6 +63,7 @@ pub(crate) fn answer_all<S: Host, R: Wait>(
     let Some(own) = bells.host(place) else {
         return;
     };
+    bells.begin(rt);
     let mut is_last = false;
     for _ in rt.forever() {
         let count = own.commands.count(rt);

@@ -11,6 +11,7 @@ use rtrb::Producer;
 use std::alloc::Global;
 use std::io::Read;
 use std::sync::Wait;
+use std::time::Clock;
 use vtl_wire::{Request, RequestReader, WireFault};
 
 /// Why no more commands are read.
@@ -20,6 +21,8 @@ pub(crate) enum Break {
     Ended,
     /// A write failed.
     Stopped,
+    /// Not all threads have begun: a command was read, and the next comes once it is answered.
+    Again,
     /// A move or an inventory came.
     Next(Request),
 }
@@ -68,8 +71,9 @@ fn read_next<G: Desk, I: Read, R: Wait>(
     Ok(None)
 }
 
-/// Reads commands, each of which goes to its host, up to something else.
-pub(crate) fn read_round<G: Desk, I: Read, R: Wait>(
+/// Reads commands, each of which goes to its host, up to something else. Where threads are missing it is one command,
+/// for which the rings have room: so no thread waits for one that begins only once it has ended.
+pub(crate) fn read_round<G: Desk, I: Read, R: Wait + Clock>(
     rt: &R,
     alloc: Global,
     desk: &G,
@@ -82,10 +86,14 @@ pub(crate) fn read_round<G: Desk, I: Read, R: Wait>(
     ensures { ReadsRound (G.is_taken desk.now) frames.old rings.old (I.remaining reader.old) frames.new rings.new
         (I.remaining reader.new) result }
 {
+    let are_all = bells.have_begun(rt);
     for _ in rt.forever() {
         match read_next(rt, alloc, desk, bells, frames, reader, rings)? {
             Some(found) => return Ok(found),
             None => {}
+        }
+        if !are_all {
+            return Ok(Break::Again);
         }
     }
     unreachable!()

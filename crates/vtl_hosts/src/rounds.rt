@@ -20,6 +20,7 @@ use std::marker::{Send, Sync};
 use std::sync::Wait;
 use std::thread;
 use std::thread::Threads;
+use std::time::Clock;
 use vtl_wire::{Answer, Request, RequestReader, WireFault};
 
 /// How a round ended: why no more was read, and whether all commands were answered and all answers written.
@@ -45,7 +46,7 @@ fn answer_hosts<S: Host + Send, R: Threads + Wait + Sync>(
 }
 
 // Reads, and then lets the hosts end.
-fn read_and_close<G: Desk, I: Read, R: Wait>(
+fn read_and_close<G: Desk, I: Read, R: Wait + Clock>(
     rt: &R,
     alloc: Global,
     desk: &G,
@@ -93,7 +94,7 @@ struct Said {
 }
 
 // Reads, answers and writes at once.
-fn run_threads<S: Host + Send, G: Desk, R: Threads + Wait + Sync, I: Read, W: Write + Send>(
+fn run_threads<S: Host + Send, G: Desk, R: Threads + Wait + Clock + Sync, I: Read, W: Write + Send>(
     rt: &R,
     alloc: Global,
     desk: &G,
@@ -127,7 +128,7 @@ fn run_threads<S: Host + Send, G: Desk, R: Threads + Wait + Sync, I: Read, W: Wr
 }
 
 // Reads, answers and writes at once, and looks at what is left.
-fn run_round<S: Host + Send, G: Desk, R: Threads + Wait + Sync, I: Read, W: Write + Send>(
+fn run_round<S: Host + Send, G: Desk, R: Threads + Wait + Clock + Sync, I: Read, W: Write + Send>(
     rt: &R,
     alloc: Global,
     desk: &G,
@@ -169,7 +170,7 @@ fn is_whole(failed: bool, empty: bool) -> bool
 pub(crate) fn serve_round<
     S: Host + Send,
     G: Desk,
-    R: Threads + Wait + Sync,
+    R: Threads + Wait + Clock + Sync,
     I: Read,
     W: Write + Send,
 >(

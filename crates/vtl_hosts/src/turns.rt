@@ -15,6 +15,7 @@ use std::io::{Read, Write};
 use std::marker::{Send, Sync};
 use std::sync::Wait;
 use std::thread::Threads;
+use std::time::Clock;
 use vtl_base::limits::NEXUSES;
 use vtl_wire::{Request, RequestReader, WireFault, write_if_fits};
 
@@ -43,8 +44,8 @@ fn serve_alone<G: Desk, W: Write>(
     write_if_fits(writer, &answer)
 }
 
-// Serves a round, and the move or the inventory behind it. At `false` the input has ended.
-fn serve_turn<S: Host + Send, G: Desk, R: Threads + Wait + Sync, I: Read, W: Write + Send>(
+// Serves a round, and the move or the inventory behind it, if one came. At `false` the input has ended.
+fn serve_turn<S: Host + Send, G: Desk, R: Threads + Wait + Clock + Sync, I: Read, W: Write + Send>(
     rt: &R,
     alloc: Global,
     desk: &mut G,
@@ -70,6 +71,7 @@ fn serve_turn<S: Host + Send, G: Desk, R: Threads + Wait + Sync, I: Read, W: Wri
     match round.read? {
         Break::Ended => Ok(false),
         Break::Stopped => Err(WireFault::WriteFault),
+        Break::Again => Ok(true),
         Break::Next(request) => {
             serve_alone(alloc, desk, request, writer)?;
             Ok(true)
@@ -78,7 +80,7 @@ fn serve_turn<S: Host + Send, G: Desk, R: Threads + Wait + Sync, I: Read, W: Wri
 }
 
 // Serves rounds, and the moves and inventories between them, up to the end of the input.
-fn serve_turns<S: Host + Send, G: Desk, R: Threads + Wait + Sync, I: Read, W: Write + Send>(
+fn serve_turns<S: Host + Send, G: Desk, R: Threads + Wait + Clock + Sync, I: Read, W: Write + Send>(
     rt: &R,
     alloc: Global,
     desk: &mut G,
@@ -111,7 +113,7 @@ fn serve_turns<S: Host + Send, G: Desk, R: Threads + Wait + Sync, I: Read, W: Wr
 pub fn serve_hosts<
     S: Host + Drop + Send,
     G: Desk,
-    R: Threads + Wait + Sync,
+    R: Threads + Wait + Clock + Sync,
     I: Read,
     W: Write + Send,
 >(

@@ -70,6 +70,7 @@ pub(crate) fn write_round<W: Write, R: Wait>(
 ) -> bool
     ensures { WritesAll rings.old (W.contents writer.old) false rings.new (W.contents writer.new) result }
 {
+    bells.begin(rt);
     let mut failed = false;
     let mut is_last = false;
     for _ in rt.forever() {

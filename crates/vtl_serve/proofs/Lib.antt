@@ -1,3 +1,5 @@
 mod InputLemmas
+mod LabelLemmas
 mod OneBayLemmas
 mod OneHostLemmas
+mod SharedLemmas

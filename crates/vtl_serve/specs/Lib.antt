@@ -1,2 +1,5 @@
+pub mod Desks
+pub mod Labels
+pub mod Libraries
 pub mod OneBay
 pub mod OneHost

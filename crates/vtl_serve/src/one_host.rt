@@ -1,5 +1,5 @@
 //! One host of a library that threads share, which is served.
-ghost use Rattle.std.specs.Prelude.{◌≡◌, OnOk};
+ghost use Rattle.std.specs.Prelude.{◌≡◌, true, OnOk};
 ghost use Rattle.vtl_wire.specs.Serving.{ServesInput};
 ghost use Rattle.vtl_serve.specs.OneHost.{AnswersHost, HostAnswers, is_from};
 
@@ -11,6 +11,7 @@ use std::marker::Model;
 use std::sync::Wait;
 use tape_disk::Disk;
 use vtl_base::NoMemory;
+use vtl_hosts::Host;
 use vtl_wire::{Answer, Request, Server, WireFault, serve_requests};
 
 /// A host's seat at a library that threads share. To a contract it is which drives there are, and the seat.
@@ -45,14 +46,11 @@ impl<'a, D: Disk + Drop, B: Parties, H: Parties, R> OneHost<'a, D, B, H, R> {
     }
 }
 
-impl<'a, D: Disk + Drop, B: Parties, H: Parties, R: Wait> Server for OneHost<'a, D, B, H, R> {
-    ghost is_taken = { λ served request. is_from served.drives served.seat.nexus request };
-
-    ghost answers = { AnswersHost D.state };
-
-    ghost lacks = { λ served request. ⊥ };
-
-    fn takes(&self, request: &Request) -> bool {
+impl<'a, D: Disk + Drop, B: Parties, H: Parties, R: Wait> OneHost<'a, D, B, H, R> {
+    // Whether a request is a command of the host to a configured drive.
+    fn takes_request(&self, request: &Request) -> bool
+        ensures { result ≡ is_from self.now.drives self.now.seat.nexus request.now }
+    {
         match request {
             Request::Command { host, drive, .. } => {
                 *host == self.seat.nexus() && self.library.configured(*drive)
@@ -61,7 +59,11 @@ impl<'a, D: Disk + Drop, B: Parties, H: Parties, R: Wait> Server for OneHost<'a,
         }
     }
 
-    fn serve(&mut self, _alloc: Global, request: Request) -> Result<Answer, NoMemory> {
+    // Answers a command of the host. Data that become a block are taken.
+    fn answer_command(&mut self, request: Request) -> Answer
+        requires { is_from self.old.drives self.old.seat.nexus request ≡ true }
+        ensures { AnswersHost D.state self.old request result self.new }
+    {
         match request {
             Request::Command {
                 host,
@@ -74,10 +76,40 @@ impl<'a, D: Disk + Drop, B: Parties, H: Parties, R: Wait> Server for OneHost<'a,
                 let library = self.library;
                 let seat = &mut self.seat;
                 let reply = library.command_lent(rt, seat, drive, cdb.as_slice(), &mut sent);
-                Ok(Answer::Command { host, reply, tag })
+                Answer::Command { host, reply, tag }
             }
             Request::Move { .. } | Request::Inventory { .. } => unreachable!(),
         }
+    }
+}
+
+impl<'a, D: Disk + Drop, B: Parties, H: Parties, R: Wait> Server for OneHost<'a, D, B, H, R> {
+    ghost is_taken = { λ served request. is_from served.drives served.seat.nexus request };
+
+    ghost answers = { AnswersHost D.state };
+
+    ghost lacks = { λ served request. ⊥ };
+
+    fn takes(&self, request: &Request) -> bool {
+        self.takes_request(request)
+    }
+
+    fn serve(&mut self, _alloc: Global, request: Request) -> Result<Answer, NoMemory> {
+        Ok(self.answer_command(request))
+    }
+}
+
+impl<'a, D: Disk + Drop, B: Parties, H: Parties, R: Wait> Host for OneHost<'a, D, B, H, R> {
+    ghost is_taken = { λ served request. is_from served.drives served.seat.nexus request };
+
+    ghost answers = { AnswersHost D.state };
+
+    fn takes(&self, request: &Request) -> bool {
+        self.takes_request(request)
+    }
+
+    fn answer(&mut self, request: Request) -> Answer {
+        self.answer_command(request)
     }
 }
 

@@ -2,7 +2,7 @@ use Rattle.std.proofs.Common.{◌≡◌, true}
 use Rattle.std.proofs.lemmas.Result.{err_from_is_err_and}
 use Rattle.vtl_hosts.specs.Inner.Idle.{servers_of}
 use Rattle.vtl_hosts.specs.Turns.{HostsState}
-use Rattle.vtl_hosts.proofs.TurnLemmas.{is_so, turn_cut, turn_done, turn_ended, turn_missed, turn_stopped}
+use Rattle.vtl_hosts.proofs.TurnLemmas.{is_so, turn_again, turn_cut, turn_done, turn_ended, turn_missed, turn_stopped}
 use Rattle.vtl_hosts.proofs.turns.serve_turn.Goals as goal
 
 pub returns-in_err-round-clause-serves : goal.returns-in_err-round-clause-serves
@@ -61,3 +61,12 @@ returns-in_ok-serve_alone-in-Next-clause-serves g c =
     c.serve_alone.new.desk
     (rw (c.in_ok-round.was, c.in-Next.is, whole) at c.serve_round-round.ensures.runs)
     c.in_ok-serve_alone-in-Next.ensures
+
+pub returns-in-Again-clause-serves : goal.returns-in-Again-clause-serves
+returns-in-Again-clause-serves g c =
+    let whole : c.serve_round-round.result.whole ≡ true = is_so _ c.if-not-round.false in
+    let old : HostsState g.row.S.Denot g.row.G.Denot =
+    record { hosts = servers_of c.args.ends.now.hosts.items; desk = c.args.desk.now } in
+    turn_again g.S.Host.answers g.G.Desk.is_taken g.G.Desk.answers c.args.frames.now old _ _
+    (servers_of c.serve_round-round.new.ends.hosts.items) c.serve_round-round.new.frames _ _
+    (rw (c.in_ok-round.was, c.in-Again.is, whole) at c.serve_round-round.ensures.runs)

@@ -1,11 +1,11 @@
 use Rattle.std.proofs.Common.{ap, ◌∙◌}
 use Rattle.vtl_serve.specs.OneHost.{OneHostState}
 use Rattle.vtl_serve.proofs.OneHostLemmas.{host_answered_by}
-use Rattle.vtl_serve.proofs.one_host.OneHostServer.serve.Goals as goal
-use Rattle.vtl_serve.proofs.one_host.OneHostServer.serve.Goals.{in-Heap-2, in-Inline-2}
+use Rattle.vtl_serve.proofs.one_host.OneHost.answer_command.Goals as goal
+use Rattle.vtl_serve.proofs.one_host.OneHost.answer_command.Goals.{in-Heap-2, in-Inline-2}
 
-pub returns-clause-ok : goal.returns-clause-ok
-returns-clause-ok g c =
+pub returns : goal.returns
+returns g c =
     elim c.match-cdb.branch [
       | in-Heap-2 w ↦
           host_answered_by g.D.Disk.state c.args.self.now c.match-cdb.self c.self.inside.seat

@@ -1,0 +1,17 @@
+use Rattle.std.proofs.Common.{List, ap, inr, refl, ◌∙◌}
+use Rattle.vtl_serve.specs.Libraries.{seats_of}
+use Rattle.vtl_serve.specs.OneHost.{OneHostState}
+use Rattle.vtl_serve.proofs.SharedLemmas.{seats_back}
+use Rattle.vtl_serve.proofs.libraries.serve_opened.Goals as goal
+
+pub returns-clause-serves : goal.returns-clause-serves
+returns-clause-serves g c =
+    let back = c.in-Err.ensures.back in
+    inr (
+      refl,
+      c.seats_in-in-Err.ensures ∙ ap (λ (l : List OneHostState). seats_of l) back.0
+          ∙ ap (λ (l : List OneHostState). seats_of l) c.hosts_of-hosts.ensures
+          ∙ seats_back c.args.library.now c.args.seats.items,
+      ap g.I.Read.remaining back.2,
+      ap g.W.Write.contents back.3,
+    )

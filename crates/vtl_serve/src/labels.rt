@@ -1,0 +1,89 @@
+//! The barcodes of the cartridges of a library, by element address.
+ghost use Rattle.std.specs.Prelude.{◌≡◌, nat_eq, if◌then◌else◌};
+ghost use Rattle.vtl_serve.specs.Labels.{barcode_at, carried};
+
+use std::marker::Model;
+use vtl_base::Barcode;
+
+/// A cartridge's barcode, and the element address where it is.
+#[derive(Drop)]
+pub struct Label {
+    pub address: u32,
+    pub barcode: Barcode,
+}
+
+/// The labels of all cartridges. To a contract they are a list.
+#[derive(Drop)]
+pub struct Labels {
+    labels: Vec<Label>,
+}
+
+impl Model for Labels {
+    ghost use Rattle.std.specs.Prelude.{List};
+    ghost use Rattle.vtl_serve.specs.declared.labels.Label.{Label};
+
+    ghost Value = { List Label };
+
+    ghost view = { λ l. l.labels.items };
+}
+
+// The same barcode.
+fn same_barcode(barcode: &Barcode) -> Barcode
+    ensures { result ≡ barcode.now }
+{
+    match Barcode::parse(barcode.as_bytes()) {
+        Ok(same) => same,
+        Err(_) => unreachable!(),
+    }
+}
+
+// Where a cartridge is, once those at one address are at another.
+fn address_after(address: u32, from: u32, to: u32) -> u32
+    ensures { result ≡ (if nat_eq address from then to else address) }
+{
+    if address == from { to } else { address }
+}
+
+// The barcode of the first of these at an address.
+fn barcode_among(labels: &[Label], address: u32) -> Option<Barcode>
+    ensures { result ≡ barcode_at labels.now address }
+{
+    for label in labels {
+        if label.address == address {
+            return Some(same_barcode(&label.barcode));
+        }
+    }
+    None
+}
+
+// Those of these at one address are at another.
+fn carry_among(labels: &mut [Label], from: u32, to: u32)
+    ensures { labels.new ≡ carried from to labels.old }
+{
+    for label in labels {
+        label.address = address_after(label.address, from, to);
+    }
+}
+
+impl Labels {
+    /// The labels of a `Vec`, which takes no memory.
+    pub fn from_vec(labels: Vec<Label>) -> Labels
+        ensures { result ≡ labels.items }
+    {
+        Labels { labels }
+    }
+
+    /// The barcode of the cartridge that is at an element address, where one is.
+    pub fn barcode_at(&self, address: u32) -> Option<Barcode>
+        ensures { result ≡ barcode_at self.now address }
+    {
+        barcode_among(self.labels.as_slice(), address)
+    }
+
+    /// A cartridge was moved from one element address to another.
+    pub fn carry(&mut self, from: u32, to: u32)
+        ensures { self.new ≡ carried from to self.old }
+    {
+        carry_among(self.labels.as_mut_slice(), from, to);
+    }
+}

@@ -1,0 +1,269 @@
+//! A library whose hosts are served at once over one pipe.
+ghost use Rattle.std.specs.Prelude.{◌≡◌, ◌≤◌, [], IfOk, IfErr, length, All, vec_capacity};
+ghost use Rattle.std.specs.List.{range_with_len};
+ghost use Rattle.vtl_base.specs.declared.limits.TheConstants.{DRIVES, NEXUSES};
+ghost use Rattle.ledgers.specs.Ledgers.{IsBlankOf};
+ghost use Rattle.library.specs.Counts.{AcceptedNone, places_filled};
+ghost use Rattle.library.specs.Ran.{EndsShared};
+ghost use Rattle.vtl_hosts.specs.Turns.{ServesHosts};
+ghost use Rattle.vtl_serve.specs.Desks.{AnswersDesk, is_served};
+ghost use Rattle.vtl_serve.specs.OneHost.{AnswersHost};
+ghost use Rattle.vtl_serve.specs.Libraries.{ServesOpened, ServesShared, hosts_of, seats_of};
+
+use crate::beside::beside_flushers;
+use crate::desks::LibraryDesk;
+use crate::labels::Labels;
+use crate::one_host::OneHost;
+use bays::{Bay, Parked};
+use changer::Slots;
+use ledgers::{Parties, Seat};
+use library::{Finished, Gate, Library, NotOpened};
+use std::alloc::Global;
+use std::io::{Read, Write};
+use std::marker::{Send, Sync};
+use std::mem;
+use std::sync::Wait;
+use std::sync::ledger::Blank;
+use std::thread::Threads;
+use std::time::Clock;
+use tape_disk::Disk;
+use vtl_base::Nexus;
+use vtl_base::limits::NEXUSES;
+use vtl_hosts::{Served, serve_hosts};
+use vtl_wire::WireFault;
+
+/// What is left of a library whose hosts were served.
+#[derive(Drop)]
+pub struct ServedLibrary<D: Disk> {
+    /// Slots, drives and counts.
+    pub finished: Finished<D>,
+    /// How the serving ended.
+    pub outcome: Result<(), WireFault>,
+}
+
+// The seats as the serving has left them, and how it ended.
+#[derive(Drop)]
+struct ServedFor<H: Parties> {
+    seats: Vec<Seat<H>>,
+    outcome: Result<(), WireFault>,
+}
+
+// The hosts of these seats, for which there is room.
+fn hosts_of<'a, D: Disk + Drop, B: Parties, H: Parties, R>(
+    rt: &'a R,
+    library: &'a Library<D, B, H>,
+    room: Vec<OneHost<'a, D, B, H, R>>,
+    seats: Vec<Seat<H>>,
+) -> Vec<OneHost<'a, D, B, H, R>>
+    requires { (room.items ≡ []) × (length seats.items ≤ vec_capacity room) }
+    ensures { result.items ≡ hosts_of library.now seats.items }
+{
+    let mut hosts = room;
+    for seat in seats {
+        hosts.push(OneHost::new(rt, library, seat)).unwrap();
+    }
+    hosts
+}
+
+// The seats of these hosts, for which there is room.
+fn seats_in<'a, D: Disk + Drop, B: Parties, H: Parties, R>(
+    room: Vec<Seat<H>>,
+    hosts: Vec<OneHost<'a, D, B, H, R>>,
+) -> Vec<Seat<H>>
+    requires { (room.items ≡ []) × (length hosts.items ≤ vec_capacity room) }
+    ensures { result.items ≡ seats_of hosts.entry.items }
+{
+    let mut seats = room;
+    for host in hosts {
+        seats.push(host.into_seat()).unwrap();
+    }
+    seats
+}
+
+// Serves all hosts, and then has every flusher end.
+fn serve_and_close<
+    'a,
+    D: Disk + Drop + Send,
+    B: Parties + Send + Sync,
+    H: Parties + Send + Sync,
+    R: Threads + Wait + Clock + Sync,
+    I: Read,
+    W: Write + Send,
+>(
+    rt: &'a R,
+    alloc: Global,
+    library: &'a Library<D, B, H>,
+    desk: &mut LibraryDesk<'a, D, B, H, R>,
+    reader: &mut I,
+    writer: &mut W,
+    hosts: &mut Vec<OneHost<'a, D, B, H, R>>,
+) -> Result<Served<OneHost<'a, D, B, H, R>>, Vec<OneHost<'a, D, B, H, R>>>
+    requires { length hosts.old.items ≡ NEXUSES }
+    ensures serves { IfOk result (λ served. ServesHosts (AnswersHost D.state)
+        (λ desk request. is_served desk.drives request) (AnswersDesk D.state)
+        (record { hosts = hosts.old.items; desk = desk.old }) (I.remaining reader.old) (W.contents writer.old)
+        (record { hosts = served.servers.items; desk = desk.new }) (I.remaining reader.new) (W.contents writer.new)
+        served.outcome) }
+    ensures all { IfOk result (λ served. length served.servers.items ≡ NEXUSES) }
+    ensures back { IfErr result (λ back. (back.items ≡ hosts.old.items) × (desk.new ≡ desk.old)
+        × (reader.new ≡ reader.old) × (writer.new ≡ writer.old)) }
+{
+    let servers = mem::replace(hosts, Vec::new(alloc));
+    let served = serve_hosts(rt, alloc, servers, desk, reader, writer);
+    library.close(rt);
+    served
+}
+
+// Serves all hosts with a flusher of each drive beside them.
+fn serve_beside<
+    'a,
+    D: Disk + Drop + Send,
+    B: Parties + Send + Sync,
+    H: Parties + Send + Sync,
+    R: Threads + Wait + Clock + Sync,
+    G: Gate + Sync,
+    I: Read,
+    W: Write + Send,
+>(
+    rt: &'a R,
+    alloc: Global,
+    library: &'a Library<D, B, H>,
+    gate: &G,
+    desk: &mut LibraryDesk<'a, D, B, H, R>,
+    reader: &mut I,
+    writer: &mut W,
+    hosts: &mut Vec<OneHost<'a, D, B, H, R>>,
+) -> Result<Served<OneHost<'a, D, B, H, R>>, Vec<OneHost<'a, D, B, H, R>>>
+    requires { length hosts.old.items ≡ NEXUSES }
+    ensures serves { IfOk result (λ served. ServesHosts (AnswersHost D.state)
+        (λ desk request. is_served desk.drives request) (AnswersDesk D.state)
+        (record { hosts = hosts.old.items; desk = desk.old }) (I.remaining reader.old) (W.contents writer.old)
+        (record { hosts = served.servers.items; desk = desk.new }) (I.remaining reader.new) (W.contents writer.new)
+        served.outcome) }
+    ensures all { IfOk result (λ served. length served.servers.items ≡ NEXUSES) }
+    ensures back { IfErr result (λ back. (back.items ≡ hosts.old.items) × (desk.new ≡ desk.old)
+        × (reader.new ≡ reader.old) × (writer.new ≡ writer.old)) }
+{
+    let mut work = || -> Result<Served<OneHost<'_, D, B, H, R>>, Vec<OneHost<'_, D, B, H, R>>>
+        requires { length hosts.now.items ≡ NEXUSES }
+        ensures serves { IfOk result (λ served. ServesHosts (AnswersHost D.state)
+            (λ desk request. is_served desk.drives request) (AnswersDesk D.state)
+            (record { hosts = hosts.entry.now.items; desk = desk.entry.now }) (I.remaining reader.entry.now)
+            (W.contents writer.entry.now) (record { hosts = served.servers.items; desk = desk.exit.now })
+            (I.remaining reader.exit.now) (W.contents writer.exit.now) served.outcome) }
+        ensures all { IfOk result (λ served. length served.servers.items ≡ NEXUSES) }
+        ensures back { IfErr result (λ back. (back.items ≡ hosts.entry.now.items)
+            × (desk.exit.now ≡ desk.entry.now) × (reader.exit.now ≡ reader.entry.now)
+            × (writer.exit.now ≡ writer.entry.now)) }
+    { serve_and_close(rt, alloc, library, desk, reader, writer, hosts) };
+    beside_flushers(rt, library, gate, 1, &mut work)
+}
+
+// Serves a library that was opened, for the hosts of these seats.
+fn serve_opened<
+    'a,
+    D: Disk + Drop + Send,
+    B: Parties + Send + Sync,
+    H: Parties + Send + Sync,
+    R: Threads + Wait + Clock + Sync,
+    G: Gate + Sync,
+    I: Read,
+    W: Write + Send,
+>(
+    rt: &'a R,
+    alloc: Global,
+    library: &'a Library<D, B, H>,
+    seats: Vec<Seat<H>>,
+    labels: Labels,
+    gate: &G,
+    reader: &mut I,
+    writer: &mut W,
+) -> ServedFor<H>
+    requires { length seats.items ≡ NEXUSES }
+    ensures serves { ServesOpened D.state library.now labels seats.items (I.remaining reader.old)
+        (W.contents writer.old) result.seats.items (I.remaining reader.new) (W.contents writer.new) result.outcome }
+    ensures all { length result.seats.items ≡ NEXUSES }
+{
+    let Ok(room) = Vec::with_capacity(alloc, NEXUSES as usize) else {
+        return ServedFor {
+            seats,
+            outcome: Err(WireFault::NoMemory),
+        };
+    };
+    let Ok(back) = Vec::with_capacity(alloc, NEXUSES as usize) else {
+        return ServedFor {
+            seats,
+            outcome: Err(WireFault::NoMemory),
+        };
+    };
+    let mut hosts = hosts_of(rt, library, room, seats);
+    let mut desk = LibraryDesk::new(rt, library, labels);
+    match serve_beside(
+        rt, alloc, library, gate, &mut desk, reader, writer, &mut hosts,
+    ) {
+        Ok(Served { servers, outcome }) => ServedFor {
+            seats: seats_in(back, servers),
+            outcome,
+        },
+        Err(servers) => ServedFor {
+            seats: seats_in(back, servers),
+            outcome: Err(WireFault::NoMemory),
+        },
+    }
+}
+
+/// Serves hosts that have the numbers from 1 to 64, over one pipe, at a library of these drives, each in the place of
+/// its number, and these slots, whose cartridges are where the labels say. Each host's commands are carried out in a
+/// thread of its own, and each drive has a flusher beside them. At the end all threads are joined, and every buffer is
+/// written out. Where memory runs out before the library is opened all comes back, and nothing is read or written.
+pub fn serve_library<
+    D: Disk + Drop + Send,
+    B: Parties + Send + Sync,
+    H: Parties + Send + Sync,
+    R: Threads + Wait + Clock + Sync,
+    G: Gate + Sync,
+    I: Read,
+    W: Write + Send,
+>(
+    rt: &R,
+    alloc: Global,
+    bays: Vec<Option<Bay<D>>>,
+    slots: Slots<Parked<D>>,
+    hosts: &[Nexus],
+    bay_ledger: Blank,
+    host_ledger: Blank,
+    labels: Labels,
+    gate: &G,
+    reader: &mut I,
+    writer: &mut W,
+) -> Result<ServedLibrary<D>, NotOpened<D>>
+    requires places { length bays.items ≡ DRIVES }
+    requires fresh { All (λ bay. AcceptedNone bay) bays.items }
+    requires hosts { hosts.now ≡ range_with_len 1 NEXUSES }
+    requires bay_ledger { IsBlankOf bay_ledger B.name B.parts B.all × (B.all ≡ places_filled bays.items) }
+    requires host_ledger { IsBlankOf host_ledger H.name H.parts H.all × (H.all ≡ NEXUSES) }
+    ensures serves { IfOk result (λ served. ServesShared D.state bays.items labels hosts.now (I.remaining reader.old)
+        (W.contents writer.old) (I.remaining reader.new) (W.contents writer.new) served.outcome
+        served.finished.bays.items served.finished.counts) }
+    ensures ends { IfOk result (λ served. EndsShared D.state bays.items served.finished.bays.items
+        served.finished.slots served.finished.counts) }
+    ensures back { IfErr result (λ back. (back.bays ≡ bays) × (back.slots ≡ slots)
+        × (back.bay_ledger ≡ bay_ledger) × (back.host_ledger ≡ host_ledger)
+        × (reader.new ≡ reader.old) × (writer.new ≡ writer.old)) }
+{
+    let (library, seats) = Library::<D, B, H>::new(
+        alloc,
+        bays,
+        slots,
+        hosts,
+        bay_ledger,
+        host_ledger,
+    )?;
+    let ServedFor { seats, outcome } = serve_opened(
+        rt, alloc, &library, seats, labels, gate, reader, writer,
+    );
+    Ok(ServedLibrary {
+        finished: library.finish(rt, seats),
+        outcome,
+    })
+}
